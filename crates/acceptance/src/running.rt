@@ -1,0 +1,67 @@
+//! Runs over devices in memory.
+use bytes_core::Bytes;
+use engine_core::{Line, MemorySink, MemorySource, Verb, serve};
+use files_core::{FileKind, SourceFile};
+use std::alloc::Global;
+use std::test::Fail;
+
+/// What a run wrote and answered.
+#[derive(Drop)]
+pub(crate) struct Outcome {
+    pub(crate) output: Vec<u8>,
+    pub(crate) messages: Vec<u8>,
+    pub(crate) status: u8,
+}
+
+/// A line that names no file, for any command but `query --sources` and `update --strict`.
+pub(crate) fn line<'a>(alloc: Global, verb: Verb, modalias: &'a str) -> Line<'a> {
+    Line {
+        verb,
+        root: "",
+        files: Vec::new(alloc),
+        strict: false,
+        sources: false,
+        modalias,
+    }
+}
+
+/// A database file of a folder.
+pub(crate) fn file(alloc: Global, rank: u8, name: &str, text: &str) -> Result<SourceFile, Fail> {
+    Ok(SourceFile {
+        kind: FileKind::Hwdb,
+        rank,
+        name: Bytes::copy_of(alloc, name.as_bytes())?,
+        bytes: Bytes::copy_of(alloc, text.as_bytes())?,
+    })
+}
+
+/// A list of one file, of rank 1.
+pub(crate) fn one_file(alloc: Global, name: &str, text: &str) -> Result<Vec<SourceFile>, Fail> {
+    let mut files = Vec::new(alloc);
+    files.push(file(alloc, 1, name, text)?)?;
+    Ok(files)
+}
+
+/// Runs a line with room enough.
+pub(crate) fn run(alloc: Global, line: &Line<'_>, files: Vec<SourceFile>) -> Result<Outcome, Fail> {
+    let mut output = MemorySink::new(alloc, 4096, 4096)?;
+    let mut error = MemorySink::new(alloc, 4096, 4096)?;
+    let status = run_over(alloc, line, files, &mut output, &mut error)?;
+    Ok(Outcome {
+        output: Vec::from_slice(alloc, output.bytes_flushed())?,
+        messages: Vec::from_slice(alloc, error.bytes_flushed())?,
+        status,
+    })
+}
+
+/// Runs a line over these sinks.
+pub(crate) fn run_over(
+    alloc: Global,
+    line: &Line<'_>,
+    files: Vec<SourceFile>,
+    output: &mut MemorySink,
+    error: &mut MemorySink,
+) -> Result<u8, Fail> {
+    let mut input = MemorySource::new(alloc, Vec::new(alloc), 1, 1, 0)?;
+    Ok(serve(alloc, line, files, None, &mut input, output, error))
+}

@@ -1,0 +1,4 @@
+pub mod Runs
+pub mod Splits
+pub mod Filling
+pub mod Holding

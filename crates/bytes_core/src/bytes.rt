@@ -1,0 +1,55 @@
+//! Owned bytes.
+//!
+//! A type of its own over `Vec<u8>`, so that a contract sees the list of the bytes and neither
+//! their room nor their place in memory.
+ghost use Rattle.std.specs.Prelude.{◌≡◌, IfOk};
+
+use std::alloc::{AllocError, Global};
+use std::marker::Model;
+
+/// Bytes that are owned: a text, a name, a key or a value.
+#[derive(Debug, Drop)]
+pub struct Bytes {
+    held: Vec<u8>,
+}
+
+impl Model for Bytes {
+    ghost use Rattle.std.specs.Prelude.{List, ℕ};
+
+    ghost Value = { List ℕ };
+
+    ghost view = { λ b. b.held.items };
+}
+
+impl Bytes {
+    /// The bytes of a vector, without a copy.
+    pub fn new(held: Vec<u8>) -> Bytes
+        ensures { result ≡ held.items }
+    {
+        Bytes { held }
+    }
+
+    /// A copy of a slice, in just the room that it needs.
+    pub fn copy_of(alloc: Global, slice: &[u8]) -> Result<Bytes, AllocError>
+        ensures { IfOk result (λ b. b ≡ slice.now) }
+    {
+        Ok(Bytes {
+            held: Vec::from_slice(alloc, slice)?,
+        })
+    }
+
+    /// Lends the bytes.
+    pub fn as_slice(&self) -> &[u8]
+        ensures { result.now ≡ self.now }
+    {
+        &self.held
+    }
+
+    /// Gives the vector back.
+    pub fn into_vec(self) -> Vec<u8>
+        ensures { result.items ≡ self }
+    {
+        let Bytes { held } = self;
+        held
+    }
+}

@@ -1,0 +1,42 @@
+//! What a command line of `devdry` asks for, whoever read it.
+//!
+//! These types stand below the crate that reads the words and below the one that does the work, so
+//! that neither needs the other.
+#![tactic(auto)]
+
+/// The subcommand.
+#[derive(Clone, Copy, Debug, PartialEq, Eq)]
+pub enum Verb {
+    /// Checks database files.
+    Update,
+    /// Answers a modalias.
+    Query,
+}
+
+/// What a command line asks for.
+#[derive(Debug, Drop)]
+pub struct Line<'a> {
+    /// The subcommand.
+    pub verb: Verb,
+    /// What stands before each folder; empty where nothing was said.
+    pub root: &'a str,
+    /// The files that are named, in the order given.
+    pub files: Vec<&'a str>,
+    /// Whether a message makes `update` fail.
+    pub strict: bool,
+    /// Whether `query` says where each property comes from.
+    pub sources: bool,
+    /// The modalias to look up; empty for the other subcommands.
+    pub modalias: &'a str,
+}
+
+/// Why words are no line.
+#[derive(Debug, Drop)]
+pub enum LineFault {
+    /// 1: help or the version was asked for: its text, for the standard output.
+    Help(String),
+    /// 2: the words are not understood: what to tell the user.
+    Usage(String),
+    /// 3: want of memory.
+    Memory,
+}

@@ -1,0 +1,7 @@
+pub mod Tables
+pub mod Paths
+pub mod Numbers
+pub mod LineLemmas
+pub mod Rows
+pub mod Judged
+pub mod Reading

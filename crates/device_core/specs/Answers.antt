@@ -1,0 +1,10 @@
+-- What a program answered, without where it lies in memory.
+use Rattle.std.specs.Prelude.{ℕ, List}
+use Rattle.device_core.specs.declared.programs.ProgramAnswer.{ProgramAnswer}
+
+pub record AnswerValue : Type 0 where
+  pub status : ℕ
+  pub text : List ℕ
+
+abbrev pub answer_value : ProgramAnswer → AnswerValue
+answer_value a = record { status = a.status; text = a.text.now }

@@ -1,0 +1,78 @@
+-- What the lines of a block say. A line belongs to the last `P:` at or above it: the lines are cut
+-- before each `P:`, and each group that begins with one describes a device.
+use Rattle.std.specs.Prelude.{Bool, List, [], ◌∷◌, ◌==◌, Option, Some, None, unwrap_or, map, if◌then◌else◌}
+use Rattle.std.specs.List.{filter_map, zip}
+use Rattle.device_core.specs.Pairs.{Text, Pair}
+use Rattle.device_core.specs.Answers.{AnswerValue}
+use Rattle.device_core.specs.Lines.{Row, letter_of}
+use Rattle.device_core.specs.Parts.{pair_of, number_of, answer_of}
+use Rattle.device_core.specs.Values.{DeviceValue, EventValue}
+use Rattle.device_core.specs.declared.lines.DeviceField.TheVariants.{Subsystem, Driver, Node, Devnum, Attribute, Property, Tag, Link}
+use Rattle.device_core.specs.declared.lines.LineKind.{LineKind}
+use Rattle.device_core.specs.declared.lines.LineKind.TheVariants.{Action, Device, Field, Constant, Command, Answer}
+
+-- whether a line is of a kind
+abbrev pub is_kind : LineKind → Row → Bool
+is_kind kind row = letter_of row.0 == letter_of kind
+
+abbrev pub text_in : LineKind → Row → Option Text
+text_in kind row = if is_kind kind row then Some row.1 else None
+
+-- what the lines of a kind say, in order
+unfoldable pub texts : LineKind → List Row → List Text
+texts kind rows = filter_map (text_in kind) rows
+
+-- the names and values that the lines of a kind give, in order
+unfoldable pub pairs : LineKind → List Row → List Pair
+pairs kind rows = filter_map pair_of (texts kind rows)
+
+unfoldable pub numbers : List Row → List Pair
+numbers rows = filter_map number_of (texts (Field Devnum) rows)
+
+unfoldable pub answers : List Row → List AnswerValue
+answers rows = filter_map answer_of (texts Answer rows)
+
+abbrev pub first : {X : Type 0} → List X → Option X
+first [] = None
+first (x ∷ xs) = Some x
+
+-- the lines up to the next `P:`
+unfoldable pub before_device : List Row → List Row
+before_device [] = []
+before_device (row ∷ rows) = if is_kind Device row then [] else row ∷ before_device rows
+
+-- each `P:` with the lines up to the next
+unfoldable pub groups : List Row → List (List Row)
+groups [] = []
+groups (row ∷ rows) = if is_kind Device row then (row ∷ before_device rows) ∷ groups rows else groups rows
+
+-- the device that a group describes
+unfoldable pub device : List Row → DeviceValue
+device group = record {
+  path = unwrap_or (first (texts Device group)) [];
+  subsystem = first (texts (Field Subsystem) group);
+  driver = first (texts (Field Driver) group);
+  node = first (texts (Field Node) group);
+  number = first (numbers group);
+  attrs = pairs (Field Attribute) group;
+  env = pairs (Field Property) group;
+  tags = texts (Field Tag) group;
+  links = texts (Field Link) group;
+}
+
+-- the devices that lines describe
+unfoldable pub devices : List Row → List DeviceValue
+devices rows = map device (groups rows)
+
+-- each command with its answer
+unfoldable pub programs : List Row → List (Text × AnswerValue)
+programs rows = zip (texts Command rows) (answers rows)
+
+-- the event that lines describe, none of which is faulty
+unfoldable pub event : List Row → EventValue
+event rows = record {
+  action = unwrap_or (first (texts Action rows)) [];
+  devices = devices rows;
+  programs = programs rows;
+  constants = pairs Constant rows;
+}

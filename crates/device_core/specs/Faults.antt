@@ -1,0 +1,164 @@
+-- What is wrong with a line, given the lines above it, and with a block.
+use Rattle.std.specs.Prelude.{ℕ, ◌+◌, Bool, false, not, ◌&&◌, ◌||◌, List, [], ◌∷◌, ◌++◌, take, length, count_by, position, ◌==◌, nat_le, nat_lt, Option, Some, None, Result, Ok, Err, if◌then◌else◌, is_some, is_none}
+use Rattle.std.specs.Option.{option_to_list}
+use Rattle.bytes_core.specs.Names.{nul, newline}
+use Rattle.device_core.specs.Pairs.{Text, Pair as NameAndValue, named, is_among}
+use Rattle.device_core.specs.Lines.{Row, row_of, lines_of, begins_answer}
+use Rattle.device_core.specs.Parts.{is_empty, pair_of, number_of, answer_of, is_device_path, is_parent_path}
+use Rattle.device_core.specs.Values.{DeviceValue, EventValue}
+use Rattle.device_core.specs.Blocks.{is_kind, texts, pairs, devices, event}
+use Rattle.device_core.specs.declared.lines.DeviceField.{DeviceField}
+use Rattle.device_core.specs.declared.lines.DeviceField.TheVariants.{Subsystem, Driver, Node, Devnum, Attribute, Property, Tag, Link}
+use Rattle.device_core.specs.declared.lines.LineKind.{LineKind}
+use Rattle.device_core.specs.declared.lines.LineKind.TheVariants.{Action, Device, Field, Constant, Command, Answer}
+use Rattle.device_core.specs.declared.faults.BlockFault.{BlockFault}
+use Rattle.device_core.specs.declared.faults.BlockFaultKind.{BlockFaultKind}
+use Rattle.device_core.specs.declared.faults.BlockFaultKind.TheVariants.{NoAction, NoDevice, Letter, Twice, Path, Number, Pair, Nul, TooLong, TooDeep}
+
+abbrev pub last : {X : Type 0} → List X → Option X
+last [] = None
+last (x ∷ []) = Some x
+last (x ∷ y ∷ ys) = last (y ∷ ys)
+
+-- the device to which a line below these belongs
+unfoldable pub device_above : List Row → Option DeviceValue
+device_above above = last (devices above)
+
+abbrev pub is_command : Option Row → Bool
+is_command None = false
+is_command (Some row) = is_kind Command row
+
+-- whether the line right above is a command
+unfoldable pub follows_command : List Row → Bool
+follows_command above = is_command (last above)
+
+-- the first line is no `C:`, or its action is empty; an answer there is one without a command
+abbrev pub lacks_action : List Row → LineKind → Text → Bool
+lacks_action above Action rest = is_empty above && is_empty rest
+lacks_action above Answer rest = false
+lacks_action above _ rest = is_empty above
+
+-- a line about a device stands above each `P:`
+abbrev pub lacks_device : List Row → LineKind → Bool
+lacks_device above (Field field) = is_none (device_above above)
+lacks_device above _ = false
+
+-- the line begins a device, and 64 stand above
+abbrev pub is_too_deep : List Row → LineKind → Bool
+is_too_deep above Device = nat_le 64 (length (devices above))
+is_too_deep above _ = false
+
+abbrev pub is_path_below : Option DeviceValue → Text → Bool
+is_path_below None path = is_device_path path
+is_path_below (Some above) path = is_parent_path above.path path
+
+-- the line begins a device whose path is no parent of the one above, or the first has a wrong path
+abbrev pub is_wrong_path : List Row → LineKind → Text → Bool
+is_wrong_path above Device rest = not (is_path_below (device_above above) rest)
+is_wrong_path above _ rest = false
+
+-- no device number, or no exit status in an answer that has a command
+abbrev pub is_wrong_number : List Row → LineKind → Text → Bool
+is_wrong_number above (Field Devnum) rest = is_none (number_of rest)
+is_wrong_number above Answer rest = follows_command above && is_none (answer_of rest)
+is_wrong_number above _ rest = false
+
+-- no name with a value, or an empty text
+abbrev pub is_half_field : DeviceField → Text → Bool
+is_half_field Devnum rest = false
+is_half_field Attribute rest = is_none (pair_of rest)
+is_half_field Property rest = is_none (pair_of rest)
+is_half_field _ rest = is_empty rest
+
+-- a part is missing: a name or a value, a text, the answer below a command or the command above an answer
+abbrev pub is_half : List Row → LineKind → Text → List Text → Bool
+is_half above Action rest below = is_empty rest
+is_half above Device rest below = false
+is_half above (Field field) rest below = is_half_field field rest
+is_half above Constant rest below = is_none (pair_of rest)
+is_half above Command rest below = is_empty rest || not (begins_answer below)
+is_half above Answer rest below = not (follows_command above)
+
+-- whether the name of a pair stands among these
+abbrev pub has_name : List NameAndValue → Option NameAndValue → Bool
+has_name known None = false
+has_name known (Some pair) = named known pair.0
+
+-- whether a device has already what the line gives it
+abbrev pub has_field : DeviceValue → DeviceField → Text → Bool
+has_field device Subsystem rest = is_some device.subsystem
+has_field device Driver rest = is_some device.driver
+has_field device Node rest = is_some device.node
+has_field device Devnum rest = is_some device.number
+has_field device Attribute rest = has_name device.attrs (pair_of rest)
+has_field device Property rest = has_name device.env (pair_of rest)
+has_field device Tag rest = is_among device.tags rest
+has_field device Link rest = is_among device.links rest
+
+abbrev pub some_has_field : Option DeviceValue → DeviceField → Text → Bool
+some_has_field None field rest = false
+some_has_field (Some device) field rest = has_field device field rest
+
+-- the line gives again what the lines above gave
+abbrev pub is_again : List Row → LineKind → Text → Bool
+is_again above Action rest = not (is_empty (texts Action above))
+is_again above Device rest = false
+is_again above (Field field) rest = some_has_field (device_above above) field rest
+is_again above Constant rest = has_name (pairs Constant above) (pair_of rest)
+is_again above Command rest = is_among (texts Command above) rest
+is_again above Answer rest = false
+
+-- the first fault whose condition holds
+abbrev pub first_of : List (Bool × BlockFaultKind) → Option BlockFaultKind
+first_of [] = None
+first_of (fault ∷ faults) = if fault.0 then Some fault.1 else first_of faults
+
+-- what is wrong with a line of the form: the first of these whose condition holds
+unfoldable pub row_fault : List Row → LineKind → Text → List Text → Option BlockFaultKind
+row_fault above kind rest below = first_of (
+    (lacks_action above kind rest, NoAction)
+    ∷ (lacks_device above kind, NoDevice)
+    ∷ (is_too_deep above kind, TooDeep)
+    ∷ (is_wrong_path above kind rest, Path)
+    ∷ (is_wrong_number above kind rest, Number)
+    ∷ (is_half above kind rest below, Pair)
+    ∷ (is_again above kind rest, Twice)
+    ∷ [])
+
+abbrev pub fault_unless : List Row → Option Row → List Text → Option BlockFaultKind
+fault_unless above None below = Some Letter
+fault_unless above (Some row) below = row_fault above row.0 row.1 below
+
+-- whether a line has a NUL byte
+unfoldable pub has_nul : Text → Bool
+has_nul line = is_some (position (λ b. b == nul) line)
+
+-- what is wrong with a line, given the lines above it and those below
+unfoldable pub line_fault : List Row → Text → List Text → Option BlockFaultKind
+line_fault above line below = if has_nul line then Some Nul else fault_unless above (row_of line) below
+
+abbrev pub unless_faulty : ℕ → Option BlockFaultKind → Result EventValue BlockFault → Result EventValue BlockFault
+unless_faulty line None whole = whole
+unless_faulty line (Some kind) whole = Err (record { line = line; kind = kind })
+
+-- what lines give below lines that are not faulty: the first fault, else the event
+unfoldable pub given_below : List Row → List Text → Result EventValue BlockFault
+given_below above [] = if is_empty (devices above) then Err (record { line = length above; kind = NoDevice }) else Ok (event above)
+given_below above (line ∷ below) = unless_faulty (length above + 1) (line_fault above line below) (given_below (above ++ option_to_list (row_of line)) below)
+
+-- what lines give
+unfoldable pub given_by : List Text → Result EventValue BlockFault
+given_by [] = Err (record { line = 1; kind = NoAction })
+given_by (line ∷ lines) = given_below [] (line ∷ lines)
+
+-- the most bytes that a block may have
+abbrev pub most_bytes : ℕ
+most_bytes = 65536
+
+-- the line that holds the first byte too many
+unfoldable pub line_too_long : Text → ℕ
+line_too_long block = count_by (λ b. b == newline) (take most_bytes block) + 1
+
+-- what a block gives: its event, or the first fault
+unfoldable pub block_gives : Text → Result EventValue BlockFault
+block_gives block = if nat_lt most_bytes (length block) then Err (record { line = line_too_long block; kind = TooLong }) else given_by (lines_of block)

@@ -1,0 +1,71 @@
+-- The lines of a block, and what one line is.
+use Rattle.std.specs.Prelude.{ℕ, Bool, false, ◌&&◌, List, [], ◌∷◌, ◌==◌, Option, Some, None, option_map, if◌then◌else◌, nat_eq}
+use Rattle.std.specs.Option.{option_and_then}
+use Rattle.std.specs.List.{find, starts_with}
+use Rattle.bytes_core.specs.Names.{newline, colon, space}
+use Rattle.device_core.specs.Pairs.{Text}
+use Rattle.device_core.specs.declared.lines.DeviceField.{DeviceField}
+use Rattle.device_core.specs.declared.lines.DeviceField.TheVariants.{Subsystem, Driver, Node, Devnum, Attribute, Property, Tag, Link}
+use Rattle.device_core.specs.declared.lines.LineKind.{LineKind}
+use Rattle.device_core.specs.declared.lines.LineKind.TheVariants.{Action, Device, Field, Constant, Command, Answer}
+
+-- a byte before the first of these lines
+abbrev pub onto_first : ℕ → List Text → List Text
+onto_first b [] = (b ∷ []) ∷ []
+onto_first b (line ∷ lines) = (b ∷ line) ∷ lines
+
+-- the lines of a text: each ends with its newline, and the last at the latest with the text
+unfoldable pub lines_of : Text → List Text
+lines_of [] = []
+lines_of (b ∷ text) = if b == newline then [] ∷ lines_of text else onto_first b (lines_of text)
+
+-- the letter that a line about the device above begins with
+abbrev pub field_letter : DeviceField → ℕ
+field_letter Subsystem = 85  -- U
+field_letter Driver = 86  -- V
+field_letter Node = 78  -- N
+field_letter Devnum = 68  -- D
+field_letter Attribute = 65  -- A
+field_letter Property = 69  -- E
+field_letter Tag = 71  -- G
+field_letter Link = 83  -- S
+
+-- the letter that a line begins with
+abbrev pub letter_of : LineKind → ℕ
+letter_of Action = 67  -- C
+letter_of Device = 80  -- P
+letter_of (Field field) = field_letter field
+letter_of Constant = 75  -- K
+letter_of Command = 81  -- Q
+letter_of Answer = 82  -- R
+
+-- all kinds of lines
+abbrev pub kinds : List LineKind
+kinds = Action ∷ Device ∷ Field Subsystem ∷ Field Driver ∷ Field Node ∷ Field Devnum ∷ Field Attribute ∷ Field Property ∷ Field Tag ∷ Field Link ∷ Constant ∷ Command ∷ Answer ∷ []
+
+-- a line by its kind, and what stands behind the space
+abbrev pub Row : Type 0
+Row = LineKind × Text
+
+-- the letter of a line that is a letter, a colon, a space and a rest, and the rest
+abbrev pub form : Text → Option (ℕ × Text)
+form [] = None
+form (a ∷ []) = None
+form (a ∷ b ∷ []) = None
+form (a ∷ b ∷ c ∷ rest) = if b == colon && c == space then Some (a, rest) else None
+
+-- the kind of line that has this letter
+unfoldable pub kind_of : ℕ → Option LineKind
+kind_of letter = find (λ kind. letter == letter_of kind) kinds
+
+abbrev pub row_from : ℕ × Text → Option Row
+row_from parts = option_map (λ kind. (kind, parts.1)) (kind_of parts.0)
+
+-- a line of the form with a known letter, by its kind
+unfoldable pub row_of : Text → Option Row
+row_of line = option_and_then row_from (form line)
+
+-- whether the first of these lines begins as an answer does
+unfoldable pub begins_answer : List Text → Bool
+begins_answer [] = false
+begins_answer (line ∷ lines) = starts_with nat_eq line (letter_of Answer ∷ colon ∷ space ∷ [])

@@ -1,0 +1,195 @@
+-- What the private parts of the reader do with the lines so far. The clause of `read_block` names
+-- none of this; it only carries the proof from one function to the next.
+use Rattle.std.specs.Prelude.{◌≡◌, ℕ, ◌+◌, Bool, not, ◌||◌, List, [], ◌∷◌, ◌++◌, length, nat_le, Option, Some, None, option_map, Result, Ok, Err, if◌then◌else◌, is_some, map}
+use Rattle.std.specs.Option.{option_to_list}
+use Rattle.device_core.specs.Pairs.{Text, Pair as NameAndValue, named, is_among}
+use Rattle.device_core.specs.Answers.{AnswerValue}
+use Rattle.device_core.specs.Lines.{Row, row_of, begins_answer}
+use Rattle.device_core.specs.Parts.{is_empty, pair_of, number_of, answer_of, is_device_path, is_parent_path}
+use Rattle.device_core.specs.Values.{DeviceValue, EventValue, device_value}
+use Rattle.device_core.specs.Faults.{has_nul}
+use Rattle.device_core.specs.declared.lines.DeviceField.{DeviceField}
+use Rattle.device_core.specs.declared.lines.DeviceField.TheVariants.{Subsystem, Driver, Node, Devnum, Attribute, Property, Tag, Link}
+use Rattle.device_core.specs.declared.lines.LineKind.{LineKind}
+use Rattle.device_core.specs.declared.lines.LineKind.TheVariants.{Action, Device, Field, Constant, Command, Answer}
+use Rattle.device_core.specs.declared.draft.Draft.{Draft}
+use Rattle.device_core.specs.declared.faults.BlockFault.{BlockFault}
+use Rattle.device_core.specs.declared.faults.BlockFaultKind.{BlockFaultKind}
+use Rattle.device_core.specs.declared.faults.BlockFaultKind.TheVariants.{NoAction, NoDevice, Letter, Twice, Path, Number, Pair, Nul, TooLong, TooDeep, Memory}
+
+-- a fault of this kind is the one that is wanted; memory may always be refused
+abbrev pub Fails : {Y : Type 0} → BlockFaultKind → Result Y BlockFaultKind → Type 0
+Fails NoAction wanted = wanted ≡ Err NoAction
+Fails NoDevice wanted = wanted ≡ Err NoDevice
+Fails Letter wanted = wanted ≡ Err Letter
+Fails Twice wanted = wanted ≡ Err Twice
+Fails Path wanted = wanted ≡ Err Path
+Fails Number wanted = wanted ≡ Err Number
+Fails Pair wanted = wanted ≡ Err Pair
+Fails Nul wanted = wanted ≡ Err Nul
+Fails TooLong wanted = wanted ≡ Err TooLong
+Fails TooDeep wanted = wanted ≡ Err TooDeep
+Fails Memory wanted = Unit {0}
+
+-- a result is the one that is wanted, memory apart
+abbrev pub Gives : {X Y : Type 0} → (X → Y) → Result X BlockFaultKind → Result Y BlockFaultKind → Type 0
+Gives view (Ok x) wanted = wanted ≡ Ok (view x)
+Gives view (Err kind) wanted = Fails kind wanted
+
+abbrev pub if_ok : {X Y : Type 0} → (X → Y) → Result X BlockFaultKind → Result Y BlockFaultKind
+if_ok f (Ok x) = Ok (f x)
+if_ok f (Err kind) = Err kind
+
+unfoldable pub once_step : Option Text → Text → Result Text BlockFaultKind
+once_step before rest = if is_empty rest then Err Pair else (if is_some before then Err Twice else Ok rest)
+
+abbrev pub number_once : Option NameAndValue → Option NameAndValue → Result NameAndValue BlockFaultKind
+number_once before None = Err Number
+number_once before (Some number) = if is_some before then Err Twice else Ok number
+
+unfoldable pub number_step : Option NameAndValue → Text → Result NameAndValue BlockFaultKind
+number_step before rest = number_once before (number_of rest)
+
+abbrev pub with_pair : List NameAndValue → Option NameAndValue → Result (List NameAndValue) BlockFaultKind
+with_pair known None = Err Pair
+with_pair known (Some pair) = if named known pair.0 then Err Twice else Ok (known ++ pair ∷ [])
+
+unfoldable pub pair_step : List NameAndValue → Text → Result (List NameAndValue) BlockFaultKind
+pair_step known rest = with_pair known (pair_of rest)
+
+unfoldable pub member_step : List Text → Text → Result (List Text) BlockFaultKind
+member_step known rest = if is_empty rest then Err Pair else (if is_among known rest then Err Twice else Ok (known ++ rest ∷ []))
+
+-- a line about the device above
+unfoldable pub field_step : DeviceValue → DeviceField → Text → Result DeviceValue BlockFaultKind
+field_step d Subsystem rest = if_ok (λ t. record d { subsystem = Some t }) (once_step d.subsystem rest)
+field_step d Driver rest = if_ok (λ t. record d { driver = Some t }) (once_step d.driver rest)
+field_step d Node rest = if_ok (λ t. record d { node = Some t }) (once_step d.node rest)
+field_step d Devnum rest = if_ok (λ n. record d { number = Some n }) (number_step d.number rest)
+field_step d Attribute rest = if_ok (λ ps. record d { attrs = ps }) (pair_step d.attrs rest)
+field_step d Property rest = if_ok (λ ps. record d { env = ps }) (pair_step d.env rest)
+field_step d Tag rest = if_ok (λ ts. record d { tags = ts }) (member_step d.tags rest)
+field_step d Link rest = if_ok (λ ts. record d { links = ts }) (member_step d.links rest)
+
+-- the lines so far
+pub record Sofar : Type 0 where
+  pub closed : List DeviceValue
+  pub last : Option DeviceValue
+  pub programs : List (Text × AnswerValue)
+  pub asked : Option Text
+  pub constants : List NameAndValue
+
+abbrev pub sofar : Draft → Sofar
+sofar d = record { closed = map device_value d.closed.items; last = option_map device_value d.last; programs = d.programs; asked = option_map (λ t. t.now) d.asked; constants = d.constants }
+
+abbrev pub bare_device : Text → DeviceValue
+bare_device path = record { path = path; subsystem = None; driver = None; node = None; number = None; attrs = []; env = []; tags = []; links = [] }
+
+-- a device begins
+abbrev pub begun : Sofar → Text → Sofar
+begun s path = record s { closed = s.closed ++ option_to_list s.last; last = Some (bare_device path) }
+
+-- whether a device may begin
+unfoldable pub path_step : ℕ → Option DeviceValue → Text → Result (Unit {0}) BlockFaultKind
+path_step closed None path = if is_device_path path then Ok tt else Err Path
+path_step closed (Some d) path = if nat_le 63 closed then Err TooDeep else (if is_parent_path d.path path then Ok tt else Err Path)
+
+unfoldable pub device_step : Sofar → Text → Result Sofar BlockFaultKind
+device_step s path = if_ok (λ _. begun s path) (path_step (length s.closed) s.last path)
+
+unfoldable pub above_step : Option DeviceValue → DeviceField → Text → Result DeviceValue BlockFaultKind
+above_step None field rest = Err NoDevice
+above_step (Some d) field rest = field_step d field rest
+
+unfoldable pub command_step : List (Text × AnswerValue) → Text → Bool → Result Text BlockFaultKind
+command_step programs rest answered = if is_empty rest || not answered then Err Pair else (if named programs rest then Err Twice else Ok rest)
+
+abbrev pub with_answer : List (Text × AnswerValue) → Text → Option AnswerValue → Result (List (Text × AnswerValue)) BlockFaultKind
+with_answer programs command None = Err Number
+with_answer programs command (Some answer) = if named programs command then Err Twice else Ok (programs ++ (command, answer) ∷ [])
+
+unfoldable pub answer_step : List (Text × AnswerValue) → Option Text → Text → Result (List (Text × AnswerValue)) BlockFaultKind
+answer_step programs None rest = Err Pair
+answer_step programs (Some command) rest = with_answer programs command (answer_of rest)
+
+abbrev pub unasked : Sofar → Sofar
+unasked s = record s { asked = None }
+
+-- a line that is not the first
+unfoldable pub row_step : Sofar → LineKind → Text → Bool → Result Sofar BlockFaultKind
+row_step s Action rest answered = if is_empty rest then Err Pair else Err Twice
+row_step s Device rest answered = device_step (unasked s) rest
+row_step s (Field field) rest answered = if_ok (λ d. record s { last = Some d; asked = None }) (above_step s.last field rest)
+row_step s Constant rest answered = if_ok (λ ps. record s { constants = ps; asked = None }) (pair_step s.constants rest)
+row_step s Command rest answered = if_ok (λ c. record s { asked = Some c }) (command_step s.programs rest answered)
+row_step s Answer rest answered = if_ok (λ ps. record s { programs = ps; asked = None }) (answer_step s.programs s.asked rest)
+
+-- a line by its kind, unless it has a NUL byte or is none
+abbrev pub known_row : Option Row → Result Row BlockFaultKind
+known_row None = Err Letter
+known_row (Some row) = Ok row
+
+unfoldable pub plain_row : Text → Result Row BlockFaultKind
+plain_row line = if has_nul line then Err Nul else known_row (row_of line)
+
+abbrev pub then_row : Sofar → Bool → Result Row BlockFaultKind → Result Sofar BlockFaultKind
+then_row s answered (Err kind) = Err kind
+then_row s answered (Ok row) = row_step s row.0 row.1 answered
+
+unfoldable pub line_step : Sofar → Text → Bool → Result Sofar BlockFaultKind
+line_step s line answered = then_row s answered (plain_row line)
+
+abbrev pub action_by : LineKind → Text → Result Text BlockFaultKind
+action_by Action rest = if is_empty rest then Err NoAction else Ok rest
+action_by Answer rest = Err Pair
+action_by _ rest = Err NoAction
+
+-- the action of the first line
+abbrev pub action_in : Result Row BlockFaultKind → Result Text BlockFaultKind
+action_in (Err kind) = Err kind
+action_in (Ok row) = action_by row.0 row.1
+
+unfoldable pub first_step : Text → Result Text BlockFaultKind
+first_step line = action_in (plain_row line)
+
+-- nothing is read behind the first line yet
+abbrev pub start : Sofar
+start = record { closed = []; last = None; programs = []; asked = None; constants = [] }
+
+-- as `Fails` and `Gives`, with a line
+abbrev pub unless_memory : BlockFaultKind → Type 0 → Type 0
+unless_memory Memory P = Unit {0}
+unless_memory _ P = P
+
+abbrev pub GivesAt : {X Y : Type 0} → (X → Y) → Result X BlockFault → Result Y BlockFault → Type 0
+GivesAt view (Ok x) wanted = wanted ≡ Ok (view x)
+GivesAt view (Err fault) wanted = unless_memory fault.kind (wanted ≡ Err fault)
+
+abbrev pub then_steps : {Y : Type 0} → ℕ → (Sofar → Result Y BlockFault) → Result Sofar BlockFaultKind → Result Y BlockFault
+then_steps line more (Err kind) = Err (record { line = line; kind = kind })
+then_steps line more (Ok s) = more s
+
+-- the lines behind the first `above` ones, and how many lines there are in all
+unfoldable pub steps : Sofar → ℕ → List Text → Result (Sofar × ℕ) BlockFault
+steps s above [] = Ok (s, above)
+steps s above (line ∷ below) = then_steps (above + 1) (λ t. steps t (above + 1) below) (line_step s line (begins_answer below))
+
+abbrev pub with_last : Text → Sofar → ℕ → Option DeviceValue → Result EventValue BlockFault
+with_last action s count None = Err (record { line = count; kind = NoDevice })
+with_last action s count (Some d) = Ok (record { action = action; devices = s.closed ++ d ∷ []; programs = s.programs; constants = s.constants })
+
+-- the event of all lines
+unfoldable pub finished : Text → Sofar → ℕ → Result EventValue BlockFault
+finished action s count = with_last action s count s.last
+
+abbrev pub then_finished : Text → Result (Sofar × ℕ) BlockFault → Result EventValue BlockFault
+then_finished action (Err fault) = Err fault
+then_finished action (Ok p) = finished action p.0 p.1
+
+abbrev pub behind_first : List Text → Result Text BlockFaultKind → Result EventValue BlockFault
+behind_first lines (Err kind) = Err (record { line = 1; kind = kind })
+behind_first lines (Ok action) = then_finished action (steps start 1 lines)
+
+unfoldable pub read_lines : List Text → Result EventValue BlockFault
+read_lines [] = Err (record { line = 1; kind = NoAction })
+read_lines (line ∷ lines) = behind_first lines (first_step line)

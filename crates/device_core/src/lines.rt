@@ -1,0 +1,99 @@
+//! One line by itself: its letter, and what stands behind it.
+ghost use Rattle.std.specs.Prelude.{◌≡◌, ◌∷◌, [], ◌<◌, length, option_map, nat_eq};
+ghost use Rattle.std.specs.List.{starts_with};
+ghost use Rattle.device_core.specs.Lines.{form, kind_of, row_of};
+ghost use Rattle.device_core.specs.Faults.{has_nul};
+ghost use Rattle.device_core.specs.Steps.{Gives, plain_row};
+
+use crate::faults::BlockFaultKind;
+use bytes_core::find;
+
+/// What a line about the device above says of it.
+#[derive(Clone, Copy)]
+pub(crate) enum DeviceField {
+    Subsystem,
+    Driver,
+    Node,
+    Devnum,
+    Attribute,
+    Property,
+    Tag,
+    Link,
+}
+
+/// What a line is about.
+#[derive(Clone, Copy)]
+pub(crate) enum LineKind {
+    Action,
+    Device,
+    Field(DeviceField),
+    Constant,
+    Command,
+    Answer,
+}
+
+/// The letter of a line that has the form, and its rest.
+#[tactic(auto, unfolding(crate::specs::Lines::form))]
+fn form(line: &[u8]) -> Option<(u8, &[u8])>
+    ensures { option_map (λ p. (p.0, p.1.now)) result ≡ form line.now }
+{
+    match line {
+        [letter, b':', b' ', rest @ ..] => Some((*letter, rest)),
+        _ => None,
+    }
+}
+
+/// The kind of line that begins with a letter.
+#[tactic(auto, unfolding(crate::specs::Lines::kind_of))]
+fn kind_of(letter: u8) -> Option<LineKind>
+    ensures { result ≡ kind_of letter }
+{
+    match letter {
+        b'C' => Some(LineKind::Action),
+        b'P' => Some(LineKind::Device),
+        b'U' => Some(LineKind::Field(DeviceField::Subsystem)),
+        b'V' => Some(LineKind::Field(DeviceField::Driver)),
+        b'N' => Some(LineKind::Field(DeviceField::Node)),
+        b'D' => Some(LineKind::Field(DeviceField::Devnum)),
+        b'A' => Some(LineKind::Field(DeviceField::Attribute)),
+        b'E' => Some(LineKind::Field(DeviceField::Property)),
+        b'G' => Some(LineKind::Field(DeviceField::Tag)),
+        b'S' => Some(LineKind::Field(DeviceField::Link)),
+        b'K' => Some(LineKind::Constant),
+        b'Q' => Some(LineKind::Command),
+        b'R' => Some(LineKind::Answer),
+        _ => None,
+    }
+}
+
+/// A line by its kind, and its rest.
+#[tactic(auto, unfolding(crate::specs::Lines::row_of))]
+fn row_of(line: &[u8]) -> Option<(LineKind, &[u8])>
+    ensures { option_map (λ r. (r.0, r.1.now)) result ≡ row_of line.now }
+{
+    let (letter, rest) = form(line)?;
+    let kind = kind_of(letter)?;
+    Some((kind, rest))
+}
+
+/// Whether a line has a NUL byte.
+#[tactic(auto, unfolding(crate::specs::Faults::has_nul))]
+fn has_nul(line: &[u8]) -> bool
+    ensures { result ≡ has_nul line.now }
+{
+    find(b'\0', line).is_some()
+}
+
+/// A line by its kind, and its rest, unless it has a NUL byte or is of no kind.
+#[tactic(auto, unfolding(crate::specs::Steps::plain_row))]
+pub(crate) fn plain_row(line: &[u8]) -> Result<(LineKind, &[u8]), BlockFaultKind>
+    ensures { Gives (λ r. (r.0, r.1.now)) result (plain_row line.now) }
+{
+    if has_nul(line) {
+        return Err(BlockFaultKind::Nul);
+    }
+    match row_of(line) {
+        Some(row) => Ok(row),
+        None => Err(BlockFaultKind::Letter),
+    }
+}

@@ -1,0 +1,177 @@
+//! A whole block: its lines one after another, and the event at the end.
+ghost use Rattle.std.specs.Prelude.{◌≡◌, ◌≢◌, ◌∷◌, ◌+◌, ◌<◌, ◌≤◌, length, Ok, Err, IfOk, IfErr, nat_eq};
+ghost use Rattle.device_core.specs.Values.{event_value};
+ghost use Rattle.device_core.specs.Lines.{lines_of, begins_answer};
+ghost use Rattle.device_core.specs.Faults.{block_gives, line_too_long, most_bytes};
+ghost use Rattle.device_core.specs.Steps.{Gives, GivesAt, sofar, start, first_step, line_step, steps, finished, read_lines};
+
+use crate::draft::{Draft, add_row, close_last, new_draft};
+use crate::events::Event;
+use crate::faults::{BlockFault, BlockFaultKind};
+use crate::lines::{LineKind, plain_row};
+use bytes_core::find;
+use std::alloc::Global;
+
+/// The most bytes of a block.
+const MOST_BYTES: usize = 65536;
+
+/// The first line of a text that is not empty, and what stands behind its newline.
+fn split_line(text: &[u8]) -> (&[u8], &[u8])
+    requires { 0 < length text.now }
+    ensures lines { lines_of text.now ≡ result.0.now ∷ lines_of result.1.now }
+    ensures shorter { length result.1.now < length text.now }
+{
+    match find(b'\n', text) {
+        Some(n) => (&text[..n], &text[n + 1..]),
+        None => text.split_at(text.len()),
+    }
+}
+
+/// Whether the next line begins as an answer does.
+#[tactic(auto, using(crate::proofs::LineLemmas::begins_answer_is))]
+fn begins_answer(below: &[u8]) -> bool
+    ensures { result ≡ begins_answer (lines_of below.now) }
+{
+    below.starts_with(b"R: ")
+}
+
+/// The action of the first line.
+#[tactic(auto, unfolding(crate::specs::Steps::first_step))]
+fn first_line(line: &[u8]) -> Result<&[u8], BlockFaultKind>
+    ensures { Gives (λ t. t.now) result (first_step line.now) }
+{
+    let (kind, rest) = plain_row(line)?;
+    match kind {
+        LineKind::Action => {
+            if rest.is_empty() {
+                return Err(BlockFaultKind::NoAction);
+            }
+            Ok(rest)
+        }
+        LineKind::Answer => Err(BlockFaultKind::Pair),
+        _ => Err(BlockFaultKind::NoAction),
+    }
+}
+
+/// A line that is not the first, and what stands below it.
+#[tactic(auto, unfolding(crate::specs::Steps::line_step))]
+fn add_line<'a>(
+    alloc: Global,
+    draft: &mut Draft<'a>,
+    line: &'a [u8],
+    below: &[u8],
+) -> Result<(), BlockFaultKind>
+    ensures { Gives (λ _. sofar draft.new) result (line_step (sofar draft.old) line.now (begins_answer (lines_of below.now))) }
+{
+    let (kind, rest) = plain_row(line)?;
+    add_row(alloc, draft, kind, rest, begins_answer(below))
+}
+
+/// The lines behind the first, and how many lines there are in all.
+fn read_rest<'a>(alloc: Global, text: &'a [u8]) -> Result<(Draft<'a>, usize), BlockFault>
+    requires { length text.now ≤ most_bytes }
+    ensures { GivesAt (λ p. (sofar p.0, p.1)) result (steps start 1 (lines_of text.now)) }
+{
+    let mut draft = new_draft(alloc);
+    let mut rest = text;
+    let mut above = 1usize;
+    while !rest.is_empty() {
+        let (line, below) = split_line(rest);
+        match add_line(alloc, &mut draft, line, below) {
+            Ok(()) => {}
+            Err(kind) => {
+                return Err(BlockFault {
+                    line: above + 1,
+                    kind,
+                });
+            }
+        }
+        rest = below;
+        above += 1;
+    }
+    Ok((draft, above))
+}
+
+/// The event of all lines.
+#[tactic(auto, unfolding(crate::specs::Steps::finished))]
+fn finish<'a>(action: &'a [u8], draft: Draft<'a>, count: usize) -> Result<Event<'a>, BlockFault>
+    ensures { GivesAt event_value result (finished action.now (sofar draft.entry) count) }
+{
+    let Draft {
+        closed,
+        last,
+        programs,
+        constants,
+        asked: _,
+    } = draft;
+    if last.is_none() {
+        return Err(BlockFault {
+            line: count,
+            kind: BlockFaultKind::NoDevice,
+        });
+    }
+    let mut devices = closed;
+    match close_last(&mut devices, last) {
+        Ok(()) => Ok(Event {
+            action,
+            devices,
+            programs,
+            constants,
+        }),
+        Err(kind) => Err(BlockFault { line: count, kind }),
+    }
+}
+
+/// The line that holds the first byte too many.
+#[tactic(auto, unfolding(crate::specs::Faults::line_too_long))]
+fn line_too_long(block: &[u8]) -> usize
+    requires { most_bytes < length block.now }
+    ensures { result ≡ line_too_long block.now }
+{
+    let (within, _) = block.split_at(MOST_BYTES);
+    within.iter().filter(|b| **b == b'\n').count() + 1
+}
+
+/// The lines of a block that is not too long.
+#[tactic(auto, unfolding(crate::specs::Steps::read_lines))]
+fn read_lines<'a>(alloc: Global, block: &'a [u8]) -> Result<Event<'a>, BlockFault>
+    requires { length block.now ≤ most_bytes }
+    ensures { GivesAt event_value result (read_lines (lines_of block.now)) }
+{
+    if block.is_empty() {
+        return Err(BlockFault {
+            line: 1,
+            kind: BlockFaultKind::NoAction,
+        });
+    }
+    let (first, rest) = split_line(block);
+    let action = match first_line(first) {
+        Ok(action) => action,
+        Err(kind) => return Err(BlockFault { line: 1, kind }),
+    };
+    let (draft, count) = read_rest(alloc, rest)?;
+    finish(action, draft, count)
+}
+
+/// Reads an event block, as udev's properties of an event stand in lines: the action, then each
+/// device of the chain with what is known of it.
+///
+/// A block has at most 65,536 bytes with its newlines and at most 64 devices. The fault is that
+/// of the first faulty line, and in it the first of: a NUL byte (`Nul`), no line of the form
+/// (`Letter`), no action (`NoAction`), no device (`NoDevice`), too many of them (`TooDeep`), a
+/// wrong path (`Path`), a wrong number (`Number`), a missing part (`Pair`), a repeated one
+/// (`Twice`). A block that is too long is `TooLong` before all else. Where no line is faulty and
+/// there is no device, the fault is `NoDevice` at the last line. `Memory` comes where room was
+/// refused. Nothing is copied: the event borrows the block.
+pub fn read_block<'a>(alloc: Global, block: &'a [u8]) -> Result<Event<'a>, BlockFault>
+    ensures event { IfOk result (λ e. block_gives block.now ≡ Ok (event_value e)) }
+    ensures fault { IfErr result (λ f. f.kind ≢ BlockFaultKind.Memory → block_gives block.now ≡ Err f) }
+{
+    if block.len() > MOST_BYTES {
+        return Err(BlockFault {
+            line: line_too_long(block),
+            kind: BlockFaultKind::TooLong,
+        });
+    }
+    read_lines(alloc, block)
+}

@@ -1,0 +1,19 @@
+//! The whole run over what was read: a command line and files in, bytes and a status out.
+//!
+//! Nothing here opens a file or knows a terminal: the files come as bytes and the outputs as sinks,
+//! so that the contract of `serve` can say what is written, to the byte. What a run says is built
+//! first, as one text for each output, and then written; so memory that runs out never leaves half
+//! of an answer.
+#![tactic(auto)]
+
+mod answers;
+mod delivery;
+mod messages;
+mod report;
+mod serving;
+
+pub use command_line::{Line, LineFault, Verb};
+pub use serving::serve;
+pub use streams::{
+    DeviceFault, MemorySink, MemorySource, Sink, SinkOver, Source, SourceOver, write_all,
+};

@@ -1,0 +1,75 @@
+//! Messages as lines.
+//!
+//! The texts stand here and not beside the kinds of messages, since they are needed only where the
+//! lines are written.
+ghost use Rattle.std.specs.Prelude.{◌≡◌, ◌++◌, IfOk, OnOk};
+ghost use Rattle.engine_core.specs.Messages.{heading_of, message_line, message_lines, place_of, word_part};
+
+use files_core::{Message, MessageKind, escape};
+use itoa::Buffer;
+use std::alloc::{AllocError, Global};
+
+/// The lines of messages, in the order given.
+pub(crate) fn message_lines(alloc: Global, messages: &[Message]) -> Result<Vec<u8>, AllocError>
+    ensures { IfOk result (λ text. text.items ≡ message_lines messages.now) }
+{
+    let mut text = Vec::new(alloc);
+    for message in messages {
+        push_message(alloc, &mut text, message)?;
+    }
+    Ok(text)
+}
+
+/// Puts a message's line behind a text.
+#[tactic(auto, unfolding(crate::specs::Messages::message_line))]
+fn push_message(alloc: Global, text: &mut Vec<u8>, message: &Message) -> Result<(), AllocError>
+    ensures { OnOk result (text.new.items ≡ text.old.items ++ message_line message.now) }
+{
+    push_place(alloc, text, message.file.as_slice(), message.line)?;
+    text.extend_from_slice(heading(message.kind))?;
+    push_word(alloc, text, message.word.as_slice())?;
+    text.push(b'\n')?;
+    Ok(())
+}
+
+/// Puts a message's word behind a text, escaped, and nothing where there is none.
+fn push_word(alloc: Global, text: &mut Vec<u8>, word: &[u8]) -> Result<(), AllocError>
+    ensures { OnOk result (text.new.items ≡ text.old.items ++ word_part word.now) }
+{
+    if word.is_empty() {
+        return Ok(());
+    }
+    text.extend_from_slice(b": ")?;
+    text.extend_from_slice(&escape(alloc, word)?)?;
+    Ok(())
+}
+
+/// Puts `FILE:LINE: ` behind a text, the file's name escaped.
+pub(crate) fn push_place(
+    alloc: Global,
+    text: &mut Vec<u8>,
+    file: &[u8],
+    line: u32,
+) -> Result<(), AllocError>
+    ensures { OnOk result (text.new.items ≡ text.old.items ++ place_of file.now line) }
+{
+    text.extend_from_slice(&escape(alloc, file)?)?;
+    text.push(b':')?;
+    text.extend_from_slice(Buffer::new().format(line).as_bytes())?;
+    text.extend_from_slice(b": ")?;
+    Ok(())
+}
+
+/// The code of a kind of message, and what it says.
+fn heading(kind: MessageKind) -> &'static [u8]
+    ensures { result.now ≡ heading_of kind }
+{
+    match kind {
+        MessageKind::PropertyWithoutMatch => b"H1 property without a match",
+        MessageKind::MatchWithoutProperty => b"H2 match without a property",
+        MessageKind::UnindentedLine => b"H3 unindented line after properties",
+        MessageKind::NoEquals => b"H4 no =",
+        MessageKind::EmptyKey => b"H5 empty key",
+        MessageKind::PatternNotSupported => b"H6 pattern not supported",
+    }
+}

@@ -1,0 +1,78 @@
+//! The files and folders that a line asks for.
+ghost use Rattle.std.specs.Prelude.{◌≡◌, ◌++◌, IfOk};
+ghost use Rattle.files.specs.Places.{Wants, folders_for, folders_of, kind_of, place_of, places_of};
+
+use crate::places::{Folder, Wanted};
+use command_line::{Line, Verb};
+use files_core::FileKind;
+use std::alloc::{AllocError, Global};
+
+fn named_kind(verb: Verb) -> FileKind
+    ensures { result ≡ kind_of verb }
+{
+    match verb {
+        Verb::Update | Verb::Query => FileKind::Hwdb,
+    }
+}
+
+fn folder(
+    alloc: Global,
+    kind: FileKind,
+    rank: u8,
+    root: &str,
+    path: &str,
+) -> Result<Folder, AllocError>
+    ensures { IfOk result (λ f. place_of f ≡ (kind, rank, root.now ++ path.now)) }
+{
+    let mut whole = String::from_str(alloc, root)?;
+    whole.push_str(path)?;
+    Ok(Folder {
+        kind,
+        rank,
+        path: whole,
+    })
+}
+
+fn hwdb_folders(alloc: Global, root: &str) -> Result<Vec<Folder>, AllocError>
+    ensures { IfOk result (λ folders. places_of folders.items ≡ folders_of FileKind.Hwdb root.now) }
+{
+    let kind = FileKind::Hwdb;
+    let mut folders = Vec::new(alloc);
+    folders.push(folder(alloc, kind, 0, root, "/etc/udev/hwdb.d")?)?;
+    folders.push(folder(alloc, kind, 1, root, "/usr/lib/udev/hwdb.d")?)?;
+    Ok(folders)
+}
+
+// The folders of a kind, by rank.
+fn folders_of_kind(alloc: Global, kind: FileKind, root: &str) -> Result<Vec<Folder>, AllocError>
+    ensures { IfOk result (λ folders. places_of folders.items ≡ folders_of kind root.now) }
+{
+    match kind {
+        FileKind::Hwdb => hwdb_folders(alloc, root),
+    }
+}
+
+fn asked_folders(alloc: Global, line: &Line<'_>) -> Result<Vec<Folder>, AllocError>
+    ensures { IfOk result (λ folders. places_of folders.items ≡ folders_for line.now) }
+{
+    if line.files.is_empty() {
+        folders_of_kind(alloc, named_kind(line.verb), line.root)
+    } else {
+        Ok(Vec::new(alloc))
+    }
+}
+
+/// The files and folders that a line asks for.
+///
+/// Named files stand in place of the folders, as with `udevadm verify`. The folders are those of
+/// hwdb(7), `/etc/udev/hwdb.d` with rank 0 and `/usr/lib/udev/hwdb.d` with rank 1, each behind the
+/// line's root, which is put before it as it is. `Err` is want of memory.
+pub fn wanted<'b, 'a>(alloc: Global, line: &'b Line<'a>) -> Result<Wanted<'b, 'a>, AllocError>
+    ensures { IfOk result (Wants line.now) }
+{
+    Ok(Wanted {
+        kind: named_kind(line.verb),
+        files: line.files.as_slice(),
+        folders: asked_folders(alloc, line)?,
+    })
+}

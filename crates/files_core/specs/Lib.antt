@@ -1,0 +1,4 @@
+pub mod Escapes
+pub mod FileOrder
+pub mod Places
+pub mod OrderLaws

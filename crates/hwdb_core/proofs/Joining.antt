@@ -1,0 +1,118 @@
+-- Adding parts to what was found.
+use Rattle.std.proofs.Common.{◌≡◌, ℕ, ◌+◌, List, ◌∷◌, [], ◌++◌, length, map, Result, Ok, Err, refl, sym, ◌∙◌, ap, subst, arith, append_assoc, append-nil, add_assoc, add-zero, zero-add, length-append}
+use Rattle.std.specs.List.{flat_map, sum_by}
+use Rattle.std.proofs.lemmas.List.Sums.{sum_by-append, sum_by-cons}
+use Rattle.files_core.specs.declared.Message.{Message}
+use Rattle.hwdb_core.specs.Properties.{Property}
+use Rattle.hwdb_core.specs.Sources.{text_len}
+use Rattle.hwdb_core.specs.Found.{Adds, FailsAt, Found, IsKept, found_in, join, nothing, only_messages}
+use Rattle.hwdb_core.specs.declared.fault.HwdbFault.{HwdbFault}
+use Rattle.hwdb_core.specs.declared.fault.HwdbFault.TheVariants.{TooMany, Memory}
+
+abbrev pub found_as : List Property → List Message → ℕ → Found
+found_as ps ms n = record { properties = ps; messages = ms; match_bytes = n }
+
+pub same_found : (ps qs : List Property) (ms ns : List Message) (a b : ℕ) → ps ≡ qs → ms ≡ ns → a ≡ b → found_as ps ms a ≡ found_as qs ns b
+same_found ps qs ms ns a b e f g = ap (λ (x : List Property). found_as x ms a) e ∙ ap (λ (x : List Message). found_as qs x a) f ∙ ap (λ (x : ℕ). found_as qs ns x) g
+
+pub join_assoc : (a b c : Found) → join (join a b) c ≡ join a (join b c)
+unfolding join
+join_assoc a b c =
+    same_found ((a.properties ++ b.properties) ++ c.properties) (a.properties ++ (b.properties ++ c.properties))
+    ((a.messages ++ b.messages) ++ c.messages) (a.messages ++ (b.messages ++ c.messages))
+    (a.match_bytes + b.match_bytes + c.match_bytes) (a.match_bytes + (b.match_bytes + c.match_bytes))
+    (append_assoc a.properties b.properties c.properties) (append_assoc a.messages b.messages c.messages) (add_assoc a.match_bytes b.match_bytes c.match_bytes)
+
+pub join_nothing : (a : Found) → join a nothing ≡ a
+unfolding join
+join_nothing a =
+    same_found (a.properties ++ []) a.properties (a.messages ++ []) a.messages (a.match_bytes + 0) a.match_bytes
+    (append-nil a.properties) (append-nil a.messages) (add-zero a.match_bytes)
+
+pub nothing_join : (a : Found) → join nothing a ≡ a
+unfolding join
+nothing_join a =
+    same_found a.properties a.properties a.messages a.messages (0 + a.match_bytes) a.match_bytes
+    refl refl (zero-add a.match_bytes)
+
+-- what may be kept with more may be kept without it
+pub kept_before : (a b : Found) → IsKept (join a b) → IsKept a
+unfolding join
+kept_before a b k =
+    let len : length (a.properties ++ b.properties) ≡ length a.properties + length b.properties = length-append a.properties b.properties in
+    let texts : sum_by text_len (a.properties ++ b.properties) ≡ sum_by text_len a.properties + sum_by text_len b.properties = sum_by-append text_len a.properties b.properties in
+    record { entries = omega (arith, len, k.entries); match_bytes = omega (arith, k.match_bytes); text_bytes = omega (arith, texts, k.text_bytes) }
+
+-- the first of two parts was not added
+pub first_failed : (a p q : Found) (e : HwdbFault) → FailsAt a p e → FailsAt a (join p q) e
+first_failed a p q TooMany h = λ k. h (kept_before (join a p) q (subst IsKept (sym (join_assoc a p q)) k))
+first_failed a p q Memory h = tt
+
+-- the first of two parts was added, and the second was not
+pub second_failed : (a b p q : Found) (e : HwdbFault) → b ≡ join a p → FailsAt b q e → FailsAt a (join p q) e
+second_failed a b p q TooMany e h = λ k. h (subst IsKept (sym (join_assoc a p q) ∙ ap (λ (y : Found). join y q) (sym e)) k)
+second_failed a b p q Memory e h = tt
+
+-- both parts were added
+pub both_added : (a b c p q : Found) → b ≡ join a p → c ≡ join b q → c ≡ join a (join p q)
+both_added a b c p q e h = h ∙ ap (λ (y : Found). join y q) e ∙ join_assoc a p q
+
+-- the first of two parts was added, and then the second or it was not
+pub second_part : {T : Type 0} (a b c p q : Found) (r : Result T HwdbFault) → b ≡ join a p → Adds b c q r → Adds a c (join p q) r
+second_part a b c p q (Ok x) e h = both_added a b c p q e h
+second_part a b c p q (Err f) e h = second_failed a b p q f e h
+
+-- a part by another name
+pub same_part : {T : Type 0} (a b p q : Found) (r : Result T HwdbFault) → p ≡ q → Adds a b p r → Adds a b q r
+same_part {T} a b p q r e h = subst (λ (x : Found). Adds {T = T} a b x r) e h
+
+pub same_failed : (a p q : Found) (e : HwdbFault) → p ≡ q → FailsAt a p e → FailsAt a q e
+same_failed a p q e f h = subst (λ (x : Found). FailsAt a x e) f h
+
+-- a fault is handed on
+pub returned : {T : Type 0} (a b p : Found) (r : Result T HwdbFault) (y e : HwdbFault) → r ≡ Err y → y ≡ e → FailsAt a p e → Adds a b p r
+returned {T} a b p r y e f g h = subst (λ (x : Result T HwdbFault). Adds {T = T} a b p x) (sym (f ∙ ap Err g)) h
+
+module _ {X : Type 0} (f : X → Found) where
+  -- how far a loop over a list has come
+  abbrev pub GoesOn : Found → Found → List X → List X → Type 0
+  GoesOn start now xs left = join now (found_in f left) ≡ join start (found_in f xs)
+
+  pub goes_on : (start now next : Found) (xs left : List X) (x : X) (more : List X) → GoesOn start now xs left → left ≡ x ∷ more → next ≡ join now (f x) → GoesOn start next xs more
+  unfolding found_in
+  goes_on start now next xs left x more h e a =
+      ap (λ (y : Found). join y (found_in f more)) a ∙ join_assoc now (f x) (found_in f more) ∙ ap (λ (ys : List X). join now (found_in f ys)) (sym e) ∙ h
+
+  pub fails : (start now : Found) (xs left : List X) (x : X) (more : List X) (e : HwdbFault) → GoesOn start now xs left → left ≡ x ∷ more → FailsAt now (f x) e → FailsAt start (found_in f xs) e
+  unfolding found_in
+  fails start now xs left x more TooMany h e a =
+      λ k. a (kept_before (join now (f x)) (found_in f more) (subst IsKept (sym (join_assoc now (f x) (found_in f more) ∙ ap (λ (ys : List X). join now (found_in f ys)) (sym e) ∙ h)) k))
+  fails start now xs left x more Memory h e a = tt
+
+  pub ends : (start now : Found) (xs left : List X) → GoesOn start now xs left → length left ≡ 0 → now ≡ join start (found_in f xs)
+  unfolding found_in
+  ends start now xs [] h e = sym (join_nothing now) ∙ h
+  ends start now xs (x ∷ more) h e = absurd (omega arith)
+
+  -- what is found in a list, list by list
+  pub found_in_is : (xs : List X) → found_in f xs ≡ found_as (flat_map (λ x. (f x).properties) xs) (flat_map (λ x. (f x).messages) xs) (sum_by (λ x. (f x).match_bytes) xs)
+  unfolding found_in join
+  found_in_is [] = refl
+  found_in_is (x ∷ xs) =
+      ap (λ (y : Found). join (f x) y) (found_in_is xs)
+      ∙ ap (λ (n : ℕ). found_as ((f x).properties ++ flat_map (λ x. (f x).properties) xs) ((f x).messages ++ flat_map (λ x. (f x).messages) xs) n) (sym (sum_by-cons (λ x. (f x).match_bytes) x xs))
+
+pub found_in_messages : {X : Type 0} (g : X → List Message) (xs : List X) → found_in (λ x. only_messages (g x)) xs ≡ only_messages (flat_map g xs)
+unfolding found_in join
+found_in_messages g [] = refl
+found_in_messages g (x ∷ xs) = ap (λ (y : Found). join (only_messages (g x)) y) (found_in_messages g xs)
+
+pub found_in_properties : {X : Type 0} (g : X → List Property) (xs : List X) → found_in (λ x. found_as (g x) [] 0) xs ≡ found_as (flat_map g xs) [] 0
+unfolding found_in join
+found_in_properties g [] = refl
+found_in_properties g (x ∷ xs) = ap (λ (y : Found). join (found_as (g x) [] 0) y) (found_in_properties g xs)
+
+pub found_in-map : {X Y : Type 0} (f : Y → Found) (g : X → Y) (xs : List X) → found_in f (map g xs) ≡ found_in (λ x. f (g x)) xs
+unfolding found_in
+found_in-map f g [] = refl
+found_in-map f g (x ∷ xs) = ap (λ (y : Found). join (f (g x)) y) (found_in-map f g xs)

@@ -1,0 +1,74 @@
+-- The entries of all files rise, and none has an empty key.
+use Rattle.std.proofs.Common.{◌≡◌, ◌≢◌, ℕ, zero, suc, ◌+◌, ◌<◌, List, ◌∷◌, [], length, take, get_or, Option, Some, None, Result, Ok, Err, refl, ap, arith, ◌==◌}
+use Rattle.std.specs.List.{All, flat_map, position}
+use Rattle.std.proofs.lemmas.List.{length-take-le}
+use Rattle.std.proofs.lemmas.List.Elements.{All-append, All-cons, All-push}
+use Rattle.bytes_core.specs.Names.{equals}
+use Rattle.files_core.specs.declared.SourceFile.{SourceFile}
+use Rattle.text_core.specs.Spell.{spell}
+use Rattle.text_core.specs.declared.glob_fault.GlobFault.{GlobFault}
+use Rattle.text_core.specs.declared.item.Item.{Item}
+use Rattle.lookup_core.specs.Orders.{Rising}
+use Rattle.lookup_core.specs.declared.Entry.{Entry}
+use Rattle.hwdb_core.specs.Lines.{NumberedLine}
+use Rattle.hwdb_core.specs.Paragraphs.{Cut}
+use Rattle.hwdb_core.specs.Properties.{Property, cut_properties, from_line, from_pair, from_spelled, pair_at, property_text}
+use Rattle.hwdb_core.specs.Sources.{cuts_of, entries_from, entry_at, properties_of}
+use Rattle.hwdb_core.proofs.Finding.{position_some}
+
+abbrev Keyed : Property → Type 0
+Keyed p = p.key ≢ []
+
+no_item : {X : Type 0} (P : X → Type 0) → All P []
+no_item P k d h = absurd (omega arith)
+
+all_flat : {X A : Type 0} (P : A → Type 0) (f : X → List A) (xs : List X) → ((x : X) → All P (f x)) → All P (flat_map f xs)
+all_flat P f [] h = no_item P
+all_flat P f (x ∷ xs) h = All-append P (f x) (flat_map f xs) (h x) (all_flat P f xs h)
+
+-- what stands before an `=` that is not at the front
+has_key : (t : List ℕ) (k : ℕ) → position (λ b. b == equals) t ≡ Some (suc k) → take (k + 1) t ≢ []
+has_key t k e n =
+    let at = position_some (λ b. b == equals) t (suc k) e in
+    let within : suc k < length t = at.1 in
+    let len : length (take (k + 1) t) ≡ k + 1 = length-take-le (k + 1) t (omega arith) in
+    let none : length (take (k + 1) t) ≡ 0 = ap length n in
+    absurd (omega arith)
+
+keyed_pair : (file : List ℕ) (pattern : List Item) (number : ℕ) (t : List ℕ) (o : Option ℕ) → position (λ b. b == equals) t ≡ o → All Keyed (from_pair file pattern number (pair_at t o))
+keyed_pair file pattern number t None e = no_item Keyed
+keyed_pair file pattern number t (Some zero) e = no_item Keyed
+keyed_pair file pattern number t (Some (suc k)) e = All-push Keyed [] _ (no_item Keyed) (has_key t k e)
+
+keyed_line : (file : List ℕ) (pattern : List Item) (l : NumberedLine) → All Keyed (from_line file pattern l)
+keyed_line file pattern l = keyed_pair file pattern l.number (property_text l) (position (λ b. b == equals) (property_text l)) refl
+
+keyed_spelled : (file : List ℕ) (ps : List NumberedLine) (r : Result (List Item) GlobFault) → All Keyed (from_spelled file ps r)
+keyed_spelled file ps (Ok pattern) = all_flat Keyed (from_line file pattern) ps (keyed_line file pattern)
+keyed_spelled file ps (Err fault) = no_item Keyed
+
+keyed_cut : (file : List ℕ) (c : Cut) → All Keyed (cut_properties file c)
+keyed_cut file c = all_flat Keyed (λ l. from_spelled file c.properties (spell l.text)) c.matches (λ l. keyed_spelled file c.properties (spell l.text))
+
+keyed_files : (files : List SourceFile) → All Keyed (properties_of files)
+keyed_files files =
+    all_flat Keyed (λ f. flat_map (cut_properties f.name) (cuts_of f)) files (λ f. all_flat Keyed (cut_properties f.name) (cuts_of f) (keyed_cut f.name))
+
+-- each order is the place
+order_at : (n : ℕ) (ps : List Property) (k : ℕ) (d : Entry) → k < length (entries_from n ps) → (get_or (entries_from n ps) k d).order ≡ n + k
+order_at n [] k d h = absurd (omega arith)
+order_at n (p ∷ ps) zero d h = omega arith
+order_at n (p ∷ ps) (suc k) d h =
+    let next : (get_or (entries_from (n + 1) ps) k d).order ≡ n + 1 + k = order_at (n + 1) ps k d (omega arith) in
+    omega arith
+
+keyed_entries : (n : ℕ) (ps : List Property) → All Keyed ps → All (λ (e : Entry). e.key ≢ []) (entries_from n ps)
+keyed_entries n [] h = no_item (λ (e : Entry). e.key ≢ [])
+keyed_entries n (p ∷ ps) h =
+    All-cons (λ (e : Entry). e.key ≢ []) (entry_at n p) (entries_from (n + 1) ps) (h 0 p (omega arith)) (keyed_entries (n + 1) ps (λ j q m. h (suc j) q (omega arith)))
+
+pub rising_entries : (files : List SourceFile) → Rising (entries_from 0 (properties_of files))
+rising_entries files = record {
+  orders = λ k d h. omega (arith, order_at 0 (properties_of files) k d (omega arith), order_at 0 (properties_of files) (k + 1) d (omega arith));
+  keys = keyed_entries 0 (properties_of files) (keyed_files files);
+}

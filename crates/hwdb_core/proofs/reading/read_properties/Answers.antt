@@ -1,0 +1,21 @@
+use Rattle.std.proofs.Common.{◌+◌, drop}
+use Rattle.std.proofs.lemmas.Result.{err_from_is_err_and}
+use Rattle.hwdb_core.specs.Parts.{property_found}
+use Rattle.hwdb_core.proofs.Joining.{ends, fails, goes_on, returned}
+use Rattle.hwdb_core.proofs.Showing.{drop_item, nothing_left}
+use Rattle.hwdb_core.proofs.reading.read_properties.Goals as goal
+
+pub returns-in_err-read_property : goal.returns-in_err-read_property
+returns-in_err-read_property c =
+    let p = err_from_is_err_and c.from_residual.result c.from_residual.ensures.1 in
+    returned c.args.found.now c.read_property.new.found _ c.from_residual.result p.0 c.in_err-read_property.field-0.0 p.1 p.2
+    (fails (property_found c.args.file.now) c.args.found.now c.loop-line.found c.args.properties.now (drop c.loop-line.line-index c.args.properties.now) c.line-item.result (drop (c.loop-line.line-index + 1) c.args.properties.now) c.in_err-read_property.field-0.0
+    c.loop-line.invariant (drop_item c.args.properties.now c.loop-line.line-index c.line-item.result c.loop-line-test.true c.line-item.is) c.in_err-read_property.ensures)
+
+pub loop-line-preserved : goal.loop-line-preserved
+loop-line-preserved c =
+    goes_on (property_found c.args.file.now) c.args.found.now c.loop-line.found c.read_property.new.found c.args.properties.now (drop c.loop-line.line-index c.args.properties.now) c.line-item.result (drop (c.loop-line.line-index + 1) c.args.properties.now)
+    c.loop-line.invariant (drop_item c.args.properties.now c.loop-line.line-index c.line-item.result c.loop-line-test.true c.line-item.is) c.in_ok-read_property.ensures
+
+pub returns : goal.returns
+returns c = ends (property_found c.args.file.now) c.args.found.now c.loop-line.found c.args.properties.now (drop c.loop-line.line-index c.args.properties.now) c.loop-line.invariant (nothing_left c.args.properties.now c.loop-line.line-index c.loop-line-test.false)

@@ -1,0 +1,23 @@
+-- What was gathered, as what was found.
+use Rattle.std.specs.Prelude.{◌≡◌, ℕ, ◌-◌, ◌^◌, ◌≤◌, List, length, map, sum_by}
+use Rattle.files_core.specs.declared.Message.{Message}
+use Rattle.lookup_core.specs.declared.Entry.{Entry}
+use Rattle.hwdb_core.specs.Properties.{Property}
+use Rattle.hwdb_core.specs.Sources.{entries_from, text_len}
+use Rattle.hwdb_core.specs.Found.{Found}
+
+-- an entry without its order
+abbrev pub property_of : Entry → Property
+property_of e = record { pattern = e.pattern; key = e.key; value = e.value; file = e.file; line = e.line }
+
+-- lists and a count that are kept, as what was found
+abbrev pub found_of : List Entry → List Message → ℕ → Found
+found_of entries messages match_bytes = record { properties = map property_of entries; messages = messages; match_bytes = match_bytes }
+
+-- each entry's order is its place, the bytes of keys and values are counted, and no bound is passed
+pub record IsCounted (es : List Entry) (match_bytes : ℕ) (text_bytes : ℕ) : Type 0 where
+  pub in_order : es ≡ entries_from 0 (map property_of es)
+  pub counted : text_bytes ≡ sum_by text_len (map property_of es)
+  pub entries : length es ≤ 2 ^ 24
+  pub matches : match_bytes ≤ 2 ^ 25 - 1
+  pub texts : text_bytes ≤ 2 ^ 30

@@ -1,0 +1,55 @@
+-- The messages about a paragraph.
+use Rattle.std.specs.Prelude.{ℕ, ◌==◌, if◌then◌else◌, List, [], ◌∷◌, ◌++◌, length, take, map, flat_map, Result, Ok, Err}
+use Rattle.files_core.specs.declared.Message.{Message}
+use Rattle.files_core.specs.declared.MessageKind.{MessageKind}
+use Rattle.files_core.specs.declared.MessageKind.TheVariants.{PropertyWithoutMatch, MatchWithoutProperty, UnindentedLine, PatternNotSupported}
+use Rattle.text_core.specs.Spell.{spell}
+use Rattle.text_core.specs.declared.item.Item.{Item}
+use Rattle.text_core.specs.declared.glob_fault.GlobFault.{GlobFault}
+use Rattle.hwdb_core.specs.Lines.{NumberedLine}
+use Rattle.hwdb_core.specs.Paragraphs.{Cut}
+use Rattle.hwdb_core.specs.Properties.{Pair, capped, pair_of, property_text}
+
+-- a message about a line of a file, with the first 32 bytes of the word
+abbrev pub message : List ℕ → ℕ → MessageKind → List ℕ → Message
+message file number kind word = record { file = file; line = capped number; kind = kind; word = take 32 word }
+
+-- a property that no match stands before
+abbrev pub about_early : List ℕ → NumberedLine → Message
+about_early file l = message file l.number PropertyWithoutMatch (property_text l)
+
+-- matches that no property line follows, told of at the first
+abbrev pub about_bare : List ℕ → List NumberedLine → List NumberedLine → List Message
+about_bare file matches properties =
+    if length properties == 0 then map (λ l. message file l.number MatchWithoutProperty l.text) (take 1 matches) else []
+
+-- a match that spells no pattern
+abbrev pub about_spelled : List ℕ → NumberedLine → Result (List Item) GlobFault → List Message
+about_spelled file l (Ok pattern) = []
+about_spelled file l (Err fault) = message file l.number PatternNotSupported l.text ∷ []
+
+-- a match, whether properties follow or not
+abbrev pub about_match : List ℕ → NumberedLine → List Message
+about_match file l = about_spelled file l (spell l.text)
+
+-- what is wrong with a property, if something is
+abbrev pub about_pair : List ℕ → NumberedLine → Result Pair MessageKind → List Message
+about_pair file l (Ok pair) = []
+about_pair file l (Err kind) = message file l.number kind (property_text l) ∷ []
+
+-- a property of matches
+abbrev pub about_property : List ℕ → NumberedLine → List Message
+about_property file l = about_pair file l (pair_of l)
+
+-- the lines from the next match on, told of at the first
+abbrev pub about_rest : List ℕ → List NumberedLine → List Message
+about_rest file rest = map (λ l. message file l.number UnindentedLine l.text) (take 1 rest)
+
+-- The messages about a paragraph, part by part: so they stand by line, and by code where two are about one line.
+abbrev pub cut_messages : List ℕ → Cut → List Message
+cut_messages file c =
+    map (about_early file) c.early
+    ++ (about_bare file c.matches c.properties
+    ++ (flat_map (about_match file) c.matches
+    ++ (flat_map (about_property file) c.properties
+    ++ about_rest file c.rest)))

@@ -1,0 +1,65 @@
+-- The properties that a paragraph gives the devices that its matches fit.
+use Rattle.std.specs.Prelude.{ℕ, zero, suc, ◌+◌, ◌-◌, ◌^◌, ◌&&◌, ◌==◌, if◌then◌else◌, List, [], ◌∷◌, length, take, drop, position, flat_map, sum_by, Option, Some, None, Result, Ok, Err, is_ok, min}
+use Rattle.std.specs.List.{list_any}
+use Rattle.bytes_core.specs.Names.{equals, is_blank}
+use Rattle.files_core.specs.declared.MessageKind.{MessageKind}
+use Rattle.files_core.specs.declared.MessageKind.TheVariants.{NoEquals, EmptyKey}
+use Rattle.text_core.specs.Spell.{spell}
+use Rattle.text_core.specs.declared.item.Item.{Item}
+use Rattle.text_core.specs.declared.glob_fault.GlobFault.{GlobFault}
+use Rattle.hwdb_core.specs.Lines.{NumberedLine}
+use Rattle.hwdb_core.specs.Paragraphs.{Cut, behind}
+
+-- a key and its value
+pub record Pair : Type 0 where
+  pub key : List ℕ
+  pub value : List ℕ
+
+-- what a text says whose first `=` stands at a place: the key is what stands before it, and may not be empty
+abbrev pub pair_at : List ℕ → Option ℕ → Result Pair MessageKind
+pair_at t None = Err NoEquals
+pair_at t (Some zero) = Err EmptyKey
+pair_at t (Some (suc k)) = Ok (record { key = take (k + 1) t; value = drop (k + 2) t })
+
+-- a property without its leading blanks
+abbrev pub property_text : NumberedLine → List ℕ
+property_text l = behind is_blank l.text
+
+-- what a property says, or what is wrong with it
+abbrev pub pair_of : NumberedLine → Result Pair MessageKind
+pair_of l = pair_at (property_text l) (position (λ b. b == equals) (property_text l))
+
+-- the number of a line, as entries and messages give it
+abbrev pub capped : ℕ → ℕ
+capped n = min n (2 ^ 32 - 1)
+
+-- an entry of the database but for its place among all
+pub record Property : Type 0 where
+  pub pattern : List Item
+  pub key : List ℕ
+  pub value : List ℕ
+  pub file : List ℕ
+  pub line : ℕ
+
+-- what a pattern is given by what a line of a file says: one property, and none where something is wrong with it
+abbrev pub from_pair : List ℕ → List Item → ℕ → Result Pair MessageKind → List Property
+from_pair file pattern number (Ok pair) = record { pattern = pattern; key = pair.key; value = pair.value; file = file; line = capped number } ∷ []
+from_pair file pattern number (Err kind) = []
+
+-- what a pattern is given by a property of its paragraph
+abbrev pub from_line : List ℕ → List Item → NumberedLine → List Property
+from_line file pattern l = from_pair file pattern l.number (pair_of l)
+
+-- what properties give a match: nothing where it is no pattern
+abbrev pub from_spelled : List ℕ → List NumberedLine → Result (List Item) GlobFault → List Property
+from_spelled file properties (Ok pattern) = flat_map (from_line file pattern) properties
+from_spelled file properties (Err fault) = []
+
+-- the properties of a paragraph: for each match in order each property in order
+abbrev pub cut_properties : List ℕ → Cut → List Property
+cut_properties file c = flat_map (λ l. from_spelled file c.properties (spell l.text)) c.matches
+
+-- how many bytes the matches of a paragraph have that give an entry
+abbrev pub cut_match_bytes : Cut → ℕ
+cut_match_bytes c =
+    sum_by (λ l. if is_ok (spell l.text) && list_any (λ q. is_ok (pair_of q)) c.properties then length l.text else 0) c.matches

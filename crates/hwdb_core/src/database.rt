@@ -1,0 +1,73 @@
+//! The whole of a run's database files.
+
+ghost use Rattle.std.specs.Prelude.{◌≡◌, ◌≤◌, ◌^◌, ◌↔◌, IsTrue, IfOk, IfErr, sum_by, length};
+ghost use Rattle.lookup_core.specs.Orders.{Rising};
+ghost use Rattle.hwdb_core.specs.Sources.{entries_of, messages_of, WithinBounds};
+ghost use Rattle.hwdb_core.specs.Found.{Adds, found_in};
+ghost use Rattle.hwdb_core.specs.Parts.{file_found};
+ghost use Rattle.hwdb_core.specs.declared.fault.HwdbFault.TheVariants.{TooMany};
+
+use crate::fault::HwdbFault;
+use crate::gathered::Gathered;
+use crate::reading::read_file;
+use lookup_core::Entry;
+use std::alloc::Global;
+use text_core::{Message, SourceFile};
+
+/// How many bytes the names of the files may have together.
+const MAX_NAME_BYTES: usize = 1 << 28;
+
+/// What database files hold, and what is wrong with them.
+#[derive(Debug, Drop)]
+pub struct Database {
+    /// An entry for each match and property; the order of each is its place here.
+    pub entries: Vec<Entry>,
+    /// By file, by line, by code.
+    pub messages: Vec<Message>,
+}
+
+/// Reads files of the hardware database as hwdb(7) writes them, in the order in which they are given.
+///
+/// The entries are fit for a database: their orders rise from 0, and no key is empty. A line that is
+/// wrong costs a message, and what it says is ignored. `TooMany` comes exactly where the files hold
+/// more than its bounds, and `Memory` only where a growth was refused.
+pub fn read_sources(alloc: Global, files: &[SourceFile]) -> Result<Database, HwdbFault>
+    ensures entries { IfOk result (λ d. d.entries.items ≡ entries_of files.now) }
+    ensures rising { IfOk result (λ d. Rising d.entries.items) }
+    ensures messages { IfOk result (λ d. d.messages.items ≡ messages_of files.now) }
+    ensures within { IfOk result (λ d. WithinBounds files.now) }
+    ensures too_many { IfErr result (λ e. e ≡ TooMany → WithinBounds files.now → ⊥) }
+{
+    if !names_fit(files) {
+        return Err(HwdbFault::TooMany);
+    }
+    let mut found = Gathered::new(alloc);
+    read_files(alloc, &mut found, files)?;
+    let (entries, messages) = found.into_lists();
+    Ok(Database { entries, messages })
+}
+
+/// Reads files.
+fn read_files(alloc: Global, found: &mut Gathered, files: &[SourceFile]) -> Result<(), HwdbFault>
+    ensures { Adds found.old found.new (found_in file_found files.now) result }
+{
+    for file in files {
+        read_file(alloc, found, file)?;
+    }
+    Ok(())
+}
+
+/// Whether the names of the files are short enough together.
+fn names_fit(files: &[SourceFile]) -> bool
+    ensures { IsTrue result ↔ (sum_by (λ f. length f.name) files.now ≤ 2 ^ 28) }
+{
+    let mut room = MAX_NAME_BYTES;
+    for file in files {
+        let len = file.name.as_slice().len();
+        if len > room {
+            return false;
+        }
+        room -= len;
+    }
+    true
+}

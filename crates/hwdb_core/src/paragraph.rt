@@ -1,0 +1,73 @@
+//! The parts of a paragraph, and what a property says.
+
+ghost use Rattle.std.specs.Prelude.{◌≡◌, ◌≤◌, MatchResult, length};
+ghost use Rattle.std.specs.List.{prefix_len};
+ghost use Rattle.hwdb_core.specs.Paragraphs.{cut, is_match, is_property};
+ghost use Rattle.hwdb_core.specs.Properties.{pair_of};
+
+use crate::lines::Line;
+use bytes_core::find;
+use std::marker::Model;
+use text_core::MessageKind;
+
+/// A key and its value, both of a line.
+#[derive(Debug, Drop)]
+pub struct Pair<'a> {
+    pub key: &'a [u8],
+    pub value: &'a [u8],
+}
+
+/// What a property says, or what is wrong with it.
+pub fn pair_of<'a>(line: &Line<'a>) -> Result<Pair<'a>, MessageKind>
+    ensures { MatchResult result (λ p. pair_of line.now ≡ Ok (record { key = p.key.now; value = p.value.now })) (λ kind. pair_of line.now ≡ Err kind) }
+{
+    let text = line.property_text();
+    match find(b'=', text) {
+        None => Err(MessageKind::NoEquals),
+        Some(0) => Err(MessageKind::EmptyKey),
+        Some(at) => Ok(Pair {
+            key: &text[..at],
+            value: &text[at + 1..],
+        }),
+    }
+}
+
+/// How many lines at the front are properties.
+pub fn property_run(lines: &[Line<'_>]) -> usize
+    ensures value { result ≡ prefix_len is_property lines.now }
+    ensures within { result ≤ length lines.now }
+{
+    lines.iter().take_while(|line| line.is_property()).count()
+}
+
+/// How many lines at the front are matches.
+pub fn match_run(lines: &[Line<'_>]) -> usize
+    ensures value { result ≡ prefix_len is_match lines.now }
+    ensures within { result ≤ length lines.now }
+{
+    lines.iter().take_while(|line| !line.is_property()).count()
+}
+
+/// The four parts of a paragraph, in order.
+#[derive(Debug, Drop)]
+pub struct Parts<'l, 'a> {
+    pub early: &'l [Line<'a>],
+    pub matches: &'l [Line<'a>],
+    pub properties: &'l [Line<'a>],
+    pub rest: &'l [Line<'a>],
+}
+
+/// Cuts a paragraph.
+pub fn parts_of<'l, 'a>(lines: &'l [Line<'a>]) -> Parts<'l, 'a>
+    ensures { record { early = result.early.now; matches = result.matches.now; properties = result.properties.now; rest = result.rest.now } ≡ cut lines.now }
+{
+    let (early, behind) = lines.split_at(property_run(lines));
+    let (matches, behind) = behind.split_at(match_run(behind));
+    let (properties, rest) = behind.split_at(property_run(behind));
+    Parts {
+        early,
+        matches,
+        properties,
+        rest,
+    }
+}

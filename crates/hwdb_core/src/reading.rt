@@ -1,0 +1,228 @@
+//! Reading paragraphs and files.
+//!
+//! A paragraph's lines are collected until it ends, and then each of its four parts is read by a
+//! function of its own.
+
+ghost use Rattle.std.specs.Prelude.{◌≡◌, if◌then◌else◌, is_ok, length};
+ghost use Rattle.std.specs.List.{list_any};
+ghost use Rattle.hwdb_core.specs.Paragraphs.{cut};
+ghost use Rattle.hwdb_core.specs.Properties.{pair_of};
+ghost use Rattle.hwdb_core.specs.Found.{Adds, found_in};
+ghost use Rattle.hwdb_core.specs.Parts.{bare_found, cut_found, early_found, file_found, match_found, pair_found, property_found, rest_found};
+
+use crate::fault::HwdbFault;
+use crate::gathered::Gathered;
+use crate::lines::{Line, Lines};
+use crate::paragraph::{pair_of, parts_of};
+use std::alloc::Global;
+use text_core::{GlobFault, MessageKind, Pattern, SourceFile};
+
+/// Reads a file.
+pub fn read_file(alloc: Global, found: &mut Gathered, file: &SourceFile) -> Result<(), HwdbFault>
+    ensures { Adds found.old found.new (file_found file.now) result }
+{
+    let name = file.name.as_slice();
+    let mut open = Vec::new(alloc);
+    for line in Lines::new(file.bytes.as_slice()) {
+        if line.is_comment() {
+            continue;
+        }
+        let line = line.cleaned();
+        if line.is_empty() {
+            read_paragraph(alloc, found, name, &open)?;
+            open.clear();
+        } else {
+            open.push(line)?;
+        }
+    }
+    read_paragraph(alloc, found, name, &open)
+}
+
+/// Reads the lines of a paragraph.
+fn read_paragraph(
+    alloc: Global,
+    found: &mut Gathered,
+    file: &[u8],
+    lines: &[Line<'_>],
+) -> Result<(), HwdbFault>
+    ensures { Adds found.old found.new (cut_found file.now (cut lines.now)) result }
+{
+    let parts = parts_of(lines);
+    read_early(alloc, found, file, parts.early)?;
+    read_bare(alloc, found, file, parts.matches, parts.properties)?;
+    read_matches(alloc, found, file, parts.matches, parts.properties)?;
+    read_properties(alloc, found, file, parts.properties)?;
+    read_rest(alloc, found, file, parts.rest)
+}
+
+/// Tells of the properties that no match stands before.
+fn read_early(
+    alloc: Global,
+    found: &mut Gathered,
+    file: &[u8],
+    early: &[Line<'_>],
+) -> Result<(), HwdbFault>
+    ensures { Adds found.old found.new (found_in (early_found file.now) early.now) result }
+{
+    for line in early {
+        let kind = MessageKind::PropertyWithoutMatch;
+        found.tell(alloc, file, line.number(), kind, line.property_text())?;
+    }
+    Ok(())
+}
+
+/// Tells of matches that no property line follows.
+fn read_bare(
+    alloc: Global,
+    found: &mut Gathered,
+    file: &[u8],
+    matches: &[Line<'_>],
+    properties: &[Line<'_>],
+) -> Result<(), HwdbFault>
+    ensures { Adds found.old found.new (bare_found file.now matches.now properties.now) result }
+{
+    match matches.first() {
+        Some(line) if properties.is_empty() => {
+            let kind = MessageKind::MatchWithoutProperty;
+            found.tell(alloc, file, line.number(), kind, line.text())
+        }
+        _ => Ok(()),
+    }
+}
+
+/// Reads the matches, each with the properties.
+fn read_matches(
+    alloc: Global,
+    found: &mut Gathered,
+    file: &[u8],
+    matches: &[Line<'_>],
+    properties: &[Line<'_>],
+) -> Result<(), HwdbFault>
+    ensures { Adds found.old found.new (found_in (match_found file.now properties.now) matches.now) result }
+{
+    for line in matches {
+        read_match(alloc, found, file, line, properties)?;
+    }
+    Ok(())
+}
+
+/// Reads a match: the entries that it gives, or a message where it is no pattern.
+fn read_match(
+    alloc: Global,
+    found: &mut Gathered,
+    file: &[u8],
+    line: &Line<'_>,
+    properties: &[Line<'_>],
+) -> Result<(), HwdbFault>
+    ensures { Adds found.old found.new (match_found file.now properties.now line.now) result }
+{
+    match Pattern::read(alloc, line.text()) {
+        Ok(pattern) => {
+            found.count_match(used_len(line, properties))?;
+            read_pairs(alloc, found, file, &pattern, properties)
+        }
+        Err(GlobFault::Memory) => Err(HwdbFault::Memory),
+        Err(_) => {
+            let kind = MessageKind::PatternNotSupported;
+            found.tell(alloc, file, line.number(), kind, line.text())
+        }
+    }
+}
+
+/// Adds the entries that properties give a pattern.
+fn read_pairs(
+    alloc: Global,
+    found: &mut Gathered,
+    file: &[u8],
+    pattern: &Pattern,
+    properties: &[Line<'_>],
+) -> Result<(), HwdbFault>
+    ensures { Adds found.old found.new (found_in (pair_found file.now pattern.now) properties.now) result }
+{
+    for line in properties {
+        read_pair(alloc, found, file, pattern, line)?;
+    }
+    Ok(())
+}
+
+/// Adds the entry that a property gives a pattern, where nothing is wrong with it.
+fn read_pair(
+    alloc: Global,
+    found: &mut Gathered,
+    file: &[u8],
+    pattern: &Pattern,
+    line: &Line<'_>,
+) -> Result<(), HwdbFault>
+    ensures { Adds found.old found.new (pair_found file.now pattern.now line.now) result }
+{
+    match pair_of(line) {
+        Ok(pair) => found.add_entry(alloc, file, pattern, line.number(), &pair),
+        Err(_) => Ok(()),
+    }
+}
+
+/// Tells of the properties with which something is wrong.
+fn read_properties(
+    alloc: Global,
+    found: &mut Gathered,
+    file: &[u8],
+    properties: &[Line<'_>],
+) -> Result<(), HwdbFault>
+    ensures { Adds found.old found.new (found_in (property_found file.now) properties.now) result }
+{
+    for line in properties {
+        read_property(alloc, found, file, line)?;
+    }
+    Ok(())
+}
+
+/// Tells what is wrong with a property, if something is.
+fn read_property(
+    alloc: Global,
+    found: &mut Gathered,
+    file: &[u8],
+    line: &Line<'_>,
+) -> Result<(), HwdbFault>
+    ensures { Adds found.old found.new (property_found file.now line.now) result }
+{
+    match pair_of(line) {
+        Ok(_) => Ok(()),
+        Err(kind) => found.tell(alloc, file, line.number(), kind, line.property_text()),
+    }
+}
+
+/// Tells of the line after the properties that is not indented.
+fn read_rest(
+    alloc: Global,
+    found: &mut Gathered,
+    file: &[u8],
+    rest: &[Line<'_>],
+) -> Result<(), HwdbFault>
+    ensures { Adds found.old found.new (rest_found file.now rest.now) result }
+{
+    match rest.first() {
+        None => Ok(()),
+        Some(line) => {
+            let kind = MessageKind::UnindentedLine;
+            found.tell(alloc, file, line.number(), kind, line.text())
+        }
+    }
+}
+
+/// How many bytes a match has that gives an entry, if it is a pattern.
+fn used_len(line: &Line<'_>, properties: &[Line<'_>]) -> usize
+    ensures { result ≡ (if list_any (λ q. is_ok (pair_of q)) properties.now then length line.now.text else 0) }
+{
+    if has_pair(properties) {
+        line.text().len()
+    } else {
+        0
+    }
+}
+
+/// Whether nothing is wrong with some property.
+fn has_pair(properties: &[Line<'_>]) -> bool
+    ensures { result ≡ list_any (λ q. is_ok (pair_of q)) properties.now }
+{
+    properties.iter().any(|line| pair_of(line).is_ok())
+}

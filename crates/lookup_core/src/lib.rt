@@ -1,0 +1,18 @@
+//! The hardware database as entries, and what a lookup in them answers.
+//!
+//! It stands below the crate that reads database files and below those that hold the entries in
+//! another form, so that all of them speak of the same list.
+#![tactic(auto)]
+
+mod entry;
+mod law;
+mod lookup;
+mod order;
+mod plain;
+mod winners;
+
+pub use entry::Entry;
+pub use law::winners_are_the_answer;
+pub use lookup::{Lookup, Sourced};
+pub use order::rising;
+pub use plain::PlainDb;

@@ -1,0 +1,13 @@
+pub mod RunLemmas
+pub mod HeadLemmas
+pub mod Pieces
+pub mod PieceLists
+pub mod Stands
+pub mod Lines
+pub mod Numbers
+pub mod Loops
+pub mod Steps
+pub mod EscapeLemmas
+pub mod Meanings
+pub mod PlaceLemmas
+pub mod Nuls

@@ -1,0 +1,161 @@
+-- The tokens of a line lie in it, one behind the other.
+use Rattle.std.proofs.Common.{◌≡◌, ℕ, ◌+◌, ◌-◌, ◌<◌, ◌≤◌, List, [], ◌∷◌, ◌++◌, length, take, drop, Option, Some, None, Ok, Err, refl, ap, sym, ◌∙◌, inl, inr, arith, append_assoc, length-append}
+use Rattle.std.specs.Prelude.{All, ◌⊎◌}
+use Rattle.std.proofs.lemmas.List.{take_at, drop_at}
+use Rattle.std.proofs.lemmas.List.Elements.{All-cons, All-nil}
+use Rattle.bytes_core.specs.Names.{double_quote}
+use Rattle.rule_tokens.specs.declared.kinds.TokenFault.{TokenFault}
+use Rattle.rule_tokens.specs.Grammar.{Parts, Placed, Item, TokenStands, TokenAt, Gap, LexesAt, answers, attribute_text, operator_text}
+use Rattle.rule_tokens.specs.Places.{IsSlice, LiesIn, RisesFrom, AllLie, AllRise}
+use Rattle.rule_tokens.specs.Lines.{items_of}
+use Rattle.rule_tokens.proofs.Stands.{stands_shorter}
+use Rattle.rule_tokens.proofs.Steps.{new_given}
+
+-- a slice between what stands before and behind it
+slice_at : (line before part behind : List ℕ) (place : ℕ) → line ≡ before ++ (part ++ behind) → length before ≡ place → take (length part) (drop place line) ≡ part
+slice_at line before part behind place e l =
+    let d : drop place line ≡ part ++ behind = ap (λ t. drop place t) e ∙ drop_at before (part ++ behind) place l in
+    ap (λ t. take (length part) t) d ∙ take_at part behind (length part) refl
+
+-- the text is the bytes of a token and what follows it
+record Own (text : List ℕ) (t : Parts) (rest : List ℕ) : Type 0 where
+  own : List ℕ
+  behind_key : List ℕ
+  behind_attribute : List ℕ
+  before_value : List ℕ
+  spelled : text ≡ own ++ rest
+  alone : TokenStands own t []
+  key : text ≡ t.head.key ++ behind_key
+  attribute : text ≡ t.head.key ++ (attribute_text t.head.attribute ++ behind_attribute)
+  value : text ≡ before_value ++ ((double_quote ∷ t.value ++ double_quote ∷ []) ++ rest)
+
+-- a value between quotes, and what follows it
+quoted_value : (quoted letters value rest : List ℕ) → quoted ≡ letters ++ double_quote ∷ value ++ double_quote ∷ rest → quoted ≡ letters ++ ((double_quote ∷ value ++ double_quote ∷ []) ++ rest)
+quoted_value quoted letters value rest e =
+    e ∙ (append_assoc letters (double_quote ∷ value) (double_quote ∷ rest) ∙ ap (λ v. letters ++ v) (sym (append_assoc (double_quote ∷ value) (double_quote ∷ []) rest)))
+
+own_of : (text : List ℕ) (t : Parts) (rest : List ℕ) → TokenStands text t rest → Own text t rest
+own_of text t rest s =
+    let head : List ℕ = t.head.key ++ attribute_text t.head.attribute ++ s.head.before ++ operator_text t.head.operator ++ s.head.behind in
+    let value : List ℕ = double_quote ∷ t.value ++ double_quote ∷ [] in
+    let q : s.quoted ≡ s.letters ++ (value ++ rest) = quoted_value s.quoted s.letters t.value rest s.spelled in
+    let e : text ≡ head ++ (s.letters ++ (value ++ rest)) = s.head.spelled ∙ ap (λ v. head ++ v) q in
+    let k : text ≡ t.head.key ++ (attribute_text t.head.attribute ++ (s.head.before ++ (operator_text t.head.operator ++ (s.head.behind ++ s.quoted)))) = s.head.spelled ∙ simp append_assoc in
+    let last : List ℕ = s.letters ++ double_quote ∷ t.value ++ double_quote ∷ [] in
+    let l : s.letters ++ (value ++ rest) ≡ last ++ rest = sym (append_assoc s.letters value rest) ∙ ap (λ v. v ++ rest) (sym (append_assoc s.letters (double_quote ∷ t.value) (double_quote ∷ []))) in
+    record {
+      own = head ++ last;
+      behind_key = attribute_text t.head.attribute ++ (s.head.before ++ (operator_text t.head.operator ++ (s.head.behind ++ s.quoted)));
+      behind_attribute = s.head.before ++ (operator_text t.head.operator ++ (s.head.behind ++ s.quoted));
+      before_value = head ++ s.letters;
+      spelled = e ∙ (ap (λ v. head ++ v) l ∙ sym (append_assoc head last rest));
+      alone = record {
+        quoted = last;
+        letters = s.letters;
+        pieces = s.pieces;
+        head = record { before = s.head.before; behind = s.head.behind; spelled = refl; some_key = s.head.some_key; key = s.head.key; attribute = s.head.attribute; blanks = s.head.blanks };
+        spelled = refl;
+        letters_are = s.letters_are;
+        prefix = s.prefix;
+        value = s.value;
+      };
+      key = k;
+      attribute = k;
+      value = e ∙ sym (append_assoc head s.letters (value ++ rest));
+    }
+
+-- a token that stands in a line is a slice of it
+is_slice : (line before text : List ℕ) (at : ℕ) (t : Placed) (rest : List ℕ) → line ≡ before ++ text → length before ≡ at → TokenAt at text t rest → IsSlice line t
+is_slice line before text at t rest e l h =
+    let o = own_of text t.parts rest h.stands in
+    let value : List ℕ = double_quote ∷ t.parts.value ++ double_quote ∷ [] in
+    let less : length rest < length text = stands_shorter text t.parts rest h.stands in
+    let long : length line ≡ length before + length text = ap length e ∙ length-append before text in
+    let own : length text ≡ length o.own + length rest = ap length o.spelled ∙ length-append o.own rest in
+    let start : length before ≡ t.span.start = l ∙ sym h.start in
+    let key : length (before ++ t.parts.head.key) ≡ t.span.start + length t.parts.head.key = length-append before t.parts.head.key ∙ ap (λ n. n + length t.parts.head.key) start in
+    let place : length (before ++ o.before_value) ≡ length before + length o.before_value = length-append before o.before_value in
+    let parts : length text ≡ length o.before_value + length (value ++ rest) = ap length o.value ∙ length-append o.before_value (value ++ rest) in
+    let both : length (value ++ rest) ≡ length value + length rest = length-append value rest in
+    let size : t.span.end - t.span.start ≡ length o.own = span_size t.span.start t.span.end (length rest) (length before) (length text) (length o.own) start (h.end ∙ ap (λ n. n + length text) (sym l)) own in
+    record {
+      some = span_some t.span.start t.span.end (length rest) (length before) (length text) start (h.end ∙ ap (λ n. n + length text) (sym l)) less;
+      within = span_within t.span.end (length rest) (length before) (length text) (length line) (h.end ∙ ap (λ n. n + length text) (sym l)) long;
+      whole = whole o.own t (size) (slice_at line before o.own rest t.span.start (e ∙ ap (λ v. before ++ v) o.spelled) start) o.alone;
+      key = slice_at line before t.parts.head.key o.behind_key t.span.start (e ∙ ap (λ v. before ++ v) o.key) start;
+      attribute = slice_at line (before ++ t.parts.head.key) (attribute_text t.parts.head.attribute) o.behind_attribute (t.span.start + length t.parts.head.key) (e ∙ (ap (λ v. before ++ v) o.attribute ∙ sym (append_assoc before t.parts.head.key _))) key;
+      opens = length (before ++ o.before_value);
+      value = slice_at line (before ++ o.before_value) value rest (length (before ++ o.before_value)) (e ∙ (ap (λ v. before ++ v) o.value ∙ sym (append_assoc before o.before_value _))) refl;
+      closes = span_closes (length (before ++ o.before_value)) (length value) t.span.end (length rest) (length before) (length text) (length o.before_value) (length (value ++ rest)) place (h.end ∙ ap (λ n. n + length text) (sym l)) parts both;
+    }
+  where
+    span_size : (start end rest before text own : ℕ) → before ≡ start → end + rest ≡ before + text → text ≡ own + rest → end - start ≡ own
+    span_size start end rest before text own e f g = omega arith
+
+    span_some : (start end rest before text : ℕ) → before ≡ start → end + rest ≡ before + text → rest < text → start < end
+    span_some start end rest before text e f g = omega arith
+
+    span_within : (end rest before text line : ℕ) → end + rest ≡ before + text → line ≡ before + text → end ≤ line
+    span_within end rest before text line e f = omega arith
+
+    span_closes : (place value end rest before text front both : ℕ) → place ≡ before + front → end + rest ≡ before + text → text ≡ front + both → both ≡ value + rest → place + value ≡ end
+    span_closes place value end rest before text front both e f g h = omega arith
+
+    whole : (own : List ℕ) (t : Placed) → t.span.end - t.span.start ≡ length own → take (length own) (drop t.span.start line) ≡ own → TokenStands own t.parts [] → TokenStands (take (t.span.end - t.span.start) (drop t.span.start line)) t.parts []
+    whole own t n e s = rw n (rw e s)
+
+-- the tokens of a text in a line lie in the line
+lie : (line before text : List ℕ) (at : ℕ) (tokens : List Placed) (end : Option TokenFault) → line ≡ before ++ text → length before ≡ at → LexesAt at text tokens end → All (LiesIn line) (answers tokens end)
+lie line before text at [] None e l h = absurd h
+lie line before text at [] (Some fault) e l h = let n : length line ≡ length before + length text = ap length e ∙ length-append before text in All-cons (LiesIn line) (Err fault) [] (omega (arith, h.0)) (All-nil (LiesIn line))
+lie line before text at (t ∷ tokens) end e l h =
+    let rest = h.0 in
+    let gap = h.1 in
+    let next = h.2 in
+    let here : TokenAt at text t rest = h.3 in
+    let between : Gap rest gap next = h.4 in
+    let o = own_of text t.parts rest here.stands in
+    let own : length text ≡ length o.own + length rest = ap length o.spelled ∙ length-append o.own rest in
+    let spelled : line ≡ (before ++ (o.own ++ gap)) ++ next =
+    e ∙ (ap (λ v. before ++ v) (o.spelled ∙ (ap (λ v. o.own ++ v) between.spelled ∙ sym (append_assoc o.own gap next))) ∙ sym (append_assoc before (o.own ++ gap) next)) in
+    let n : length (before ++ (o.own ++ gap)) ≡ length before + (length o.own + length gap) = length-append before (o.own ++ gap) ∙ ap (λ n. length before + n) (length-append o.own gap) in
+    let place : length (before ++ (o.own ++ gap)) ≡ t.span.end + length gap = omega (arith, here.end) in
+    All-cons (LiesIn line) (Ok t) (answers tokens end) (is_slice line before text at t rest e l here)
+    (behind (t.span.end + length gap) next tokens end h.5 (λ m. lie line (before ++ (o.own ++ gap)) next (t.span.end + length gap) tokens end spelled place m))
+  where
+    behind : (to : ℕ) (next : List ℕ) (tokens : List Placed) (end : Option TokenFault)
+        → (((next ≡ []) × (tokens ≡ []) × (end ≡ None)) ⊎ ((0 < length next) × LexesAt to next tokens end))
+        → (LexesAt to next tokens end → All (LiesIn line) (answers tokens end)) → All (LiesIn line) (answers tokens end)
+    behind to next tokens end (inl d) f = rw d.1 (rw d.2 (All-nil (LiesIn line)))
+    behind to next tokens end (inr d) f = f d.1
+
+-- they rise
+later : (place at : ℕ) (items : List Item) → place ≤ at → RisesFrom at items → RisesFrom place items
+later place at [] l r = tt
+later place at (Ok t ∷ items) l r = (omega (arith, r.0), r.1)
+later place at (Err fault ∷ items) l r = (omega (arith, r.0), r.1)
+
+rise : (at : ℕ) (text : List ℕ) (tokens : List Placed) (end : Option TokenFault) → LexesAt at text tokens end → RisesFrom at (answers tokens end)
+rise at text [] None h = absurd h
+rise at text [] (Some fault) h = (omega (arith, h.0), refl)
+rise at text (t ∷ tokens) end h =
+    let here : TokenAt at text t h.0 = h.3 in
+    (omega (arith, here.start), behind t.span.end (t.span.end + length h.1) h.2 tokens end (omega arith) h.5 (λ m. rise (t.span.end + length h.1) h.2 tokens end m))
+  where
+    behind : (from to : ℕ) (next : List ℕ) (tokens : List Placed) (end : Option TokenFault) → from ≤ to
+        → (((next ≡ []) × (tokens ≡ []) × (end ≡ None)) ⊎ ((0 < length next) × LexesAt to next tokens end))
+        → (LexesAt to next tokens end → RisesFrom to (answers tokens end)) → RisesFrom from (answers tokens end)
+    behind from to next tokens end l (inl d) f = rw d.1 (rw d.2 tt)
+    behind from to next tokens end l (inr d) f = later from to (answers tokens end) l (f d.1)
+
+pub all_lie : AllLie
+all_lie line tokens end l = lie line [] line 0 tokens end refl refl l
+
+pub all_rise : AllRise
+all_rise line tokens end l = rise 0 line tokens end l
+
+pub new_lie : (line : List ℕ) → All (LiesIn line) (items_of line)
+new_lie line = let g = new_given line in rw g.3 (all_lie line g.0 g.1 g.2)
+
+pub new_rise : (line : List ℕ) → RisesFrom 0 (items_of line)
+new_rise line = let g = new_given line in rw g.3 (all_rise line g.0 g.1 g.2)

@@ -1,0 +1,196 @@
+-- The tokens of a rule line, as a relation between a line, its tokens and its end.
+use Rattle.std.specs.Prelude.{◌≡◌, ℕ, ◌+◌, ◌<◌, Bool, true, false, ◌&&◌, ◌||◌, not, List, [], ◌∷◌, ◌++◌, length, Option, Some, None, ◌==◌, if◌then◌else◌, codes, ⊤, ◌⊎◌, Result, Ok, Err}
+use Rattle.std.specs.List.{list_all}
+use Rattle.std.specs.Char.{is_ascii_alphabetic, is_ascii_alphanumeric}
+use Rattle.bytes_core.specs.Names.{nul, comma, double_quote, underscore, open_brace, close_brace, is_blank}
+use Rattle.rule_tokens.specs.Letters.{letter_e, letter_i}
+use Rattle.rule_tokens.specs.Values.{Piece, Spells, has_escapes}
+use Rattle.rule_tokens.specs.declared.kinds.Operator.{Operator}
+use Rattle.rule_tokens.specs.declared.kinds.Operator.TheVariants.{Equal, NotEqual, Add, Remove, AssignFinal, Assign}
+use Rattle.rule_tokens.specs.declared.kinds.Quote.{Quote}
+use Rattle.rule_tokens.specs.declared.kinds.Quote.TheVariants.{Plain, Escaped, Blind, BlindEscaped}
+use Rattle.rule_tokens.specs.declared.kinds.Span.{Span}
+use Rattle.rule_tokens.specs.declared.kinds.TokenFault.{TokenFault}
+use Rattle.rule_tokens.specs.declared.kinds.TokenFaultKind.{TokenFaultKind}
+use Rattle.rule_tokens.specs.declared.kinds.TokenFaultKind.TheVariants.{Syntax, Prefix}
+
+-- A key is made of ASCII letters, digits and underscores.
+abbrev pub is_key_byte : ℕ → Bool
+is_key_byte b = is_ascii_alphanumeric b || b == underscore
+
+-- An attribute is made of any bytes but a closing brace and NUL.
+abbrev pub is_attribute_byte : ℕ → Bool
+is_attribute_byte b = not (b == close_brace) && not (b == nul)
+
+-- The prefix of a value is made of ASCII letters.
+abbrev pub is_letter : ℕ → Bool
+is_letter b = is_ascii_alphabetic b
+
+-- A gap between tokens is made of blanks and commas.
+abbrev pub is_gap_byte : ℕ → Bool
+is_gap_byte b = is_blank b || b == comma
+
+-- Each byte is of the class.
+abbrev pub AllAre : (ℕ → Bool) → List ℕ → Type 0
+AllAre class bytes = list_all class bytes ≡ true
+
+-- The text does not begin with a byte of the class.
+abbrev pub BeginsOther : (ℕ → Bool) → List ℕ → Type 0
+BeginsOther class [] = ⊤
+BeginsOther class (b ∷ rest) = class b ≡ false
+
+-- How an operator is written.
+abbrev pub operator_text : Operator → List ℕ
+operator_text Equal = codes "=="
+operator_text NotEqual = codes "!="
+operator_text Add = codes "+="
+operator_text Remove = codes "-="
+operator_text AssignFinal = codes ":="
+operator_text Assign = codes "="
+
+-- How an attribute is written: in braces, or not at all.
+abbrev pub attribute_text : Option (List ℕ) → List ℕ
+attribute_text None = []
+attribute_text (Some name) = open_brace ∷ name ++ close_brace ∷ []
+
+-- The bytes of an attribute, none where there is no attribute.
+abbrev pub attribute_bytes : Option (List ℕ) → List ℕ
+attribute_bytes None = []
+attribute_bytes (Some name) = name
+
+-- What stands before a value: a key, perhaps an attribute, and an operator.
+pub record Head : Type 0 where
+  pub key : List ℕ
+  pub attribute : Option (List ℕ)
+  pub operator : Operator
+
+-- The text begins with this head, with blanks before and behind its operator, and rest follows.
+pub record HeadStands (text : List ℕ) (h : Head) (rest : List ℕ) : Type 0 where
+  pub before : List ℕ
+  pub behind : List ℕ
+  pub spelled : text ≡ h.key ++ attribute_text h.attribute ++ before ++ operator_text h.operator ++ behind ++ rest
+  pub some_key : 0 < length h.key
+  pub key : AllAre is_key_byte h.key
+  pub attribute : AllAre is_attribute_byte (attribute_bytes h.attribute)
+  pub blanks : AllAre is_blank before × AllAre is_blank behind
+
+-- Whether an operator compares.
+abbrev pub compares : Operator → Bool
+compares Equal = true
+compares NotEqual = true
+compares Add = false
+compares Remove = false
+compares AssignFinal = false
+compares Assign = false
+
+-- What one letter before the quote asks for: e for escapes and, behind an operator that compares, i for a value that ignores case.
+abbrev pub one_letter : Operator → ℕ → Option Quote
+one_letter o a =
+    if a == letter_e then Some Escaped
+    else (if a == letter_i && compares o then Some Blind
+    else None)
+
+-- What two letters before the quote ask for: ie and ei, behind an operator that compares, for both.
+abbrev pub two_letters : Operator → ℕ → ℕ → Option Quote
+two_letters o a b =
+    if ((a == letter_i && b == letter_e) || (a == letter_e && b == letter_i)) && compares o then Some BlindEscaped
+    else None
+
+-- The quoting that the letters directly before the quote ask for; None where they are no prefix behind this operator.
+unfoldable pub prefix_quote : Operator → List ℕ → Option Quote
+prefix_quote o [] = Some Plain
+prefix_quote o (a ∷ []) = one_letter o a
+prefix_quote o (a ∷ b ∷ []) = two_letters o a b
+prefix_quote o (a ∷ b ∷ c ∷ more) = None
+
+-- The parts of a token: its head, how its value is quoted, and the value as it is spelled.
+pub record Parts : Type 0 where
+  pub head : Head
+  pub quote : Quote
+  pub value : List ℕ
+
+-- The text begins with a token of these parts, and rest follows it.
+pub record TokenStands (text : List ℕ) (t : Parts) (rest : List ℕ) : Type 0 where
+  pub quoted : List ℕ
+  pub letters : List ℕ
+  pub pieces : List Piece
+  pub head : HeadStands text t.head quoted
+  pub spelled : quoted ≡ letters ++ double_quote ∷ t.value ++ double_quote ∷ rest
+  pub letters_are : AllAre is_letter letters
+  pub prefix : prefix_quote t.head.operator letters ≡ Some t.quote
+  pub value : Spells (has_escapes t.quote) pieces t.value
+
+-- The text is right up to the blanks behind its operator, and letters that are no prefix there stand directly before a quote.
+pub record WrongPrefix (text : List ℕ) : Type 0 where
+  pub head : Head
+  pub quoted : List ℕ
+  pub letters : List ℕ
+  pub rest : List ℕ
+  pub stands : HeadStands text head quoted
+  pub spelled : quoted ≡ letters ++ double_quote ∷ rest
+  pub letters_are : AllAre is_letter letters
+  pub prefix : prefix_quote head.operator letters ≡ None
+
+-- The text begins with no token.
+abbrev pub NoToken : List ℕ → Type 0
+NoToken text = (t : Parts) (rest : List ℕ) → ¬ (TokenStands text t rest)
+
+-- Why the text begins with no token: its prefix is wrong, or else its syntax.
+abbrev pub IsFault : List ℕ → TokenFaultKind → Type 0
+IsFault text Prefix = WrongPrefix text
+IsFault text Syntax = NoToken text × ¬ (WrongPrefix text)
+
+-- A token in its line: its parts, and the places of its first byte and of the byte behind it.
+pub record Placed : Type 0 where
+  pub parts : Parts
+  pub span : Span
+
+-- The text, which stands at a place of a line, begins with this token, and rest follows it.
+pub record TokenAt (at : ℕ) (text : List ℕ) (t : Placed) (rest : List ℕ) : Type 0 where
+  pub stands : TokenStands text t.parts rest
+  pub start : t.span.start ≡ at
+  pub end : t.span.end + length rest ≡ at + length text
+
+-- What follows a token is the longest gap, and then next.
+pub record Gap (rest gap next : List ℕ) : Type 0 where
+  pub spelled : rest ≡ gap ++ next
+  pub all : AllAre is_gap_byte gap
+  pub longest : BeginsOther is_gap_byte next
+
+-- The text, which stands at a place of a line, is these tokens with gaps between them, up to its end or to the first part that is no token: with no token left, that part is here; else the text begins with the first token, and behind it and a gap the text either ends, and the tokens with it, or goes on with the others.
+abbrev pub LexesAt : ℕ → List ℕ → List Placed → Option TokenFault → Type 0
+LexesAt at text [] None = ⊥
+LexesAt at text [] (Some fault) = (fault.at ≡ at) × IsFault text fault.kind
+LexesAt at text (t ∷ tokens) end =
+    (rest : List ℕ) × (gap : List ℕ) × (next : List ℕ) × TokenAt at text t rest × Gap rest gap next
+    × (((next ≡ []) × (tokens ≡ []) × (end ≡ None)) ⊎ ((0 < length next) × LexesAt (t.span.end + length gap) next tokens end))
+
+-- A line, its tokens and its end: None where it is done, or the fault that ends it.
+abbrev pub Lexes : List ℕ → List Placed → Option TokenFault → Type 0
+Lexes line tokens end = LexesAt 0 line tokens end
+
+-- What is given of a line in turn: a token, or the fault that ends them.
+abbrev pub Item : Type 0
+Item = Result Placed TokenFault
+
+-- The tokens in turn, and the fault that ends them.
+abbrev pub answers : List Placed → Option TokenFault → List Item
+answers [] None = []
+answers [] (Some fault) = Err fault ∷ []
+answers (t ∷ tokens) end = Ok t ∷ answers tokens end
+
+-- The items are tokens and an end of the line.
+abbrev pub Given : List ℕ → List Item → Type 0
+Given line items = (tokens : List Placed) × (end : Option TokenFault) × Lexes line tokens end × (items ≡ answers tokens end)
+
+-- The line has no other tokens and end than the items.
+abbrev pub Only : List ℕ → List Item → Type 0
+Only line items = (tokens : List Placed) (end : Option TokenFault) → Lexes line tokens end → items ≡ answers tokens end
+
+-- Each line has tokens and an end.
+abbrev pub SomeAnswer : Type 0
+SomeAnswer = (line : List ℕ) → (tokens : List Placed) × (end : Option TokenFault) × Lexes line tokens end
+
+-- No line has two.
+abbrev pub OneAnswer : Type 0
+OneAnswer = (line : List ℕ) (s t : List Placed) (e f : Option TokenFault) → Lexes line s e → Lexes line t f → (s ≡ t) × (e ≡ f)

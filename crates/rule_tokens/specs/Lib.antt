@@ -1,0 +1,6 @@
+pub mod Letters
+pub mod Values
+pub mod Grammar
+pub mod Places
+pub mod Reading
+pub mod Lines

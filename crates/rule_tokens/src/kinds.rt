@@ -1,0 +1,60 @@
+//! The small types of a token: its operator, how its value is quoted, where it lies, and why a part
+//! of a line is none.
+
+/// What is done with a key.
+#[derive(Clone, Copy, Debug, PartialEq, Eq)]
+pub enum Operator {
+    /// `==`: the key is compared for equality.
+    Equal,
+    /// `!=`: the key is compared for inequality.
+    NotEqual,
+    /// `+=`: the value is added to the key's list.
+    Add,
+    /// `-=`: the value is removed from the key's list.
+    Remove,
+    /// `:=`: the key is given the value, and no later change is taken.
+    AssignFinal,
+    /// `=`: the key is given the value.
+    Assign,
+}
+
+/// How a value is quoted: what the letters before its first `"` ask for.
+#[derive(Clone, Copy, Debug, PartialEq, Eq)]
+pub enum Quote {
+    /// `".."`: only `\"` is an escape.
+    Plain,
+    /// `e".."`: escapes as in C.
+    Escaped,
+    /// `i".."`: a plain value that ignores case when it is compared.
+    Blind,
+    /// `ei".."` or `ie".."`: escapes as in C, and case is ignored.
+    BlindEscaped,
+}
+
+/// Where a token lies in its line, in bytes from the line's start.
+#[derive(Clone, Copy, Debug, PartialEq, Eq)]
+pub struct Span {
+    /// The place of the first byte of the key.
+    pub start: usize,
+    /// The place behind the closing quote.
+    pub end: usize,
+}
+
+/// Why a part of a line is no token.
+#[derive(Clone, Copy, Debug, PartialEq, Eq)]
+pub enum TokenFaultKind {
+    /// It doesn't follow the syntax of a token.
+    Syntax,
+    /// It is right up to its value, but the letters before the `"` are no prefix, or none that may
+    /// stand behind this operator.
+    Prefix,
+}
+
+/// The first part of a line that is no token.
+#[derive(Clone, Copy, Debug, PartialEq, Eq)]
+pub struct TokenFault {
+    /// The place of its first byte, in bytes from the line's start.
+    pub at: usize,
+    /// What is wrong with it.
+    pub kind: TokenFaultKind,
+}

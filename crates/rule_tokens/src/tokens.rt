@@ -1,0 +1,91 @@
+//! The tokens of a line in turn.
+
+ghost use Rattle.std.specs.Prelude.{◌≡◌, All};
+ghost use Rattle.rule_tokens.specs.Grammar.{Given, Only};
+ghost use Rattle.rule_tokens.specs.Places.{LiesIn, RisesFrom};
+ghost use Rattle.rule_tokens.specs.Lines.{items_of};
+
+use crate::kinds::{Span, TokenFault};
+use crate::parts::{Token, token_of};
+use crate::runs::after_gap;
+use std::marker::Model;
+
+/// The tokens of a line in turn, and the fault that ends them, if one does: a fault is the last
+/// item. Blanks and commas between tokens are passed over. Nothing is allocated.
+#[derive(Debug, Drop)]
+pub struct Tokens<'a> {
+    rest: &'a [u8],
+    at: usize,
+    done: bool,
+}
+
+impl<'a> Model for Tokens<'a> {
+    ghost use Rattle.std.specs.Prelude.{List, ◌+◌, ◌<◌, ◌^◌, length};
+    ghost use Rattle.rule_tokens.specs.Grammar.{Item};
+
+    ghost Value = { List Item };
+
+    ghost use Rattle.rule_tokens.specs.Lines.{items_left};
+
+    ghost view = { λ s. items_left s.done s.at s.rest.now };
+
+    ghost invariant = { λ s. s.at + length s.rest.now < 2 ^ 64 };
+}
+
+impl<'a> Tokens<'a> {
+    /// The tokens of a line of a rules file, as udev(7) describes it. The line is one that is joined
+    /// already, without its newline. A line with nothing on it is a fault at 0.
+    #[tactic(auto, using(crate::proofs::Steps::new_given, crate::proofs::Steps::new_only, crate::proofs::PlaceLemmas::new_lie, crate::proofs::PlaceLemmas::new_rise))]
+    pub fn new(line: &'a [u8]) -> Tokens<'a>
+        // What is given are tokens of the line, up to its end.
+        ensures given { Given line.now result }
+        // The line has no others.
+        ensures only { Only line.now result }
+        // Each token's parts stand in the line at their places, a fault's place is in the line.
+        ensures within { All (LiesIn line.now) result }
+        // Each item begins where the one before it ends, or behind that.
+        ensures rising { RisesFrom 0 result }
+        // The same as a function of the line, for definitions above.
+        ensures value { result ≡ items_of line.now }
+    {
+        Tokens {
+            rest: line,
+            at: 0,
+            done: false,
+        }
+    }
+}
+
+impl<'a> Iterator for Tokens<'a> {
+    type Item = Result<Token<'a>, TokenFault>;
+
+    ghost use Rattle.std.specs.Iterator.{YieldsFirst, item_count};
+
+    ghost next_gives = { YieldsFirst (λ items. items) };
+
+    ghost remaining = { item_count (λ items. items) };
+
+    #[tactic(auto, using(crate::proofs::Steps::token_left))]
+    fn next(&mut self) -> Option<Result<Token<'a>, TokenFault>> {
+        if self.done {
+            return None;
+        }
+        let start = self.at;
+        let text = self.rest;
+        match token_of(text) {
+            Err(kind) => {
+                self.done = true;
+                Some(Err(TokenFault { at: start, kind }))
+            }
+            Ok((parts, after)) => {
+                let end = start + (text.len() - after.len());
+                let rest = after_gap(after);
+                self.at = start + (text.len() - rest.len());
+                self.rest = rest;
+                self.done = rest.is_empty();
+                let span = Span { start, end };
+                Some(Ok(Token { parts, span }))
+            }
+        }
+    }
+}

@@ -1,0 +1,16 @@
+pub mod Suffixes
+pub mod Members
+pub mod Scanning
+pub mod Opened
+pub mod Cutting
+pub mod Belonging
+pub mod Places
+pub mod Classes
+pub mod Enclosed
+pub mod Pieces
+pub mod Spelling
+pub mod Splitting
+pub mod Cases
+pub mod Lawful
+pub mod Caseless
+pub mod Ranges

@@ -1,0 +1,134 @@
+//! Choices: patterns with a bar between, as the values of rules are, by udev(7).
+//!
+//! The bar is looked for before anything else is read, so that one inside a set cuts too.
+ghost use Rattle.std.specs.Prelude.{◌≡◌, ◌≢◌, ◌≤◌, length, Ok, Err, MatchResult};
+ghost use Rattle.text_core.specs.Choices.{choice, choice_blind, choice_by, choice_fits};
+ghost use Rattle.text_core.specs.declared.glob_fault.GlobFault.TheVariants.{Memory};
+
+use crate::GlobFault;
+use crate::pattern::{MAX_LEN, Pattern};
+use crate::reading::Reading;
+use bytes_core::find;
+use std::alloc::Global;
+use std::marker::Model;
+
+/// Patterns of which one has to fit. There is always one, perhaps an empty one.
+#[derive(Debug, Drop)]
+pub struct Choice {
+    parts: Vec<Pattern>,
+}
+
+impl Model for Choice {
+    ghost use Rattle.std.specs.Prelude.{List};
+    ghost use Rattle.text_core.specs.declared.item.Item.{Item};
+
+    ghost Value = { List (List Item) };
+
+    ghost view = { λ c. c.parts.items };
+}
+
+impl Choice {
+    /// Reads the texts between the bars as patterns, in order. Of parts with a fault the first gives
+    /// it, with the place in the whole text; a text over 16,384 bytes is `TooLong` before all else.
+    pub fn read(alloc: Global, text: &[u8]) -> Result<Choice, GlobFault>
+        ensures { MatchResult result (λ c. choice text.now ≡ Ok c) (λ e. e ≢ Memory → choice text.now ≡ Err e) }
+    {
+        Choice::read_by(alloc, Reading::Exact, text)
+    }
+
+    /// As `read`, for values that ignore the case of ASCII letters: a letter stands for both its
+    /// cases, and a set has both cases of each letter among its members before a sign negates it.
+    /// Bytes over 0x7F are themselves.
+    pub fn read_blind(alloc: Global, text: &[u8]) -> Result<Choice, GlobFault>
+        ensures { MatchResult result (λ c. choice_blind text.now ≡ Ok c) (λ e. e ≢ Memory → choice_blind text.now ≡ Err e) }
+    {
+        Choice::read_by(alloc, Reading::Blind, text)
+    }
+
+    fn read_by(alloc: Global, reading: Reading, text: &[u8]) -> Result<Choice, GlobFault>
+        ensures { MatchResult result (λ c. choice_by reading text.now ≡ Ok c) (λ e. e ≢ Memory → choice_by reading text.now ≡ Err e) }
+    {
+        if text.len() > MAX_LEN {
+            return Err(GlobFault::TooLong);
+        }
+        let mut parts = Vec::new(alloc);
+        let mut rest = text;
+        while let Some(place) = find(b'|', rest) {
+            let (front, _) = rest.split_at(place);
+            let (_, behind) = rest.split_at(place + 1);
+            let part = Pattern::read_at(alloc, reading, text.len() - rest.len(), front)?;
+            parts.push(part)?;
+            rest = behind;
+        }
+        let last = Pattern::read_at(alloc, reading, text.len() - rest.len(), rest)?;
+        parts.push(last)?;
+        Ok(Choice { parts })
+    }
+
+    /// Lends the patterns of the parts, in order.
+    pub fn parts(&self) -> &[Pattern]
+        ensures { result.now ≡ self.now }
+    {
+        self.parts.as_slice()
+    }
+
+    /// Whether one of the parts fits the text. It takes no memory.
+    pub fn fits(&self, text: &[u8]) -> bool
+        ensures { result ≡ choice_fits self.now text.now }
+    {
+        self.parts.iter().any(|part| part.fits(text))
+    }
+}
+
+#[cfg(test)]
+mod tests {
+    use super::*;
+    use std::test::Fail;
+
+    #[test]
+    fn parts(rt: HostRuntime) -> Result<(), Fail> {
+        let alloc = rt.alloc();
+        let empty_or_x = Choice::read(alloc, b"|x")?;
+        assert!(rt; empty_or_x.fits(b""));
+        assert!(rt; empty_or_x.fits(b"x"));
+        assert!(rt; !empty_or_x.fits(b"|x"));
+        let cut_set = Choice::read(alloc, b"[a|b]")?;
+        assert_eq!(rt; cut_set.parts().len(), 2);
+        assert!(rt; cut_set.fits(b"[a"));
+        assert!(rt; !cut_set.fits(b"a"));
+        Ok(())
+    }
+
+    #[test]
+    fn blind(rt: HostRuntime) -> Result<(), Fail> {
+        let alloc = rt.alloc();
+        let other_than_a = Choice::read_blind(alloc, b"[!a]")?;
+        assert!(rt; other_than_a.fits(b"b"));
+        assert!(rt; !other_than_a.fits(b"a"));
+        assert!(rt; !other_than_a.fits(b"A"));
+        let name = Choice::read_blind(alloc, b"x|[Y-Z]1")?;
+        assert!(rt; name.fits(b"X"));
+        assert!(rt; name.fits(b"z1"));
+        assert!(rt; !name.fits(b"w1"));
+        let disk = Choice::read_blind(alloc, b"SDA")?;
+        assert!(rt; disk.fits(b"sda") && disk.fits(b"SdA") && !disk.fits(b"sdb"));
+        let past_ascii = Choice::read_blind(alloc, b"\xC4")?;
+        assert!(rt; past_ascii.fits(b"\xC4") && !past_ascii.fits(b"\xE4"));
+        Ok(())
+    }
+
+    #[test]
+    fn faults(rt: HostRuntime) -> Result<(), Fail> {
+        let alloc = rt.alloc();
+        let class = Some(GlobFault::Class { at: 4 });
+        assert_eq!(rt; Choice::read(alloc, b"ab|[[:x]|[[=]").err(), class);
+        assert_eq!(rt; Choice::read_blind(alloc, b"ab|[[:x]|[[=]").err(), class);
+        let bars = vec![in alloc; b'|'; 16385]?;
+        assert_eq!(rt; Choice::read(alloc, &bars).err(), Some(GlobFault::TooLong));
+        assert_eq!(rt;
+            Choice::read_blind(alloc, &bars).err(),
+            Some(GlobFault::TooLong)
+        );
+        Ok(())
+    }
+}

@@ -1,0 +1,34 @@
+//! The items of a pattern.
+//!
+//! An item owns no memory, so that a pattern is one block, however many sets it has.
+ghost use Rattle.std.specs.Prelude.{◌≡◌};
+ghost use Rattle.text_core.specs.Items.{takes};
+
+use crate::ByteSet;
+
+/// One item of a pattern, as hwdb(7) and udev(7) name them.
+#[derive(Clone, Copy, Debug, PartialEq, Eq)]
+pub enum Item {
+    /// A byte that stands for itself.
+    Byte(u8),
+    /// `?`: any one byte.
+    One,
+    /// `*`: any bytes, none among them.
+    Many,
+    /// `[...]`: one byte of a set.
+    Among(ByteSet),
+}
+
+impl Item {
+    /// Whether the item takes this one byte; false of `Many`, which is no item of one byte.
+    pub fn takes(&self, byte: u8) -> bool
+        ensures { result ≡ takes self.now byte }
+    {
+        match self {
+            Item::Byte(own) => *own == byte,
+            Item::One => true,
+            Item::Many => false,
+            Item::Among(set) => set.has(byte),
+        }
+    }
+}

@@ -1,0 +1,178 @@
+//! Patterns, as udev(7) and hwdb(7) describe them for matching.
+//!
+//! A pattern is read once and matched often, so it holds its items ready, each set as bits, and in
+//! just the room that they need: a database has more than a hundred thousand.
+ghost use Rattle.std.specs.Prelude.{◌≡◌, ◌≢◌, ◌+◌, ◌<◌, ◌^◌, length, Ok, Err, IfOk, MatchResult};
+ghost use Rattle.text_core.specs.Fits.{fits};
+ghost use Rattle.text_core.specs.Spell.{items_at, spell};
+ghost use Rattle.text_core.specs.declared.glob_fault.GlobFault.TheVariants.{Memory};
+
+use crate::reading::Reading;
+use crate::spell::front;
+use crate::{GlobFault, Item, glob};
+use std::alloc::{AllocError, Global};
+use std::marker::Model;
+
+/// How many bytes the text of a pattern or of a choice may have.
+pub const MAX_LEN: usize = 16384;
+
+/// A pattern: `*` takes any bytes, `?` any one, `[..]` one byte of a set, and each other byte, the
+/// backslash too, itself. A set is negated by a first `!` or `^`, has ranges as `a-z`, and ends at the
+/// first `]` behind its first member; a `[` that no such `]` follows is a byte.
+#[derive(Debug, Drop)]
+pub struct Pattern {
+    items: Vec<Item>,
+}
+
+impl Model for Pattern {
+    ghost use Rattle.std.specs.Prelude.{List};
+    ghost use Rattle.text_core.specs.declared.item.Item.{Item};
+
+    ghost Value = { List Item };
+
+    ghost view = { λ p. p.items.items };
+}
+
+impl Pattern {
+    /// Reads a pattern as udev(7) and hwdb(7) write them.
+    ///
+    /// A text of more than 16,384 bytes is `TooLong`, before all else; a class among the members of a
+    /// set is `Class`, with the place of its inner `[`, the first of them; `Memory` comes where a
+    /// growth was refused.
+    pub fn read(alloc: Global, text: &[u8]) -> Result<Pattern, GlobFault>
+        ensures { MatchResult result (λ p. spell text.now ≡ Ok p) (λ e. e ≢ Memory → spell text.now ≡ Err e) }
+    {
+        if text.len() > MAX_LEN {
+            return Err(GlobFault::TooLong);
+        }
+        Pattern::read_at(alloc, Reading::Exact, 0, text)
+    }
+
+    /// Reads a text that stands at a place of a longer one.
+    pub(crate) fn read_at(
+        alloc: Global,
+        reading: Reading,
+        at: usize,
+        text: &[u8],
+    ) -> Result<Pattern, GlobFault>
+        requires { at + length text.now < 2 ^ 63 }
+        ensures { MatchResult result (λ p. items_at reading text.now 0 at ≡ Ok p) (λ e. e ≢ Memory → items_at reading text.now 0 at ≡ Err e) }
+    {
+        let mut items = Vec::with_capacity(alloc, text.len())?;
+        let mut rest = text;
+        while let Some((byte, after)) = rest.split_first() {
+            let (item, len) = front(reading, at + (text.len() - rest.len()), *byte, after)?;
+            items.push(item)?;
+            (_, rest) = after.split_at(len);
+        }
+        items.shrink_to_fit();
+        Ok(Pattern { items })
+    }
+
+    /// A pattern of the same items, in just the room that they need. Only memory can fail.
+    pub fn copy(&self, alloc: Global) -> Result<Pattern, AllocError>
+        ensures { IfOk result (λ p. p ≡ self.now) }
+    {
+        Ok(Pattern {
+            items: Vec::from_slice(alloc, &self.items)?,
+        })
+    }
+
+    /// Lends the items, in order.
+    pub fn items(&self) -> &[Item]
+        ensures { result.now ≡ self.now }
+    {
+        self.items.as_slice()
+    }
+
+    /// Whether the whole text fits. It takes no memory, and time of at most items times text.
+    pub fn fits(&self, text: &[u8]) -> bool
+        ensures { result ≡ fits self.now text.now }
+    {
+        glob::fits(&self.items, text)
+    }
+}
+
+#[cfg(test)]
+mod tests {
+    use super::*;
+    use std::test::Fail;
+
+    fn fits(alloc: Global, pattern: &[u8], text: &[u8]) -> Result<bool, GlobFault> {
+        Ok(Pattern::read(alloc, pattern)?.fits(text))
+    }
+
+    #[test]
+    fn brackets(rt: HostRuntime) -> Result<(), Fail> {
+        let alloc = rt.alloc();
+        assert!(rt; fits(alloc, b"[]", b"[]")?);
+        assert!(rt; !fits(alloc, b"[]", b"]")?);
+        assert!(rt; fits(alloc, b"[!]", b"[!]")?);
+        assert!(rt; !fits(alloc, b"[!]", b"a")?);
+        assert!(rt; fits(alloc, b"[]a]", b"]")?);
+        assert!(rt; fits(alloc, b"[]a]", b"a")?);
+        assert!(rt; !fits(alloc, b"[]a]", b"[]a]")?);
+        assert!(rt; fits(alloc, b"[a-]", b"a")?);
+        assert!(rt; fits(alloc, b"[a-]", b"-")?);
+        assert!(rt; !fits(alloc, b"[^a-c]*x?", b"bxxy")?);
+        assert!(rt; fits(alloc, b"[^a-c]*x?", b"dxxy")?);
+        Ok(())
+    }
+
+    #[test]
+    fn ranges(rt: HostRuntime) -> Result<(), Fail> {
+        let alloc = rt.alloc();
+        let empty = Pattern::read(alloc, b"[b-a]")?;
+        let from_minus = Pattern::read(alloc, b"[--a]")?;
+        for byte in 0..=255 {
+            assert!(rt; !empty.fits(&[byte]));
+            assert_eq!(rt; from_minus.fits(&[byte]), byte >= b'-' && byte <= b'a');
+        }
+        Ok(())
+    }
+
+    #[test]
+    fn modalias(rt: HostRuntime) -> Result<(), Fail> {
+        let pattern = Pattern::read(rt.alloc(), b"mouse:*:name:*[tT]rack[bB]all*:*")?;
+        let copy = pattern.copy(rt.alloc())?;
+        assert!(rt; pattern.fits(b"mouse:usb:name:My TrackBall:x"));
+        assert!(rt; copy.fits(b"mouse:usb:name:My TrackBall:x"));
+        assert!(rt; !copy.fits(b"mouse:usb:name:My Mouse:x"));
+        assert_eq!(rt; copy.items().first(), Some(&Item::Byte(b'm')));
+        Ok(())
+    }
+
+    #[test]
+    fn faults(rt: HostRuntime) -> Result<(), Fail> {
+        let alloc = rt.alloc();
+        assert_eq!(rt;
+            Pattern::read(alloc, b"a[b[:c]").err(),
+            Some(GlobFault::Class { at: 3 })
+        );
+        assert_eq!(rt;
+            Pattern::read(alloc, b"[[.]").err(),
+            Some(GlobFault::Class { at: 1 })
+        );
+        let classes = vec![in alloc; b'['; 16385]?;
+        assert_eq!(rt;
+            Pattern::read(alloc, &classes).err(),
+            Some(GlobFault::TooLong)
+        );
+        let brackets = vec![in alloc; b'['; 16384]?;
+        assert_eq!(rt; Pattern::read(alloc, &brackets)?.items().len(), 16384);
+        Ok(())
+    }
+
+    #[test]
+    fn many_stars_end_soon(rt: HostRuntime) -> Result<(), Fail> {
+        let alloc = rt.alloc();
+        let mut stars = Vec::new(alloc);
+        for _ in 0..40 {
+            stars.extend_from_slice(b"*a")?;
+        }
+        let mut text = vec![in alloc; b'a'; 200]?;
+        text.push(b'b')?;
+        assert!(rt; !fits(alloc, &stars, &text)?);
+        Ok(())
+    }
+}

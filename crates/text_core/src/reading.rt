@@ -1,0 +1,13 @@
+//! The two readings of a text.
+//!
+//! Both are read by the same code, and differ in two places: which bytes a byte that means itself
+//! stands for, and which bytes the members of a set have.
+
+/// How a text is read.
+#[derive(Clone, Copy, Debug, PartialEq, Eq)]
+pub enum Reading {
+    /// Each byte is itself.
+    Exact,
+    /// A letter of ASCII stands for both its cases.
+    Blind,
+}

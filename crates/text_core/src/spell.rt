@@ -1,0 +1,99 @@
+//! The items that a text spells, one at a time.
+ghost use Rattle.std.specs.Prelude.{◌≡◌, ◌+◌, ◌^◌, ◌<◌, ◌≤◌, length, IfOk, IfSome};
+ghost use Rattle.text_core.specs.Spell.{negated, sign_len, class_place, close_of, bracket, itself, front};
+
+use crate::reading::Reading;
+use crate::sets::set_of;
+use crate::{GlobFault, Item};
+use bytes_core::find;
+
+fn is_negated(after: &[u8]) -> bool
+    ensures { result ≡ negated after.now }
+{
+    match after.first() {
+        Some(byte) => *byte == b'!' || *byte == b'^',
+        None => false,
+    }
+}
+
+/// How many bytes a sign takes: one where there is one.
+fn sign_len(after: &[u8]) -> usize
+    ensures value { result ≡ sign_len after.now }
+    ensures within { result ≤ length after.now }
+    ensures bound { result ≤ 1 }
+{
+    if is_negated(after) { 1 } else { 0 }
+}
+
+/// The place of the first `[` directly followed by `:`, `.` or `=`.
+fn class_place(members: &[u8]) -> Option<usize>
+    ensures value { result ≡ class_place members.now }
+    ensures within { IfSome result (λ n. n < length members.now) }
+{
+    members.iter().zip(members.iter().skip(1)).position(|(a, b)| *a == b'['
+        && (*b == b':' || *b == b'.' || *b == b'='))
+}
+
+/// The place of the first `]` that is not the first byte, less one.
+fn close_of(body: &[u8]) -> Option<usize>
+    ensures value { result ≡ close_of body.now }
+    ensures within { IfSome result (λ k. k + 1 < length body.now) }
+{
+    let (_, behind) = body.split_first()?;
+    find(b']', behind)
+}
+
+/// What a `[` at a place begins.
+fn bracket(reading: Reading, at: usize, after: &[u8]) -> Result<(Item, usize), GlobFault>
+    requires { at + length after.now < 2 ^ 63 }
+    ensures value { result ≡ bracket reading at after.now }
+    ensures len { IfOk result (λ found. found.1 ≤ length after.now) }
+{
+    let sign = sign_len(after);
+    let (_, body) = after.split_at(sign);
+    let Some(close) = close_of(body) else {
+        return Ok((Item::Byte(b'['), 0));
+    };
+    let (members, _) = body.split_at(close + 1);
+    if let Some(place) = class_place(members) {
+        return Err(GlobFault::Class {
+            at: at + 1 + sign + place,
+        });
+    }
+    Ok((
+        Item::Among(set_of(reading, is_negated(after), members)),
+        sign + close + 2,
+    ))
+}
+
+/// The item of a byte that means itself: read blind, a letter is the set of both its cases.
+fn itself(reading: Reading, byte: u8) -> Item
+    ensures { result ≡ itself reading byte }
+{
+    match reading {
+        Reading::Blind if byte.is_ascii_alphabetic() => {
+            Item::Among(set_of(Reading::Blind, false, &[byte]))
+        }
+        _ => Item::Byte(byte),
+    }
+}
+
+/// The item that a byte at a place begins, and how many of the bytes behind it belong to it.
+#[tactic(auto, unfolding(crate::specs::Spell::front))]
+pub fn front(
+    reading: Reading,
+    at: usize,
+    byte: u8,
+    after: &[u8],
+) -> Result<(Item, usize), GlobFault>
+    requires { at + length after.now < 2 ^ 63 }
+    ensures value { result ≡ front reading at byte after.now }
+    ensures len { IfOk result (λ found. found.1 ≤ length after.now) }
+{
+    match byte {
+        b'*' => Ok((Item::Many, 0)),
+        b'?' => Ok((Item::One, 0)),
+        b'[' => bracket(reading, at, after),
+        _ => Ok((itself(reading, byte), 0)),
+    }
+}

@@ -1,0 +1,78 @@
+-- The command line of `devdry`, as `clap` reads it.
+use Rattle.std.specs.Prelude.{◌≡◌, Some, ℕ, List, [], ◌∷◌, codes, true, false}
+use Rattle.clap.specs.Words.{App, Rule, Shape, Text, new_rule, shape_of, with_subcommand}
+use Rattle.clap.specs.Simple.{new_shape}
+use Rattle.clap.specs.declared.builder.action.ArgAction.TheVariants.{Append, SetTrue}
+use Rattle.clap.specs.declared.builder.command.Command.{Command}
+use Rattle.clap.specs.declared.builder.command.Command.TheViews.{out-Command}
+
+-- the letters of the short options, `r` and `s`
+abbrev pub letter_r : ℕ
+letter_r = 114
+
+abbrev pub letter_s : ℕ
+letter_s = 115
+
+-- `--NAME`, which takes no value
+abbrev pub flag_rule : Text → Rule
+flag_rule name = record (new_rule name) { long = Some name; action = Some SetTrue }
+
+-- `-r DIR`, `--root DIR`
+abbrev pub root_rule : Rule
+root_rule = record (new_rule (codes "root")) {
+  short = Some letter_r;
+  long = Some (codes "root");
+  value_names = 1;
+}
+
+-- `-s`, `--strict`
+abbrev pub strict_rule : Rule
+strict_rule = record (flag_rule (codes "strict")) { short = Some letter_s }
+
+-- `--sources`
+abbrev pub sources_rule : Rule
+sources_rule = flag_rule (codes "sources")
+
+-- `MODALIAS`, which has to be there
+abbrev pub modalias_rule : Rule
+modalias_rule = record (new_rule (codes "MODALIAS")) { required = true }
+
+-- `[FILE]..`, any number of them
+abbrev pub files_rule : Rule
+files_rule = record (new_rule (codes "FILE")) { action = Some Append }
+
+-- a command of this name with these arguments
+abbrev pub with_rules : Text → List Rule → Shape
+with_rules name rules = record (new_shape name) { rules = rules }
+
+-- `update [-r DIR] [-s] [FILE]..`
+abbrev pub update_shape : Shape
+update_shape = with_rules (codes "update") (root_rule ∷ strict_rule ∷ files_rule ∷ [])
+
+-- `query [-r DIR] [--sources] MODALIAS [FILE]..`
+abbrev pub query_shape : Shape
+query_shape = with_rules (codes "query")
+    (root_rule ∷ sources_rule ∷ modalias_rule ∷ files_rule ∷ [])
+
+-- the program without its subcommands: the words come without its name, one subcommand has to be
+-- there, and each has the program's version
+abbrev pub program : App
+program = record {
+  top = record (new_shape (codes "devdry")) {
+    no_binary_name = true;
+    propagate_version = true;
+    has_version = true;
+    arg_required_else_help = true;
+    subcommand_required = true;
+  };
+  subs = [];
+}
+
+-- `devdry` with its subcommands
+unfoldable pub devdry : App
+devdry = with_subcommand (with_subcommand program update_shape) query_shape
+
+-- the command has this shape, and none of its arguments is global
+pub record IsCommand (shape : Shape) (c : Command) : Type 0 where
+  pub shape_is : shape_of c ≡ shape
+  pub is_local : (out-Command c).has_globals ≡ false

@@ -7,6 +7,8 @@ use bytes_core::Bytes;
 pub enum FileKind {
     /// Records of the hardware database, as hwdb(7) says.
     Hwdb,
+    /// Rules, as udev(7) says.
+    Rules,
 }
 
 /// A file that was read whole.

@@ -3,6 +3,7 @@ pub mod HeadLemmas
 pub mod Pieces
 pub mod PieceLists
 pub mod Stands
+pub mod LetterLemmas
 pub mod Lines
 pub mod Numbers
 pub mod Loops

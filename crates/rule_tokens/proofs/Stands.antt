@@ -77,7 +77,7 @@ no_blank : (b : ℕ) → is_letter b ≡ true → is_blank b ≡ false
 no_blank b e = rw (other_byte is_letter b space e refl) (rw (other_byte is_letter b tab e refl) refl)
 
 -- a head before letters and a quote is read
-quoted_head : (text : List ℕ) (h : Head) (quoted letters rest : List ℕ) → HeadStands text h quoted → quoted ≡ letters ++ double_quote ∷ rest → AllAre is_letter letters → head_at text ≡ Ok (h, quoted)
+pub quoted_head : (text : List ℕ) (h : Head) (quoted letters rest : List ℕ) → HeadStands text h quoted → quoted ≡ letters ++ double_quote ∷ rest → AllAre is_letter letters → head_at text ≡ Ok (h, quoted)
 quoted_head text h quoted letters rest s e a =
     head_again text h quoted s (letter_begins is_blank no_blank refl quoted letters rest e a)
     (letter_begins (λ b. b == equals) (λ b l. other_byte is_letter b equals l refl) refl quoted letters rest e a)

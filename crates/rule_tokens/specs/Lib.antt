@@ -4,3 +4,4 @@ pub mod Grammar
 pub mod Places
 pub mod Reading
 pub mod Lines
+pub mod Prefixes

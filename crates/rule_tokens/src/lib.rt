@@ -12,6 +12,7 @@ mod escapes;
 mod heads;
 mod kinds;
 mod laws;
+mod letters;
 mod parts;
 mod prefixes;
 mod runs;
@@ -23,6 +24,7 @@ mod values;
 
 pub use kinds::{Operator, Quote, Span, TokenFault, TokenFaultKind};
 pub use laws::{line_has_one_answer, parts_lie_in_line, value_has_no_nul, value_has_one_meaning};
+pub use letters::letters_before_quote;
 pub use parts::Token;
 pub use tokens::Tokens;
 pub use unquoting::unquote;

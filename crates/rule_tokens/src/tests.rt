@@ -1,8 +1,8 @@
 //! Lines with the tokens, the meanings and the faults that the manual's rules give them.
 
 use crate::{
-    Operator, Quote, Span, TokenFault, TokenFaultKind, Tokens, line_has_one_answer,
-    parts_lie_in_line, unquote, value_has_no_nul, value_has_one_meaning,
+    Operator, Quote, Span, TokenFault, TokenFaultKind, Tokens, letters_before_quote,
+    line_has_one_answer, parts_lie_in_line, unquote, value_has_no_nul, value_has_one_meaning,
 };
 use std::alloc::Global;
 use std::process::Abort;
@@ -124,6 +124,14 @@ fn faults_of_a_prefix(rt: HostRuntime) {
     refuses(&rt, br#"KERNEL==ii"x""#, 0, prefix);
     refuses(&rt, br#"SYMLINK=i"x""#, 0, prefix);
     refuses(&rt, br#"SYMLINK+= ei"x""#, 0, prefix);
+}
+
+#[test]
+fn letters_of_a_prefix(rt: HostRuntime) {
+    let one = letters_before_quote(br#"SYMLINK=i"x""#);
+    assert_eq!(rt; one, b"i".as_slice());
+    let two = letters_before_quote(br#"KERNEL==ii"x""#);
+    assert_eq!(rt; two, b"ii".as_slice());
 }
 
 #[test]

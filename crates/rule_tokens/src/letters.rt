@@ -1,0 +1,37 @@
+//! The letters before the quote of a token, for a message about a wrong prefix.
+
+ghost use Rattle.std.specs.Prelude.{◌≡◌, Ok};
+ghost use Rattle.rule_tokens.specs.Prefixes.{AreWrongLetters, letters_at, quoted_at};
+ghost use Rattle.rule_tokens.specs.Reading.{Gives};
+
+use crate::heads::{attribute_of, key_of, operator_of};
+use crate::kinds::TokenFaultKind;
+use crate::runs::{after_blanks, letter_length};
+
+/// What stands behind the head that a text begins with, and behind its blanks.
+#[tactic(auto, unfolding(crate::specs::Reading::head_at, crate::specs::Prefixes::quoted_at))]
+fn quoted_of(text: &[u8]) -> Result<&[u8], TokenFaultKind>
+    ensures { Gives (λ x. x.now) result (quoted_at text.now) }
+{
+    let (_, rest) = key_of(text)?;
+    let (_, rest) = attribute_of(rest)?;
+    let (_, rest) = operator_of(after_blanks(rest))?;
+    Ok(after_blanks(rest))
+}
+
+/// The letters directly before the quote of the token that a text begins with, as a wrong prefix is
+/// told of. A text that does not begin as a token has none.
+pub fn letters_before_quote(text: &[u8]) -> &[u8]
+    // Where a wrong prefix stands, these are its letters.
+    ensures letters { AreWrongLetters text.now result.now }
+    // The same as a function of the text, for definitions above.
+    ensures value { result.now ≡ letters_at text.now }
+{
+    match quoted_of(text) {
+        Ok(quoted) => {
+            let (letters, _) = quoted.split_at(letter_length(quoted));
+            letters
+        }
+        Err(_) => &[],
+    }
+}

@@ -1,0 +1,101 @@
+-- What the passes over the rules of a file keep.
+use Rattle.std.proofs.Common.{◌≡◌, ℕ, ◌+◌, ◌<◌, ◌≤◌, suc, Bool, true, false, cond, not, ◌||◌, List, [], ◌∷◌, ◌++◌, length, map, get_or, take, drop, Option, Some, None, reverse, refl, ap, sym, ◌∙◌, append-nil, append_assoc, length-drop, arith}
+use Rattle.std.proofs.Math.Seq.{drop-cons}
+use Rattle.std.proofs.lemmas.List.{reverse-append, reverse-reverse, take_more}
+use Rattle.std.specs.List.{zip}
+use Rattle.rule_jumps.specs.Jumps.{Names, has_label, is_awaited, is_lost, is_named, is_unused, landings, landings_below}
+use Rattle.rule_jumps.specs.Tables.{is_met, is_waited_for, leaves_unused, misses}
+use Rattle.rule_jumps.specs.Flags.{joined, lost_flags, unused_flags}
+
+-- the two lists of flags are what becomes of the jumps
+landings-joined : (above rules : List Names) → map joined (zip (lost_flags rules) (unused_flags above rules)) ≡ landings_below above rules
+landings-joined above [] = refl
+landings-joined above (r ∷ below) = ap (λ ls. record { lost = is_lost r.goto below; unused = is_unused r.label above } ∷ ls) (landings-joined (r ∷ above) below)
+
+pub landings-from_flags : (rules : List Names) → map joined (zip (lost_flags rules) (unused_flags [] rules)) ≡ landings rules
+unfolding landings
+landings-from_flags rules = landings-joined [] rules
+
+-- going up: the labels met and the flags so far are those of the rules gone past, from the last one on
+pub record GoesUp (met : List (List ℕ)) (flags : List Bool) (past : List Names) : Type 0 where
+  pub labels : (name : List ℕ) → is_met name met ≡ has_label name (reverse past)
+  pub so_far : reverse flags ≡ lost_flags (reverse past)
+
+-- going down: the names waited for are those of the rules above, and the flags so far and those of the rules below are all
+pub record GoesDown (waiting : List (List ℕ × Bool)) (flags : List Bool) (rules : List Names) (i : ℕ) : Type 0 where
+  pub waits : (name : List ℕ) → is_waited_for name waiting ≡ is_awaited name (reverse (take i rules))
+  pub so_far : flags ++ unused_flags (reverse (take i rules)) (drop i rules) ≡ unused_flags [] rules
+
+-- what misses the labels met is lost
+missed : (met : List (List ℕ)) (goto : Option (List ℕ)) (below : List Names) → ((name : List ℕ) → is_met name met ≡ has_label name below) → misses met goto ≡ is_lost goto below
+missed met None below same = refl
+missed met (Some name) below same = ap not (same name)
+
+pub up_start : (met : List (List ℕ)) (flags : List Bool) → met ≡ [] → flags ≡ [] → GoesUp met flags []
+up_start met flags e f = record {
+  labels = λ name. ap (is_met name) e;
+  so_far = ap reverse f;
+}
+
+pub up_past : (met more : List (List ℕ)) (flags longer : List Bool) (past : List Names) (r : Names) (lost : Bool) → GoesUp met flags past
+    → lost ≡ misses met r.goto → longer ≡ flags ++ lost ∷ [] → ((name : List ℕ) → is_met name more ≡ (is_named name r.label || is_met name met))
+    → GoesUp more longer (past ++ r ∷ [])
+up_past met more flags longer past r lost before is_missed pushed added =
+    let turned : reverse (past ++ r ∷ []) ≡ r ∷ reverse past = reverse-append past (r ∷ []) in
+    record {
+      labels = λ name. added name ∙ ap (λ b. is_named name r.label || b) (before.labels name) ∙ ap (has_label name) (sym turned);
+      so_far =
+          ap reverse pushed ∙ reverse-append flags (lost ∷ []) ∙ ap (λ b. b ∷ reverse flags) (is_missed ∙ missed met r.goto (reverse past) before.labels)
+          ∙ ap (λ bs. is_lost r.goto (reverse past) ∷ bs) before.so_far ∙ ap lost_flags (sym turned);
+    }
+
+pub up_end : (met : List (List ℕ)) (flags turned : List Bool) (past rules : List Names) → GoesUp met flags past → past ≡ reverse rules → turned ≡ reverse flags → turned ≡ lost_flags rules
+up_end met flags turned past rules before whole e = e ∙ before.so_far ∙ ap (λ rs. lost_flags (reverse rs)) whole ∙ ap lost_flags (reverse-reverse rules)
+
+-- what nothing waits for is unused
+unwaited : (waiting : List (List ℕ × Bool)) (label : Option (List ℕ)) (above : List Names) → ((name : List ℕ) → is_waited_for name waiting ≡ is_awaited name above) → leaves_unused waiting label ≡ is_unused label above
+unwaited waiting None above same = refl
+unwaited waiting (Some name) above same = ap not (same name)
+
+pub down_start : (waiting : List (List ℕ × Bool)) (flags : List Bool) (rules : List Names) → waiting ≡ [] → flags ≡ [] → GoesDown waiting flags rules 0
+down_start waiting flags rules e f = record {
+  waits = λ name. ap (is_waited_for name) e;
+  so_far = ap (λ bs. bs ++ unused_flags [] rules) f;
+}
+
+-- a rule stands before those behind it
+rule_item : (rules : List Names) (i : ℕ) (r : Names) → i < length rules → r ≡ get_or rules i r → drop i rules ≡ r ∷ drop (i + 1) rules
+rule_item rules i r h e =
+    let next : i + 1 ≡ suc i = omega arith in
+    drop-cons rules i r h ∙ ap (λ x. x ∷ drop (suc i) rules) (sym e) ∙ ap (λ n. r ∷ drop n rules) (sym next)
+
+pub down_past : (waiting between more : List (List ℕ × Bool)) (flags longer : List Bool) (rules : List Names) (i : ℕ) (r : Names) (unused : Bool) → GoesDown waiting flags rules i
+    → i < length rules → r ≡ get_or rules i r → unused ≡ leaves_unused waiting r.label → longer ≡ flags ++ unused ∷ []
+    → ((name : List ℕ) → is_waited_for name between ≡ cond (is_named name r.label) false (is_waited_for name waiting))
+    → ((name : List ℕ) → is_waited_for name more ≡ cond (is_named name r.goto) true (is_waited_for name between))
+    → GoesDown more longer rules (i + 1)
+down_past waiting between more flags longer rules i r unused before h e is_left pushed arrives leaves =
+    let above : List Names = reverse (take i rules) in
+    let turned : reverse (take (i + 1) rules) ≡ r ∷ above = ap reverse (take_more rules i r h ∙ ap (λ x. take i rules ++ x ∷ []) (sym e)) ∙ reverse-append (take i rules) (r ∷ []) in
+    record {
+      waits = λ name.
+          leaves name ∙ ap (λ b. cond (is_named name r.goto) true b) (arrives name ∙ ap (λ b. cond (is_named name r.label) false b) (before.waits name))
+          ∙ ap (is_awaited name) (sym turned);
+      so_far =
+          ap (λ bs. bs ++ unused_flags (reverse (take (i + 1) rules)) (drop (i + 1) rules)) pushed
+          ∙ ap (λ rs. (flags ++ unused ∷ []) ++ unused_flags rs (drop (i + 1) rules)) turned
+          ∙ append_assoc flags (unused ∷ []) (unused_flags (r ∷ above) (drop (i + 1) rules))
+          ∙ ap (λ b. flags ++ (b ∷ unused_flags (r ∷ above) (drop (i + 1) rules))) (is_left ∙ unwaited waiting r.label above before.waits)
+          ∙ ap (λ rs. flags ++ unused_flags above rs) (sym (rule_item rules i r h e))
+          ∙ before.so_far;
+    }
+
+-- past the end nothing is left
+none_left : (rules : List Names) → length rules ≡ 0 → rules ≡ []
+none_left [] e = refl
+none_left (r ∷ rules) e = absurd (omega arith)
+
+pub down_end : (waiting : List (List ℕ × Bool)) (flags : List Bool) (rules : List Names) (i : ℕ) → GoesDown waiting flags rules i → length rules ≤ i → flags ≡ unused_flags [] rules
+down_end waiting flags rules i before h =
+    let none : drop i rules ≡ [] = none_left (drop i rules) (length-drop i rules ∙ omega arith) in
+    sym (append-nil flags) ∙ ap (λ rs. flags ++ unused_flags (reverse (take i rules)) rs) (sym none) ∙ before.so_far

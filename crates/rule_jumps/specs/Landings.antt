@@ -1,0 +1,57 @@
+-- Jumps of rules as a relation, apart from how they are found.
+use Rattle.std.specs.Prelude.{◌≡◌, ◌↔◌, ℕ, IsTrue, List, ◌∷◌, ◌++◌, length, slice_get, Some}
+use Rattle.rule_jumps.specs.Jumps.{Names}
+use Rattle.rule_jumps.specs.declared.jumps.Landing.{Landing}
+
+-- a rule of these has the label
+pub record HasLabel (name : List ℕ) (rules : List Names) : Type 0 where
+  pub above : List Names
+  pub rule : Names
+  pub below : List Names
+  pub stands : rules ≡ above ++ rule ∷ below
+  pub has : rule.label ≡ Some name
+
+-- a rule jumps over those between to another: that has its label, and none between has
+pub record JumpsTo (leaving : Names) (between : List Names) (landing : Names) : Type 0 where
+  pub name : List ℕ
+  pub goto : leaving.goto ≡ Some name
+  pub label : landing.label ≡ Some name
+  pub next : ¬ HasLabel name between
+
+-- a rule jumps to one of those behind it
+pub record Reaches (leaving : Names) (behind : List Names) : Type 0 where
+  pub between : List Names
+  pub landing : Names
+  pub farther : List Names
+  pub stands : behind ≡ between ++ landing ∷ farther
+  pub jumps : JumpsTo leaving between landing
+
+-- one of the rules before it jumps to a rule
+pub record IsReached (before : List Names) (landing : Names) : Type 0 where
+  pub farther : List Names
+  pub leaving : Names
+  pub between : List Names
+  pub stands : before ≡ farther ++ leaving ∷ between
+  pub jumps : JumpsTo leaving between landing
+
+-- a rule has a GOTO, and none of the rules behind it has the label
+pub record IsLost (rule : Names) (behind : List Names) : Type 0 where
+  pub name : List ℕ
+  pub goto : rule.goto ≡ Some name
+  pub none : ¬ HasLabel name behind
+
+-- a rule has a label, and none of the rules before it jumps to it
+pub record IsUnused (before : List Names) (rule : Names) : Type 0 where
+  pub name : List ℕ
+  pub label : rule.label ≡ Some name
+  pub none : ¬ IsReached before rule
+
+-- what becomes of a rule behind those before it and before those behind it
+pub record IsLanding (before : List Names) (rule : Names) (behind : List Names) (found : Landing) : Type 0 where
+  pub lost : IsTrue found.lost ↔ IsLost rule behind
+  pub unused : IsTrue found.unused ↔ IsUnused before rule
+
+-- at the place of each rule stands what becomes of it, and there is no more
+pub record AreLandings (rules : List Names) (found : List Landing) : Type 0 where
+  pub one_each : length found ≡ length rules
+  pub each : (before : List Names) (rule : Names) (behind : List Names) → rules ≡ before ++ rule ∷ behind → (l : Landing) × (slice_get found (length before) ≡ Some l) × IsLanding before rule behind l

@@ -1,0 +1,4 @@
+pub mod Jumps
+pub mod Tables
+pub mod Flags
+pub mod Landings

@@ -1,0 +1,67 @@
+//! What is wrong with a part of a rule.
+ghost use Rattle.std.specs.Prelude.{◌≡◌, take};
+ghost use Rattle.rule_parts.specs.Faults.{Tells};
+
+use bytes_core::Bytes;
+use files_core::MessageKind;
+use std::alloc::{AllocError, AllocFailed, Global};
+
+/// How many bytes of a text a finding keeps.
+const WORD_LENGTH: usize = 32;
+
+/// What is wrong with a part of a rule, before it is told where the rule stands.
+#[derive(Debug, Drop)]
+pub struct Finding {
+    /// What is wrong.
+    pub kind: MessageKind,
+    /// The first 32 bytes of the text that it is about.
+    pub word: Bytes,
+}
+
+/// Why a text gave no part of a rule.
+#[derive(Debug, Drop)]
+pub enum PartFault {
+    /// It is none, for this reason.
+    Wrong(Finding),
+    /// Want of memory.
+    Memory,
+}
+
+impl From<AllocError> for PartFault {
+    ghost use Rattle.std.specs.Prelude.{◌≡◌};
+    ghost use Rattle.rule_parts.specs.declared.finding.PartFault.TheVariants.{Memory};
+
+    ghost from_gives = { λ _ e. e ≡ Memory };
+
+    fn from(_: AllocError) -> PartFault {
+        PartFault::Memory
+    }
+}
+
+impl<T: Drop> From<AllocFailed<T>> for PartFault {
+    ghost use Rattle.std.specs.Prelude.{◌≡◌};
+    ghost use Rattle.rule_parts.specs.declared.finding.PartFault.TheVariants.{Memory};
+
+    ghost from_gives = { λ _ e. e ≡ Memory };
+
+    fn from(_: AllocFailed<T>) -> PartFault {
+        PartFault::Memory
+    }
+}
+
+/// The first so many bytes of a text, or all where it has fewer.
+fn front(text: &[u8], length: usize) -> &[u8]
+    ensures { result.now ≡ take length text.now }
+{
+    &text[..length.min(text.len())]
+}
+
+/// What is wrong with a part of a rule, told of a text.
+pub(crate) fn wrong(alloc: Global, kind: MessageKind, word: &[u8]) -> PartFault
+    ensures { Tells kind word.now result }
+{
+    match Bytes::copy_of(alloc, front(word, WORD_LENGTH)) {
+        Ok(word) => PartFault::Wrong(Finding { kind, word }),
+        Err(_) => PartFault::Memory,
+    }
+}

@@ -1,0 +1,21 @@
+//! The parts of a rule: a token, once its key, its attribute, its operator and its value are checked.
+//!
+//! What may be wrong with a token is found here, in the order in which udev looks: the key, the
+//! attribute, the operator, the value. `rule_keys` says what each key takes, so that no key has a
+//! case of its own here.
+#![tactic(auto)]
+
+mod finding;
+mod options;
+mod part;
+mod reading;
+#[cfg(test)]
+mod tests;
+mod value;
+mod values;
+
+pub use finding::{Finding, PartFault};
+pub use options::RuleOption;
+pub use part::Part;
+pub use reading::{is_read_as_assign, read_part};
+pub use value::Value;

@@ -1,0 +1,84 @@
+//! The options of OPTIONS.
+ghost use Rattle.std.specs.Prelude.{◌≡◌, map};
+ghost use Rattle.rule_keys.specs.Names.{named};
+ghost use Rattle.rule_parts.specs.Options.{is_ignored, number_of, option_of, other_option};
+
+/// An option of a rule, as OPTIONS names it in udev(7).
+#[derive(Clone, Copy, Debug, PartialEq, Eq)]
+pub enum RuleOption {
+    /// `link_priority=N`: how links of this device stand against those of others.
+    LinkPriority(i32),
+    /// `string_escape=none`: no byte of a link or a name is replaced.
+    KeepEscapes,
+    /// `string_escape=replace`: spaces of a link are replaced too.
+    ReplaceEscapes,
+    /// `watch`: the device's node is watched for changes.
+    Watch,
+    /// `nowatch`: it is not.
+    NoWatch,
+    /// `db_persist`: what is known of the device stays when udev's database is cleared.
+    DbPersist,
+    /// `static_node=TEXT` or `log_level=TEXT`, which change nothing here.
+    Ignored,
+}
+
+/// Each option that is one word, by its name.
+const WORDS: [(&[u8], RuleOption); 5] = [
+    (b"watch", RuleOption::Watch),
+    (b"nowatch", RuleOption::NoWatch),
+    (b"db_persist", RuleOption::DbPersist),
+    (b"string_escape=none", RuleOption::KeepEscapes),
+    (b"string_escape=replace", RuleOption::ReplaceEscapes),
+];
+
+/// The option beside a name.
+fn named(rows: &[(&[u8], RuleOption)], text: &[u8]) -> Option<RuleOption>
+    ensures { result ≡ named (map (λ row. (row.0.now, row.1)) rows.now) text.now }
+{
+    for row in rows {
+        if row.0 == text {
+            return Some(row.1);
+        }
+    }
+    None
+}
+
+/// The number that a text writes in decimal digits, perhaps behind a sign, within 32 signed bits.
+#[tactic(auto, using(crate::proofs::Numbers::parsed, crate::proofs::Numbers::no_text))]
+fn number_of(text: &[u8]) -> Option<i32>
+    ensures { result ≡ number_of text.now }
+{
+    match str::from_utf8(text) {
+        Ok(written) => written.parse::<i32>().ok(),
+        Err(_) => None,
+    }
+}
+
+/// Whether a text is an option that changes nothing here, whatever it is set to.
+fn is_ignored(text: &[u8]) -> bool
+    ensures { result ≡ is_ignored text.now }
+{
+    text.strip_prefix(b"static_node=").is_some() || text.strip_prefix(b"log_level=").is_some()
+}
+
+/// The option of a text that is no priority.
+fn other_option(text: &[u8]) -> Option<RuleOption>
+    ensures { result ≡ other_option text.now }
+{
+    if is_ignored(text) {
+        Some(RuleOption::Ignored)
+    } else {
+        named(&WORDS, text)
+    }
+}
+
+/// The option of a text, if it is one.
+#[tactic(auto, unfolding(crate::specs::Options::option_of))]
+pub(crate) fn option_of(text: &[u8]) -> Option<RuleOption>
+    ensures { result ≡ option_of text.now }
+{
+    match text.strip_prefix(b"link_priority=") {
+        Some(number) => number_of(number).map(|priority| RuleOption::LinkPriority(priority)),
+        None => other_option(text),
+    }
+}

@@ -1,0 +1,107 @@
+-- A draft of names, sorted parts and findings, and parts read one by one.
+use Rattle.std.proofs.Common.{◌≡◌, ℕ, ◌<◌, ◌≤◌, true, false, nat_lt, List, [], ◌∷◌, ◌++◌, length, Result, Ok, Err, refl, ap, sym, ◌∙◌, append_assoc, append-nil}
+use Rattle.std.proofs.lemmas.Bool.{lt-ltb, le-ltb}
+use Rattle.files_core.specs.declared.message.MessageKind.TheVariants.{LineTooLong}
+use Rattle.rule_tokens.specs.Grammar.{Item}
+use Rattle.rule_tokens.specs.Lines.{items_of}
+use Rattle.rule_parts.specs.Faults.{FaultOf}
+use Rattle.rule_parts.specs.Parts.{Part, finding}
+use Rattle.rule_parts.specs.declared.finding.PartFault.{PartFault}
+use Rattle.rule_parts.specs.declared.finding.PartFault.TheVariants.{Wrong, Memory}
+use Rattle.rule_parts.specs.declared.finding.Finding.{Finding}
+use Rattle.rule_drafts.specs.declared.turns.Turn.TheVariants as turn
+use Rattle.rule_drafts.specs.Drafts.{Draft, Named, draft, draft_of, draft_with, named_by, part_of_item, parts_of, tokens_of, with_part}
+use Rattle.rule_drafts.specs.Style.{style_findings}
+use Rattle.rule_drafts.specs.Turns.{act_turns, parts_by, parts_in, set_turns}
+use Rattle.rule_drafts.specs.Sorting.{Sorted, by_turn, joined, no_parts, put_all}
+use Rattle.rule_drafts.proofs.Putting.{sorted_by_turn}
+
+abbrev styles_of : List ℕ → List Finding
+styles_of line = style_findings line (tokens_of (items_of line))
+
+-- a draft of lists
+abbrev listed : Named → List Finding → List Part → List Part → List Part → List Part → List Part → Draft
+listed n said plain up acts results sets = record { label = n.label; goto = n.goto; plain = plain; up = up; acts = acts; results = results; sets = sets; findings = said }
+
+abbrev of_sorted : List ℕ → Named → Sorted → Draft
+of_sorted line n s = listed n (n.findings ++ styles_of line) s.plain s.up (joined s.acts) s.results (joined s.sets)
+
+in_turns : (line : List ℕ) (parts : List Part) → of_sorted line (named_by parts) (by_turn (parts_in parts)) ≡ draft line parts
+in_turns line parts =
+    let n : Named = named_by parts in
+    let said : List Finding = n.findings ++ styles_of line in
+    ap (λ (x : List Part). listed n said x (parts_in parts turn.Up) (parts_by act_turns parts) (parts_in parts turn.Result) (parts_by set_turns parts)) (sym (append-nil (parts_in parts turn.Plain)))
+    ∙ ap (λ (x : List Part). listed n said (parts_in parts turn.Plain ++ []) x (parts_by act_turns parts) (parts_in parts turn.Result) (parts_by set_turns parts)) (sym (append-nil (parts_in parts turn.Up)))
+    ∙ ap (λ (x : List Part). listed n said (parts_in parts turn.Plain ++ []) (parts_in parts turn.Up ++ []) (parts_by act_turns parts) x (parts_by set_turns parts)) (sym (append-nil (parts_in parts turn.Result)))
+
+-- what is made of names, sorted parts and findings is the draft
+pub draft_made : (line : List ℕ) (parts : List Part) (n : Named) (s : Sorted) (said : List Finding) (acts sets : List Part)
+    → n ≡ named_by parts → s ≡ put_all no_parts parts → said ≡ n.findings ++ style_findings line (tokens_of (items_of line)) → acts ≡ joined s.acts → sets ≡ joined s.sets
+    → record { label = n.label; goto = n.goto; plain = s.plain; up = s.up; acts = acts; results = s.results; sets = sets; findings = said } ≡ draft line parts
+draft_made line parts n s said acts sets names sorted style a b =
+    ap (λ (x : List Finding). listed n x s.plain s.up acts s.results sets) style
+    ∙ ap (λ (x : List Part). listed n (n.findings ++ styles_of line) s.plain s.up x s.results sets) a
+    ∙ ap (λ (x : List Part). listed n (n.findings ++ styles_of line) s.plain s.up (joined s.acts) s.results x) b
+    ∙ ap (λ (x : Named). of_sorted line x s) names
+    ∙ ap (of_sorted line (named_by parts)) (sorted ∙ sorted_by_turn parts)
+    ∙ in_turns line parts
+
+-- parts in front of those that follow
+abbrev pub in_front_of : List Part → Result (List Part) Finding → Result (List Part) Finding
+in_front_of parts (Ok more) = Ok (parts ++ more)
+in_front_of parts (Err wrong) = Err wrong
+
+one_more : (parts : List Part) (p : Part) (rest : Result (List Part) Finding) → in_front_of (parts ++ p ∷ []) rest ≡ in_front_of parts (with_part (Ok p) rest)
+one_more parts p (Ok more) = ap Ok (append_assoc parts (p ∷ []) more)
+one_more parts p (Err wrong) = refl
+
+pub none_before : (rest : Result (List Part) Finding) → in_front_of [] rest ≡ rest
+none_before (Ok more) = refl
+none_before (Err wrong) = refl
+
+-- a part more is read
+pub part_read : (line : List ℕ) (before now : List Part) (p : Part) (i : Item) (left more : List Item) (all : Result (List Part) Finding)
+    → in_front_of before (parts_of line left) ≡ all → left ≡ i ∷ more → part_of_item line i ≡ Ok p → now ≡ before ++ p ∷ [] → in_front_of now (parts_of line more) ≡ all
+part_read line before now p i left more all h e f g =
+    ap (λ (x : List Part). in_front_of x (parts_of line more)) g
+    ∙ one_more before p (parts_of line more)
+    ∙ ap (λ (x : Result Part Finding). in_front_of before (with_part x (parts_of line more))) (sym f)
+    ∙ ap (λ (x : List Item). in_front_of before (parts_of line x)) (sym e)
+    ∙ h
+
+-- an item has a fault
+pub item_wrong : (line : List ℕ) (before : List Part) (wrong : Finding) (i : Item) (left more : List Item) (all : Result (List Part) Finding)
+    → in_front_of before (parts_of line left) ≡ all → left ≡ i ∷ more → part_of_item line i ≡ Err wrong → all ≡ Err wrong
+item_wrong line before wrong i left more all h e f =
+    sym h
+    ∙ ap (λ (x : List Item). in_front_of before (parts_of line x)) e
+    ∙ ap (λ (x : Result Part Finding). in_front_of before (with_part x (parts_of line more))) f
+
+-- no item is left
+pub items_ended : (line : List ℕ) (before : List Part) (left : List Item) (all : Result (List Part) Finding)
+    → in_front_of before (parts_of line left) ≡ all → left ≡ [] → all ≡ Ok before
+items_ended line before left all h e =
+    sym h ∙ ap (λ (x : List Item). in_front_of before (parts_of line x)) e ∙ ap Ok (append-nil before)
+
+-- a line that is too long
+pub too_long : (line : List ℕ) (f : Finding) → 16384 < length line → f ≡ finding LineTooLong [] → draft_of line ≡ Err f
+unfolding draft_of
+too_long line f h e =
+    let long : nat_lt 16384 (length line) ≡ true = lt-ltb 16384 (length line) h in
+    rw long (ap Err (sym e))
+
+-- a line of at most so many bytes
+not_long : (line : List ℕ) → length line ≤ 16384 → draft_of line ≡ draft_with line (parts_of line (items_of line))
+unfolding draft_of
+not_long line h =
+    let short : nat_lt 16384 (length line) ≡ false = le-ltb 16384 (length line) h in
+    rw short refl
+
+-- a line of which the parts were read
+pub draft_read : (line : List ℕ) (parts : List Part) (d : Draft) → length line ≤ 16384 → parts_of line (items_of line) ≡ Ok parts → d ≡ draft line parts → draft_of line ≡ Ok d
+draft_read line parts d h e f = not_long line h ∙ ap (draft_with line) e ∙ ap Ok (sym f)
+
+-- a line with a fault
+pub fault_read : (line : List ℕ) (fault : PartFault) → length line ≤ 16384 → FaultOf fault (parts_of line (items_of line)) → FaultOf fault (draft_of line)
+fault_read line (Wrong found) h e = not_long line h ∙ ap (draft_with line) e
+fault_read line Memory h e = tt

@@ -1,0 +1,5 @@
+pub mod Ends
+pub mod Rowing
+pub mod Putting
+pub mod Drafting
+pub mod Keeping

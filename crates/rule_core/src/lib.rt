@@ -1,8 +1,23 @@
 //! Rules, as udev(7) has them: the crate that the crates above read rules with.
 //!
-//! For now it hands on the two parts that stand below it, a line's tokens and values with
-//! substitutions. What makes rules of them comes here.
+//! A file is joined into lines, each line is read as a draft of a rule, and what becomes of the jumps
+//! of a file is looked up once for all its rules. What stands below comes with this crate.
 #![tactic(auto)]
 
+mod fault;
+mod gathered;
+pub mod laws;
+mod messages;
+mod reading;
+mod readings;
+mod rule;
+#[cfg(test)]
+mod tests;
+
+pub use fault::RulesFault;
+pub use reading::read_rules;
+pub use rule::{Rule, RuleSet};
+pub use rule_keys::{ImportType, Key, import_type};
+pub use rule_parts::{Part, RuleOption, Value};
 pub use rule_tokens::{Operator, Quote, Span, Token, TokenFault, TokenFaultKind, Tokens, unquote};
 pub use templates::{Piece, Template, TemplateFault};

@@ -1,0 +1,6 @@
+mod Capping
+mod Adding
+mod Filing
+mod Listing
+mod Jumping
+mod Understanding

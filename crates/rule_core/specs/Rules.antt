@@ -1,0 +1,121 @@
+-- The rules of files, and the messages about them.
+use Rattle.std.specs.Prelude.{ℕ, ◌+◌, if◌then◌else◌, is_some, List, [], ◌∷◌, ◌++◌, length, map, zip, flat_map, sum_by, Option, Some, None, Result, Ok, Err}
+use Rattle.files_core.specs.declared.message.Message.{Message}
+use Rattle.files_core.specs.declared.message.MessageKind.TheVariants.{NoLaterLabel, OpenAtEnd, LabelUnused}
+use Rattle.files_core.specs.declared.source_file.SourceFile.{SourceFile}
+use Rattle.rule_lines.specs.Lines.{NumberedLine, joined_lines}
+use Rattle.rule_parts.specs.Parts.{Part, finding}
+use Rattle.rule_parts.specs.declared.finding.Finding.{Finding}
+use Rattle.rule_drafts.specs.Drafts.{Draft, draft_of}
+use Rattle.rule_jumps.specs.Jumps.{Names, landings}
+use Rattle.rule_jumps.specs.declared.jumps.Landing.{Landing}
+
+-- a rule: where it stands, its names for jumps, and its parts in the order of evaluation
+pub record Rule : Type 0 where
+  pub file : List ℕ
+  pub line : ℕ
+  pub label : Option (List ℕ)
+  pub goto : Option (List ℕ)
+  pub plain : List Part
+  pub up : List Part
+  pub acts : List Part
+  pub results : List Part
+  pub sets : List Part
+
+-- the rules of files, and the messages about them
+pub record RuleSet : Type 0 where
+  pub rules : List Rule
+  pub messages : List Message
+
+-- a joined line, read as a rule
+pub record Reading : Type 0 where
+  pub line : ℕ
+  pub read : Result Draft Finding
+
+-- a joined line, read as a rule
+abbrev pub reading_of : NumberedLine → Reading
+reading_of l = record { line = l.number; read = draft_of l.text }
+
+-- the joined lines of a file, read as rules
+abbrev pub readings_of : SourceFile → List Reading
+readings_of file = map reading_of (joined_lines file.bytes).lines
+
+-- the names for jumps of a line; one that is no rule has none
+abbrev pub names_of : Result Draft Finding → Names
+names_of (Ok d) = record { label = d.label; goto = d.goto }
+names_of (Err wrong) = record { label = None; goto = None }
+
+-- lines with what becomes of their jumps
+abbrev pub landed : List Reading → List (Reading × Landing)
+landed readings = zip readings (landings (map (λ r. names_of r.read) readings))
+
+-- a name, empty where there is none
+abbrev pub name_in : Option (List ℕ) → List ℕ
+name_in None = []
+name_in (Some name) = name
+
+-- what is to be said of a rule: first of its jump, and of its label last
+abbrev pub findings_of : Draft → Landing → List Finding
+findings_of d l =
+    (if l.lost then finding NoLaterLabel (name_in d.goto) ∷ [] else [])
+    ++ (d.findings
+    ++ (if l.unused then finding LabelUnused (name_in d.label) ∷ [] else []))
+
+-- a finding about a line of a file, as a message
+abbrev pub message_at : List ℕ → ℕ → Finding → Message
+message_at name line found = record { file = name; line = line; kind = found.kind; word = found.word }
+
+-- the messages about a line
+abbrev pub line_messages : List ℕ → ℕ → Result Draft Finding → Landing → List Message
+line_messages name line (Ok d) l = map (message_at name line) (findings_of d l)
+line_messages name line (Err wrong) l = message_at name line wrong ∷ []
+
+-- a rule, its jump dropped where no later rule has the label
+abbrev pub rule_at : List ℕ → ℕ → Draft → Landing → Rule
+rule_at name line d l = record {
+  file = name;
+  line = line;
+  label = d.label;
+  goto = if l.lost then None else d.goto;
+  plain = d.plain;
+  up = d.up;
+  acts = d.acts;
+  results = d.results;
+  sets = d.sets;
+}
+
+-- the rule of a line, if it is one
+abbrev pub line_rules : List ℕ → ℕ → Result Draft Finding → Landing → List Rule
+line_rules name line (Ok d) l = rule_at name line d l ∷ []
+line_rules name line (Err wrong) l = []
+
+-- the message about a line that is still open at its file's end
+abbrev pub open_messages : List ℕ → Option ℕ → List Message
+open_messages name None = []
+open_messages name (Some line) = message_at name line (finding OpenAtEnd []) ∷ []
+
+-- the rules of a file, in order
+abbrev pub file_rules : SourceFile → List Rule
+file_rules f = flat_map (λ x. line_rules f.name x.0.line x.0.read x.1) (landed (readings_of f))
+
+-- the messages about a file, by line
+abbrev pub file_messages : SourceFile → List Message
+file_messages f =
+    flat_map (λ x. line_messages f.name x.0.line x.0.read x.1) (landed (readings_of f))
+    ++ open_messages f.name (joined_lines f.bytes).open_at
+
+-- the rules of files, and the messages about them
+unfoldable pub set_of : List SourceFile → RuleSet
+set_of files = record { rules = flat_map file_rules files; messages = flat_map file_messages files }
+
+-- 1 for a name, 0 for none
+abbrev pub name_count : Option (List ℕ) → ℕ
+name_count name = if is_some name then 1 else 0
+
+-- how many tokens are left in a rule
+unfoldable pub rule_tokens : Rule → ℕ
+rule_tokens r = name_count r.label + (name_count r.goto + (length r.plain + (length r.up + (length r.acts + (length r.results + length r.sets)))))
+
+-- how many tokens are left in rules
+abbrev pub tokens_in : List Rule → ℕ
+tokens_in rules = sum_by rule_tokens rules

@@ -1,0 +1,120 @@
+//! What is found of the lines of a file, as messages.
+ghost use Rattle.std.specs.Prelude.{◌≡◌, ◌∷◌, ◌++◌, [], if◌then◌else◌, IfOk, OnOk, map, take};
+ghost use Rattle.files_core.specs.declared.message.MessageKind.TheVariants.{OpenAtEnd};
+ghost use Rattle.rule_parts.specs.Parts.{finding};
+ghost use Rattle.rule_core.specs.Rules.{message_at, name_in, open_messages};
+
+use bytes_core::Bytes;
+use files_core::{Message, MessageKind};
+use rule_parts::Finding;
+use std::alloc::{AllocError, Global};
+
+/// How many bytes of a word a message keeps.
+const MAX_WORD: usize = 32;
+
+/// A line of a file.
+#[derive(Clone, Copy, Debug)]
+pub struct Place<'a> {
+    /// The file's name.
+    pub file: &'a [u8],
+    /// The line's number.
+    pub line: u32,
+}
+
+/// Puts a message about a line behind others. The error comes where memory is refused.
+pub fn tell(
+    alloc: Global,
+    messages: &mut Vec<Message>,
+    place: Place<'_>,
+    found: Finding,
+) -> Result<(), AllocError>
+    ensures { OnOk result (messages.new.items ≡ messages.old.items ++ message_at place.entry.file.now place.entry.line found ∷ []) }
+{
+    messages.push(Message {
+        file: Bytes::copy_of(alloc, place.file)?,
+        line: place.line,
+        kind: found.kind,
+        word: found.word,
+    })?;
+    Ok(())
+}
+
+/// Puts a message about a line behind others for each of its findings. The error comes where memory
+/// is refused.
+pub fn tell_all(
+    alloc: Global,
+    messages: &mut Vec<Message>,
+    place: Place<'_>,
+    findings: Vec<Finding>,
+) -> Result<(), AllocError>
+    ensures { OnOk result (messages.new.items ≡ messages.old.items ++ map (message_at place.entry.file.now place.entry.line) findings.items) }
+{
+    for found in findings {
+        tell(alloc, messages, place, found)?;
+    }
+    Ok(())
+}
+
+/// Puts a message about a name of a line behind others, if something is wrong with it. The error
+/// comes where memory is refused.
+pub fn tell_if(
+    alloc: Global,
+    messages: &mut Vec<Message>,
+    place: Place<'_>,
+    wrong: bool,
+    kind: MessageKind,
+    name: &Option<Bytes>,
+) -> Result<(), AllocError>
+    ensures { OnOk result (messages.new.items ≡ messages.old.items ++ map (message_at place.entry.file.now place.entry.line) (if wrong then finding kind (name_in name.now) ∷ [] else [])) }
+{
+    if wrong {
+        tell(alloc, messages, place, finding(alloc, kind, text_of(name))?)?;
+    }
+    Ok(())
+}
+
+/// Puts a message about a line that is still open at its file's end behind others, if there is such
+/// a line. The error comes where memory is refused.
+pub fn tell_open(
+    alloc: Global,
+    messages: &mut Vec<Message>,
+    file: &[u8],
+    open_at: Option<u32>,
+) -> Result<(), AllocError>
+    ensures { OnOk result (messages.new.items ≡ messages.old.items ++ open_messages file.now open_at) }
+{
+    match open_at {
+        None => Ok(()),
+        Some(line) => {
+            let found = finding(alloc, MessageKind::OpenAtEnd, &[])?;
+            tell(alloc, messages, Place { file, line }, found)
+        }
+    }
+}
+
+/// What is wrong, with the first bytes of a word.
+fn finding(alloc: Global, kind: MessageKind, word: &[u8]) -> Result<Finding, AllocError>
+    ensures { IfOk result (λ found. found ≡ finding kind word.now) }
+{
+    Ok(Finding {
+        kind,
+        word: Bytes::copy_of(alloc, front(word, MAX_WORD))?,
+    })
+}
+
+/// The first bytes of a text, at most so many.
+fn front(text: &[u8], len: usize) -> &[u8]
+    ensures { result.now ≡ take len text.now }
+{
+    &text[..len.min(text.len())]
+}
+
+/// A name, which is empty where there is none.
+fn text_of(name: &Option<Bytes>) -> &[u8]
+    ensures { result.now ≡ name_in name.now }
+{
+    match name {
+        None => &[],
+        Some(text) => text.as_slice(),
+    }
+}

@@ -1,0 +1,157 @@
+//! Reading rules files.
+ghost use Rattle.std.specs.Prelude.{◌≡◌, ◌∷◌, ◌++◌, ◌<◌, ◌≤◌, ◌^◌, [], if◌then◌else◌, None, IfOk, IfErr, OnOk, flat_map, map, zip};
+ghost use Rattle.rule_core.specs.Gathering.{Adds};
+ghost use Rattle.rule_core.specs.Rules.{file_messages, file_rules, findings_of, line_messages, line_rules, message_at, rule_at, set_of, tokens_in};
+ghost use Rattle.rule_core.specs.declared.fault.RulesFault.TheVariants.{TooMany};
+
+use crate::gathered::Gathered;
+use crate::messages::{Place, tell, tell_all, tell_if, tell_open};
+use crate::readings::{Reading, landings_of, read_lines};
+use crate::{Rule, RuleSet, RulesFault};
+use bytes_core::Bytes;
+use files_core::{Message, MessageKind, SourceFile};
+use rule_drafts::Draft;
+use rule_jumps::Landing;
+use rule_lines::joined_lines;
+use std::alloc::Global;
+
+/// Reads rules files as udev(7) writes them, in the order in which they are given.
+///
+/// A line that is wrong costs a message and is no rule. `TooMany` comes exactly where more than 2^24
+/// tokens are left in the rules, and `Memory` only where a growth was refused.
+pub fn read_rules(alloc: Global, files: &[SourceFile]) -> Result<RuleSet, RulesFault>
+    ensures set { IfOk result (λ s. s ≡ set_of files.now) }
+    ensures within { IfOk result (λ s. tokens_in (set_of files.now).rules ≤ 2 ^ 24) }
+    ensures too_many { IfErr result (λ e. e ≡ TooMany → 2 ^ 24 < tokens_in (set_of files.now).rules) }
+{
+    let mut rules = Gathered::new(alloc);
+    let mut messages = Vec::new(alloc);
+    read_files(alloc, &mut rules, &mut messages, files)?;
+    Ok(RuleSet {
+        rules: rules.into_rules(),
+        messages,
+    })
+}
+
+/// Reads files.
+fn read_files(
+    alloc: Global,
+    rules: &mut Gathered,
+    messages: &mut Vec<Message>,
+    files: &[SourceFile],
+) -> Result<(), RulesFault>
+    ensures rules { Adds rules.old rules.new (flat_map file_rules files.now) result }
+    ensures messages { OnOk result (messages.new.items ≡ messages.old.items ++ flat_map file_messages files.now) }
+{
+    for file in files {
+        read_file(alloc, rules, messages, file)?;
+    }
+    Ok(())
+}
+
+/// Reads a file.
+fn read_file(
+    alloc: Global,
+    rules: &mut Gathered,
+    messages: &mut Vec<Message>,
+    file: &SourceFile,
+) -> Result<(), RulesFault>
+    ensures rules { Adds rules.old rules.new (file_rules file.now) result }
+    ensures messages { OnOk result (messages.new.items ≡ messages.old.items ++ file_messages file.now) }
+{
+    let name = file.name.as_slice();
+    let joined = joined_lines(alloc, file.bytes.as_slice())?;
+    let readings = read_lines(alloc, joined.lines())?;
+    let landings = landings_of(alloc, &readings)?;
+    add_lines(alloc, rules, messages, name, readings, landings)?;
+    tell_open(alloc, messages, name, joined.open())?;
+    Ok(())
+}
+
+/// Adds the lines of a file, each with what becomes of its jumps.
+fn add_lines(
+    alloc: Global,
+    rules: &mut Gathered,
+    messages: &mut Vec<Message>,
+    name: &[u8],
+    readings: Vec<Reading>,
+    landings: Vec<Landing>,
+) -> Result<(), RulesFault>
+    ensures rules { Adds rules.old rules.new (flat_map (λ x. line_rules name.now x.0.line x.0.read x.1) (zip readings.items landings.items)) result }
+    ensures messages { OnOk result (messages.new.items ≡ messages.old.items ++ flat_map (λ x. line_messages name.now x.0.line x.0.read x.1) (zip readings.items landings.items)) }
+{
+    for (reading, landing) in readings.into_iter().zip(landings) {
+        add_line(alloc, rules, messages, name, reading, landing)?;
+    }
+    Ok(())
+}
+
+/// Adds a line: a rule, or a message about one that is none.
+fn add_line(
+    alloc: Global,
+    rules: &mut Gathered,
+    messages: &mut Vec<Message>,
+    name: &[u8],
+    reading: Reading,
+    landing: Landing,
+) -> Result<(), RulesFault>
+    ensures rules { Adds rules.old rules.new (line_rules name.now reading.line reading.read landing) result }
+    ensures messages { OnOk result (messages.new.items ≡ messages.old.items ++ line_messages name.now reading.line reading.read landing) }
+{
+    let Reading { line, read } = reading;
+    let place = Place { file: name, line };
+    match read {
+        Ok(draft) => add_draft(alloc, rules, messages, place, draft, landing),
+        Err(found) => {
+            tell(alloc, messages, place, found)?;
+            Ok(())
+        }
+    }
+}
+
+/// Adds a rule, and the messages about it: first of its jump, and of its label last.
+fn add_draft(
+    alloc: Global,
+    rules: &mut Gathered,
+    messages: &mut Vec<Message>,
+    place: Place<'_>,
+    draft: Draft,
+    landing: Landing,
+) -> Result<(), RulesFault>
+    ensures rules { Adds rules.old rules.new (rule_at place.entry.file.now place.entry.line draft landing ∷ []) result }
+    ensures messages { OnOk result (messages.new.items ≡ messages.old.items ++ map (message_at place.entry.file.now place.entry.line) (findings_of draft landing)) }
+{
+    let Draft {
+        label,
+        goto,
+        plain,
+        up,
+        acts,
+        results,
+        sets,
+        findings,
+    } = draft;
+    let lost = MessageKind::NoLaterLabel;
+    let unused = MessageKind::LabelUnused;
+    tell_if(alloc, messages, place, landing.lost, lost, &goto)?;
+    tell_all(alloc, messages, place, findings)?;
+    tell_if(alloc, messages, place, landing.unused, unused, &label)?;
+    rules.add(Rule {
+        file: Bytes::copy_of(alloc, place.file)?,
+        line: place.line,
+        label,
+        goto: kept_jump(goto, landing.lost),
+        plain,
+        up,
+        acts,
+        results,
+        sets,
+    })
+}
+
+/// A rule's jump, which is dropped where it is lost.
+fn kept_jump(goto: Option<Bytes>, lost: bool) -> Option<Bytes>
+    ensures { result ≡ (if lost then None else goto) }
+{
+    if lost { None } else { goto }
+}

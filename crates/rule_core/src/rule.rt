@@ -1,0 +1,151 @@
+//! Rules as they are meant.
+ghost use Rattle.std.specs.Prelude.{◌≡◌, option_map};
+
+use bytes_core::Bytes;
+use files_core::Message;
+use rule_parts::Part;
+use std::marker::Model;
+
+/// A rule: where it stands, and its parts in the order in which they are evaluated. `read_rules`
+/// alone makes it.
+#[derive(Debug, Drop)]
+pub struct Rule {
+    pub(crate) file: Bytes,
+    pub(crate) line: u32,
+    pub(crate) label: Option<Bytes>,
+    pub(crate) goto: Option<Bytes>,
+    pub(crate) plain: Vec<Part>,
+    pub(crate) up: Vec<Part>,
+    pub(crate) acts: Vec<Part>,
+    pub(crate) results: Vec<Part>,
+    pub(crate) sets: Vec<Part>,
+}
+
+impl Model for Rule {
+    ghost use Rattle.rule_core.specs.Rules as rules;
+
+    ghost Value = { rules.Rule };
+
+    ghost view = { λ r. record {
+      file = r.file;
+      line = r.line;
+      label = r.label;
+      goto = r.goto;
+      plain = r.plain.items;
+      up = r.up.items;
+      acts = r.acts.items;
+      results = r.results.items;
+      sets = r.sets.items;
+    } };
+}
+
+impl Rule {
+    /// Lends the name of the file that it stands in.
+    pub fn file(&self) -> &[u8]
+        ensures { result.now ≡ self.now.file }
+    {
+        self.file.as_slice()
+    }
+
+    /// The number of its first line, counted from 1; a number over 2^32 - 1 is given as that one.
+    pub fn line(&self) -> u32
+        ensures { result ≡ self.now.line }
+    {
+        self.line
+    }
+
+    /// The name that a jump finds it by.
+    pub fn label(&self) -> Option<&[u8]>
+        ensures { option_map (λ t. t.now) result ≡ self.now.label }
+    {
+        match &self.label {
+            None => None,
+            Some(text) => Some(text.as_slice()),
+        }
+    }
+
+    /// The label of a later rule of its file to which it jumps.
+    pub fn goto(&self) -> Option<&[u8]>
+        ensures { option_map (λ t. t.now) result ≡ self.now.goto }
+    {
+        match &self.goto {
+            None => None,
+            Some(text) => Some(text.as_slice()),
+        }
+    }
+
+    /// Lends the matches of the event device, in written order.
+    pub fn plain(&self) -> &[Part]
+        ensures { result.now ≡ self.now.plain }
+    {
+        &self.plain
+    }
+
+    /// Lends the matches of one device of the chain, in written order.
+    pub fn up(&self) -> &[Part]
+        ensures { result.now ≡ self.now.up }
+    {
+        &self.up
+    }
+
+    /// Lends the parts that act: TEST, then PROGRAM, then IMPORT by its type, those of one kind in written order.
+    pub fn acts(&self) -> &[Part]
+        ensures { result.now ≡ self.now.acts }
+    {
+        &self.acts
+    }
+
+    /// Lends the matches of RESULT, in written order.
+    pub fn results(&self) -> &[Part]
+        ensures { result.now ≡ self.now.results }
+    {
+        &self.results
+    }
+
+    /// Lends the assignments, by their kind, those of one kind in written order.
+    pub fn sets(&self) -> &[Part]
+        ensures { result.now ≡ self.now.sets }
+    {
+        &self.sets
+    }
+}
+
+/// The rules of files, and the messages about them. `read_rules` alone makes it.
+#[derive(Debug, Drop)]
+pub struct RuleSet {
+    pub(crate) rules: Vec<Rule>,
+    pub(crate) messages: Vec<Message>,
+}
+
+impl Model for RuleSet {
+    ghost use Rattle.rule_core.specs.Rules as sets;
+
+    ghost Value = { sets.RuleSet };
+
+    ghost view = { λ s. record { rules = s.rules.items; messages = s.messages.items } };
+}
+
+impl RuleSet {
+    /// Lends the rules, in the order of the files and their lines.
+    pub fn rules(&self) -> &[Rule]
+        ensures { result.now ≡ self.now.rules }
+    {
+        &self.rules
+    }
+
+    /// Lends the messages: by file, then by line; of one line the V by number and place, then the S
+    /// by place and number, S4 last.
+    pub fn messages(&self) -> &[Message]
+        ensures { result.now ≡ self.now.messages }
+    {
+        &self.messages
+    }
+
+    /// Gives up the rules for the messages.
+    pub fn into_messages(self) -> Vec<Message>
+        ensures { result.items ≡ self.messages }
+    {
+        let RuleSet { rules: _, messages } = self;
+        messages
+    }
+}

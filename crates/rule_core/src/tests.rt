@@ -1,0 +1,97 @@
+//! Rules files, with the rules and messages that udev(7) gives them.
+
+use crate::{Rule, RuleSet, RulesFault, read_rules};
+use bytes_core::Bytes;
+use files_core::{FileKind, MessageKind, SourceFile};
+use std::alloc::{AllocError, Global};
+use std::test::Fail;
+
+fn file(alloc: Global, name: &[u8], text: &[u8]) -> Result<SourceFile, AllocError> {
+    Ok(SourceFile {
+        kind: FileKind::Rules,
+        rank: 0,
+        name: Bytes::copy_of(alloc, name)?,
+        bytes: Bytes::copy_of(alloc, text)?,
+    })
+}
+
+fn read(alloc: Global, name: &[u8], text: &[u8]) -> Result<RuleSet, RulesFault> {
+    let mut files = Vec::new(alloc);
+    files.push(file(alloc, name, text)?)?;
+    read_rules(alloc, &files)
+}
+
+fn tells(set: &RuleSet, at: usize, line: u32, kind: MessageKind, word: &[u8]) -> bool {
+    match set.messages().get(at) {
+        None => false,
+        Some(message) => {
+            message.line == line && message.kind == kind && message.word.as_slice() == word
+        }
+    }
+}
+
+fn is_name(name: Option<&[u8]>, wanted: &[u8]) -> bool {
+    match name {
+        None => false,
+        Some(text) => text == wanted,
+    }
+}
+
+/// Whether a rule has so many parts: in its matches, its acts, the matches of RESULT and its
+/// assignments.
+fn has_parts(rule: &Rule, matches: (usize, usize), acts: (usize, usize), sets: usize) -> bool {
+    rule.plain().len() == matches.0
+        && rule.up().len() == matches.1
+        && rule.acts().len() == acts.0
+        && rule.results().len() == acts.1
+        && rule.sets().len() == sets
+}
+
+#[test]
+fn a_label_that_no_jump_ends_at(rt: HostRuntime) -> Result<(), Fail> {
+    let text = b"LABEL=\"x\", ENV{A}=\"1\"\nGOTO=\"x\"\nENV{B}=\"1\"\nLABEL=\"x\", ENV{C}=\"1\"\n";
+    let set = read(rt.alloc(), b"f.rules", text)?;
+    assert_eq!(rt; set.messages().len(), 1);
+    assert!(rt; tells(&set, 0, 1, MessageKind::LabelUnused, b"x"));
+    assert_eq!(rt; set.rules().len(), 4);
+    let first = &set.rules()[0];
+    assert!(rt; first.file() == b"f.rules".as_slice());
+    assert_eq!(rt; first.line(), 1);
+    assert!(rt; is_name(first.label(), b"x"));
+    assert!(rt; first.goto().is_none());
+    assert!(rt; has_parts(first, (0, 0), (0, 0), 1));
+    let jump = &set.rules()[1];
+    assert_eq!(rt; jump.line(), 2);
+    assert!(rt; is_name(jump.goto(), b"x"));
+    Ok(())
+}
+
+#[test]
+fn a_jump_without_its_label(rt: HostRuntime) -> Result<(), Fail> {
+    let set = read(rt.alloc(), b"g.rules", b"GOTO=\"y\", ENV{D}=\"1\"")?;
+    assert_eq!(rt; set.messages().len(), 1);
+    assert!(rt; tells(&set, 0, 1, MessageKind::NoLaterLabel, b"y"));
+    assert_eq!(rt; set.rules().len(), 1);
+    assert!(rt; set.rules()[0].goto().is_none());
+    assert_eq!(rt; set.rules()[0].sets().len(), 1);
+    Ok(())
+}
+
+#[test]
+fn a_line_that_is_open_at_the_end(rt: HostRuntime) -> Result<(), Fail> {
+    let set = read(rt.alloc(), b"o.rules", b"KERNEL==\"a\" \\")?;
+    assert_eq!(rt; set.rules().len(), 0);
+    assert_eq!(rt; set.messages().len(), 1);
+    assert!(rt; tells(&set, 0, 1, MessageKind::OpenAtEnd, b""));
+    Ok(())
+}
+
+#[test]
+fn a_part_of_each_list(rt: HostRuntime) -> Result<(), Fail> {
+    let text = b"KERNEL==\"a\", KERNELS==\"b\", TEST==\"c\", RESULT==\"d\", ENV{A}=\"1\"";
+    let set = read(rt.alloc(), b"p.rules", text)?;
+    assert_eq!(rt; set.messages().len(), 0);
+    assert_eq!(rt; set.rules().len(), 1);
+    assert!(rt; has_parts(&set.rules()[0], (1, 1), (1, 1), 1));
+    Ok(())
+}

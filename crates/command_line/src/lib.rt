@@ -11,6 +11,8 @@ pub enum Verb {
     Update,
     /// Answers a modalias.
     Query,
+    /// Checks rules files.
+    Verify,
 }
 
 /// What a command line asks for.
@@ -28,6 +30,10 @@ pub struct Line<'a> {
     pub sources: bool,
     /// The modalias to look up; empty for the other subcommands.
     pub modalias: &'a str,
+    /// Whether `verify` counts the files at its end; true for the other subcommands.
+    pub summary: bool,
+    /// Whether `verify` gives messages about style; true for the other subcommands.
+    pub style: bool,
 }
 
 /// Why words are no line.

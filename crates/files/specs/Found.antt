@@ -4,7 +4,7 @@ use Rattle.std.specs.Prelude.{string_bytes}
 use Rattle.std.specs.String.{string_cmp}
 use Rattle.std.specs.declared.alloc.Global.{Global}
 use Rattle.files_core.specs.declared.source_file.FileKind.{FileKind}
-use Rattle.files_core.specs.declared.source_file.FileKind.TheVariants.{Hwdb}
+use Rattle.files_core.specs.declared.source_file.FileKind.TheVariants.{Hwdb, Rules}
 use Rattle.files_core.specs.declared.source_file.SourceFile.{SourceFile}
 use Rattle.files.specs.declared.places.Folder.{Folder}
 use Rattle.files.specs.declared.places.Wanted.{Wanted}
@@ -12,6 +12,7 @@ use Rattle.files.specs.declared.places.Wanted.{Wanted}
 -- how the names of a kind's files end, in a folder
 abbrev pub suffix_of : FileKind → List ℕ
 suffix_of Hwdb = codes ".hwdb"
+suffix_of Rules = codes ".rules"
 
 -- the text ends so
 abbrev pub EndsWith : List ℕ → List ℕ → Type 0

@@ -3,9 +3,9 @@ use Rattle.std.specs.Prelude.{◌≡◌, ◌++◌, ◌==◌, ℕ, List, [], ◌�
 use Rattle.std.specs.Prelude.{string_bytes}
 use Rattle.command_line.specs.declared.Line.{Line}
 use Rattle.command_line.specs.declared.Verb.{Verb}
-use Rattle.command_line.specs.declared.Verb.TheVariants.{Update, Query}
+use Rattle.command_line.specs.declared.Verb.TheVariants.{Update, Query, Verify}
 use Rattle.files_core.specs.declared.source_file.FileKind.{FileKind}
-use Rattle.files_core.specs.declared.source_file.FileKind.TheVariants.{Hwdb}
+use Rattle.files_core.specs.declared.source_file.FileKind.TheVariants.{Hwdb, Rules}
 use Rattle.files.specs.declared.places.Folder.{Folder}
 use Rattle.files.specs.declared.places.Wanted.{Wanted}
 
@@ -13,6 +13,7 @@ use Rattle.files.specs.declared.places.Wanted.{Wanted}
 abbrev pub kind_of : Verb → FileKind
 kind_of Update = Hwdb
 kind_of Query = Hwdb
+kind_of Verify = Rules
 
 -- a folder as a place: the kind of its files, its rank and its path
 abbrev pub Place : Type 0
@@ -28,6 +29,10 @@ places_of = map place_of
 abbrev pub folders_of : FileKind → List ℕ → List Place
 folders_of Hwdb root = (Hwdb, 0, root ++ codes "/etc/udev/hwdb.d")
     ∷ (Hwdb, 1, root ++ codes "/usr/lib/udev/hwdb.d") ∷ []
+folders_of Rules root = (Rules, 0, root ++ codes "/etc/udev/rules.d")
+    ∷ (Rules, 1, root ++ codes "/run/udev/rules.d")
+    ∷ (Rules, 2, root ++ codes "/usr/local/lib/udev/rules.d")
+    ∷ (Rules, 3, root ++ codes "/usr/lib/udev/rules.d") ∷ []
 
 -- the folders that a line asks for: those of its kind where it names no file, else none
 abbrev pub folders_for : Line → List Place

@@ -12,6 +12,7 @@ fn named_kind(verb: Verb) -> FileKind
 {
     match verb {
         Verb::Update | Verb::Query => FileKind::Hwdb,
+        Verb::Verify => FileKind::Rules,
     }
 }
 
@@ -43,12 +44,25 @@ fn hwdb_folders(alloc: Global, root: &str) -> Result<Vec<Folder>, AllocError>
     Ok(folders)
 }
 
+fn rules_folders(alloc: Global, root: &str) -> Result<Vec<Folder>, AllocError>
+    ensures { IfOk result (λ folders. places_of folders.items ≡ folders_of FileKind.Rules root.now) }
+{
+    let kind = FileKind::Rules;
+    let mut folders = Vec::new(alloc);
+    folders.push(folder(alloc, kind, 0, root, "/etc/udev/rules.d")?)?;
+    folders.push(folder(alloc, kind, 1, root, "/run/udev/rules.d")?)?;
+    folders.push(folder(alloc, kind, 2, root, "/usr/local/lib/udev/rules.d")?)?;
+    folders.push(folder(alloc, kind, 3, root, "/usr/lib/udev/rules.d")?)?;
+    Ok(folders)
+}
+
 // The folders of a kind, by rank.
 fn folders_of_kind(alloc: Global, kind: FileKind, root: &str) -> Result<Vec<Folder>, AllocError>
     ensures { IfOk result (λ folders. places_of folders.items ≡ folders_of kind root.now) }
 {
     match kind {
         FileKind::Hwdb => hwdb_folders(alloc, root),
+        FileKind::Rules => rules_folders(alloc, root),
     }
 }
 
@@ -64,8 +78,11 @@ fn asked_folders(alloc: Global, line: &Line<'_>) -> Result<Vec<Folder>, AllocErr
 
 /// The files and folders that a line asks for.
 ///
-/// Named files stand in place of the folders, as with `udevadm verify`. The folders are those of
-/// hwdb(7), `/etc/udev/hwdb.d` with rank 0 and `/usr/lib/udev/hwdb.d` with rank 1, each behind the
+/// Named files stand in place of the folders, as with `udevadm verify`. `update` and `query` ask for
+/// files of the database, and their folders are those of hwdb(7): `/etc/udev/hwdb.d` with rank 0 and
+/// `/usr/lib/udev/hwdb.d` with rank 1. `verify` asks for files of rules, and its folders are those of
+/// udev(7): `/etc/udev/rules.d` with rank 0, `/run/udev/rules.d` with 1,
+/// `/usr/local/lib/udev/rules.d` with 2 and `/usr/lib/udev/rules.d` with 3. Each stands behind the
 /// line's root, which is put before it as it is. `Err` is want of memory.
 pub fn wanted<'b, 'a>(alloc: Global, line: &'b Line<'a>) -> Result<Wanted<'b, 'a>, AllocError>
     ensures { IfOk result (Wants line.now) }

@@ -17,6 +17,7 @@ fn suffix(kind: FileKind) -> &'static str
 {
     match kind {
         FileKind::Hwdb => ".hwdb",
+        FileKind::Rules => ".rules",
     }
 }
 

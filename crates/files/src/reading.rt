@@ -119,9 +119,10 @@ fn named_files<R: Files + AllocGlobal>(
 /// by the names in it, byte by byte.
 ///
 /// Named files are read whatever their suffix, and have rank 0 and their names as given. In a
-/// folder only files whose names end in the suffix of their kind are opened, as hwdb(7) says, each
-/// under its name without the folder; folders in it are passed over, a symlink is followed, and an
-/// absent folder is empty. A file that has not ended after 2^48 reads counts as one that failed.
+/// folder only files whose names end in the suffix of their kind are opened, `.hwdb` as hwdb(7) says
+/// or `.rules` as udev(7) does, each under its name without the folder; folders in it are passed
+/// over, a symlink is followed, and an absent folder is empty. A file that has not ended after 2^48
+/// reads counts as one that failed.
 ///
 /// `ReadFault::Path` comes at the first file that can't be read, with its path; a folder given as
 /// a file is one, and so is a symlink to nothing in a folder, as `systemd-hwdb update --strict`

@@ -3,7 +3,7 @@
 use crate::bounded::read_whole;
 use crate::{ReadFault, read_all, wanted};
 use command_line::{Line, Verb};
-use files_core::SourceFile;
+use files_core::{FileKind, SourceFile};
 use std::alloc::AllocError;
 use std::os::unix::fs::symlink;
 use std::test::Fail;
@@ -25,18 +25,21 @@ fn put(rt: &HostRuntime, root: &str, name: &str, text: &str) -> Result<(), Fail>
     Ok(())
 }
 
-fn query<'a>(
+fn read<'a>(
     rt: &HostRuntime,
+    verb: Verb,
     root: &'a str,
     names: &[&'a str],
 ) -> Result<Vec<SourceFile>, ReadFault> {
     let line = Line {
-        verb: Verb::Query,
+        verb,
         root,
         files: Vec::from_slice(rt.alloc(), names)?,
         strict: false,
         sources: false,
         modalias: "m",
+        summary: true,
+        style: true,
     };
     let wanted = wanted(rt.alloc(), &line)?;
     read_all(rt, &wanted)
@@ -44,7 +47,7 @@ fn query<'a>(
 
 // The path of the fault, with what stands before it gone.
 fn fault_path(rt: &HostRuntime, root: &str, names: &[&str]) -> Result<Option<String>, AllocError> {
-    match query(rt, root, names) {
+    match read(rt, Verb::Query, root, names) {
         Err(ReadFault::Path(path)) => match path.strip_prefix(root) {
             Some(rest) => Ok(Some(String::from_str(rt.alloc(), rest)?)),
             None => Ok(Some(path)),
@@ -67,7 +70,7 @@ fn reads_the_files_of_a_folder(rt: HostRuntime) -> Result<(), Fail> {
     let folder = format!(in rt.alloc(); "{root}/etc/udev/hwdb.d")?;
     fs::create_dir_all(&rt, format!(in rt.alloc(); "{folder}/0.hwdb")?)?;
     symlink(&rt, "a.hwdb", format!(in rt.alloc(); "{folder}/c.hwdb")?)?;
-    let files = query(&rt, &root, &[]);
+    let files = read(&rt, Verb::Query, &root, &[]);
     fs::remove_dir_all(&rt, root)?;
     let files = files?;
     assert_eq!(rt; files.len(), 3);
@@ -83,10 +86,42 @@ fn reads_the_files_of_a_folder(rt: HostRuntime) -> Result<(), Fail> {
 }
 
 #[test]
+fn reads_rules_folder_by_folder(rt: HostRuntime) -> Result<(), Fail> {
+    let root = make_root(&rt)?;
+    for (place, name) in [
+        ("usr/lib", "a.rules"),
+        ("usr/local/lib", "b.rules"),
+        ("run", "c.rules"),
+        ("etc", "d.rules"),
+        ("etc", "e.hwdb"),
+    ] {
+        let folder = format!(in rt.alloc(); "{root}/{place}/udev/rules.d")?;
+        fs::create_dir_all(&rt, folder.as_str())?;
+        fs::write(&rt, format!(in rt.alloc(); "{folder}/{name}")?, place)?;
+    }
+    let files = read(&rt, Verb::Verify, &root, &[]);
+    fs::remove_dir_all(&rt, root)?;
+    let files = files?;
+    assert_eq!(rt; files.len(), 4);
+    for (file, (rank, name, text)) in files.iter().zip([
+        (0, "d.rules", "etc"),
+        (1, "c.rules", "run"),
+        (2, "b.rules", "usr/local/lib"),
+        (3, "a.rules", "usr/lib"),
+    ]) {
+        assert_eq!(rt; file.kind, FileKind::Rules);
+        assert_eq!(rt; file.rank, rank);
+        assert_eq!(rt; file.name.as_slice(), name.as_bytes());
+        assert_eq!(rt; file.bytes.as_slice(), text.as_bytes());
+    }
+    Ok(())
+}
+
+#[test]
 fn names_what_it_cannot_read(rt: HostRuntime) -> Result<(), Fail> {
     let root = make_root(&rt)?;
     let folder = format!(in rt.alloc(); "{root}/etc/udev/hwdb.d")?;
-    let none = query(&rt, &root, &[])?;
+    let none = read(&rt, Verb::Query, &root, &[])?;
     assert!(rt; none.is_empty(), "an empty folder");
     let absent = format!(in rt.alloc(); "{root}/x.hwdb")?;
     let no_file = fault_path(&rt, &root, &[absent.as_str()])?;

@@ -29,6 +29,10 @@ update_is_taken : takes devdry (codes "update" ∷ codes "-s" ∷ codes "--root"
 unfolding clap_on_literals devdry
 update_is_taken = refl
 
+verify_is_taken : takes devdry (codes "verify" ∷ codes "--no-style" ∷ codes "a.rules" ∷ []) ≡ true
+unfolding clap_on_literals devdry
+verify_is_taken = refl
+
 no_words : fault_of devdry [] ≡ kind.DisplayHelpOnMissingArgumentOrSubcommand ∷ []
 unfolding clap_on_literals devdry
 no_words = refl

@@ -41,6 +41,14 @@ modalias_rule = record (new_rule (codes "MODALIAS")) { required = true }
 abbrev pub files_rule : Rule
 files_rule = record (new_rule (codes "FILE")) { action = Some Append }
 
+-- `--no-summary`
+abbrev pub no_summary_rule : Rule
+no_summary_rule = flag_rule (codes "no-summary")
+
+-- `--no-style`
+abbrev pub no_style_rule : Rule
+no_style_rule = flag_rule (codes "no-style")
+
 -- a command of this name with these arguments
 abbrev pub with_rules : Text → List Rule → Shape
 with_rules name rules = record (new_shape name) { rules = rules }
@@ -53,6 +61,11 @@ update_shape = with_rules (codes "update") (root_rule ∷ strict_rule ∷ files_
 abbrev pub query_shape : Shape
 query_shape = with_rules (codes "query")
     (root_rule ∷ sources_rule ∷ modalias_rule ∷ files_rule ∷ [])
+
+-- `verify [-r DIR] [--no-summary] [--no-style] [FILE]..`
+abbrev pub verify_shape : Shape
+verify_shape = with_rules (codes "verify")
+    (root_rule ∷ no_summary_rule ∷ no_style_rule ∷ files_rule ∷ [])
 
 -- the program without its subcommands: the words come without its name, one subcommand has to be
 -- there, and each has the program's version
@@ -70,7 +83,8 @@ program = record {
 
 -- `devdry` with its subcommands
 unfoldable pub devdry : App
-devdry = with_subcommand (with_subcommand program update_shape) query_shape
+devdry = with_subcommand (with_subcommand (with_subcommand program update_shape) query_shape)
+    verify_shape
 
 -- the command has this shape, and none of its arguments is global
 pub record IsCommand (shape : Shape) (c : Command) : Type 0 where

@@ -1,5 +1,5 @@
 -- The line that a user's words stand for, and what a fault says of them.
-use Rattle.std.specs.Prelude.{◌≡◌, ◌⊎◌, ⊤, List, [], Bool, Option, IsSomeAnd}
+use Rattle.std.specs.Prelude.{◌≡◌, ◌⊎◌, ⊤, List, [], Bool, Option, IsSomeAnd, not}
 use Rattle.std.specs.Prelude.{map, unwrap_or, codes, false}
 use Rattle.std.specs.Option.{option_map_or}
 use Rattle.std.specs.Str.{bytes_eq}
@@ -10,12 +10,13 @@ use Rattle.command_line.specs.declared.Line.{Line}
 use Rattle.command_line.specs.declared.LineFault.{LineFault}
 use Rattle.command_line.specs.declared.LineFault.TheVariants.{Help, Usage, Memory}
 use Rattle.command_line.specs.declared.Verb.{Verb}
-use Rattle.command_line.specs.declared.Verb.TheVariants.{Update, Query}
+use Rattle.command_line.specs.declared.Verb.TheVariants.{Update, Query, Verify}
 
 -- the subcommand of a verb
 abbrev pub name_of : Verb → Text
 name_of Update = codes "update"
 name_of Query = codes "query"
+name_of Verify = codes "verify"
 
 abbrev pub IsVerbName : Text → Type 0
 IsVerbName name = (v : Verb) × (name_of v ≡ name)
@@ -39,6 +40,8 @@ pub record Reads (rows : List Row) (line : Line) : Type 0 where
   pub strict : line.strict ≡ is_set (codes "strict") rows
   pub sources : line.sources ≡ is_set (codes "sources") rows
   pub modalias : line.modalias.now ≡ text_of (codes "MODALIAS") rows
+  pub summary : line.summary ≡ not (is_set (codes "no-summary") rows)
+  pub style : line.style ≡ not (is_set (codes "no-style") rows)
 
 -- the words name the subcommand of a verb
 abbrev pub NamesVerb : Option (Text × List Row) → Type 0

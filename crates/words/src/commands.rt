@@ -5,23 +5,29 @@
 ghost use Rattle.std.specs.Prelude.{◌≡◌, IfOk, false};
 ghost use Rattle.clap.specs.Words.{app_of, rule_of};
 ghost use Rattle.words.specs.Commands.{IsCommand, devdry, files_rule, flag_rule, modalias_rule};
-ghost use Rattle.words.specs.Commands.{program as program_app, query_shape, root_rule};
-ghost use Rattle.words.specs.Commands.{sources_rule, strict_rule, update_shape};
+ghost use Rattle.words.specs.Commands.{no_style_rule, no_summary_rule, program as program_app};
+ghost use Rattle.words.specs.Commands.{query_shape, root_rule, sources_rule, strict_rule};
+ghost use Rattle.words.specs.Commands.{update_shape, verify_shape};
 
 use clap::{Arg, ArgAction, Command};
 use std::alloc::{AllocError, Global};
 
 const STATUSES: &str = "Status:
   0  all went well, or help was asked for
-  1  there was a message and --strict was given,
-     or there are too many entries
+  1  verify found a bad file, or there was a message and
+     --strict was given, or there are too many rules or entries
   2  the words of the command are not understood
   3  a file, the input or an output failed
   4  out of memory
 
-Example:
+Examples:
+  devdry verify 60-mine.rules
   devdry query usb:v1D6Bp0002 20-usb.hwdb
 ";
+
+const DATABASE_FILES: &str = "Database files to read in place of the folders";
+
+const RULES_FILES: &str = "Rules files to read in place of the folders";
 
 fn root_option<'a>(alloc: Global) -> Arg<'a>
     ensures { (rule_of result ≡ root_rule) × (result.global ≡ false) }
@@ -54,6 +60,22 @@ fn sources_flag<'a>(alloc: Global) -> Arg<'a>
     flag(alloc, "sources", "Say where each property comes from")
 }
 
+fn no_summary_flag<'a>(alloc: Global) -> Arg<'a>
+    ensures { (rule_of result ≡ no_summary_rule) × (result.global ≡ false) }
+{
+    flag(
+        alloc,
+        "no-summary",
+        "Do not count the good and the bad files",
+    )
+}
+
+fn no_style_flag<'a>(alloc: Global) -> Arg<'a>
+    ensures { (rule_of result ≡ no_style_rule) × (result.global ≡ false) }
+{
+    flag(alloc, "no-style", "Give no messages about style")
+}
+
 fn modalias_argument<'a>(alloc: Global) -> Arg<'a>
     ensures { (rule_of result ≡ modalias_rule) × (result.global ≡ false) }
 {
@@ -62,12 +84,10 @@ fn modalias_argument<'a>(alloc: Global) -> Arg<'a>
         .help("Device to look up, by its modalias")
 }
 
-fn files_argument<'a>(alloc: Global) -> Arg<'a>
+fn files_argument<'a>(alloc: Global, help: &'a str) -> Arg<'a>
     ensures { (rule_of result ≡ files_rule) × (result.global ≡ false) }
 {
-    Arg::new(alloc, "FILE")
-        .action(ArgAction::Append)
-        .help("Database files to read in place of the folders")
+    Arg::new(alloc, "FILE").action(ArgAction::Append).help(help)
 }
 
 fn update_command<'a>(alloc: Global) -> Result<Command<'a>, AllocError>
@@ -77,7 +97,7 @@ fn update_command<'a>(alloc: Global) -> Result<Command<'a>, AllocError>
         .about("Checks the files of the hardware database")
         .arg(root_option(alloc))?
         .arg(strict_flag(alloc))?
-        .arg(files_argument(alloc))
+        .arg(files_argument(alloc, DATABASE_FILES))
 }
 
 fn query_command<'a>(alloc: Global) -> Result<Command<'a>, AllocError>
@@ -88,7 +108,18 @@ fn query_command<'a>(alloc: Global) -> Result<Command<'a>, AllocError>
         .arg(root_option(alloc))?
         .arg(sources_flag(alloc))?
         .arg(modalias_argument(alloc))?
-        .arg(files_argument(alloc))
+        .arg(files_argument(alloc, DATABASE_FILES))
+}
+
+fn verify_command<'a>(alloc: Global) -> Result<Command<'a>, AllocError>
+    ensures { IfOk result (IsCommand verify_shape) }
+{
+    Command::new(alloc, "verify")
+        .about("Checks rules files")
+        .arg(root_option(alloc))?
+        .arg(no_summary_flag(alloc))?
+        .arg(no_style_flag(alloc))?
+        .arg(files_argument(alloc, RULES_FILES))
 }
 
 fn program<'a>(alloc: Global) -> Result<Command<'a>, AllocError>
@@ -98,7 +129,7 @@ fn program<'a>(alloc: Global) -> Result<Command<'a>, AllocError>
         .no_binary_name(true)
         .version("0.1.0")
         .propagate_version(true)
-        .about("A dry run of udev's hardware database")
+        .about("A dry run of udev's rules and hardware database")
         .after_help(STATUSES)
         .arg_required_else_help(true)
         .subcommand_required(true)
@@ -111,5 +142,6 @@ pub fn devdry_command<'a>(alloc: Global) -> Result<Command<'a>, AllocError>
 {
     program(alloc)?
         .subcommand(update_command(alloc)?)?
-        .subcommand(query_command(alloc)?)
+        .subcommand(query_command(alloc)?)?
+        .subcommand(verify_command(alloc)?)
 }

@@ -15,7 +15,8 @@ pub fn verb_of(name: &str) -> Verb
 {
     match name {
         "update" => Verb::Update,
-        _ => Verb::Query,
+        "query" => Verb::Query,
+        _ => Verb::Verify,
     }
 }
 
@@ -35,5 +36,7 @@ pub fn line_with<'a>(
         strict: is_given(matches, "strict"),
         sources: is_given(matches, "sources"),
         modalias: text(matches, "MODALIAS"),
+        summary: !is_given(matches, "no-summary"),
+        style: !is_given(matches, "no-style"),
     })
 }

@@ -59,8 +59,9 @@ fn line_of<'a>(alloc: Global, matches: &ArgMatches<'a>) -> Result<Line<'a>, Line
 
 /// Reads the words after the program's name.
 ///
-/// The subcommands and their options are those of `systemd-hwdb(8)` as far as `devdry` has them:
-/// `update [-s] [-r DIR] [FILE]..` and `query [-r DIR] [--sources] MODALIAS [FILE]..`.
+/// The subcommands and their options are those of `systemd-hwdb(8)` and `udevadm(8)` as far as
+/// `devdry` has them: `update [-s] [-r DIR] [FILE]..`, `query [-r DIR] [--sources] MODALIAS
+/// [FILE]..` and `verify [-r DIR] [--no-summary] [--no-style] [FILE]..`.
 ///
 /// `LineFault::Help` comes for `--help`, `-h`, `help`, `--version` and `-V`, also after a
 /// subcommand; `LineFault::Usage` for all else that `clap` does not take, no words at all among
@@ -121,6 +122,18 @@ mod tests {
         assert_eq!(rt; line.verb, Verb::Update);
         assert_eq!(rt; line.root, "");
         assert!(rt; line.files.is_empty() && line.strict && !line.sources);
+        assert!(rt; line.summary && line.style);
+        Ok(())
+    }
+
+    #[test]
+    fn reads_a_verify(rt: HostRuntime) -> Result<(), Fail> {
+        let words = words_of(rt.alloc(), "verify --root /mnt --no-style b.rules a.rules")?;
+        let line = parse_line(rt.alloc(), &words)?;
+        assert_eq!(rt; line.verb, Verb::Verify);
+        assert_eq!(rt; line.root, "/mnt");
+        assert_eq!(rt; line.files.as_slice(), ["b.rules", "a.rules"].as_slice());
+        assert!(rt; line.summary && !line.style && !line.strict);
         Ok(())
     }
 
@@ -141,6 +154,7 @@ mod tests {
             ("help", true, "hardware database"),
             ("help query", true, "<MODALIAS> [FILE]..."),
             ("query --help", true, "--sources"),
+            ("verify --help", true, "--no-summary"),
             ("--version", true, "devdry 0.1.0\n"),
             ("-V", true, "devdry 0.1.0\n"),
             ("query --version", true, "0.1.0\n"),
@@ -149,6 +163,7 @@ mod tests {
             ("query m --strict", false, "--strict"),
             ("update -s -s", false, "--strict"),
             ("update --root", false, "--root <DIR>"),
+            ("verify --sources", false, "--sources"),
             ("install", false, "install"),
         ] {
             match fault_at(rt.alloc(), text)? {

@@ -100,3 +100,32 @@ fn messages_stand_on_the_error_output(rt: HostRuntime) -> Result<(), Fail> {
     assert_eq!(rt; done.status, 0);
     Ok(())
 }
+
+#[test]
+fn names_and_words_are_escaped(rt: HostRuntime) -> Result<(), Fail> {
+    let alloc = rt.alloc();
+    // Words of 40 bytes, of which the first 32 are shown: the backslash is the 32nd byte, then the next.
+    for (word, shown) in [
+        (
+            "xxxxxxxxxxxxxxxxxxxxxxxxxxxxxxx\\yyyyyyyy",
+            "xxxxxxxxxxxxxxxxxxxxxxxxxxxxxxx\\x5C",
+        ),
+        (
+            "xxxxxxxxxxxxxxxxxxxxxxxxxxxxxxxx\\yyyyyyy",
+            "xxxxxxxxxxxxxxxxxxxxxxxxxxxxxxxx",
+        ),
+    ] {
+        let text = format!(in alloc; "m\n A=1\n{word}\n B=1\n")?;
+        let update = line(alloc, Verb::Update, "");
+        let done = run(
+            alloc,
+            &update,
+            one_file(alloc, "a\u{1}b.hwdb", text.as_str())?,
+        )?;
+        let want = format!(in alloc;
+            "a\\x01b.hwdb:3: H3 unindented line after properties: {shown}\n"
+        )?;
+        assert_eq!(rt; done.messages.as_slice(), want.as_bytes());
+    }
+    Ok(())
+}

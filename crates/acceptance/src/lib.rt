@@ -9,4 +9,6 @@ mod database;
 #[cfg(test)]
 mod failures;
 #[cfg(test)]
+mod rules;
+#[cfg(test)]
 mod running;

@@ -13,7 +13,7 @@ pub(crate) struct Outcome {
     pub(crate) status: u8,
 }
 
-/// A line that names no file, for any command but `query --sources` and `update --strict`.
+/// A line that names no file, with no option.
 pub(crate) fn line<'a>(alloc: Global, verb: Verb, modalias: &'a str) -> Line<'a> {
     Line {
         verb,
@@ -22,13 +22,26 @@ pub(crate) fn line<'a>(alloc: Global, verb: Verb, modalias: &'a str) -> Line<'a>
         strict: false,
         sources: false,
         modalias,
+        summary: true,
+        style: true,
     }
 }
 
 /// A database file of a folder.
 pub(crate) fn file(alloc: Global, rank: u8, name: &str, text: &str) -> Result<SourceFile, Fail> {
+    file_of(alloc, FileKind::Hwdb, rank, name, text)
+}
+
+/// A file of a folder.
+pub(crate) fn file_of(
+    alloc: Global,
+    kind: FileKind,
+    rank: u8,
+    name: &str,
+    text: &str,
+) -> Result<SourceFile, Fail> {
     Ok(SourceFile {
-        kind: FileKind::Hwdb,
+        kind,
         rank,
         name: Bytes::copy_of(alloc, name.as_bytes())?,
         bytes: Bytes::copy_of(alloc, text.as_bytes())?,

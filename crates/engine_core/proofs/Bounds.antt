@@ -1,12 +1,23 @@
--- The test of the bounds, and the bounds as the reading of database files states them.
-use Rattle.std.proofs.Common.{◌≡◌, ◌-◌, ◌^◌, Bool, true, false, ◌&&◌, List, length, refl, sum_by}
+-- The tests of the bounds, and the bounds as the reading of files states them.
+use Rattle.std.proofs.Common.{◌≡◌, ℕ, ◌-◌, ◌^◌, ◌<◌, ◌≤◌, Bool, true, false, ◌&&◌, List, length, refl, sum_by, subst, arith}
 use Rattle.std.proofs.lemmas.Bool.{leb-true, le-leb, false_from_ne_true}
 use Rattle.std.proofs.Math.Dec.{leb}
 use Rattle.files_core.specs.declared.source_file.SourceFile.{SourceFile}
-use Rattle.hwdb_core.specs.Sources.{WithinBounds, match_bytes_of, properties_of, text_len}
-use Rattle.hwdb_core.specs.Sources.{entries_of, messages_of}
+use Rattle.files_core.specs.declared.message.Message.{Message}
+use Rattle.lookup_core.specs.declared.entry.Entry.{Entry}
+use Rattle.hwdb_core.specs.Sources.{WithinBounds, entries_of, match_bytes_of, messages_of, properties_of, text_len}
+use Rattle.hwdb_core.specs.declared.fault.HwdbFault.{HwdbFault}
+use Rattle.hwdb_core.specs.declared.fault.HwdbFault.TheVariants as hwdb
+use Rattle.rule_core.specs.Rules.{set_of, tokens_in}
+use Rattle.rule_core.specs.declared.fault.RulesFault.{RulesFault}
+use Rattle.rule_core.specs.declared.fault.RulesFault.TheVariants as rules
 use Rattle.command_line.specs.declared.Line.{Line}
-use Rattle.engine_core.specs.Outcomes.{are_few, outcome_by, outcome_of, refusal}
+use Rattle.engine_core.specs.Checks.{said_of, told}
+use Rattle.engine_core.specs.Delivery.{Outcome}
+use Rattle.engine_core.specs.Outcomes.{are_few, database_outcome, rules_outcome, too_many_entries, too_many_rules}
+use Rattle.engine_core.specs.declared.refusal.Refusal.{Refusal}
+use Rattle.engine_core.specs.declared.refusal.Refusal.TheVariants.{TooManyEntries, TooManyRules}
+use Rattle.engine_core.specs.Reports.{IsSaid, refused_entries, refused_rules}
 
 both : (x y : Bool) → (x && y) ≡ true → (x ≡ true) × (y ≡ true)
 both true y e = (refl, e)
@@ -47,10 +58,40 @@ within_few files e =
 few_beyond : (files : List SourceFile) → (WithinBounds files → ⊥) → are_few files ≡ false
 few_beyond files beyond = false_from_ne_true (are_few files) (λ e. beyond (within_few files e))
 
-pub outcome_few : (line : Line) (files : List SourceFile) → WithinBounds files → outcome_of line files ≡ outcome_by line.verb line (entries_of files) (messages_of files)
-unfolding outcome_of
-outcome_few line files w = rw (few_within files w) refl
+pub outcome_few : (say : List Entry → List Message → Outcome) (files : List SourceFile) → WithinBounds files → database_outcome say files ≡ say (entries_of files) (messages_of files)
+unfolding database_outcome
+outcome_few say files w = rw (few_within files w) refl
 
-pub outcome_many : (line : Line) (files : List SourceFile) → (WithinBounds files → ⊥) → outcome_of line files ≡ refusal
-unfolding outcome_of
-outcome_many line files beyond = rw (few_beyond files beyond) refl
+outcome_many : (say : List Entry → List Message → Outcome) (files : List SourceFile) → (WithinBounds files → ⊥) → database_outcome say files ≡ too_many_entries
+unfolding database_outcome
+outcome_many say files beyond = rw (few_beyond files beyond) refl
+
+-- what becomes of a fault of the database is what is said of its files
+pub entries_refused : (say : List Entry → List Message → Outcome) (files : List SourceFile) (fault : HwdbFault) → (fault ≡ hwdb.TooMany → WithinBounds files → ⊥) → IsSaid (refused_entries fault) (database_outcome say files)
+entries_refused say files hwdb.TooMany beyond = outcome_many say files (beyond refl)
+entries_refused say files hwdb.Memory beyond = tt
+
+pub rules_few : (line : Line) (files : List SourceFile) → tokens_in (set_of files).rules ≤ 2 ^ 24 → rules_outcome line files ≡ said_of line.summary files (told line.style (set_of files).messages)
+unfolding rules_outcome
+rules_few line files w = rw (le-leb (tokens_in (set_of files).rules) (2 ^ 24) w) refl
+
+beyond : (n m : ℕ) → m < n → leb n m ≡ false
+beyond n m h = false_from_ne_true (leb n m) (λ e. not_both n m h (leb-true n m e))
+  where
+    not_both : (n m : ℕ) → m < n → n ≤ m → ⊥
+    not_both n m h k = omega (arith, h, k)
+
+rules_many : (line : Line) (files : List SourceFile) → 2 ^ 24 < tokens_in (set_of files).rules → rules_outcome line files ≡ too_many_rules
+unfolding rules_outcome
+rules_many line files h = rw (beyond (tokens_in (set_of files).rules) (2 ^ 24) h) refl
+
+-- what becomes of a fault of rules is what is said of their files
+pub rules_refused : (line : Line) (files : List SourceFile) (fault : RulesFault) → (fault ≡ rules.TooMany → 2 ^ 24 < tokens_in (set_of files).rules) → IsSaid (refused_rules fault) (rules_outcome line files)
+rules_refused line files rules.TooMany h = rules_many line files (h refl)
+rules_refused line files rules.Memory h = tt
+
+pub entries_said : (refusal : Refusal) (outcome : Outcome) → refusal ≡ TooManyEntries → IsSaid refusal outcome → outcome ≡ too_many_entries
+entries_said refusal outcome e said = subst (λ r. IsSaid r outcome) e said
+
+pub rules_said : (refusal : Refusal) (outcome : Outcome) → refusal ≡ TooManyRules → IsSaid refusal outcome → outcome ≡ too_many_rules
+rules_said refusal outcome e said = subst (λ r. IsSaid r outcome) e said

@@ -4,7 +4,7 @@ use Rattle.bytes_core.specs.Names.{colon, newline}
 use Rattle.files_core.specs.Escapes.{escape_text}
 use Rattle.files_core.specs.declared.message.Message.{Message}
 use Rattle.files_core.specs.declared.message.MessageKind.{MessageKind}
-use Rattle.files_core.specs.declared.message.MessageKind.TheVariants.{PropertyWithoutMatch, MatchWithoutProperty, UnindentedLine, NoEquals, EmptyKey, PatternNotSupported}
+use Rattle.files_core.specs.declared.message.MessageKind.TheVariants.{PropertyWithoutMatch, MatchWithoutProperty, UnindentedLine, NoEquals, EmptyKey, PatternNotSupported, BadSyntax, UnknownKey, OperatorNotAllowed, WrongAttribute, BadValue, BadSubstitution, NoLaterLabel, GivenTwice, LineTooLong, BadPrefix, SetNotSupported, OpenAtEnd, CommaExpected, BlankExpected, ReadAsAssign, LabelUnused}
 
 -- the code of a kind of message, and what it says
 abbrev pub heading_of : MessageKind → List ℕ
@@ -14,6 +14,22 @@ heading_of UnindentedLine = codes "H3 unindented line after properties"
 heading_of NoEquals = codes "H4 no ="
 heading_of EmptyKey = codes "H5 empty key"
 heading_of PatternNotSupported = codes "H6 pattern not supported"
+heading_of BadSyntax = codes "V1 bad syntax"
+heading_of UnknownKey = codes "V2 unknown key"
+heading_of OperatorNotAllowed = codes "V3 operator not allowed"
+heading_of WrongAttribute = codes "V4 attribute missing or not allowed"
+heading_of BadValue = codes "V5 bad value"
+heading_of BadSubstitution = codes "V6 bad substitution"
+heading_of NoLaterLabel = codes "V7 no later label"
+heading_of GivenTwice = codes "V8 label or goto given twice"
+heading_of LineTooLong = codes "V9 line too long"
+heading_of BadPrefix = codes "V10 bad quote prefix"
+heading_of SetNotSupported = codes "V11 set not supported"
+heading_of OpenAtEnd = codes "V12 line continuation at the file's end"
+heading_of CommaExpected = codes "S1 one comma expected"
+heading_of BlankExpected = codes "S2 blank after a comma expected"
+heading_of ReadAsAssign = codes "S3 operator read as ="
+heading_of LabelUnused = codes "S4 label unused"
 
 -- where something stands, `FILE:LINE: `, the file's name escaped and the line's number in decimal
 abbrev pub place_of : List ℕ → ℕ → List ℕ

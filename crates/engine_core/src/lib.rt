@@ -7,8 +7,13 @@
 #![tactic(auto)]
 
 mod answers;
+mod checks;
+mod database;
 mod delivery;
+mod files_read;
 mod messages;
+mod names;
+mod refusal;
 mod report;
 mod serving;
 

@@ -4,26 +4,30 @@ ghost use Rattle.engine_core.specs.Delivery.{SinkState, Delivers};
 ghost use Rattle.engine_core.specs.Outcomes.{outcome};
 
 use crate::delivery::{deliver, tell_out_of_memory};
+use crate::refusal::Refusal;
 use crate::report::{Report, report_on_files};
 use command_line::Line;
 use files_core::SourceFile;
-use hwdb_core::HwdbFault;
 use std::alloc::Global;
 use streams::{Sink, Source};
 
 /// The line on files that hold more than a database may.
-const TOO_MANY: &[u8] = b"devdry: hwdb: too many\n";
+const TOO_MANY_ENTRIES: &[u8] = b"devdry: hwdb: too many\n";
+
+/// The line on rules that have too many tokens.
+const TOO_MANY_RULES: &[u8] = b"devdry: rules: too many\n";
 
 /// Runs a command over files that were read, writes what it says, and gives the status to exit with.
 ///
-/// Messages about the files go to `error`; the answer, for `query` the lines of the properties as
-/// systemd-hwdb(8) gives them, to `output`. Where `line` names files, those handed in are read in
-/// their order, and else those whose names end in `.hwdb`, of each name the one of least rank,
-/// sorted by name. The index and the input are not looked at.
+/// Messages about the files go to `error`; the answer to `output`: for `query` the lines of the
+/// properties as systemd-hwdb(8) gives them, for `verify`, as in udevadm(8), how many files are bad.
+/// Where `line` names files, those handed in are read in their order, and else those whose names end
+/// in `.hwdb` or, for `verify`, in `.rules`, of each name the one of least rank, sorted by name. The
+/// index and the input are not looked at.
 ///
-/// The status is 0; 1 where `update` is strict and there is a message, or where the files hold more
-/// than a database may; 3 where a device failed; 4 where memory was refused. Under 3 all was written
-/// and flushed.
+/// The status is 0; 1 where `update` is strict and there is a message, where `verify` finds a bad
+/// file, or where the files hold more than they may; 3 where a device failed; 4 where memory was
+/// refused. Under 3 all was written and flushed.
 pub fn serve<R: Source, W: Sink, E: Sink>(
     alloc: Global,
     line: &Line<'_>,
@@ -48,7 +52,8 @@ pub fn serve<R: Source, W: Sink, E: Sink>(
                 status,
             },
         ) => deliver(&messages, &answer, status, output, error),
-        Err(HwdbFault::TooMany) => deliver(TOO_MANY, b"", 1, output, error),
-        Err(HwdbFault::Memory) => tell_out_of_memory(error),
+        Err(Refusal::TooManyEntries) => deliver(TOO_MANY_ENTRIES, b"", 1, output, error),
+        Err(Refusal::TooManyRules) => deliver(TOO_MANY_RULES, b"", 1, output, error),
+        Err(Refusal::Memory) => tell_out_of_memory(error),
     }
 }

@@ -1,0 +1,64 @@
+-- What `verify` says of rules files.
+use Rattle.std.specs.Prelude.{ℕ, ◌-◌, Bool, true, false, ◌==◌, not, nat_eq, if◌then◌else◌, List, [], ◌∷◌, ◌++◌, length, codes, decimal, filter}
+use Rattle.std.specs.List.{count_by, list_any}
+use Rattle.std.specs.Cmp.Lexicographic.{pointwise}
+use Rattle.bytes_core.specs.Names.{newline}
+use Rattle.files_core.specs.declared.source_file.SourceFile.{SourceFile}
+use Rattle.files_core.specs.declared.message.Message.{Message}
+use Rattle.files_core.specs.declared.message.MessageKind.{MessageKind}
+use Rattle.files_core.specs.declared.message.MessageKind.TheVariants.{PropertyWithoutMatch, MatchWithoutProperty, UnindentedLine, NoEquals, EmptyKey, PatternNotSupported, BadSyntax, UnknownKey, OperatorNotAllowed, WrongAttribute, BadValue, BadSubstitution, NoLaterLabel, GivenTwice, LineTooLong, BadPrefix, SetNotSupported, OpenAtEnd, CommaExpected, BlankExpected, ReadAsAssign, LabelUnused}
+use Rattle.engine_core.specs.Delivery.{Outcome}
+use Rattle.engine_core.specs.Messages.{message_lines}
+
+-- whether a kind of message is about style: the S messages
+abbrev pub is_style : MessageKind → Bool
+is_style PropertyWithoutMatch = false
+is_style MatchWithoutProperty = false
+is_style UnindentedLine = false
+is_style NoEquals = false
+is_style EmptyKey = false
+is_style PatternNotSupported = false
+is_style BadSyntax = false
+is_style UnknownKey = false
+is_style OperatorNotAllowed = false
+is_style WrongAttribute = false
+is_style BadValue = false
+is_style BadSubstitution = false
+is_style NoLaterLabel = false
+is_style GivenTwice = false
+is_style LineTooLong = false
+is_style BadPrefix = false
+is_style SetNotSupported = false
+is_style OpenAtEnd = false
+is_style CommaExpected = true
+is_style BlankExpected = true
+is_style ReadAsAssign = true
+is_style LabelUnused = true
+
+-- the messages that are given: all, or without style those that are not about it
+unfoldable pub told : Bool → List Message → List Message
+told style messages = if style then messages else filter (λ m. not (is_style m.kind)) messages
+
+-- whether one of the messages bears a name
+abbrev pub is_named_in : List Message → List ℕ → Bool
+is_named_in messages name = list_any (λ m. pointwise nat_eq name m.file) messages
+
+-- how many of the files are bad, that is, how many have a message that bears their name
+abbrev pub bad_count : List SourceFile → List Message → ℕ
+bad_count files messages = count_by (λ f. is_named_in messages f.name) files
+
+-- the line that counts files: all of them, and those that are bad
+unfoldable pub summary_line : ℕ → ℕ → List ℕ
+summary_line all bad = decimal all ++ codes " files checked, " ++ decimal (all - bad) ++ codes " good, " ++ decimal bad ++ codes " bad\n"
+
+-- 0 where no file is bad, else 1
+abbrev pub verify_status : ℕ → ℕ
+verify_status bad = if bad == 0 then 0 else 1
+
+-- what is said of files and of the messages about them that are given
+abbrev pub said_of : Bool → List SourceFile → List Message → Outcome
+said_of summary files messages = record {
+  output = if summary then summary_line (length files) (bad_count files messages) else [];
+  messages = message_lines messages;
+  status = verify_status (bad_count files messages);
+}

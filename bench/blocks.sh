@@ -6,11 +6,12 @@ set -euo pipefail
 top=$(cd "$(dirname "$0")/.." && pwd)
 program=$top/crates/bench_blocks/out/bench_blocks
 (cd "$top/crates/bench_blocks" && rt run < /dev/null > /dev/null)
-exec python3 - "$program" <<'P'
-import subprocess, sys, tempfile, time
+PYTHONPATH=$top/bench exec python3 - "$program" <<'P'
+import sys, tempfile
+from timing import MILLION, best_of_five
 
 program = sys.argv[1]
-SIZE = 100 * 1000 * 1000
+SIZE = 100 * MILLION
 
 
 def block(properties):
@@ -27,15 +28,9 @@ def measure(name, text):
         for _ in range(SIZE // len(text)):
             file.write(text)
         file.flush()
-        best = None
-        for _ in range(5):
-            with open(file.name, "rb") as source:
-                start = time.monotonic()
-                done = subprocess.run([program], stdin=source, capture_output=True, check=True)
-                took = time.monotonic() - start
-            best = took if best is None else min(best, took)
+        best, answer = best_of_five([program], file.name)
     size = SIZE // len(text) * len(text)
-    print(f"{name}: {done.stdout.decode().strip()}, {best:.3f} s, {size / best / 1e6:.0f} MB/s", flush=True)
+    print(f"{name}: {answer}, {best:.3f} s, {size / best / MILLION:.0f} MB/s", flush=True)
 
 
 for properties in (1, 30, 3000):

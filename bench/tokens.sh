@@ -8,8 +8,9 @@ root=$(cd "${1:?usage: bench/tokens.sh DIR}" && pwd)
 top=$(cd "$(dirname "$0")/.." && pwd)
 program=$top/crates/bench_tokens/out/bench_tokens
 (cd "$top/crates/bench_tokens" && rt run < /dev/null > /dev/null)
-exec python3 - "$program" "$root" <<'P'
-import glob, os, subprocess, sys, tempfile, time
+PYTHONPATH=$top/bench exec python3 - "$program" "$root" <<'P'
+import glob, os, sys, tempfile
+from timing import MILLION, best_of_five
 
 program, root = sys.argv[1:]
 
@@ -37,22 +38,14 @@ def measure(name, lines, size):
     with tempfile.NamedTemporaryFile() as file:
         file.write(text)
         file.flush()
-        best = None
-        for _ in range(5):
-            with open(file.name, "rb") as source:
-                start = time.monotonic()
-                done = subprocess.run([program], stdin=source, capture_output=True, check=True)
-                took = time.monotonic() - start
-            best = took if best is None else min(best, took)
-    answer = done.stdout.decode().strip()
-    print(f"{name}: {len(text)} bytes, {answer}, {best:.3f} s, {len(text) / best / 1e6:.0f} MB/s", flush=True)
+        best, answer = best_of_five([program], file.name)
+    print(f"{name}: {len(text)} bytes, {answer}, {best:.3f} s, {len(text) / best / MILLION:.0f} MB/s", flush=True)
 
 
 paths = sorted(glob.glob(os.path.join(root, "usr/lib/udev/rules.d/*.rules")))
 lines = [line for path in paths for line in rules(path)]
 print(f"{len(paths)} files, {len(lines)} rules, {sum(map(len, lines))} bytes")
-million = 1000 * 1000
-for size in (12 * million, 25 * million, 50 * million):
+for size in (12 * MILLION, 25 * MILLION, 50 * MILLION):
     measure("rules", lines, size)
 many = 16384
 for name, line in (
@@ -66,5 +59,5 @@ for name, line in (
     ("backslashes in an e value", b'A=e"' + b"\\" * many + b'"'),
     ("a value that is not closed", b'A="' + b"x" * many),
 ):
-    measure(name, [line], 50 * million)
+    measure(name, [line], 50 * MILLION)
 P

@@ -22,5 +22,6 @@ FillsBy Used before piece used begins held room = (used ≡ length piece) × (co
 FillsBy Whole before piece used begins held room = (complete_runs (before ++ take used piece) ≡ held ∷ []) × (rest_of (before ++ take used piece) ≡ []) × (0 < used)
 FillsBy Full before piece used begins held room = (used < length piece) × (complete_runs (before ++ take (used + 1) piece) ≡ []) × (rest_of (before ++ take used piece) ≡ held) × (length (rest_of (before ++ take (used + 1) piece)) ≡ room + 1)
 
+-- what filling the room by a piece has come to, by why it stopped
 abbrev pub Fills : List ℕ → List ℕ → Filled → List ℕ → Type 0
 Fills before piece filled room = FillsBy filled.stop before piece filled.used filled.at_start (take filled.len room) (length room)

@@ -15,6 +15,7 @@ use Rattle.device_core.specs.declared.lines.LineKind.TheVariants.{Action, Device
 abbrev pub is_kind : LineKind → Row → Bool
 is_kind kind row = letter_of row.0 == letter_of kind
 
+-- what a line says, if it is of the kind
 abbrev pub text_in : LineKind → Row → Option Text
 text_in kind row = if is_kind kind row then Some row.1 else None
 
@@ -26,12 +27,15 @@ texts kind rows = filter_map (text_in kind) rows
 unfoldable pub pairs : LineKind → List Row → List Pair
 pairs kind rows = filter_map pair_of (texts kind rows)
 
+-- the device numbers that lines give, in order
 unfoldable pub numbers : List Row → List Pair
 numbers rows = filter_map number_of (texts (Field Devnum) rows)
 
+-- the answers that lines give, in order
 unfoldable pub answers : List Row → List AnswerValue
 answers rows = filter_map answer_of (texts Answer rows)
 
+-- the first of a list, if there is one
 abbrev pub first : {X : Type 0} → List X → Option X
 first [] = None
 first (x ∷ xs) = Some x

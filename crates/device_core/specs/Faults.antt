@@ -15,6 +15,7 @@ use Rattle.device_core.specs.declared.faults.BlockFault.{BlockFault}
 use Rattle.device_core.specs.declared.faults.BlockFaultKind.{BlockFaultKind}
 use Rattle.device_core.specs.declared.faults.BlockFaultKind.TheVariants.{NoAction, NoDevice, Letter, Twice, Path, Number, Pair, Nul, TooLong, TooDeep}
 
+-- the last of a list, if there is one
 abbrev pub last : {X : Type 0} → List X → Option X
 last [] = None
 last (x ∷ []) = Some x
@@ -24,6 +25,7 @@ last (x ∷ y ∷ ys) = last (y ∷ ys)
 unfoldable pub device_above : List Row → Option DeviceValue
 device_above above = last (devices above)
 
+-- whether there is a line and it is a command
 abbrev pub is_command : Option Row → Bool
 is_command None = false
 is_command (Some row) = is_kind Command row
@@ -48,6 +50,7 @@ abbrev pub is_too_deep : List Row → LineKind → Bool
 is_too_deep above Device = nat_le 64 (length (devices above))
 is_too_deep above _ = false
 
+-- whether a path may follow that of a device above: as its parent's, or as the event device's where none is above
 abbrev pub is_path_below : Option DeviceValue → Text → Bool
 is_path_below None path = is_device_path path
 is_path_below (Some above) path = is_parent_path above.path path
@@ -95,6 +98,7 @@ has_field device Property rest = has_name device.env (pair_of rest)
 has_field device Tag rest = is_among device.tags rest
 has_field device Link rest = is_among device.links rest
 
+-- whether there is a device and it was given the field, or in a field of several this name or member, before
 abbrev pub some_has_field : Option DeviceValue → DeviceField → Text → Bool
 some_has_field None field rest = false
 some_has_field (Some device) field rest = has_field device field rest
@@ -125,6 +129,7 @@ row_fault above kind rest below = first_of (
     ∷ (is_again above kind rest, Twice)
     ∷ [])
 
+-- what is wrong with a line that may be of no known form
 abbrev pub fault_unless : List Row → Option Row → List Text → Option BlockFaultKind
 fault_unless above None below = Some Letter
 fault_unless above (Some row) below = row_fault above row.0 row.1 below
@@ -137,6 +142,7 @@ has_nul line = is_some (position (λ b. b == nul) line)
 unfoldable pub line_fault : List Row → Text → List Text → Option BlockFaultKind
 line_fault above line below = if has_nul line then Some Nul else fault_unless above (row_of line) below
 
+-- what a whole gives, unless a line of it is faulty
 abbrev pub unless_faulty : ℕ → Option BlockFaultKind → Result EventValue BlockFault → Result EventValue BlockFault
 unless_faulty line None whole = whole
 unless_faulty line (Some kind) whole = Err (record { line = line; kind = kind })

@@ -58,6 +58,7 @@ form (a ∷ b ∷ c ∷ rest) = if b == colon && c == space then Some (a, rest) 
 unfoldable pub kind_of : ℕ → Option LineKind
 kind_of letter = find (λ kind. letter == letter_of kind) kinds
 
+-- a line by its letter and rest, if the letter is known
 abbrev pub row_from : ℕ × Text → Option Row
 row_from parts = option_map (λ kind. (kind, parts.1)) (kind_of parts.0)
 

@@ -3,9 +3,11 @@ use Rattle.std.specs.Prelude.{ℕ, Bool, List, [], ◌∷◌, Option, Some, None
 use Rattle.std.specs.Cmp.Lexicographic.{pointwise}
 use Rattle.std.specs.List.{list_any}
 
+-- bytes of a block
 abbrev pub Text : Type 0
 Text = List ℕ
 
+-- two texts, as a name and its value
 abbrev pub Pair : Type 0
 Pair = Text × Text
 

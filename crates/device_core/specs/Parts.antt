@@ -6,6 +6,7 @@ use Rattle.bytes_core.specs.Names.{slash, colon, equals, space}
 use Rattle.device_core.specs.Pairs.{Text, Pair}
 use Rattle.device_core.specs.Answers.{AnswerValue}
 
+-- whether a list has nothing in it
 abbrev pub is_empty : {X : Type 0} → List X → Bool
 is_empty [] = true
 is_empty (x ∷ xs) = false
@@ -22,6 +23,7 @@ with_name p = if is_empty p.0 then None else Some p
 unfoldable pub pair_of : Text → Option Pair
 pair_of rest = option_and_then with_name (cut equals rest)
 
+-- the digits `0` to `9` of ASCII
 abbrev pub is_digit : ℕ → Bool
 is_digit b = nat_le 48 b && nat_le b 57
 
@@ -50,6 +52,7 @@ decimal_below most bound text = if is_decimal most bound text then Some (decimal
 abbrev pub is_part : Text → Bool
 is_part text = is_some (decimal_below 10 (2 ^ 32) text)
 
+-- a pair whose two texts are parts of a device number
 abbrev pub with_parts : Pair → Option Pair
 with_parts p = if is_part p.0 then (if is_part p.1 then Some p else None) else None
 
@@ -62,6 +65,7 @@ abbrev pub answer_parts : Text → Option Pair → Pair
 answer_parts rest None = (rest, [])
 answer_parts rest (Some p) = p
 
+-- an answer whose first text is a status of 1 to 3 digits, at most 255
 abbrev pub with_status : Pair → Option AnswerValue
 with_status p = option_map (λ status. record { status = status; text = p.1 }) (decimal_below 3 256 p.0)
 
@@ -74,6 +78,7 @@ abbrev pub names_follow : Bool → Text → Bool
 names_follow after_slash [] = not after_slash
 names_follow after_slash (b ∷ text) = if b == slash then not after_slash && names_follow true text else names_follow false text
 
+-- whether a text begins with a slash
 abbrev pub begins_with_slash : Text → Bool
 begins_with_slash [] = false
 begins_with_slash (b ∷ text) = b == slash

@@ -36,27 +36,34 @@ abbrev pub Gives : {X Y : Type 0} → (X → Y) → Result X BlockFaultKind → 
 Gives view (Ok x) wanted = wanted ≡ Ok (view x)
 Gives view (Err kind) wanted = Fails kind wanted
 
+-- a result with a function over what it is well with
 abbrev pub if_ok : {X Y : Type 0} → (X → Y) → Result X BlockFaultKind → Result Y BlockFaultKind
 if_ok f (Ok x) = Ok (f x)
 if_ok f (Err kind) = Err kind
 
+-- a text that may be given once, and is not empty
 unfoldable pub once_step : Option Text → Text → Result Text BlockFaultKind
 once_step before rest = if is_empty rest then Err Pair else (if is_some before then Err Twice else Ok rest)
 
+-- a device number that may be given once
 abbrev pub number_once : Option NameAndValue → Option NameAndValue → Result NameAndValue BlockFaultKind
 number_once before None = Err Number
 number_once before (Some number) = if is_some before then Err Twice else Ok number
 
+-- the rest of a line as a device number that may be given once
 unfoldable pub number_step : Option NameAndValue → Text → Result NameAndValue BlockFaultKind
 number_step before rest = number_once before (number_of rest)
 
+-- a name and its value behind those known, where the name is new
 abbrev pub with_pair : List NameAndValue → Option NameAndValue → Result (List NameAndValue) BlockFaultKind
 with_pair known None = Err Pair
 with_pair known (Some pair) = if named known pair.0 then Err Twice else Ok (known ++ pair ∷ [])
 
+-- the rest of a line as a name and its value, where the name is new
 unfoldable pub pair_step : List NameAndValue → Text → Result (List NameAndValue) BlockFaultKind
 pair_step known rest = with_pair known (pair_of rest)
 
+-- the rest of a line as one more text, where it is new and not empty
 unfoldable pub member_step : List Text → Text → Result (List Text) BlockFaultKind
 member_step known rest = if is_empty rest then Err Pair else (if is_among known rest then Err Twice else Ok (known ++ rest ∷ []))
 
@@ -79,9 +86,11 @@ pub record Sofar : Type 0 where
   pub asked : Option Text
   pub constants : List NameAndValue
 
+-- what a contract sees of a draft
 abbrev pub sofar : Draft → Sofar
 sofar d = record { closed = map device_value d.closed.items; last = option_map device_value d.last; programs = d.programs; asked = option_map (λ t. t.now) d.asked; constants = d.constants }
 
+-- a device of which only the path is known
 abbrev pub bare_device : Text → DeviceValue
 bare_device path = record { path = path; subsystem = None; driver = None; node = None; number = None; attrs = []; env = []; tags = []; links = [] }
 
@@ -94,24 +103,30 @@ unfoldable pub path_step : ℕ → Option DeviceValue → Text → Result (Unit 
 path_step closed None path = if is_device_path path then Ok tt else Err Path
 path_step closed (Some d) path = if nat_le 63 closed then Err TooDeep else (if is_parent_path d.path path then Ok tt else Err Path)
 
+-- a line that begins a device
 unfoldable pub device_step : Sofar → Text → Result Sofar BlockFaultKind
 device_step s path = if_ok (λ _. begun s path) (path_step (length s.closed) s.last path)
 
+-- a line about the device above, where there is one
 unfoldable pub above_step : Option DeviceValue → DeviceField → Text → Result DeviceValue BlockFaultKind
 above_step None field rest = Err NoDevice
 above_step (Some d) field rest = field_step d field rest
 
+-- a command, where it is new, not empty, and the next line answers it
 unfoldable pub command_step : List (Text × AnswerValue) → Text → Bool → Result Text BlockFaultKind
 command_step programs rest answered = if is_empty rest || not answered then Err Pair else (if named programs rest then Err Twice else Ok rest)
 
+-- a command with its answer behind those known, where the command is new
 abbrev pub with_answer : List (Text × AnswerValue) → Text → Option AnswerValue → Result (List (Text × AnswerValue)) BlockFaultKind
 with_answer programs command None = Err Number
 with_answer programs command (Some answer) = if named programs command then Err Twice else Ok (programs ++ (command, answer) ∷ [])
 
+-- an answer to the command that was asked for right above
 unfoldable pub answer_step : List (Text × AnswerValue) → Option Text → Text → Result (List (Text × AnswerValue)) BlockFaultKind
 answer_step programs None rest = Err Pair
 answer_step programs (Some command) rest = with_answer programs command (answer_of rest)
 
+-- the lines so far, with no command waiting for its answer
 abbrev pub unasked : Sofar → Sofar
 unasked s = record s { asked = None }
 
@@ -129,16 +144,20 @@ abbrev pub known_row : Option Row → Result Row BlockFaultKind
 known_row None = Err Letter
 known_row (Some row) = Ok row
 
+-- a line by its kind, unless it has a NUL byte
 unfoldable pub plain_row : Text → Result Row BlockFaultKind
 plain_row line = if has_nul line then Err Nul else known_row (row_of line)
 
+-- a line by its kind behind the lines so far
 abbrev pub then_row : Sofar → Bool → Result Row BlockFaultKind → Result Sofar BlockFaultKind
 then_row s answered (Err kind) = Err kind
 then_row s answered (Ok row) = row_step s row.0 row.1 answered
 
+-- one line behind those so far; whether the next one begins as an answer
 unfoldable pub line_step : Sofar → Text → Bool → Result Sofar BlockFaultKind
 line_step s line answered = then_row s answered (plain_row line)
 
+-- the action of a first line of a kind
 abbrev pub action_by : LineKind → Text → Result Text BlockFaultKind
 action_by Action rest = if is_empty rest then Err NoAction else Ok rest
 action_by Answer rest = Err Pair
@@ -149,6 +168,7 @@ abbrev pub action_in : Result Row BlockFaultKind → Result Text BlockFaultKind
 action_in (Err kind) = Err kind
 action_in (Ok row) = action_by row.0 row.1
 
+-- the action of the first line, as it stands in the block
 unfoldable pub first_step : Text → Result Text BlockFaultKind
 first_step line = action_in (plain_row line)
 
@@ -161,10 +181,12 @@ abbrev pub unless_memory : BlockFaultKind → Type 0 → Type 0
 unless_memory Memory P = Unit {0}
 unless_memory _ P = P
 
+-- a result is the one that is wanted, its line too, memory apart
 abbrev pub GivesAt : {X Y : Type 0} → (X → Y) → Result X BlockFault → Result Y BlockFault → Type 0
 GivesAt view (Ok x) wanted = wanted ≡ Ok (view x)
 GivesAt view (Err fault) wanted = unless_memory fault.kind (wanted ≡ Err fault)
 
+-- what follows a line, or the fault in it
 abbrev pub then_steps : {Y : Type 0} → ℕ → (Sofar → Result Y BlockFault) → Result Sofar BlockFaultKind → Result Y BlockFault
 then_steps line more (Err kind) = Err (record { line = line; kind = kind })
 then_steps line more (Ok s) = more s
@@ -174,6 +196,7 @@ unfoldable pub steps : Sofar → ℕ → List Text → Result (Sofar × ℕ) Blo
 steps s above [] = Ok (s, above)
 steps s above (line ∷ below) = then_steps (above + 1) (λ t. steps t (above + 1) below) (line_step s line (begins_answer below))
 
+-- the event, where the last device is there
 abbrev pub with_last : Text → Sofar → ℕ → Option DeviceValue → Result EventValue BlockFault
 with_last action s count None = Err (record { line = count; kind = NoDevice })
 with_last action s count (Some d) = Ok (record { action = action; devices = s.closed ++ d ∷ []; programs = s.programs; constants = s.constants })
@@ -182,14 +205,17 @@ with_last action s count (Some d) = Ok (record { action = action; devices = s.cl
 unfoldable pub finished : Text → Sofar → ℕ → Result EventValue BlockFault
 finished action s count = with_last action s count s.last
 
+-- the event of the lines that were read, or their fault
 abbrev pub then_finished : Text → Result (Sofar × ℕ) BlockFault → Result EventValue BlockFault
 then_finished action (Err fault) = Err fault
 then_finished action (Ok p) = finished action p.0 p.1
 
+-- the event of the lines behind the first, or the fault of that
 abbrev pub behind_first : List Text → Result Text BlockFaultKind → Result EventValue BlockFault
 behind_first lines (Err kind) = Err (record { line = 1; kind = kind })
 behind_first lines (Ok action) = then_finished action (steps start 1 lines)
 
+-- the event of the lines of a block, or the first fault
 unfoldable pub read_lines : List Text → Result EventValue BlockFault
 read_lines [] = Err (record { line = 1; kind = NoAction })
 read_lines (line ∷ lines) = behind_first lines (first_step line)

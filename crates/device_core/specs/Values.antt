@@ -6,6 +6,7 @@ use Rattle.device_core.specs.declared.events.DeviceNumber.{DeviceNumber}
 use Rattle.device_core.specs.declared.events.Device.{Device}
 use Rattle.device_core.specs.declared.events.Event.{Event}
 
+-- a device of the chain
 pub record DeviceValue : Type 0 where
   pub path : Text
   pub subsystem : Option Text
@@ -17,15 +18,18 @@ pub record DeviceValue : Type 0 where
   pub tags : List Text
   pub links : List Text
 
+-- an event: its action, its devices, the answers of programs and the constants
 pub record EventValue : Type 0 where
   pub action : Text
   pub devices : List DeviceValue
   pub programs : List (Text × AnswerValue)
   pub constants : List Pair
 
+-- what a contract sees of a device number
 abbrev pub number_value : DeviceNumber → Pair
 number_value n = (n.major.now, n.minor.now)
 
+-- what a contract sees of a device
 abbrev pub device_value : Device → DeviceValue
 device_value d = record {
   path = d.path.now;

@@ -27,6 +27,7 @@ pub record AreNames (kind : FileKind) (names : List (String Global)) : Type 0 wh
 abbrev pub Label : Type 0
 Label = FileKind × ℕ × List ℕ
 
+-- what a file is, without what stands in it
 abbrev pub label_of : SourceFile → Label
 label_of f = (f.kind, f.rank, f.name)
 

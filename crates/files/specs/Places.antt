@@ -19,9 +19,11 @@ kind_of Verify = Rules
 abbrev pub Place : Type 0
 Place = FileKind × ℕ × List ℕ
 
+-- what a contract sees of a folder
 abbrev pub place_of : Folder → Place
 place_of f = (f.kind, f.rank, string_bytes f.path)
 
+-- what a contract sees of folders
 abbrev pub places_of : List Folder → List Place
 places_of = map place_of
 

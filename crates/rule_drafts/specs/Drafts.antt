@@ -65,6 +65,7 @@ text_of (value.Text t) = t
 pub data Role : Type 0 where
   labels jumps neither : Role
 
+-- what a key is for the jumps of a rule
 abbrev pub role_of_key : Key → Role
 role_of_key key.Action = neither
 role_of_key key.Devpath = neither
@@ -140,6 +141,7 @@ draft line parts = record {
   findings = (named_by parts).findings ++ style_findings line (tokens_of (items_of line));
 }
 
+-- the draft of parts that were read, or what is wrong with them
 abbrev pub draft_with : List ℕ → Result (List Part) Finding → Result Draft Finding
 draft_with line (Ok parts) = Ok (draft line parts)
 draft_with line (Err wrong) = Err wrong

@@ -96,9 +96,11 @@ row_of key.Options = row Never (chosen Refused Refused Assigns Assigns Refused A
 row_of key.Label = row Never (chosen Refused Refused Assigns Refused Refused Refused) (always Name)
 row_of key.Goto = row Never (chosen Refused Refused Assigns Refused Refused Refused) (always Name)
 
+-- the byte `0`
 abbrev pub digit_zero : ℕ
 digit_zero = 48
 
+-- the byte `7`
 abbrev pub digit_seven : ℕ
 digit_seven = 55
 

@@ -146,6 +146,7 @@ is_as_set Assigns = false
 is_as_set AsSet = true
 is_as_set Refused = false
 
+-- whether an operator is read as `=` with a key, if that is known
 abbrev pub is_read_so : Operator → Option Key → Bool
 is_read_so o None = false
 is_read_so o (Some key) = is_as_set ((row_of key).operators o)

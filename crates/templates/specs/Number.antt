@@ -13,6 +13,7 @@ zero_digit = 48
 abbrev pub nine_digit : ℕ
 nine_digit = 57
 
+-- the digits `0` to `9` of ASCII
 abbrev pub is_digit : ℕ → Bool
 is_digit b = nat_le zero_digit b && nat_le b nine_digit
 

@@ -88,6 +88,7 @@ abbrev pub with_piece : Piece → Result (List Piece) TemplateFault → Result (
 with_piece p (Ok ps) = Ok (p ∷ ps)
 with_piece p (Err e) = Err e
 
+-- the piece that was found at the front, and those that the rest gives behind its length
 abbrev pub with_front : Found → (ℕ → Result (List Piece) TemplateFault) → Result (List Piece) TemplateFault
 with_front (Ok found) rest = with_piece found.0 (rest found.1)
 with_front (Err e) rest = Err e

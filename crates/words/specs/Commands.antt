@@ -6,10 +6,11 @@ use Rattle.clap.specs.declared.builder.action.ArgAction.TheVariants.{Append, Set
 use Rattle.clap.specs.declared.builder.command.Command.{Command}
 use Rattle.clap.specs.declared.builder.command.Command.TheViews.{out-Command}
 
--- the letters of the short options, `r` and `s`
+-- the letter of `--root`
 abbrev pub letter_r : ℕ
 letter_r = 114
 
+-- the letter of `--strict`
 abbrev pub letter_s : ℕ
 letter_s = 115
 

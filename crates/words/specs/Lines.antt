@@ -18,6 +18,7 @@ name_of Update = codes "update"
 name_of Query = codes "query"
 name_of Verify = codes "verify"
 
+-- a name is that of a subcommand
 abbrev pub IsVerbName : Text → Type 0
 IsVerbName name = (v : Verb) × (name_of v ≡ name)
 

@@ -1,5 +1,5 @@
 //! What is found of the lines of a file, as messages.
-ghost use Rattle.std.specs.Prelude.{◌≡◌, ◌∷◌, ◌++◌, [], if◌then◌else◌, IfOk, OnOk, map, take};
+ghost use Rattle.std.specs.Prelude.{◌≡◌, ◌∷◌, ◌++◌, [], if◌then◌else◌, OnOk, map};
 ghost use Rattle.files_core.specs.declared.message.MessageKind.TheVariants.{OpenAtEnd};
 ghost use Rattle.rule_parts.specs.Parts.{finding};
 ghost use Rattle.rule_core.specs.Rules.{message_at, name_in, open_messages};
@@ -8,9 +8,6 @@ use bytes_core::Bytes;
 use files_core::{Message, MessageKind};
 use rule_parts::Finding;
 use std::alloc::{AllocError, Global};
-
-/// How many bytes of a word a message keeps.
-const MAX_WORD: usize = 32;
 
 /// A line of a file.
 #[derive(Clone, Copy, Debug)]
@@ -68,7 +65,7 @@ pub fn tell_if(
     ensures { OnOk result (messages.new.items ≡ messages.old.items ++ map (message_at place.entry.file.now place.entry.line) (if wrong then finding kind (name_in name.now) ∷ [] else [])) }
 {
     if wrong {
-        tell(alloc, messages, place, finding(alloc, kind, text_of(name))?)?;
+        tell(alloc, messages, place, Finding::about(alloc, kind, text_of(name))?)?;
     }
     Ok(())
 }
@@ -86,27 +83,10 @@ pub fn tell_open(
     match open_at {
         None => Ok(()),
         Some(line) => {
-            let found = finding(alloc, MessageKind::OpenAtEnd, &[])?;
+            let found = Finding::about(alloc, MessageKind::OpenAtEnd, &[])?;
             tell(alloc, messages, Place { file, line }, found)
         }
     }
-}
-
-/// What is wrong, with the first bytes of a word.
-fn finding(alloc: Global, kind: MessageKind, word: &[u8]) -> Result<Finding, AllocError>
-    ensures { IfOk result (λ found. found ≡ finding kind word.now) }
-{
-    Ok(Finding {
-        kind,
-        word: Bytes::copy_of(alloc, front(word, MAX_WORD))?,
-    })
-}
-
-/// The first bytes of a text, at most so many.
-fn front(text: &[u8], len: usize) -> &[u8]
-    ensures { result.now ≡ take len text.now }
-{
-    &text[..len.min(text.len())]
 }
 
 /// A name, which is empty where there is none.

@@ -9,7 +9,6 @@ use crate::names::Names;
 use crate::places::behind;
 use crate::sorting::Sorted;
 use crate::style::add_style;
-use crate::telling::finding;
 use files_core::MessageKind;
 use rule_parts::{Finding, Part, PartFault, read_part};
 use rule_tokens::{TokenFaultKind, Tokens, letters_before_quote};
@@ -26,7 +25,7 @@ pub fn read_draft(alloc: Global, line: &[u8]) -> Result<Draft, PartFault>
     ensures { MatchResult result (λ d. draft_of line.now ≡ Ok d) (λ f. FaultOf f (draft_of line.now)) }
 {
     if line.len() > MOST_BYTES {
-        let found = finding(alloc, MessageKind::LineTooLong, &[])?;
+        let found = Finding::about(alloc, MessageKind::LineTooLong, &[])?;
         return Err(PartFault::Wrong(found));
     }
     let parts = read_parts(alloc, line)?;
@@ -55,8 +54,8 @@ fn token_finding(alloc: Global, kind: TokenFaultKind, text: &[u8]) -> Result<Fin
     ensures { IfOk result (λ found. found ≡ token_finding kind text.now) }
 {
     match kind {
-        TokenFaultKind::Syntax => finding(alloc, MessageKind::BadSyntax, text),
-        TokenFaultKind::Prefix => finding(
+        TokenFaultKind::Syntax => Finding::about(alloc, MessageKind::BadSyntax, text),
+        TokenFaultKind::Prefix => Finding::about(
             alloc,
             MessageKind::BadPrefix,
             letters_before_quote(text),

@@ -1,5 +1,6 @@
 //! What is wrong with a part of a rule.
-ghost use Rattle.std.specs.Prelude.{◌≡◌, take};
+ghost use Rattle.std.specs.Prelude.{◌≡◌, IfOk, take};
+ghost use Rattle.rule_parts.specs.Parts.{finding};
 ghost use Rattle.rule_parts.specs.Faults.{Tells};
 
 use bytes_core::Bytes;
@@ -56,12 +57,25 @@ fn front(text: &[u8], length: usize) -> &[u8]
     &text[..length.min(text.len())]
 }
 
+impl Finding {
+    /// What is wrong, told with the first 32 bytes of the text that it is about. The error comes
+    /// where memory is refused.
+    pub fn about(alloc: Global, kind: MessageKind, text: &[u8]) -> Result<Finding, AllocError>
+        ensures { IfOk result (λ found. found ≡ finding kind text.now) }
+    {
+        Ok(Finding {
+            kind,
+            word: Bytes::copy_of(alloc, front(text, WORD_LENGTH))?,
+        })
+    }
+}
+
 /// What is wrong with a part of a rule, told of a text.
-pub(crate) fn wrong(alloc: Global, kind: MessageKind, word: &[u8]) -> PartFault
-    ensures { Tells kind word.now result }
+pub(crate) fn wrong(alloc: Global, kind: MessageKind, text: &[u8]) -> PartFault
+    ensures { Tells kind text.now result }
 {
-    match Bytes::copy_of(alloc, front(word, WORD_LENGTH)) {
-        Ok(word) => PartFault::Wrong(Finding { kind, word }),
+    match Finding::about(alloc, kind, text) {
+        Ok(found) => PartFault::Wrong(found),
         Err(_) => PartFault::Memory,
     }
 }

@@ -64,7 +64,7 @@ fn read_file(
     let readings = read_lines(alloc, joined.lines())?;
     let landings = landings_of(alloc, &readings)?;
     add_lines(alloc, rules, messages, name, readings, landings)?;
-    tell_open(alloc, messages, name, joined.open())?;
+    tell_open(alloc, messages, name, joined.open_at())?;
     Ok(())
 }
 

@@ -51,7 +51,7 @@ impl<'a> JoinedLine<'a> {
 #[derive(Debug, Drop)]
 pub struct JoinedLines<'a> {
     lines: Vec<JoinedLine<'a>>,
-    open: Option<u32>,
+    open_at: Option<u32>,
 }
 
 impl<'a> Model for JoinedLines<'a> {
@@ -59,7 +59,7 @@ impl<'a> Model for JoinedLines<'a> {
 
     ghost Value = { Joined };
 
-    ghost view = { λ j. record { lines = j.lines.items; open_at = j.open } };
+    ghost view = { λ j. record { lines = j.lines.items; open_at = j.open_at } };
 }
 
 impl<'a> JoinedLines<'a> {
@@ -67,10 +67,7 @@ impl<'a> JoinedLines<'a> {
     pub(crate) fn new(lines: Vec<JoinedLine<'a>>, open_at: Option<u32>) -> JoinedLines<'a>
         ensures { result ≡ joined_as lines.entry.items open_at }
     {
-        JoinedLines {
-            lines,
-            open: open_at,
-        }
+        JoinedLines { lines, open_at }
     }
 
     /// The joined lines that are not empty, in the order of the file.
@@ -83,10 +80,10 @@ impl<'a> JoinedLines<'a> {
     /// The number of the first line of a joined line that is still open where the file ends: the
     /// last line that is kept ends in a backslash. Such a line is no rule. It is given also where
     /// nothing but backslashes is in it.
-    pub fn open(&self) -> Option<u32>
+    pub fn open_at(&self) -> Option<u32>
         ensures { result ≡ self.now.open_at }
     {
-        self.open
+        self.open_at
     }
 }
 

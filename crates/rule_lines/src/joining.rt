@@ -30,7 +30,7 @@ impl<'a> Model for OpenLine<'a> {
 #[derive(Debug, Drop)]
 struct Joining<'a> {
     lines: Vec<JoinedLine<'a>>,
-    open: Option<OpenLine<'a>>,
+    pending: Option<OpenLine<'a>>,
 }
 
 impl<'a> Model for Joining<'a> {
@@ -38,7 +38,7 @@ impl<'a> Model for Joining<'a> {
 
     ghost Value = { SoFar };
 
-    ghost view = { λ j. record { lines = j.lines.items; pending = j.open } };
+    ghost view = { λ j. record { lines = j.lines.items; pending = j.pending } };
 }
 
 impl<'a> Joining<'a> {
@@ -48,7 +48,7 @@ impl<'a> Joining<'a> {
     {
         Joining {
             lines: Vec::new(alloc),
-            open: None,
+            pending: None,
         }
     }
 
@@ -56,12 +56,12 @@ impl<'a> Joining<'a> {
     fn take(&mut self, alloc: Global, piece: &Piece<'a>) -> Result<(), AllocError>
         ensures { OnOk result (self.new ≡ after self.old piece.now) }
     {
-        let (number, text) = match self.open.take() {
+        let (number, text) = match self.pending.take() {
             None => (piece.number, Text::whole(piece.text)),
-            Some(open) => (open.number, open.text.continued(alloc, piece.text)?),
+            Some(begun) => (begun.number, begun.text.continued(alloc, piece.text)?),
         };
         if piece.continues {
-            self.open = Some(OpenLine { number, text });
+            self.pending = Some(OpenLine { number, text });
         } else if !text.as_slice().is_empty() {
             self.lines.push(JoinedLine::new(number, text))?;
         }
@@ -72,11 +72,11 @@ impl<'a> Joining<'a> {
     fn ended(self) -> JoinedLines<'a>
         ensures { result ≡ ended self.entry }
     {
-        let open = match &self.open {
+        let open_at = match &self.pending {
             None => None,
-            Some(open) => Some(capped(open.number)),
+            Some(begun) => Some(capped(begun.number)),
         };
-        JoinedLines::new(self.lines, open)
+        JoinedLines::new(self.lines, open_at)
     }
 }
 

@@ -15,7 +15,7 @@ fn two_lines_are_one(rt: HostRuntime) -> Result<(), Fail> {
     let joined = joined_lines(rt.alloc(), b"KERNEL==\"a\", \\\nENV{B}=\"1\",")?;
     assert_eq!(rt; joined.lines().len(), 1);
     assert!(rt; has(&joined, 0, 1, b"KERNEL==\"a\", ENV{B}=\"1\","));
-    assert!(rt; joined.open().is_none());
+    assert!(rt; joined.open_at().is_none());
     Ok(())
 }
 
@@ -23,10 +23,10 @@ fn two_lines_are_one(rt: HostRuntime) -> Result<(), Fail> {
 fn open_at_the_end(rt: HostRuntime) -> Result<(), Fail> {
     let joined = joined_lines(rt.alloc(), b"KERNEL==\"a\" \\")?;
     assert_eq!(rt; joined.lines().len(), 0);
-    assert!(rt; joined.open() == Some(1));
+    assert!(rt; joined.open_at() == Some(1));
     let joined = joined_lines(rt.alloc(), b"A\n\\\n# c")?;
     assert_eq!(rt; joined.lines().len(), 1);
-    assert!(rt; joined.open() == Some(2));
+    assert!(rt; joined.open_at() == Some(2));
     Ok(())
 }
 
@@ -37,7 +37,7 @@ fn comments_are_skipped_inside(rt: HostRuntime) -> Result<(), Fail> {
     assert_eq!(rt; joined.lines().len(), 2);
     assert!(rt; has(&joined, 0, 2, b"A, B"));
     assert!(rt; has(&joined, 1, 7, b"C"));
-    assert!(rt; joined.open().is_none());
+    assert!(rt; joined.open_at().is_none());
     Ok(())
 }
 
@@ -45,9 +45,9 @@ fn comments_are_skipped_inside(rt: HostRuntime) -> Result<(), Fail> {
 fn a_file_of_no_line(rt: HostRuntime) -> Result<(), Fail> {
     let joined = joined_lines(rt.alloc(), b"")?;
     assert_eq!(rt; joined.lines().len(), 0);
-    assert!(rt; joined.open().is_none());
+    assert!(rt; joined.open_at().is_none());
     let joined = joined_lines(rt.alloc(), b"\\\n\n \n")?;
     assert_eq!(rt; joined.lines().len(), 0);
-    assert!(rt; joined.open().is_none());
+    assert!(rt; joined.open_at().is_none());
     Ok(())
 }

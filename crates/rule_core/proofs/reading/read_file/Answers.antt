@@ -8,9 +8,9 @@ use Rattle.rule_core.proofs.reading.read_file.Goals as goal
 pub returns-clause-messages : goal.returns-clause-messages
 returns-clause-messages c =
     let joined = c.in_ok-joined.ensures ∙ ap joined_lines c.as_slice.ensures in
-    file_told c.args.file.now c.as_slice-name.result.now c.in_ok-readings.readings.items c.in_ok-landings.landings.items c.open.result c.args.messages.now.items c.add_lines.new.messages.items c.tell_open.new.messages.items
+    file_told c.args.file.now c.as_slice-name.result.now c.in_ok-readings.readings.items c.in_ok-landings.landings.items c.open_at.result c.args.messages.now.items c.add_lines.new.messages.items c.tell_open.new.messages.items
     c.as_slice-name.ensures
     (c.in_ok-readings.ensures ∙ ap (map reading_of) (c.lines.ensures ∙ ap (λ (j : Joined). j.lines) joined))
     (c.in_ok-landings.ensures ∙ ap (λ (rs : List Reading). landings (map (λ r. names_of r.read) rs)) c.deref.ensures.value)
-    (c.open.ensures ∙ ap (λ (j : Joined). j.open_at) joined)
+    (c.open_at.ensures ∙ ap (λ (j : Joined). j.open_at) joined)
     c.in_ok-add_lines.ensures.messages c.in_ok-tell_open.ensures

@@ -1,15 +1,15 @@
 -- The one-pass reader answers what the definition of a block says.
 use Rattle.std.proofs.Common.{◌≡◌, ℕ, ◌+◌, Bool, true, false, not, ◌&&◌, ◌||◌, List, [], ◌∷◌, ◌++◌, length, Option, Some, None, is_some, is_none, Result, Ok, Err, unwrap_or, nat_le, nat_eq, refl, ap, sym, ◌∙◌, subst, if◌then◌else◌, arith}
 use Rattle.std.proofs.lemmas.List.{append-nil, length-append}
-use Rattle.std.specs.Option.{option_and_then, option_to_list}
+use Rattle.std.specs.Option.{option_to_list}
 use Rattle.std.specs.List.{zip}
-use Rattle.device_core.specs.Pairs.{Text, Pair as NameAndValue, named, is_among, same_text}
+use Rattle.device_core.specs.Pairs.{Text, Pair as NameAndValue, named, is_among}
 use Rattle.device_core.specs.Answers.{AnswerValue}
 use Rattle.device_core.specs.Lines.{Row, row_of, kind_of, begins_answer}
 use Rattle.device_core.specs.Parts.{is_empty, pair_of, number_of, answer_of, is_device_path, is_parent_path}
 use Rattle.device_core.specs.Values.{DeviceValue}
 use Rattle.device_core.specs.Blocks.{is_kind, texts, pairs, answers, first, programs, groups, devices, event}
-use Rattle.device_core.specs.Faults.{last, device_above, is_command, follows_command, is_wrong_number, is_half_field, has_field, has_name, first_of, row_fault, has_nul, line_fault, fault_unless, unless_faulty, given_below, given_by}
+use Rattle.device_core.specs.Faults.{device_above, follows_command, is_wrong_number, is_half_field, has_field, has_name, first_of, row_fault, has_nul, line_fault, fault_unless, unless_faulty, given_below, given_by}
 use Rattle.device_core.specs.Steps.{if_ok, once_step, number_step, number_once, pair_step, with_pair, member_step, field_step, Sofar, bare_device, begun, unasked, path_step, device_step, above_step, command_step, answer_step, with_answer, row_step, plain_row, known_row, line_step, then_row, first_step, action_in, action_by, start, then_steps, steps, finished, with_last, then_finished, behind_first, read_lines}
 use Rattle.device_core.specs.declared.lines.DeviceField.{DeviceField}
 use Rattle.device_core.specs.declared.lines.DeviceField.TheVariants.{Subsystem, Driver, Node, Devnum, Attribute, Property, Tag, Link}
@@ -17,161 +17,8 @@ use Rattle.device_core.specs.declared.lines.LineKind.{LineKind}
 use Rattle.device_core.specs.declared.lines.LineKind.TheVariants.{Action, Device, Field, Constant, Command, Answer}
 use Rattle.device_core.specs.declared.faults.BlockFaultKind.{BlockFaultKind}
 use Rattle.device_core.specs.declared.faults.BlockFaultKind.TheVariants.{NoAction, NoDevice, Twice, Path, Number, Pair, Nul, TooDeep}
-use Rattle.device_core.proofs.Rows.{added, kept, texts_more, pairs_more, answers_more, none_in, with_row, change_last, devices_more, devices_begins, change_end, last_end, some_more}
-
--- a command that waits has no answer yet
-abbrev pub IsFresh : Option Text → List (Text × AnswerValue) → Type 0
-IsFresh None known = Unit {0}
-IsFresh (Some command) known = named known command ≡ false
-
--- a command that waits is followed by its answer
-abbrev pub IsNext : Option Text → List Text → Type 0
-IsNext None below = Unit {0}
-IsNext (Some command) below = begins_answer below ≡ true
-
--- the lines above say what the reader holds
-pub record Holds (above : List Row) (action : Text) (s : Sofar) : Type 0 where
-  pub begun_are : is_empty above ≡ false
-  pub acted : first (texts Action above) ≡ Some action
-  pub devices_are : devices above ≡ s.closed ++ option_to_list s.last
-  pub alone : s.last ≡ None → s.closed ≡ []
-  pub constants_are : pairs Constant above ≡ s.constants
-  pub answered : List Text
-  pub asked_are : texts Command above ≡ answered ++ option_to_list s.asked
-  pub as_many : length answered ≡ length (answers above)
-  pub programs_are : zip answered (answers above) ≡ s.programs
-  pub follows : follows_command above ≡ is_some s.asked
-  pub fresh : IsFresh s.asked s.programs
-
--- what the reader does with a line is what the definition says of it
-abbrev pub Agrees : List Row → Text → List Text → Option BlockFaultKind → Result Sofar BlockFaultKind → Type 0
-Agrees above action below fault (Err kind) = fault ≡ Some kind
-Agrees above action below fault (Ok t) = (fault ≡ None) × Holds above action t × IsNext t.asked below
-
--- a line that says nothing of the event as a whole
-pub record IsQuiet (row : Row) : Type 0 where
-  pub no_action : is_kind Action row ≡ false
-  pub no_constant : is_kind Constant row ≡ false
-  pub no_command : is_kind Command row ≡ false
-  pub no_answer : is_kind Answer row ≡ false
-
-change_same : {X : Type 0} (f : X → X) → ((x : X) → f x ≡ x) → (xs : List X) → change_last f xs ≡ xs
-change_same f same [] = refl
-change_same f same (x ∷ []) = ap (λ y. y ∷ []) (same x)
-change_same f same (x ∷ y ∷ ys) = ap (λ zs. x ∷ zs) (change_same f same (y ∷ ys))
-
-as_many_on : {X Y : Type 0} (xs : List X) (ys : List Y) (x : X) (y : Y) → length xs ≡ length ys → length (xs ++ x ∷ []) ≡ length (ys ++ y ∷ [])
-as_many_on xs ys x y h = length-append xs (x ∷ []) ∙ ap (λ n. n + 1) h ∙ sym (length-append ys (y ∷ []))
-
-zip_on : {X Y : Type 0} (xs : List X) (ys : List Y) (x : X) (y : Y) → length xs ≡ length ys → zip (xs ++ x ∷ []) (ys ++ y ∷ []) ≡ zip xs ys ++ (x, y) ∷ []
-zip_on [] [] x y h = refl
-zip_on [] (b ∷ ys) x y h = absurd (omega (arith, h))
-zip_on (a ∷ xs) [] x y h = absurd (omega (arith, h))
-zip_on (a ∷ xs) (b ∷ ys) x y h = let same : length xs ≡ length ys = omega (arith, h) in ap (λ ps. (a, b) ∷ ps) (zip_on xs ys x y same)
-
--- the commands that have answers are the names of the answers
-named_zip : (xs : List Text) (ys : List AnswerValue) (name : Text) → length xs ≡ length ys → named (zip xs ys) name ≡ is_among xs name
-named_zip [] [] name h = refl
-named_zip [] (b ∷ ys) name h = absurd (omega (arith, h))
-named_zip (a ∷ xs) [] name h = absurd (omega (arith, h))
-named_zip (a ∷ xs) (b ∷ ys) name h = let same : length xs ≡ length ys = omega (arith, h) in ap (λ t. same_text name a || t) (named_zip xs ys name same)
-
-module _ (above : List Row) (action : Text) (s : Sofar) (h : Holds above action s) where
-  -- the parts that a row of another kind leaves
-  acted_on : (row : Row) → is_kind Action row ≡ false → first (texts Action (above ++ row ∷ [])) ≡ Some action
-  acted_on row e = ap first (texts_more above row Action ∙ ap (added (texts Action above)) (none_in Action row e)) ∙ h.acted
-
-  constants_on : (row : Row) → is_kind Constant row ≡ false → pairs Constant (above ++ row ∷ []) ≡ s.constants
-  constants_on row e = pairs_more above row Constant ∙ ap (λ o. added (pairs Constant above) (option_and_then pair_of o)) (none_in Constant row e) ∙ h.constants_are
-
-  commands_on : (row : Row) → is_kind Command row ≡ false → texts Command (above ++ row ∷ []) ≡ h.answered ++ option_to_list s.asked
-  commands_on row e = texts_more above row Command ∙ ap (added (texts Command above)) (none_in Command row e) ∙ h.asked_are
-
-  answers_on : (row : Row) → is_kind Answer row ≡ false → answers (above ++ row ∷ []) ≡ answers above
-  answers_on row e = answers_more above row ∙ ap (λ o. added (answers above) (option_and_then answer_of o)) (none_in Answer row e)
-
-  follows_on : (row : Row) → follows_command (above ++ row ∷ []) ≡ is_kind Command row
-  unfolding follows_command
-  follows_on row = ap is_command (last_end above row)
-
-  above_by : (o : Option DeviceValue) → (o ≡ None → s.closed ≡ []) → last (s.closed ++ option_to_list o) ≡ o
-  above_by None alone = ap (λ ds. last (ds ++ [])) (alone refl)
-  above_by (Some d) alone = last_end s.closed d
-
-  -- the device above is the last of the reader's
-  pub above_is : device_above above ≡ s.last
-  unfolding device_above
-  above_is = ap last h.devices_are ∙ above_by s.last h.alone
-
-  -- a line about a device, or one that begins a device
-  still : (row : Row) → IsQuiet row → s.asked ≡ None → (ds : List DeviceValue) (d : DeviceValue) → devices (above ++ row ∷ []) ≡ ds ++ d ∷ [] → Holds (above ++ row ∷ []) action (record s { closed = ds; last = Some d; asked = None })
-  still row q idle ds d are = record {
-    begun_are = some_more above row;
-    acted = acted_on row q.no_action;
-    devices_are = are;
-    alone = λ e. cc;
-    constants_are = constants_on row q.no_constant;
-    answered = h.answered;
-    asked_are = commands_on row q.no_command ∙ ap (λ o. h.answered ++ option_to_list o) idle;
-    as_many = h.as_many ∙ sym (ap length (answers_on row q.no_answer));
-    programs_are = ap (zip h.answered) (answers_on row q.no_answer) ∙ h.programs_are;
-    follows = follows_on row ∙ q.no_command;
-    fresh = tt;
-  }
-
-  -- a line that says nothing of a device
-  devices_on : (row : Row) → is_kind Device row ≡ false → ((d : DeviceValue) → with_row d row ≡ d) → devices (above ++ row ∷ []) ≡ s.closed ++ option_to_list s.last
-  devices_on row e same = devices_more above row e ∙ change_same (λ d. with_row d row) same (devices above) ∙ h.devices_are
-
-  -- a constant
-  constant_on : (rest : Text) (pair : NameAndValue) → pair_of rest ≡ Some pair → s.asked ≡ None → Holds (above ++ (Constant, rest) ∷ []) action (record s { constants = s.constants ++ pair ∷ []; asked = None })
-  constant_on rest pair e idle = record {
-    begun_are = some_more above (Constant, rest);
-    acted = acted_on (Constant, rest) refl;
-    devices_are = devices_on (Constant, rest) refl (λ d. refl);
-    alone = h.alone;
-    constants_are = pairs_more above (Constant, rest) Constant ∙ ap (added (pairs Constant above)) e ∙ ap (λ ps. ps ++ pair ∷ []) h.constants_are;
-    answered = h.answered;
-    asked_are = commands_on (Constant, rest) refl ∙ ap (λ o. h.answered ++ option_to_list o) idle;
-    as_many = h.as_many ∙ sym (ap length (answers_on (Constant, rest) refl));
-    programs_are = ap (zip h.answered) (answers_on (Constant, rest) refl) ∙ h.programs_are;
-    follows = follows_on (Constant, rest);
-    fresh = tt;
-  }
-
-  -- a command
-  command_on : (rest : Text) → named s.programs rest ≡ false → s.asked ≡ None → Holds (above ++ (Command, rest) ∷ []) action (record s { asked = Some rest })
-  command_on rest new idle = record {
-    begun_are = some_more above (Command, rest);
-    acted = acted_on (Command, rest) refl;
-    devices_are = devices_on (Command, rest) refl (λ d. refl);
-    alone = h.alone;
-    constants_are = constants_on (Command, rest) refl;
-    answered = h.answered;
-    asked_are = texts_more above (Command, rest) Command ∙ ap (λ ts. ts ++ rest ∷ []) (h.asked_are ∙ ap (λ o. h.answered ++ option_to_list o) idle ∙ append-nil h.answered);
-    as_many = h.as_many ∙ sym (ap length (answers_on (Command, rest) refl));
-    programs_are = ap (zip h.answered) (answers_on (Command, rest) refl) ∙ h.programs_are;
-    follows = follows_on (Command, rest);
-    fresh = new;
-  }
-
-  -- the answer to the command that waits
-  answer_on : (rest command : Text) (answer : AnswerValue) → answer_of rest ≡ Some answer → s.asked ≡ Some command → Holds (above ++ (Answer, rest) ∷ []) action (record s { programs = s.programs ++ (command, answer) ∷ []; asked = None })
-  answer_on rest command answer e waits =
-      let more : answers (above ++ (Answer, rest) ∷ []) ≡ answers above ++ answer ∷ [] = answers_more above (Answer, rest) ∙ ap (added (answers above)) e in
-      record {
-        begun_are = some_more above (Answer, rest);
-        acted = acted_on (Answer, rest) refl;
-        devices_are = devices_on (Answer, rest) refl (λ d. refl);
-        alone = h.alone;
-        constants_are = constants_on (Answer, rest) refl;
-        answered = h.answered ++ command ∷ [];
-        asked_are = commands_on (Answer, rest) refl ∙ ap (λ o. h.answered ++ option_to_list o) waits ∙ sym (append-nil (h.answered ++ command ∷ []));
-        as_many = as_many_on h.answered (answers above) command answer h.as_many ∙ sym (ap length more);
-        programs_are = ap (zip (h.answered ++ command ∷ [])) more ∙ zip_on h.answered (answers above) command answer h.as_many ∙ ap (λ ps. ps ++ (command, answer) ∷ []) h.programs_are;
-        follows = follows_on (Answer, rest);
-        fresh = tt;
-      }
+use Rattle.device_core.proofs.Rows.{added, kept, with_row, change_last, devices_more, devices_begins, change_end, some_more}
+use Rattle.device_core.proofs.Holding.{above_is, IsFresh, IsNext, Holds, Agrees, IsQuiet, named_zip, still, constant_on, command_on, answer_on}
 
 -- ---- a line about the device above
 

@@ -3,5 +3,6 @@ pub mod Paths
 pub mod Numbers
 pub mod LineLemmas
 pub mod Rows
+pub mod Holding
 pub mod Judged
 pub mod Reading

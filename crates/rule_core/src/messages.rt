@@ -65,7 +65,12 @@ pub fn tell_if(
     ensures { OnOk result (messages.new.items ≡ messages.old.items ++ map (message_at place.entry.file.now place.entry.line) (if wrong then finding kind (name_in name.now) ∷ [] else [])) }
 {
     if wrong {
-        tell(alloc, messages, place, Finding::about(alloc, kind, text_of(name))?)?;
+        tell(
+            alloc,
+            messages,
+            place,
+            Finding::about(alloc, kind, text_of(name))?,
+        )?;
     }
     Ok(())
 }

@@ -1,9 +1,9 @@
 //! `verify` over rules files.
 use crate::running::{Outcome, file_of, line, run};
 use engine_core::Verb;
-use files_core::FileKind;
 use std::alloc::Global;
 use std::test::Fail;
+use text_files::FileKind;
 
 /// Runs `verify` over one file of a folder.
 fn verify(

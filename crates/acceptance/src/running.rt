@@ -1,9 +1,9 @@
 //! Runs over devices in memory.
-use bytes_core::Bytes;
 use engine_core::{Line, MemorySink, MemorySource, Verb, serve};
-use files_core::{FileKind, SourceFile};
 use std::alloc::Global;
 use std::test::Fail;
+use text_bytes::Bytes;
+use text_files::{FileKind, SourceFile};
 
 /// What a run wrote and answered.
 #[derive(Drop)]

@@ -4,14 +4,14 @@
 //! What is decided here is the way from one to the next, and the status of what fails between them.
 #![tactic(auto)]
 
+use devdry_files::{ReadFault, read_all, wanted};
+use devdry_words::parse_line;
 use engine_core::{Line, LineFault, Sink, SinkOver, Source, SourceOver, serve, write_all};
-use files::{ReadFault, read_all, wanted};
-use files_core::SourceFile;
 use std::alloc::Global;
 use std::process::ExitCode;
 use std::rt::{Env, Files};
 use std::{env, io};
-use words::parse_line;
+use text_files::SourceFile;
 
 /// Help was given; `serve` gives the other statuses of a run that goes well.
 const WELL: u8 = 0;

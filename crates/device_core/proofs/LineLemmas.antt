@@ -5,7 +5,7 @@ use Rattle.std.specs.Cmp.Lexicographic.{pointwise}
 use Rattle.std.proofs.lemmas.List.{drop_all, length-drop}
 use Rattle.std.proofs.lemmas.List.Quantifiers.{position-Some}
 use Rattle.std.proofs.lemmas.List.Sums.{fails_before_first}
-use Rattle.bytes_core.specs.Names.{newline, colon, space}
+use Rattle.text_bytes.specs.Names.{newline, colon, space}
 use Rattle.device_core.specs.Parts.{is_empty}
 use Rattle.device_core.specs.Lines.{lines_of, onto_first, begins_answer, letter_of}
 use Rattle.device_core.specs.declared.lines.LineKind.TheVariants.{Answer}

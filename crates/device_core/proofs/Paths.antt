@@ -1,7 +1,7 @@
 -- A parent's path with a slash behind it begins a path.
 use Rattle.std.proofs.Common.{◌≡◌, ℕ, Bool, true, false, ◌&&◌, List, [], ◌∷◌, ◌++◌, length, drop, refl, ap, sym, ◌∙◌, nat_eq, ◌==◌, arith}
 use Rattle.std.specs.List.{starts_with}
-use Rattle.bytes_core.specs.Names.{slash}
+use Rattle.text_bytes.specs.Names.{slash}
 use Rattle.device_core.specs.Parts.{is_parent_path, is_empty, begins_with_slash}
 
 same_both : (a b : ℕ) → nat_eq a b ≡ nat_eq b a

@@ -1,7 +1,7 @@
 -- What is wrong with a line, given the lines above it, and with a block.
 use Rattle.std.specs.Prelude.{ℕ, ◌+◌, Bool, false, not, ◌&&◌, ◌||◌, List, [], ◌∷◌, ◌++◌, take, length, count_by, position, ◌==◌, nat_le, nat_lt, Option, Some, None, Result, Ok, Err, if◌then◌else◌, is_some, is_none}
 use Rattle.std.specs.Option.{option_to_list}
-use Rattle.bytes_core.specs.Names.{nul, newline}
+use Rattle.text_bytes.specs.Names.{nul, newline}
 use Rattle.device_core.specs.Pairs.{Text, Pair as NameAndValue, named, is_among}
 use Rattle.device_core.specs.Lines.{Row, row_of, lines_of, begins_answer}
 use Rattle.device_core.specs.Parts.{is_empty, pair_of, number_of, answer_of, is_device_path, is_parent_path}

@@ -2,7 +2,7 @@
 use Rattle.std.specs.Prelude.{ℕ, Bool, false, ◌&&◌, List, [], ◌∷◌, ◌==◌, Option, Some, None, option_map, if◌then◌else◌, nat_eq}
 use Rattle.std.specs.Option.{option_and_then}
 use Rattle.std.specs.List.{find, starts_with}
-use Rattle.bytes_core.specs.Names.{newline, colon, space}
+use Rattle.text_bytes.specs.Names.{newline, colon, space}
 use Rattle.device_core.specs.Pairs.{Text}
 use Rattle.device_core.specs.declared.lines.DeviceField.{DeviceField}
 use Rattle.device_core.specs.declared.lines.DeviceField.TheVariants.{Subsystem, Driver, Node, Devnum, Attribute, Property, Tag, Link}

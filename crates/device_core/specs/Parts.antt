@@ -2,7 +2,7 @@
 use Rattle.std.specs.Prelude.{ℕ, ◌+◌, ◌*◌, ◌-◌, ◌^◌, Bool, true, false, not, ◌&&◌, List, [], ◌∷◌, ◌++◌, take, drop, length, position, ◌==◌, nat_le, nat_lt, Option, Some, None, option_map, if◌then◌else◌, nat_eq, is_some}
 use Rattle.std.specs.Option.{option_and_then}
 use Rattle.std.specs.List.{list_all, starts_with}
-use Rattle.bytes_core.specs.Names.{slash, colon, equals, space}
+use Rattle.text_bytes.specs.Names.{slash, colon, equals, space}
 use Rattle.device_core.specs.Pairs.{Text, Pair}
 use Rattle.device_core.specs.Answers.{AnswerValue}
 

@@ -3,7 +3,7 @@
 //! A block is text, a line for each fact; `read_block` turns it into an `Event` that borrows the
 //! block, or says which line is the first that is faulty. Names and their values stand in small
 //! types over `IndexMap` and `IndexSet`, so that a contract sees lists in the order of the lines
-//! and no look-up goes through the list. What cuts the input into blocks, `block_runs`, comes with
+//! and no look-up goes through the list. What cuts the input into blocks, `device_runs`, comes with
 //! this crate.
 #![tactic(auto)]
 
@@ -19,7 +19,7 @@ mod read;
 mod tests;
 mod texts;
 
-pub use block_runs::{SplitFault, Splitter, Taken};
+pub use device_runs::{SplitFault, Splitter, Taken};
 pub use events::{Device, DeviceNumber, Event};
 pub use faults::{BlockFault, BlockFaultKind};
 pub use pairs::Pairs;

@@ -6,7 +6,7 @@ ghost use Rattle.device_core.specs.Faults.{has_nul};
 ghost use Rattle.device_core.specs.Steps.{Gives, plain_row};
 
 use crate::faults::BlockFaultKind;
-use bytes_core::find;
+use text_bytes::find;
 
 /// What a line about the device above says of it.
 #[derive(Clone, Copy)]

@@ -6,7 +6,7 @@ ghost use Rattle.device_core.specs.Parts.{cut, pair_of, number_of, answer_of, di
 
 use crate::events::DeviceNumber;
 use crate::programs::ProgramAnswer;
-use bytes_core::find;
+use text_bytes::find;
 
 /// What stands before the first such byte, and what behind it.
 #[tactic(auto, unfolding(crate::specs::Parts::cut))]

@@ -9,8 +9,8 @@ use crate::draft::{Draft, add_row, close_last, new_draft};
 use crate::events::Event;
 use crate::faults::{BlockFault, BlockFaultKind};
 use crate::lines::{LineKind, plain_row};
-use bytes_core::find;
 use std::alloc::Global;
+use text_bytes::find;
 
 /// The most bytes of a block.
 const MOST_BYTES: usize = 65536;

@@ -1,8 +1,8 @@
 -- The lines that answer a modalias.
 use Rattle.std.specs.Prelude.{ℕ, Bool, ◌==◌, if◌then◌else◌, List, [], ◌∷◌, ◌++◌, length, codes, flat_map}
-use Rattle.bytes_core.specs.Names.{equals, newline}
-use Rattle.lookup_core.specs.Query.{Origin, query, sourced}
-use Rattle.lookup_core.specs.declared.entry.Entry.{Entry}
+use Rattle.text_bytes.specs.Names.{equals, newline}
+use Rattle.hwdb_lookup.specs.Query.{Origin, query, sourced}
+use Rattle.hwdb_lookup.specs.declared.entry.Entry.{Entry}
 use Rattle.engine_core.specs.Messages.{place_of}
 
 -- a property's line, `KEY=VALUE`, both as they stand in the database

@@ -2,11 +2,11 @@
 use Rattle.std.specs.Prelude.{ℕ, ◌-◌, Bool, true, false, ◌==◌, not, nat_eq, if◌then◌else◌, List, [], ◌∷◌, ◌++◌, length, codes, decimal, filter}
 use Rattle.std.specs.List.{count_by, list_any}
 use Rattle.std.specs.Cmp.Lexicographic.{pointwise}
-use Rattle.bytes_core.specs.Names.{newline}
-use Rattle.files_core.specs.declared.source_file.SourceFile.{SourceFile}
-use Rattle.files_core.specs.declared.message.Message.{Message}
-use Rattle.files_core.specs.declared.message.MessageKind.{MessageKind}
-use Rattle.files_core.specs.declared.message.MessageKind.TheVariants.{PropertyWithoutMatch, MatchWithoutProperty, UnindentedLine, NoEquals, EmptyKey, PatternNotSupported, BadSyntax, UnknownKey, OperatorNotAllowed, WrongAttribute, BadValue, BadSubstitution, NoLaterLabel, GivenTwice, LineTooLong, BadPrefix, SetNotSupported, OpenAtEnd, CommaExpected, BlankExpected, ReadAsAssign, LabelUnused}
+use Rattle.text_bytes.specs.Names.{newline}
+use Rattle.text_files.specs.declared.source_file.SourceFile.{SourceFile}
+use Rattle.text_files.specs.declared.message.Message.{Message}
+use Rattle.text_files.specs.declared.message.MessageKind.{MessageKind}
+use Rattle.text_files.specs.declared.message.MessageKind.TheVariants.{PropertyWithoutMatch, MatchWithoutProperty, UnindentedLine, NoEquals, EmptyKey, PatternNotSupported, BadSyntax, UnknownKey, OperatorNotAllowed, WrongAttribute, BadValue, BadSubstitution, NoLaterLabel, GivenTwice, LineTooLong, BadPrefix, SetNotSupported, OpenAtEnd, CommaExpected, BlankExpected, ReadAsAssign, LabelUnused}
 use Rattle.engine_core.specs.Delivery.{Outcome}
 use Rattle.engine_core.specs.Messages.{message_lines}
 

@@ -1,7 +1,7 @@
 -- What two sinks hold after a run, by the status that it answers.
 use Rattle.std.specs.Prelude.{◌≡◌, ℕ, ◌<◌, ◌≤◌, ◌⊎◌, Option, List, codes}
-use Rattle.streams.specs.Told.{followed_by, IsFollowedByPart}
-use Rattle.streams.specs.Faults.{HasFailed}
+use Rattle.engine_streams.specs.Told.{followed_by, IsFollowedByPart}
+use Rattle.engine_streams.specs.Faults.{HasFailed}
 
 -- what a run writes to the output and to the error output, and the status that it answers, where nothing fails
 pub record Outcome : Type 0 where

@@ -1,12 +1,12 @@
 -- Which of the files handed in are read, and in which order.
 use Rattle.std.specs.Prelude.{ℕ, Bool, true, false, ◌==◌, if◌then◌else◌, List, codes, filter, vec_len}
-use Rattle.files_core.specs.FileOrder.{ordered}
-use Rattle.files_core.specs.declared.source_file.SourceFile.{SourceFile}
-use Rattle.files_core.specs.declared.source_file.FileKind.{FileKind}
-use Rattle.files_core.specs.declared.source_file.FileKind.TheVariants.{Hwdb, Rules}
-use Rattle.command_line.specs.declared.Line.{Line}
-use Rattle.command_line.specs.declared.Verb.{Verb}
-use Rattle.command_line.specs.declared.Verb.TheVariants.{Update, Query, Verify}
+use Rattle.text_files.specs.FileOrder.{ordered}
+use Rattle.text_files.specs.declared.source_file.SourceFile.{SourceFile}
+use Rattle.text_files.specs.declared.source_file.FileKind.{FileKind}
+use Rattle.text_files.specs.declared.source_file.FileKind.TheVariants.{Hwdb, Rules}
+use Rattle.engine_line.specs.declared.Line.{Line}
+use Rattle.engine_line.specs.declared.Verb.{Verb}
+use Rattle.engine_line.specs.declared.Verb.TheVariants.{Update, Query, Verify}
 
 -- the kind of the files that a command reads
 abbrev pub kind_read : Verb → FileKind

@@ -1,10 +1,10 @@
 -- The lines of messages: `FILE:LINE: CODE TEXT: WORD`.
 use Rattle.std.specs.Prelude.{ℕ, ◌==◌, if◌then◌else◌, List, [], ◌∷◌, ◌++◌, length, codes, decimal, flat_map}
-use Rattle.bytes_core.specs.Names.{colon, newline}
-use Rattle.files_core.specs.Escapes.{escape_text}
-use Rattle.files_core.specs.declared.message.Message.{Message}
-use Rattle.files_core.specs.declared.message.MessageKind.{MessageKind}
-use Rattle.files_core.specs.declared.message.MessageKind.TheVariants.{PropertyWithoutMatch, MatchWithoutProperty, UnindentedLine, NoEquals, EmptyKey, PatternNotSupported, BadSyntax, UnknownKey, OperatorNotAllowed, WrongAttribute, BadValue, BadSubstitution, NoLaterLabel, GivenTwice, LineTooLong, BadPrefix, SetNotSupported, OpenAtEnd, CommaExpected, BlankExpected, ReadAsAssign, LabelUnused}
+use Rattle.text_bytes.specs.Names.{colon, newline}
+use Rattle.text_files.specs.Escapes.{escape_text}
+use Rattle.text_files.specs.declared.message.Message.{Message}
+use Rattle.text_files.specs.declared.message.MessageKind.{MessageKind}
+use Rattle.text_files.specs.declared.message.MessageKind.TheVariants.{PropertyWithoutMatch, MatchWithoutProperty, UnindentedLine, NoEquals, EmptyKey, PatternNotSupported, BadSyntax, UnknownKey, OperatorNotAllowed, WrongAttribute, BadValue, BadSubstitution, NoLaterLabel, GivenTwice, LineTooLong, BadPrefix, SetNotSupported, OpenAtEnd, CommaExpected, BlankExpected, ReadAsAssign, LabelUnused}
 
 -- the code of a kind of message, and what it says
 abbrev pub heading_of : MessageKind → List ℕ

@@ -1,13 +1,13 @@
 -- What a run says: its outcome, as a function of the command line and of the files handed in.
 use Rattle.std.specs.Prelude.{ℕ, ◌-◌, ◌^◌, Bool, ◌==◌, ◌&&◌, nat_le, not, if◌then◌else◌, List, [], length, sum_by, codes}
-use Rattle.files_core.specs.declared.source_file.SourceFile.{SourceFile}
-use Rattle.files_core.specs.declared.message.Message.{Message}
-use Rattle.lookup_core.specs.declared.entry.Entry.{Entry}
+use Rattle.text_files.specs.declared.source_file.SourceFile.{SourceFile}
+use Rattle.text_files.specs.declared.message.Message.{Message}
+use Rattle.hwdb_lookup.specs.declared.entry.Entry.{Entry}
 use Rattle.hwdb_core.specs.Sources.{entries_of, match_bytes_of, messages_of, properties_of, text_len}
 use Rattle.rule_core.specs.Rules.{set_of, tokens_in}
-use Rattle.command_line.specs.declared.Line.{Line}
-use Rattle.command_line.specs.declared.Verb.{Verb}
-use Rattle.command_line.specs.declared.Verb.TheVariants.{Update, Query, Verify}
+use Rattle.engine_line.specs.declared.Line.{Line}
+use Rattle.engine_line.specs.declared.Verb.{Verb}
+use Rattle.engine_line.specs.declared.Verb.TheVariants.{Update, Query, Verify}
 use Rattle.engine_core.specs.Answers.{answer_lines}
 use Rattle.engine_core.specs.Checks.{said_of, told}
 use Rattle.engine_core.specs.Delivery.{Outcome}

@@ -1,10 +1,10 @@
 //! The answer to a modalias as lines.
 ghost use Rattle.std.specs.Prelude.{◌≡◌, ◌++◌, map, flat_map, IfOk, OnOk};
-ghost use Rattle.lookup_core.specs.Query.{shown, shown_origin};
+ghost use Rattle.hwdb_lookup.specs.Query.{shown, shown_origin};
 ghost use Rattle.engine_core.specs.Answers.{answer_lines, origin_line, origin_of, pair_line, property_line};
 
 use crate::messages::push_place;
-use lookup_core::{Lookup, Sourced};
+use hwdb_lookup::{Lookup, Sourced};
 use std::alloc::{AllocError, Global};
 
 /// The lines that answer a modalias, sorted by key: `KEY=VALUE`, and with `sources` the file and

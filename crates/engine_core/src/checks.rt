@@ -10,11 +10,11 @@ use crate::messages::message_lines;
 use crate::names::Names;
 use crate::refusal::Refusal;
 use crate::report::Report;
-use command_line::Line;
-use files_core::{Message, MessageKind, SourceFile};
+use engine_line::Line;
 use itoa::Buffer;
 use rule_core::{RuleSet, read_rules};
 use std::alloc::{AllocError, Global};
+use text_files::{Message, MessageKind, SourceFile};
 
 /// The messages about rules files, and how many of the files are bad.
 pub(crate) fn report_on_rules(

@@ -1,6 +1,6 @@
 //! What `query` and `update` say of the files of the database.
 ghost use Rattle.std.specs.Prelude.{◌≡◌, ◌<◌, length, IfOk, IfErr};
-ghost use Rattle.lookup_core.specs.Orders.{Rising};
+ghost use Rattle.hwdb_lookup.specs.Orders.{Rising};
 ghost use Rattle.engine_core.specs.Outcomes.{database_outcome, query_outcome, update_outcome, update_status};
 ghost use Rattle.engine_core.specs.Reports.{IsSaid, said};
 
@@ -8,11 +8,11 @@ use crate::answers::answer_lines;
 use crate::messages::message_lines;
 use crate::refusal::Refusal;
 use crate::report::Report;
-use command_line::Line;
-use files_core::{Message, SourceFile};
+use engine_line::Line;
 use hwdb_core::{Database, read_sources};
-use lookup_core::PlainDb;
+use hwdb_lookup::PlainDb;
 use std::alloc::{AllocError, Global};
+use text_files::{Message, SourceFile};
 
 /// What `query` says of the files of the database.
 pub(crate) fn report_on_query(

@@ -6,7 +6,7 @@
 ghost use Rattle.std.specs.Prelude.{◌≡◌, ◌<◌, ◌⊎◌, MatchResult};
 ghost use Rattle.engine_core.specs.Delivery.{Outcome, SinkState, HandsOn, BreaksOff, Delivers, out_of_memory};
 
-use streams::{DeviceFault, Sink, write_all};
+use engine_streams::{DeviceFault, Sink, write_all};
 
 const WRITE_FAILED: &[u8] = b"devdry: write failed\n";
 

@@ -2,9 +2,9 @@
 ghost use Rattle.std.specs.Prelude.{◌≡◌, IfOk};
 ghost use Rattle.engine_core.specs.FilesRead.{files_read, kind_read, of_kind, same_kind, suffix_of};
 
-use command_line::{Line, Verb};
-use files_core::{FileKind, SourceFile, order_files};
+use engine_line::{Line, Verb};
 use std::alloc::{AllocError, Global};
+use text_files::{FileKind, SourceFile, order_files};
 
 /// The files of the command's kind: those handed in where the line names files, and else those of
 /// the folders, by suffix, rank and name.

@@ -17,8 +17,8 @@ mod refusal;
 mod report;
 mod serving;
 
-pub use command_line::{Line, LineFault, Verb};
-pub use serving::serve;
-pub use streams::{
+pub use engine_line::{Line, LineFault, Verb};
+pub use engine_streams::{
     DeviceFault, MemorySink, MemorySource, Sink, SinkOver, Source, SourceOver, write_all,
 };
+pub use serving::serve;

@@ -5,9 +5,9 @@
 ghost use Rattle.std.specs.Prelude.{◌≡◌, ◌++◌, IfOk, OnOk};
 ghost use Rattle.engine_core.specs.Messages.{heading_of, message_line, message_lines, place_of, word_part};
 
-use files_core::{Message, MessageKind, escape};
 use itoa::Buffer;
 use std::alloc::{AllocError, Global};
+use text_files::{Message, MessageKind, escape};
 
 /// The lines of messages, in the order given.
 pub(crate) fn message_lines(alloc: Global, messages: &[Message]) -> Result<Vec<u8>, AllocError>

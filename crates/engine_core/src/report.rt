@@ -7,9 +7,9 @@ use crate::checks::report_on_rules;
 use crate::database::{report_on_query, report_on_update};
 use crate::files_read::files_read;
 use crate::refusal::Refusal;
-use command_line::{Line, Verb};
-use files_core::SourceFile;
+use engine_line::{Line, Verb};
 use std::alloc::Global;
+use text_files::SourceFile;
 
 /// What a run writes to its two outputs, and the status that it answers.
 #[derive(Debug, Drop)]

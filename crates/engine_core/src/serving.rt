@@ -6,10 +6,10 @@ ghost use Rattle.engine_core.specs.Outcomes.{outcome};
 use crate::delivery::{deliver, tell_out_of_memory};
 use crate::refusal::Refusal;
 use crate::report::{Report, report_on_files};
-use command_line::Line;
-use files_core::SourceFile;
+use engine_line::Line;
+use engine_streams::{Sink, Source};
 use std::alloc::Global;
-use streams::{Sink, Source};
+use text_files::SourceFile;
 
 /// The line on files that hold more than a database may.
 const TOO_MANY_ENTRIES: &[u8] = b"devdry: hwdb: too many\n";

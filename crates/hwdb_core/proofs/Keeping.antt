@@ -2,10 +2,10 @@
 use Rattle.std.proofs.Common.{◌≡◌, ℕ, ◌+◌, ◌-◌, ◌^◌, ◌<◌, ◌≤◌, List, ◌∷◌, [], ◌++◌, length, map, refl, sym, ◌∙◌, ap, subst, arith, append-nil, add-zero, length-append}
 use Rattle.std.specs.List.{sum_by}
 use Rattle.std.proofs.lemmas.List.Sums.{sum_by_push}
-use Rattle.files_core.specs.declared.Message.{Message}
-use Rattle.files_core.specs.declared.MessageKind.{MessageKind}
+use Rattle.text_files.specs.declared.Message.{Message}
+use Rattle.text_files.specs.declared.MessageKind.{MessageKind}
 use Rattle.text_core.specs.declared.item.Item.{Item}
-use Rattle.lookup_core.specs.declared.Entry.{Entry}
+use Rattle.hwdb_lookup.specs.declared.Entry.{Entry}
 use Rattle.hwdb_core.specs.Properties.{Property}
 use Rattle.hwdb_core.specs.Sources.{entries_from, entry_at, text_len}
 use Rattle.hwdb_core.specs.Found.{Found, IsKept, join, only_messages}

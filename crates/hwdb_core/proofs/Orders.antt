@@ -3,13 +3,13 @@ use Rattle.std.proofs.Common.{◌≡◌, ◌≢◌, ℕ, zero, suc, ◌+◌, ◌
 use Rattle.std.specs.List.{All, flat_map, position}
 use Rattle.std.proofs.lemmas.List.{length-take-le}
 use Rattle.std.proofs.lemmas.List.Elements.{All-append, All-cons, All-push}
-use Rattle.bytes_core.specs.Names.{equals}
-use Rattle.files_core.specs.declared.SourceFile.{SourceFile}
+use Rattle.text_bytes.specs.Names.{equals}
+use Rattle.text_files.specs.declared.SourceFile.{SourceFile}
 use Rattle.text_core.specs.Spell.{spell}
 use Rattle.text_core.specs.declared.glob_fault.GlobFault.{GlobFault}
 use Rattle.text_core.specs.declared.item.Item.{Item}
-use Rattle.lookup_core.specs.Orders.{Rising}
-use Rattle.lookup_core.specs.declared.Entry.{Entry}
+use Rattle.hwdb_lookup.specs.Orders.{Rising}
+use Rattle.hwdb_lookup.specs.declared.Entry.{Entry}
 use Rattle.hwdb_core.specs.Lines.{NumberedLine}
 use Rattle.hwdb_core.specs.Paragraphs.{Cut}
 use Rattle.hwdb_core.specs.Properties.{Property, cut_properties, from_line, from_pair, from_spelled, pair_at, property_text}

@@ -1,6 +1,6 @@
 -- What was found so far, and how a part adds to it.
 use Rattle.std.specs.Prelude.{◌≡◌, ℕ, ◌+◌, ◌-◌, ◌^◌, ◌≤◌, List, [], ◌∷◌, ◌++◌, length, sum_by, Result, Ok, Err}
-use Rattle.files_core.specs.declared.Message.{Message}
+use Rattle.text_files.specs.declared.Message.{Message}
 use Rattle.hwdb_core.specs.Properties.{Property}
 use Rattle.hwdb_core.specs.Sources.{text_len}
 use Rattle.hwdb_core.specs.declared.fault.HwdbFault.{HwdbFault}

@@ -1,7 +1,7 @@
 -- What was gathered, as what was found.
 use Rattle.std.specs.Prelude.{◌≡◌, ℕ, ◌-◌, ◌^◌, ◌≤◌, List, length, map, sum_by}
-use Rattle.files_core.specs.declared.Message.{Message}
-use Rattle.lookup_core.specs.declared.Entry.{Entry}
+use Rattle.text_files.specs.declared.Message.{Message}
+use Rattle.hwdb_lookup.specs.declared.Entry.{Entry}
 use Rattle.hwdb_core.specs.Properties.{Property}
 use Rattle.hwdb_core.specs.Sources.{entries_from, text_len}
 use Rattle.hwdb_core.specs.Found.{Found}

@@ -1,7 +1,7 @@
 -- The lines of a database file, and what is left of them once they are cleaned.
 use Rattle.std.specs.Prelude.{ℕ, ◌+◌, ◌-◌, Bool, false, not, ◌==◌, if◌then◌else◌, List, [], ◌∷◌, length, take, take_while, map, filter}
 use Rattle.std.specs.List.{onto_first, suffix_len}
-use Rattle.bytes_core.specs.Names.{newline, hash, is_whitespace}
+use Rattle.text_bytes.specs.Names.{newline, hash, is_whitespace}
 
 -- a line: its number in its file, and its bytes
 pub record NumberedLine : Type 0 where

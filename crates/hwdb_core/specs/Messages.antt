@@ -1,8 +1,8 @@
 -- The messages about a paragraph.
 use Rattle.std.specs.Prelude.{ℕ, ◌==◌, if◌then◌else◌, List, [], ◌∷◌, ◌++◌, length, take, map, flat_map, Result, Ok, Err}
-use Rattle.files_core.specs.declared.Message.{Message}
-use Rattle.files_core.specs.declared.MessageKind.{MessageKind}
-use Rattle.files_core.specs.declared.MessageKind.TheVariants.{PropertyWithoutMatch, MatchWithoutProperty, UnindentedLine, PatternNotSupported}
+use Rattle.text_files.specs.declared.Message.{Message}
+use Rattle.text_files.specs.declared.MessageKind.{MessageKind}
+use Rattle.text_files.specs.declared.MessageKind.TheVariants.{PropertyWithoutMatch, MatchWithoutProperty, UnindentedLine, PatternNotSupported}
 use Rattle.text_core.specs.Spell.{spell}
 use Rattle.text_core.specs.declared.item.Item.{Item}
 use Rattle.text_core.specs.declared.glob_fault.GlobFault.{GlobFault}

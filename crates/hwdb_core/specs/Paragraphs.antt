@@ -1,7 +1,7 @@
 -- The paragraphs of a file, and the four parts of each.
 use Rattle.std.specs.Prelude.{◌≡◌, ℕ, Bool, true, false, not, ◌==◌, List, [], ◌∷◌, ◌++◌, length, drop, take_while, filter, All}
 use Rattle.std.specs.List.{prefix_len, slice_split}
-use Rattle.bytes_core.specs.Names.{space}
+use Rattle.text_bytes.specs.Names.{space}
 use Rattle.hwdb_core.specs.Lines.{NumberedLine}
 
 -- whether nothing is left of a line

@@ -1,7 +1,7 @@
 -- What each part of a file adds to what is found.
 use Rattle.std.specs.Prelude.{ℕ, ◌&&◌, if◌then◌else◌, List, [], ◌∷◌, length, is_ok}
 use Rattle.std.specs.List.{list_any}
-use Rattle.files_core.specs.declared.SourceFile.{SourceFile}
+use Rattle.text_files.specs.declared.SourceFile.{SourceFile}
 use Rattle.text_core.specs.Spell.{spell}
 use Rattle.text_core.specs.declared.item.Item.{Item}
 use Rattle.hwdb_core.specs.Lines.{NumberedLine}

@@ -1,9 +1,9 @@
 -- The properties that a paragraph gives the devices that its matches fit.
 use Rattle.std.specs.Prelude.{ℕ, zero, suc, ◌+◌, ◌-◌, ◌^◌, ◌&&◌, ◌==◌, if◌then◌else◌, List, [], ◌∷◌, length, take, drop, position, flat_map, sum_by, Option, Some, None, Result, Ok, Err, is_ok, min}
 use Rattle.std.specs.List.{list_any}
-use Rattle.bytes_core.specs.Names.{equals, is_blank}
-use Rattle.files_core.specs.declared.MessageKind.{MessageKind}
-use Rattle.files_core.specs.declared.MessageKind.TheVariants.{NoEquals, EmptyKey}
+use Rattle.text_bytes.specs.Names.{equals, is_blank}
+use Rattle.text_files.specs.declared.MessageKind.{MessageKind}
+use Rattle.text_files.specs.declared.MessageKind.TheVariants.{NoEquals, EmptyKey}
 use Rattle.text_core.specs.Spell.{spell}
 use Rattle.text_core.specs.declared.item.Item.{Item}
 use Rattle.text_core.specs.declared.glob_fault.GlobFault.{GlobFault}

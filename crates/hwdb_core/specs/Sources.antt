@@ -1,8 +1,8 @@
 -- What database files say, taken together.
 use Rattle.std.specs.Prelude.{ℕ, ◌+◌, ◌-◌, ◌^◌, ◌≤◌, List, [], ◌∷◌, length, map, flat_map, sum_by}
-use Rattle.files_core.specs.declared.Message.{Message}
-use Rattle.files_core.specs.declared.SourceFile.{SourceFile}
-use Rattle.lookup_core.specs.declared.Entry.{Entry}
+use Rattle.text_files.specs.declared.Message.{Message}
+use Rattle.text_files.specs.declared.SourceFile.{SourceFile}
+use Rattle.hwdb_lookup.specs.declared.Entry.{Entry}
 use Rattle.hwdb_core.specs.Lines.{lines_of}
 use Rattle.hwdb_core.specs.Paragraphs.{Cut, cut, paragraphs}
 use Rattle.hwdb_core.specs.Properties.{Property, cut_properties, cut_match_bytes}

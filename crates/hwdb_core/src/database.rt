@@ -1,7 +1,7 @@
 //! The whole of a run's database files.
 
 ghost use Rattle.std.specs.Prelude.{◌≡◌, ◌≤◌, ◌^◌, ◌↔◌, IsTrue, IfOk, IfErr, sum_by, length};
-ghost use Rattle.lookup_core.specs.Orders.{Rising};
+ghost use Rattle.hwdb_lookup.specs.Orders.{Rising};
 ghost use Rattle.hwdb_core.specs.Sources.{entries_of, messages_of, WithinBounds};
 ghost use Rattle.hwdb_core.specs.Found.{Adds, found_in};
 ghost use Rattle.hwdb_core.specs.Parts.{file_found};
@@ -10,7 +10,7 @@ ghost use Rattle.hwdb_core.specs.declared.fault.HwdbFault.TheVariants.{TooMany};
 use crate::fault::HwdbFault;
 use crate::gathered::Gathered;
 use crate::reading::read_file;
-use lookup_core::Entry;
+use hwdb_lookup::Entry;
 use std::alloc::Global;
 use text_core::{Message, SourceFile};
 

@@ -10,12 +10,12 @@ ghost use Rattle.hwdb_core.specs.Found.{Adds, IsKept, nothing, only_messages};
 
 use crate::fault::HwdbFault;
 use crate::paragraph::Pair;
-use bytes_core::Bytes;
-use files_core::{Message, MessageKind};
-use lookup_core::Entry;
+use hwdb_lookup::Entry;
 use std::alloc::Global;
 use std::marker::Model;
+use text_bytes::Bytes;
 use text_core::Pattern;
+use text_files::{Message, MessageKind};
 
 /// How many entries there may be.
 const MAX_ENTRIES: usize = 1 << 24;

@@ -3,7 +3,7 @@
 //! The format is that of hwdb(7): paragraphs of matches with properties below them, which become one
 //! entry for each match and property. A file is read in one pass by lines. Each paragraph is then cut
 //! into its four parts and read part by part, so that each part has a small function and a clause of
-//! its own. `lookup_core`, whose entries are read here, comes with this crate.
+//! its own. `hwdb_lookup`, whose entries are read here, comes with this crate.
 #![tactic(auto)]
 
 mod database;
@@ -18,4 +18,4 @@ mod tests;
 
 pub use database::{Database, read_sources};
 pub use fault::HwdbFault;
-pub use lookup_core::{Entry, Lookup, PlainDb, Sourced, rising, winners_are_the_answer};
+pub use hwdb_lookup::{Entry, Lookup, PlainDb, Sourced, rising, winners_are_the_answer};

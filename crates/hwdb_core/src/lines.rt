@@ -2,13 +2,13 @@
 
 ghost use Rattle.std.specs.Prelude.{◌≡◌, ◌<◌, ◌≤◌, ◌∷◌, length};
 ghost use Rattle.std.specs.List.{prefix_len, suffix_len};
-ghost use Rattle.bytes_core.specs.Names.{is_blank, is_whitespace};
+ghost use Rattle.text_bytes.specs.Names.{is_blank, is_whitespace};
 ghost use Rattle.hwdb_core.specs.Lines.{lines, numbered_from, is_comment, before_comment, trimmed, cleaned};
 ghost use Rattle.hwdb_core.specs.Paragraphs.{is_empty_line, is_property};
 ghost use Rattle.hwdb_core.specs.Properties.{property_text};
 
-use bytes_core::find;
 use std::marker::Model;
+use text_bytes::find;
 
 /// A line of a file, which it borrows.
 #[derive(Debug, Drop)]

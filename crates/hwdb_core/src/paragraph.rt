@@ -6,8 +6,8 @@ ghost use Rattle.hwdb_core.specs.Paragraphs.{cut, is_match, is_property};
 ghost use Rattle.hwdb_core.specs.Properties.{pair_of};
 
 use crate::lines::Line;
-use bytes_core::find;
 use std::marker::Model;
+use text_bytes::find;
 use text_core::MessageKind;
 
 /// A key and its value, both of a line.

@@ -1,10 +1,10 @@
 //! Database files as they are written, with the entries and messages that hwdb(7) gives them.
 
 use crate::{Database, HwdbFault, read_sources};
-use bytes_core::Bytes;
-use files_core::{FileKind, MessageKind, SourceFile};
 use std::alloc::{AllocError, Global};
 use std::test::Fail;
+use text_bytes::Bytes;
+use text_files::{FileKind, MessageKind, SourceFile};
 
 fn file(alloc: Global, name: &[u8], text: &[u8]) -> Result<SourceFile, AllocError> {
     Ok(SourceFile {

@@ -2,7 +2,7 @@
 use Rattle.std.proofs.Common.{◌≡◌, ℕ, ◌||◌, Bool, true, false, not, cond, nat_eq, List, [], ◌∷◌, ◌++◌, map, zip, Option, Some, None, Result, Ok, Err, refl, sym, ◌∙◌, ap, arith, suc, Any, subst}
 use Rattle.std.specs.List.{flat_map}
 use Rattle.std.specs.Cmp.Lexicographic.{pointwise, same_text}
-use Rattle.files_core.specs.declared.source_file.SourceFile.{SourceFile}
+use Rattle.text_files.specs.declared.source_file.SourceFile.{SourceFile}
 use Rattle.rule_parts.specs.declared.finding.Finding.{Finding}
 use Rattle.rule_drafts.specs.Drafts.{Draft}
 use Rattle.rule_jumps.specs.Jumps.{Names, has_label, is_lost, is_named, is_unused, landings, landings_below}

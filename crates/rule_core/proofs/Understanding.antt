@@ -2,8 +2,8 @@
 use Rattle.std.proofs.Common.{◌≡◌, ℕ, Bool, true, false, not, cond, List, [], ◌∷◌, ◌++◌, map, zip, Option, Some, None, Result, Ok, Err, refl, sym, ◌∙◌, ap, subst, ◌⊎◌, inl, inr, Contains, Any, All}
 use Rattle.std.specs.List.{AllZip, flat_map, onto_first}
 use Rattle.std.proofs.lemmas.List.Elements.{All-cons, All-nil}
-use Rattle.files_core.specs.declared.message.Message.{Message}
-use Rattle.files_core.specs.declared.source_file.SourceFile.{SourceFile}
+use Rattle.text_files.specs.declared.message.Message.{Message}
+use Rattle.text_files.specs.declared.source_file.SourceFile.{SourceFile}
 use Rattle.rule_parts.specs.declared.finding.Finding.{Finding}
 use Rattle.rule_lines.specs.Lines.{NumberedLine, Piece, capped, is_comment, is_empty, is_open, joined_lines, kept, lines_of_runs, open_of_runs, piece_of, run_number, run_text, runs, unindented}
 use Rattle.rule_drafts.specs.Drafts.{Draft, draft_of}

@@ -1,7 +1,7 @@
 -- What the rules of files come to, whatever stands in the files.
 use Rattle.std.specs.Prelude.{◌≡◌, ◌⊎◌, ℕ, true, false, List, [], ◌∷◌, ◌++◌, map, All, Any, Contains, None, Some, Ok}
 use Rattle.std.specs.List.{AllZip}
-use Rattle.files_core.specs.declared.source_file.SourceFile.{SourceFile}
+use Rattle.text_files.specs.declared.source_file.SourceFile.{SourceFile}
 use Rattle.rule_lines.specs.Lines.{NumberedLine, Piece, capped, is_comment, joined_lines, kept, lines, numbered_from, piece_of, run_number, run_text, runs, unindented}
 use Rattle.rule_drafts.specs.Drafts.{Draft, draft_of}
 use Rattle.rule_jumps.specs.declared.jumps.Landing.{Landing}

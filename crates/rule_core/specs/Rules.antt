@@ -1,8 +1,8 @@
 -- The rules of files, and the messages about them.
 use Rattle.std.specs.Prelude.{ℕ, ◌+◌, if◌then◌else◌, is_some, List, [], ◌∷◌, ◌++◌, length, map, zip, flat_map, sum_by, Option, Some, None, Result, Ok, Err}
-use Rattle.files_core.specs.declared.message.Message.{Message}
-use Rattle.files_core.specs.declared.message.MessageKind.TheVariants.{NoLaterLabel, OpenAtEnd, LabelUnused}
-use Rattle.files_core.specs.declared.source_file.SourceFile.{SourceFile}
+use Rattle.text_files.specs.declared.message.Message.{Message}
+use Rattle.text_files.specs.declared.message.MessageKind.TheVariants.{NoLaterLabel, OpenAtEnd, LabelUnused}
+use Rattle.text_files.specs.declared.source_file.SourceFile.{SourceFile}
 use Rattle.rule_lines.specs.Lines.{NumberedLine, joined_lines}
 use Rattle.rule_parts.specs.Parts.{Part, finding}
 use Rattle.rule_parts.specs.declared.finding.Finding.{Finding}

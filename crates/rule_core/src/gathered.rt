@@ -6,9 +6,9 @@ ghost use Rattle.rule_core.specs.Gathering.{Adds};
 ghost use Rattle.rule_core.specs.Rules.{name_count, rule_tokens, tokens_in};
 
 use crate::{Rule, RulesFault};
-use bytes_core::Bytes;
 use std::alloc::Global;
 use std::marker::Model;
+use text_bytes::Bytes;
 
 /// How many tokens may be left in the rules.
 const MAX_TOKENS: usize = 1 << 24;

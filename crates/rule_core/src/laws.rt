@@ -2,7 +2,7 @@
 //!
 //! Each function here is empty: its contract is the law.
 ghost use Rattle.std.specs.Prelude.{◌≡◌, [], List, All};
-ghost use Rattle.files_core.specs.declared.source_file.SourceFile.{SourceFile};
+ghost use Rattle.text_files.specs.declared.source_file.SourceFile.{SourceFile};
 ghost use Rattle.rule_core.specs.Laws.{IsUnderstood, JumpsEnd};
 ghost use Rattle.rule_core.specs.Rules.{file_rules, set_of};
 

@@ -19,5 +19,5 @@ pub use reading::read_rules;
 pub use rule::{Rule, RuleSet};
 pub use rule_keys::{ImportType, Key, import_type};
 pub use rule_parts::{Part, RuleOption, Value};
+pub use rule_templates::{Piece, Template, TemplateFault};
 pub use rule_tokens::{Operator, Quote, Span, Token, TokenFault, TokenFaultKind, Tokens, unquote};
-pub use templates::{Piece, Template, TemplateFault};

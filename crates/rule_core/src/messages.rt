@@ -1,13 +1,13 @@
 //! What is found of the lines of a file, as messages.
 ghost use Rattle.std.specs.Prelude.{◌≡◌, ◌∷◌, ◌++◌, [], if◌then◌else◌, OnOk, map};
-ghost use Rattle.files_core.specs.declared.message.MessageKind.TheVariants.{OpenAtEnd};
+ghost use Rattle.text_files.specs.declared.message.MessageKind.TheVariants.{OpenAtEnd};
 ghost use Rattle.rule_parts.specs.Parts.{finding};
 ghost use Rattle.rule_core.specs.Rules.{message_at, name_in, open_messages};
 
-use bytes_core::Bytes;
-use files_core::{Message, MessageKind};
 use rule_parts::Finding;
 use std::alloc::{AllocError, Global};
+use text_bytes::Bytes;
+use text_files::{Message, MessageKind};
 
 /// A line of a file.
 #[derive(Clone, Copy, Debug)]

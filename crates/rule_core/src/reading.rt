@@ -8,12 +8,12 @@ use crate::gathered::Gathered;
 use crate::messages::{Place, tell, tell_all, tell_if, tell_open};
 use crate::readings::{Reading, landings_of, read_lines};
 use crate::{Rule, RuleSet, RulesFault};
-use bytes_core::Bytes;
-use files_core::{Message, MessageKind, SourceFile};
 use rule_drafts::Draft;
 use rule_jumps::Landing;
 use rule_lines::joined_lines;
 use std::alloc::Global;
+use text_bytes::Bytes;
+use text_files::{Message, MessageKind, SourceFile};
 
 /// Reads rules files as udev(7) writes them, in the order in which they are given.
 ///

@@ -6,13 +6,13 @@ ghost use Rattle.std.specs.Prelude.{◌≡◌, IfOk, map, option_map};
 ghost use Rattle.rule_jumps.specs.Jumps.{landings};
 ghost use Rattle.rule_core.specs.Rules.{names_of, reading_of};
 
-use bytes_core::Bytes;
 use rule_drafts::{Draft, read_draft};
 use rule_jumps::{Jump, Landing, landings};
 use rule_lines::JoinedLine;
 use rule_parts::{Finding, PartFault};
 use std::alloc::{AllocError, Global};
 use std::marker::Model;
+use text_bytes::Bytes;
 
 /// A joined line, read as a rule.
 #[derive(Debug, Drop)]

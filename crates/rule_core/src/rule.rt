@@ -1,10 +1,10 @@
 //! Rules as they are meant.
 ghost use Rattle.std.specs.Prelude.{◌≡◌, option_map};
 
-use bytes_core::Bytes;
-use files_core::Message;
 use rule_parts::Part;
 use std::marker::Model;
+use text_bytes::Bytes;
+use text_files::Message;
 
 /// A rule: where it stands, and its parts in the order in which they are evaluated. `read_rules`
 /// alone makes it.

@@ -1,10 +1,10 @@
 //! Rules files, with the rules and messages that udev(7) gives them.
 
 use crate::{Rule, RuleSet, RulesFault, read_rules};
-use bytes_core::Bytes;
-use files_core::{FileKind, MessageKind, SourceFile};
 use std::alloc::{AllocError, Global};
 use std::test::Fail;
+use text_bytes::Bytes;
+use text_files::{FileKind, MessageKind, SourceFile};
 
 fn file(alloc: Global, name: &[u8], text: &[u8]) -> Result<SourceFile, AllocError> {
     Ok(SourceFile {

@@ -1,7 +1,7 @@
 -- A draft of names, sorted parts and findings, and parts read one by one.
 use Rattle.std.proofs.Common.{◌≡◌, ℕ, ◌<◌, ◌≤◌, true, false, nat_lt, List, [], ◌∷◌, ◌++◌, length, Result, Ok, Err, refl, ap, sym, ◌∙◌, append_assoc, append-nil}
 use Rattle.std.proofs.lemmas.Bool.{lt-ltb, le-ltb}
-use Rattle.files_core.specs.declared.message.MessageKind.TheVariants.{LineTooLong}
+use Rattle.text_files.specs.declared.message.MessageKind.TheVariants.{LineTooLong}
 use Rattle.rule_tokens.specs.Grammar.{Item}
 use Rattle.rule_tokens.specs.Lines.{items_of}
 use Rattle.rule_parts.specs.Faults.{FaultOf}

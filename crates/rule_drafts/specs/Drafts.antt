@@ -1,6 +1,6 @@
 -- A joined line read as a rule, before its jumps are followed.
 use Rattle.std.specs.Prelude.{ℕ, nat_lt, if◌then◌else◌, List, [], ◌∷◌, ◌++◌, drop, length, Option, Some, None, Result, Ok, Err}
-use Rattle.files_core.specs.declared.message.MessageKind.TheVariants.{BadSyntax, BadPrefix, LineTooLong, GivenTwice}
+use Rattle.text_files.specs.declared.message.MessageKind.TheVariants.{BadSyntax, BadPrefix, LineTooLong, GivenTwice}
 use Rattle.rule_tokens.specs.Grammar.{Item, Placed}
 use Rattle.rule_tokens.specs.Lines.{items_of}
 use Rattle.rule_tokens.specs.Prefixes.{letters_at}

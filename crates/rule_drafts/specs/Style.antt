@@ -1,8 +1,8 @@
 -- How a rule is written: commas and blanks between its tokens, and operators that are read as `=`.
 use Rattle.std.specs.Prelude.{ℕ, ◌-◌, ◌==◌, if◌then◌else◌, List, [], ◌∷◌, ◌++◌, take, drop}
 use Rattle.std.specs.List.{count_by}
-use Rattle.bytes_core.specs.Names.{comma}
-use Rattle.files_core.specs.declared.message.MessageKind.TheVariants.{CommaExpected, BlankExpected, ReadAsAssign}
+use Rattle.text_bytes.specs.Names.{comma}
+use Rattle.text_files.specs.declared.message.MessageKind.TheVariants.{CommaExpected, BlankExpected, ReadAsAssign}
 use Rattle.rule_tokens.specs.Grammar.{Placed}
 use Rattle.rule_tokens.specs.Values.{ends_in}
 use Rattle.rule_parts.specs.Parts.{finding, is_read_as_assign}

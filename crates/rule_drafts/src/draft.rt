@@ -1,8 +1,8 @@
 //! What one line tells of its rule.
 
-use bytes_core::Bytes;
 use rule_parts::{Finding, Part};
 use std::marker::Model;
+use text_bytes::Bytes;
 
 /// A rule as its line alone tells it.
 #[derive(Debug, Drop)]

@@ -6,12 +6,12 @@ ghost use Rattle.std.specs.Prelude.{◌≡◌, ◌++◌, None, [], IfOk, OnOk};
 ghost use Rattle.rule_drafts.specs.Drafts.{again, first_given, name_by, named_by, role_of_key, text_of};
 
 use crate::telling::tell;
-use bytes_core::Bytes;
-use files_core::MessageKind;
 use rule_keys::Key;
 use rule_parts::{Finding, Part, Value};
 use std::alloc::{AllocError, Global};
 use std::marker::Model;
+use text_bytes::Bytes;
+use text_files::MessageKind;
 
 /// The names for jumps of a rule, and what is to be said of those that are given a second time.
 #[derive(Debug, Drop)]

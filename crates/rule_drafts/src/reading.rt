@@ -9,10 +9,10 @@ use crate::names::Names;
 use crate::places::behind;
 use crate::sorting::Sorted;
 use crate::style::add_style;
-use files_core::MessageKind;
 use rule_parts::{Finding, Part, PartFault, read_part};
 use rule_tokens::{TokenFaultKind, Tokens, letters_before_quote};
 use std::alloc::{AllocError, Global};
+use text_files::MessageKind;
 
 /// The most bytes of a joined line.
 const MOST_BYTES: usize = 16_384;

@@ -3,7 +3,7 @@
 //! Nothing of this keeps a rule from being one, so that it is looked at only where no token has a
 //! fault.
 ghost use Rattle.std.specs.Prelude.{◌≡◌, ◌++◌, OnOk};
-ghost use Rattle.bytes_core.specs.Names.{comma};
+ghost use Rattle.text_bytes.specs.Names.{comma};
 ghost use Rattle.rule_tokens.specs.Lines.{items_of};
 ghost use Rattle.rule_tokens.specs.Values.{ends_in};
 ghost use Rattle.rule_drafts.specs.Drafts.{tokens_of};
@@ -12,10 +12,10 @@ ghost use Rattle.rule_drafts.specs.Style.{commas, end_findings, gap_findings, op
 
 use crate::places::{behind, between};
 use crate::telling::tell;
-use files_core::MessageKind;
 use rule_parts::{Finding, is_read_as_assign};
 use rule_tokens::{Token, Tokens};
 use std::alloc::{AllocError, Global};
+use text_files::MessageKind;
 
 /// Adds what is to be said of how a line is written, by the places of its tokens.
 pub(crate) fn add_style(

@@ -2,9 +2,9 @@
 ghost use Rattle.std.specs.Prelude.{◌≡◌, ◌++◌, ◌∷◌, [], OnOk};
 ghost use Rattle.rule_parts.specs.Parts.{finding};
 
-use files_core::MessageKind;
 use rule_parts::Finding;
 use std::alloc::{AllocError, Global};
+use text_files::MessageKind;
 
 /// Adds what is to be said to what was said before.
 pub(crate) fn tell(

@@ -2,11 +2,11 @@
 
 use crate::style::add_style;
 use crate::{Draft, parts_are_kept_in_order, read_draft};
-use files_core::MessageKind;
 use rule_keys::Key;
 use rule_parts::{Finding, Part, PartFault};
 use std::alloc::{AllocError, Global};
 use std::test::Fail;
+use text_files::MessageKind;
 
 /// The draft of a line that is a rule.
 fn draft(alloc: Global, line: &[u8]) -> Result<Draft, Fail> {

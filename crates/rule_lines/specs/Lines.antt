@@ -1,7 +1,7 @@
 -- The joined lines of a rules file.
 use Rattle.std.specs.Prelude.{ℕ, ◌+◌, ◌-◌, ◌^◌, min, Bool, true, false, not, ◌&&◌, ◌==◌, nat_eq, if◌then◌else◌, List, [], ◌∷◌, ◌++◌, length, take, drop, map, filter, Option, Some, None}
 use Rattle.std.specs.List.{onto_first, prefix_len, ends_with}
-use Rattle.bytes_core.specs.Names.{newline, hash, backslash, is_blank}
+use Rattle.text_bytes.specs.Names.{newline, hash, backslash, is_blank}
 
 -- a line: its number in its file, and its bytes
 pub record NumberedLine : Type 0 where

@@ -1,11 +1,11 @@
 //! The lines of a file as they are written, with their numbers, and what of each is kept.
 ghost use Rattle.std.specs.Prelude.{◌≡◌, ◌<◌, ◌≤◌, ◌∷◌, length};
 ghost use Rattle.std.specs.List.{prefix_len};
-ghost use Rattle.bytes_core.specs.Names.{is_blank};
+ghost use Rattle.text_bytes.specs.Names.{is_blank};
 ghost use Rattle.rule_lines.specs.Lines.{is_comment, lines, numbered_from, piece_of, unindented};
 
-use bytes_core::find;
 use std::marker::Model;
+use text_bytes::find;
 
 /// A line of a file, which it borrows.
 #[derive(Debug, Drop)]

@@ -1,6 +1,6 @@
 -- How a fault that was answered stands to what reading gives.
 use Rattle.std.specs.Prelude.{◌≡◌, ℕ, List, Result, Ok, Err}
-use Rattle.files_core.specs.declared.message.MessageKind.{MessageKind}
+use Rattle.text_files.specs.declared.message.MessageKind.{MessageKind}
 use Rattle.text_core.specs.declared.glob_fault.GlobFault.{GlobFault}
 use Rattle.text_core.specs.declared.glob_fault.GlobFault.TheVariants as glob
 use Rattle.rule_parts.specs.Parts.{choice_fault, finding}

@@ -1,14 +1,14 @@
 -- A token, read and checked: the part of a rule that it is, or what is wrong with it.
 use Rattle.std.specs.Prelude.{ℕ, Bool, true, false, if◌then◌else◌, List, [], ◌∷◌, take, Option, Some, None, Result, Ok, Err}
-use Rattle.files_core.specs.declared.message.MessageKind.{MessageKind}
-use Rattle.files_core.specs.declared.message.MessageKind.TheVariants.{UnknownKey, OperatorNotAllowed, WrongAttribute, BadValue, BadSubstitution, SetNotSupported}
+use Rattle.text_files.specs.declared.message.MessageKind.{MessageKind}
+use Rattle.text_files.specs.declared.message.MessageKind.TheVariants.{UnknownKey, OperatorNotAllowed, WrongAttribute, BadValue, BadSubstitution, SetNotSupported}
 use Rattle.text_core.specs.Choices.{choice, choice_blind}
 use Rattle.text_core.specs.declared.item.Item.{Item}
 use Rattle.text_core.specs.declared.glob_fault.GlobFault.{GlobFault}
 use Rattle.text_core.specs.declared.glob_fault.GlobFault.TheVariants as glob
-use Rattle.templates.specs.Reading as templates
-use Rattle.templates.specs.declared.piece.Piece.{Piece}
-use Rattle.templates.specs.declared.fault.TemplateFault.{TemplateFault}
+use Rattle.rule_templates.specs.Reading as templates
+use Rattle.rule_templates.specs.declared.piece.Piece.{Piece}
+use Rattle.rule_templates.specs.declared.fault.TemplateFault.{TemplateFault}
 use Rattle.rule_tokens.specs.Grammar.{Placed}
 use Rattle.rule_tokens.specs.Reading.{unquoted}
 use Rattle.rule_tokens.specs.declared.kinds.Operator.{Operator}

@@ -3,9 +3,9 @@ ghost use Rattle.std.specs.Prelude.{◌≡◌, IfOk, take};
 ghost use Rattle.rule_parts.specs.Parts.{finding};
 ghost use Rattle.rule_parts.specs.Faults.{Tells};
 
-use bytes_core::Bytes;
-use files_core::MessageKind;
 use std::alloc::{AllocError, AllocFailed, Global};
+use text_bytes::Bytes;
+use text_files::MessageKind;
 
 /// How many bytes of a text a finding keeps.
 const WORD_LENGTH: usize = 32;

@@ -3,9 +3,9 @@ ghost use Rattle.std.specs.Prelude.{◌≡◌, option_map};
 ghost use Rattle.rule_parts.specs.Parts.{Part};
 
 use crate::Value;
-use bytes_core::Bytes;
 use rule_keys::{Key, Operator};
 use std::marker::Model;
+use text_bytes::Bytes;
 
 /// A part of a rule: what is done with a key, and by which value. `read_part` alone makes it.
 #[derive(Debug, Drop)]

@@ -6,11 +6,11 @@ ghost use Rattle.rule_parts.specs.Faults.{FaultOf, Gives};
 use crate::finding::wrong;
 use crate::values::value_by;
 use crate::{Part, PartFault};
-use bytes_core::Bytes;
-use files_core::MessageKind;
 use rule_keys::{ImportType, Key, Use, import_type, key_of, takes_attribute, use_of, value_kind};
 use rule_tokens::{Operator, Quote, Token, unquote};
 use std::alloc::{AllocError, Global};
+use text_bytes::Bytes;
+use text_files::MessageKind;
 
 /// Reads a token as a part of a rule, by the tables of udev(7).
 ///

@@ -1,11 +1,11 @@
 //! Tokens with the parts or the faults that udev(7) gives them.
 
 use crate::{Part, PartFault, RuleOption, Value, is_read_as_assign, read_part};
-use files_core::MessageKind;
 use rule_keys::{Key, Operator};
 use rule_tokens::Tokens;
 use std::alloc::Global;
 use std::test::Fail;
+use text_files::MessageKind;
 
 /// What a line's first token is read as, if there is one.
 fn first(alloc: Global, line: &[u8]) -> Option<Result<Part, PartFault>> {

@@ -1,8 +1,8 @@
 //! The value of a part.
 
 use crate::RuleOption;
-use bytes_core::Bytes;
-use templates::Template;
+use rule_templates::Template;
+use text_bytes::Bytes;
 use text_core::Choice;
 
 /// What a key is compared with, or what it is given.

@@ -2,19 +2,19 @@
 ghost use Rattle.rule_parts.specs.Faults.{Gives, TellsOf};
 ghost use Rattle.rule_parts.specs.Parts.{as_choice, as_name, as_option, as_template, value_by};
 ghost use Rattle.text_core.specs.Choices.{choice, choice_blind};
-ghost use Rattle.templates.specs.Reading.{pieces_of};
+ghost use Rattle.rule_templates.specs.Reading.{pieces_of};
 ghost use Rattle.rule_parts.specs.Options.{option_of};
 ghost use Rattle.std.specs.Prelude.{true, false};
 
 use crate::finding::wrong;
 use crate::options::option_of;
 use crate::{PartFault, Value};
-use bytes_core::Bytes;
-use files_core::MessageKind;
 use rule_keys::ValueKind;
+use rule_templates::{Template, TemplateFault};
 use std::alloc::Global;
-use templates::{Template, TemplateFault};
+use text_bytes::Bytes;
 use text_core::{Choice, GlobFault};
+use text_files::MessageKind;
 
 /// Why a text that spells no choice is none.
 fn choice_fault(alloc: Global, fault: GlobFault, text: &[u8]) -> PartFault

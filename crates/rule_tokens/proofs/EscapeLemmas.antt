@@ -8,7 +8,7 @@ use Rattle.std.proofs.lemmas.Bool.{and_parts, or_cases, and_right, lt-ltb, le-lt
 use Rattle.std.proofs.lemmas.List.{length-take, length-take-le}
 use Rattle.std.proofs.Math.Seq.{take-length}
 use Rattle.std.proofs.lemmas.Int.Digits.{digits_value-lt}
-use Rattle.bytes_core.specs.Names.{backslash}
+use Rattle.text_bytes.specs.Names.{backslash}
 use Rattle.rule_tokens.specs.Values.{Piece, letter, octal, hex, short, long, spelling, meaning, letter_means, is_number, is_scalar}
 use Rattle.rule_tokens.specs.Reading.{escape_front, if_piece, piece_at, meaning_at, scan, positive, number_at, byte_from, byte_at, character_from, character_at, letter_from, escape_at}
 use Rattle.rule_tokens.specs.Letters.{letter_x, letter_u, capital_u}

@@ -1,7 +1,7 @@
 -- The letters of a wrong prefix are those that are read.
 use Rattle.std.proofs.Common.{◌≡◌, List, ℕ, ◌∷◌, refl}
 use Rattle.std.proofs.lemmas.List.{take_at}
-use Rattle.bytes_core.specs.Names.{double_quote}
+use Rattle.text_bytes.specs.Names.{double_quote}
 use Rattle.rule_tokens.specs.Grammar.{is_letter}
 use Rattle.rule_tokens.specs.Prefixes.{letters_at, quoted_at, AreWrongLetters}
 use Rattle.rule_tokens.proofs.RunLemmas.{run_again}

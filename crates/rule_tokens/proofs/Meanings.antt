@@ -1,7 +1,7 @@
 -- What a value means: the pieces that are read are those of the relation.
 use Rattle.std.proofs.Common.{Result, Ok, Err, IfOk, ◌≡◌, ℕ, ◌+◌, Bool, true, false, not, ◌&&◌, List, [], ◌∷◌, ◌++◌, length, refl, ap, sym, ◌∙◌, arith, append-nil, length-append}
 use Rattle.std.specs.List.{flat_map}
-use Rattle.bytes_core.specs.Names.{backslash}
+use Rattle.text_bytes.specs.Names.{backslash}
 use Rattle.rule_tokens.specs.declared.kinds.Quote.{Quote}
 use Rattle.rule_tokens.specs.Values.{Piece, spelling, meaning, has_escapes, ends_in, Spells, Means, OneMeaning}
 use Rattle.rule_tokens.specs.Reading.{pieces_of, value_length, unquoted, IsWholeValue}

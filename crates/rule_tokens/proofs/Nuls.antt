@@ -7,7 +7,7 @@ use Rattle.std.specs.Str.Parse.{digits_value}
 use Rattle.std.proofs.lemmas.Bool.{and_parts, and_from, ne_eqb}
 use Rattle.std.proofs.lemmas.List.Folds.{list_all-append}
 use lib.Utf8.{encode}
-use Rattle.bytes_core.specs.Names.{nul, double_quote}
+use Rattle.text_bytes.specs.Names.{nul, double_quote}
 use Rattle.rule_tokens.specs.Values.{Piece, byte, letter, octal, hex, short, long, spelling, meaning, letter_means, is_number, is_plain_piece, is_escaped_piece, is_piece, HasNoNul, NoNul}
 use Rattle.rule_tokens.proofs.Pieces.{other_byte}
 

@@ -5,7 +5,7 @@ use Rattle.std.specs.Char.{digit_value}
 use Rattle.std.proofs.lemmas.Bool.{and_parts, both_ways, not-true, ne_eqb}
 use Rattle.std.proofs.lemmas.List.{take_at}
 use Rattle.std.proofs.Common.{subst}
-use Rattle.bytes_core.specs.Names.{backslash, double_quote, tab, newline, vertical_tab, form_feed, carriage_return, space, single_quote}
+use Rattle.text_bytes.specs.Names.{backslash, double_quote, tab, newline, vertical_tab, form_feed, carriage_return, space, single_quote}
 use Rattle.rule_tokens.specs.Values.{Piece, byte, letter, octal, hex, short, long, spelling, letter_means, is_number, is_escaped_piece, is_piece}
 use Rattle.rule_tokens.specs.Reading.{escape_front, plain_front, either_front, front, if_piece, piece_at}
 use Rattle.rule_tokens.specs.Letters.{bell, backspace, letter_a, letter_b, letter_f, letter_n, letter_r, letter_s, letter_t, letter_u, letter_v, letter_x, capital_u}

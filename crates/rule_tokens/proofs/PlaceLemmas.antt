@@ -3,7 +3,7 @@ use Rattle.std.proofs.Common.{◌≡◌, ℕ, ◌+◌, ◌-◌, ◌<◌, ◌≤�
 use Rattle.std.specs.Prelude.{All, ◌⊎◌}
 use Rattle.std.proofs.lemmas.List.{take_at, drop_at}
 use Rattle.std.proofs.lemmas.List.Elements.{All-cons, All-nil}
-use Rattle.bytes_core.specs.Names.{double_quote}
+use Rattle.text_bytes.specs.Names.{double_quote}
 use Rattle.rule_tokens.specs.declared.kinds.TokenFault.{TokenFault}
 use Rattle.rule_tokens.specs.Grammar.{Parts, Placed, Item, TokenStands, TokenAt, Gap, LexesAt, answers, attribute_text, operator_text}
 use Rattle.rule_tokens.specs.Places.{IsSlice, LiesIn, RisesFrom, AllLie, AllRise}

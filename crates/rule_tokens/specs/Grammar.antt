@@ -2,7 +2,7 @@
 use Rattle.std.specs.Prelude.{◌≡◌, ℕ, ◌+◌, ◌<◌, Bool, true, false, ◌&&◌, ◌||◌, not, List, [], ◌∷◌, ◌++◌, length, Option, Some, None, ◌==◌, if◌then◌else◌, codes, ⊤, ◌⊎◌, Result, Ok, Err}
 use Rattle.std.specs.List.{list_all}
 use Rattle.std.specs.Char.{is_ascii_alphabetic, is_ascii_alphanumeric}
-use Rattle.bytes_core.specs.Names.{nul, comma, double_quote, underscore, open_brace, close_brace, is_blank}
+use Rattle.text_bytes.specs.Names.{nul, comma, double_quote, underscore, open_brace, close_brace, is_blank}
 use Rattle.rule_tokens.specs.Letters.{letter_e, letter_i}
 use Rattle.rule_tokens.specs.Values.{Piece, Spells, has_escapes}
 use Rattle.rule_tokens.specs.declared.kinds.Operator.{Operator}

@@ -1,6 +1,6 @@
 -- Where the tokens of a line lie in it.
 use Rattle.std.specs.Prelude.{◌≡◌, ℕ, ◌+◌, ◌-◌, ◌<◌, ◌≤◌, List, [], ◌∷◌, ◌++◌, length, take, drop, Option, Ok, Err, All, ⊤}
-use Rattle.bytes_core.specs.Names.{double_quote}
+use Rattle.text_bytes.specs.Names.{double_quote}
 use Rattle.rule_tokens.specs.declared.kinds.TokenFault.{TokenFault}
 use Rattle.rule_tokens.specs.Grammar.{Placed, Item, TokenStands, Lexes, answers, attribute_text}
 

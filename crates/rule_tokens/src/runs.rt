@@ -2,7 +2,7 @@
 
 ghost use Rattle.std.specs.Prelude.{◌≡◌, ◌≤◌, ◌<◌, length};
 ghost use Rattle.std.specs.List.{prefix_len};
-ghost use Rattle.bytes_core.specs.Names.{is_blank};
+ghost use Rattle.text_bytes.specs.Names.{is_blank};
 ghost use Rattle.rule_tokens.specs.Grammar.{is_key_byte, is_gap_byte, is_letter, is_attribute_byte};
 ghost use Rattle.rule_tokens.specs.Reading.{Gives, skip, closed_at};
 

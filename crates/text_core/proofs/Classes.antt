@@ -3,7 +3,7 @@ use Rattle.std.proofs.Common.{◌≡◌, ℕ, suc, ◌+◌, ◌≤◌, Bool, tru
 use Rattle.std.specs.List.{position_from, zip}
 use Rattle.std.proofs.lemmas.Bool.{and_parts, eqb-true, eq-eqb}
 use Rattle.std.proofs.lemmas.Iterator.Adapters.{position_from-zero}
-use Rattle.bytes_core.specs.Names.{open_bracket}
+use Rattle.text_bytes.specs.Names.{open_bracket}
 use Rattle.text_core.specs.Grammar.{IsClassAt, NoClass}
 use Rattle.text_core.specs.Spell.{opens_class, class_place}
 

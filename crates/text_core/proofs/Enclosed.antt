@@ -2,7 +2,7 @@
 use Rattle.std.proofs.Common.{◌≡◌, ℕ, suc, ◌+◌, ◌<◌, Bool, true, false, cond, ◌||◌, List, ◌∷◌, [], ◌++◌, length, take, drop, Option, Some, None, eqb, refl, sym, ◌∙◌, ap, arith, add-one, length-append}
 use Rattle.std.proofs.lemmas.Bool.{eqb-true}
 use Rattle.std.proofs.Math.Seq.{take-append_seam, drop-append-add}
-use Rattle.bytes_core.specs.Names.{bang, caret, close_bracket, open_bracket}
+use Rattle.text_bytes.specs.Names.{bang, caret, close_bracket, open_bracket}
 use Rattle.text_core.specs.Grammar.{Sign, no_sign, bang_sign, caret_sign, print_sign, negates, closes, IsSet, NoSet}
 use Rattle.text_core.specs.Spell.{is_sign, negated, sign_len, close_of}
 use Rattle.text_core.proofs.Places.{Found, found, joined}

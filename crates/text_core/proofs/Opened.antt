@@ -1,7 +1,7 @@
 -- What a `[` begins, by what its end and its members are.
 use Rattle.std.proofs.Common.{◌≡◌, ℕ, ◌+◌, List, take, drop, Some, None, Ok, Err, sym, ◌∙◌, ap}
 use Rattle.text_core.specs.declared.reading.Reading.{Reading}
-use Rattle.bytes_core.specs.Names.{open_bracket}
+use Rattle.text_bytes.specs.Names.{open_bracket}
 use Rattle.text_core.specs.Sets.{set_of, set_takes}
 use Rattle.text_core.specs.Spell.{negated, sign_len, close_of, class_place, set_until, set_unless_class, bracket}
 use Rattle.text_core.specs.declared.glob_fault.GlobFault.TheVariants.{Class}

@@ -1,7 +1,7 @@
 -- One piece of a text, and what the reading finds in front.
 use Rattle.std.proofs.Common.{◌≡◌, ℕ, ◌+◌, ◌≤◌, Bool, true, false, cond, List, ◌∷◌, [], length, drop, Option, Some, None, Result, Ok, Err, eqb, refl, sym, ◌∙◌, ap, subst, arith}
 use Rattle.std.proofs.lemmas.Bool.{eqb-true, eq-eqb, ne_eqb}
-use Rattle.bytes_core.specs.Names.{open_bracket, question_mark, star}
+use Rattle.text_bytes.specs.Names.{open_bracket, question_mark, star}
 use Rattle.text_core.specs.Grammar.{Sign, print_sign, IsSet, IsClassAt, NoClass, NoSet, Piece, many, one, set, byte, IsPiece, item_of}
 use Rattle.text_core.specs.Sets.{set_of, set_takes}
 use Rattle.text_core.specs.Spell.{sign_len, close_of, class_place, bracket, itself, front}

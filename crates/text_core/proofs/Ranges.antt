@@ -2,7 +2,7 @@
 use Rattle.std.proofs.Common.{◌≡◌, ℕ, Bool, true, false, cond, ◌||◌, ◌&&◌, eqb, leb, List, ◌∷◌, [], Option, Some, None, refl, ◌∙◌, ap}
 use Rattle.std.specs.List.{list_any}
 use Rattle.std.proofs.lemmas.Bool.{eqb-true}
-use Rattle.bytes_core.specs.Names.{minus}
+use Rattle.text_bytes.specs.Names.{minus}
 use Rattle.text_core.specs.Sets.{Member, alone, range, AreMembers, member_has, members_have}
 use Rattle.text_core.proofs.Members.{members_have-single, members_have-range}
 

@@ -1,7 +1,7 @@
 -- What the reading of a text gives is what the grammar says.
 use Rattle.std.proofs.Common.{◌≡◌, ℕ, zero, suc, ◌+◌, ◌≤◌, List, ◌∷◌, [], length, map, drop, Result, Ok, Err, refl, sym, ◌∙◌, ap, subst, arith, append-nil}
 use Rattle.std.proofs.lemmas.List.{length-drop}
-use Rattle.bytes_core.specs.Names.{open_bracket}
+use Rattle.text_bytes.specs.Names.{open_bracket}
 use Rattle.text_core.specs.Grammar.{print_sign, Sign, IsSet, IsClassAt, Piece, ArePieces, item_of, Spells, HasClassAt}
 use Rattle.text_core.specs.Spell.{items_at, front, with_item, with_front}
 use Rattle.text_core.specs.declared.glob_fault.GlobFault.{GlobFault}

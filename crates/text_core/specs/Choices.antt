@@ -1,7 +1,7 @@
 -- Choices: patterns with a bar between, of which one has to fit.
 use Rattle.std.specs.Prelude.{ℕ, ◌+◌, Bool, ◌==◌, nat_lt, if◌then◌else◌, List, ◌∷◌, [], length, Result, Ok, Err}
 use Rattle.std.specs.List.{slice_split, list_any}
-use Rattle.bytes_core.specs.Names.{bar}
+use Rattle.text_bytes.specs.Names.{bar}
 use Rattle.text_core.specs.Fits.{fits}
 use Rattle.text_core.specs.Spell.{max_len, items_at}
 use Rattle.text_core.specs.declared.glob_fault.GlobFault.{GlobFault}

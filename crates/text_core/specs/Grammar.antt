@@ -2,7 +2,7 @@
 -- It says the same as the reading of `Spell` without its order, its places and its counts.
 use Rattle.std.specs.Prelude.{◌≡◌, ◌≢◌, ℕ, ◌+◌, ◌<◌, ◌≤◌, ◌↔◌, Bool, true, false, ◌==◌, List, ◌∷◌, [], ◌++◌, length, map, drop, Result, Ok, Err}
 use Rattle.std.specs.List.{list_any}
-use Rattle.bytes_core.specs.Names.{bang, caret, close_bracket, open_bracket, question_mark, star}
+use Rattle.text_bytes.specs.Names.{bang, caret, close_bracket, open_bracket, question_mark, star}
 use Rattle.text_core.specs.Sets.{set_of, set_takes}
 use Rattle.text_core.specs.Spell.{itself, max_len, negated, opens_class}
 use Rattle.text_core.specs.declared.glob_fault.GlobFault.{GlobFault}

@@ -2,7 +2,7 @@
 use Rattle.std.specs.Prelude.{◌≡◌, ℕ, zero, suc, ◌+◌, ◌*◌, Bool, false, not, ◌==◌, ◌||◌, ◌&&◌, nat_le, if◌then◌else◌, List, ◌∷◌, [], map, Option, Some, None, IsTrue}
 use Rattle.std.specs.Char.{eq_ignore_ascii_case, to_ascii_lowercase, to_ascii_uppercase}
 use Rattle.std.specs.List.{range_with_len}
-use Rattle.bytes_core.specs.Names.{minus}
+use Rattle.text_bytes.specs.Names.{minus}
 use Rattle.text_core.specs.declared.byte_set.ByteSet.{ByteSet}
 use Rattle.text_core.specs.declared.reading.Reading.{Reading}
 use Rattle.text_core.specs.declared.reading.Reading.TheVariants.{Exact, Blind}

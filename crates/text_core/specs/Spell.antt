@@ -2,7 +2,7 @@
 use Rattle.std.specs.Prelude.{ℕ, zero, suc, ◌+◌, Bool, false, ◌==◌, ◌||◌, ◌&&◌, nat_lt, if◌then◌else◌, List, ◌∷◌, [], length, take, drop, position, Option, Some, None, Result, Ok, Err}
 use Rattle.std.specs.Char.{is_ascii_alphabetic}
 use Rattle.std.specs.List.{zip}
-use Rattle.bytes_core.specs.Names.{bang, caret, close_bracket, colon, dot, equals, open_bracket, question_mark, star}
+use Rattle.text_bytes.specs.Names.{bang, caret, close_bracket, colon, dot, equals, open_bracket, question_mark, star}
 use Rattle.text_core.specs.Sets.{set_of, set_takes}
 use Rattle.text_core.specs.declared.glob_fault.GlobFault.{GlobFault}
 use Rattle.text_core.specs.declared.glob_fault.GlobFault.TheVariants.{Class, TooLong}

@@ -8,9 +8,9 @@ ghost use Rattle.text_core.specs.declared.glob_fault.GlobFault.TheVariants.{Memo
 use crate::GlobFault;
 use crate::pattern::{MAX_LEN, Pattern};
 use crate::reading::Reading;
-use bytes_core::find;
 use std::alloc::Global;
 use std::marker::Model;
+use text_bytes::find;
 
 /// Patterns of which one has to fit. There is always one, perhaps an empty one.
 #[derive(Debug, Drop)]

@@ -5,7 +5,7 @@ ghost use Rattle.text_core.specs.Spell.{negated, sign_len, class_place, close_of
 use crate::reading::Reading;
 use crate::sets::set_of;
 use crate::{GlobFault, Item};
-use bytes_core::find;
+use text_bytes::find;
 
 fn is_negated(after: &[u8]) -> bool
     ensures { result ≡ negated after.now }

@@ -1,5 +1,5 @@
 use Rattle.std.proofs.Common.{◌≡◌, take, map, flat_map}
-use Rattle.lookup_core.specs.Query.{shown_origin}
+use Rattle.hwdb_lookup.specs.Query.{shown_origin}
 use Rattle.engine_core.specs.Answers.{origin_line}
 use Rattle.engine_core.proofs.answers.origin_lines.Given as goal
 

@@ -1,5 +1,5 @@
 use Rattle.std.proofs.Common.{◌≡◌, take, flat_map}
-use Rattle.lookup_core.specs.Query.{shown}
+use Rattle.hwdb_lookup.specs.Query.{shown}
 use Rattle.engine_core.specs.Answers.{pair_line}
 use Rattle.engine_core.proofs.answers.pair_lines.Given as goal
 

@@ -3,7 +3,7 @@ use Rattle.std.proofs.lemmas.Result.{err_from_is_err_and}
 use Rattle.hwdb_core.specs.Sources.{entries_from}
 use Rattle.hwdb_core.specs.Found.{Found, found_in, join}
 use Rattle.hwdb_core.specs.Parts.{file_found}
-use Rattle.lookup_core.specs.Orders.{Rising}
+use Rattle.hwdb_lookup.specs.Orders.{Rising}
 use Rattle.hwdb_core.proofs.Orders.{rising_entries}
 use Rattle.hwdb_core.proofs.Totals.{beyond_at, read_all, within}
 use Rattle.hwdb_core.proofs.database.read_sources.Goals as goal

@@ -1,4 +1,4 @@
-use Rattle.bytes_core.specs.Names.{comma}
+use Rattle.text_bytes.specs.Names.{comma}
 use Rattle.rule_drafts.proofs.Ends.{ends_in_last}
 use Rattle.rule_drafts.proofs.style.ends_in_comma.Goals as goal
 

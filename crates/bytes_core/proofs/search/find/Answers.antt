@@ -1,6 +1,0 @@
-use Rattle.memchr.specs.Find.{is_byte}
-use Rattle.bytes_core.proofs.Finding.{position-from_first_byte}
-use Rattle.bytes_core.proofs.search.find.Goals as goal
-
-pub returns-clause-value : goal.returns-clause-value
-returns-clause-value c = position-from_first_byte (is_byte c.args.byte) c.args.text.now c.memchr.result c.memchr.ensures

@@ -1,0 +1,95 @@
+//! The files and folders that a line asks for.
+ghost use Rattle.std.specs.Prelude.{◌≡◌, ◌++◌, IfOk};
+ghost use Rattle.devdry_files.specs.Places.{Wants, folders_for, folders_of, kind_of, place_of, places_of};
+
+use crate::places::{Folder, Wanted};
+use engine_line::{Line, Verb};
+use std::alloc::{AllocError, Global};
+use text_files::FileKind;
+
+fn named_kind(verb: Verb) -> FileKind
+    ensures { result ≡ kind_of verb }
+{
+    match verb {
+        Verb::Update | Verb::Query => FileKind::Hwdb,
+        Verb::Verify => FileKind::Rules,
+    }
+}
+
+fn folder(
+    alloc: Global,
+    kind: FileKind,
+    rank: u8,
+    root: &str,
+    path: &str,
+) -> Result<Folder, AllocError>
+    ensures { IfOk result (λ f. place_of f ≡ (kind, rank, root.now ++ path.now)) }
+{
+    let mut whole = String::from_str(alloc, root)?;
+    whole.push_str(path)?;
+    Ok(Folder {
+        kind,
+        rank,
+        path: whole,
+    })
+}
+
+fn hwdb_folders(alloc: Global, root: &str) -> Result<Vec<Folder>, AllocError>
+    ensures { IfOk result (λ folders. places_of folders.items ≡ folders_of FileKind.Hwdb root.now) }
+{
+    let kind = FileKind::Hwdb;
+    let mut folders = Vec::new(alloc);
+    folders.push(folder(alloc, kind, 0, root, "/etc/udev/hwdb.d")?)?;
+    folders.push(folder(alloc, kind, 1, root, "/usr/lib/udev/hwdb.d")?)?;
+    Ok(folders)
+}
+
+fn rules_folders(alloc: Global, root: &str) -> Result<Vec<Folder>, AllocError>
+    ensures { IfOk result (λ folders. places_of folders.items ≡ folders_of FileKind.Rules root.now) }
+{
+    let kind = FileKind::Rules;
+    let mut folders = Vec::new(alloc);
+    folders.push(folder(alloc, kind, 0, root, "/etc/udev/rules.d")?)?;
+    folders.push(folder(alloc, kind, 1, root, "/run/udev/rules.d")?)?;
+    folders.push(folder(alloc, kind, 2, root, "/usr/local/lib/udev/rules.d")?)?;
+    folders.push(folder(alloc, kind, 3, root, "/usr/lib/udev/rules.d")?)?;
+    Ok(folders)
+}
+
+// The folders of a kind, by rank.
+fn folders_of_kind(alloc: Global, kind: FileKind, root: &str) -> Result<Vec<Folder>, AllocError>
+    ensures { IfOk result (λ folders. places_of folders.items ≡ folders_of kind root.now) }
+{
+    match kind {
+        FileKind::Hwdb => hwdb_folders(alloc, root),
+        FileKind::Rules => rules_folders(alloc, root),
+    }
+}
+
+fn asked_folders(alloc: Global, line: &Line<'_>) -> Result<Vec<Folder>, AllocError>
+    ensures { IfOk result (λ folders. places_of folders.items ≡ folders_for line.now) }
+{
+    if line.files.is_empty() {
+        folders_of_kind(alloc, named_kind(line.verb), line.root)
+    } else {
+        Ok(Vec::new(alloc))
+    }
+}
+
+/// The files and folders that a line asks for.
+///
+/// Named files stand in place of the folders, as with `udevadm verify`. `update` and `query` ask for
+/// files of the database, and their folders are those of hwdb(7): `/etc/udev/hwdb.d` with rank 0 and
+/// `/usr/lib/udev/hwdb.d` with rank 1. `verify` asks for files of rules, and its folders are those of
+/// udev(7): `/etc/udev/rules.d` with rank 0, `/run/udev/rules.d` with 1,
+/// `/usr/local/lib/udev/rules.d` with 2 and `/usr/lib/udev/rules.d` with 3. Each stands behind the
+/// line's root, which is put before it as it is. `Err` is want of memory.
+pub fn wanted<'b, 'a>(alloc: Global, line: &'b Line<'a>) -> Result<Wanted<'b, 'a>, AllocError>
+    ensures { IfOk result (Wants line.now) }
+{
+    Ok(Wanted {
+        kind: named_kind(line.verb),
+        files: line.files.as_slice(),
+        folders: asked_folders(alloc, line)?,
+    })
+}

@@ -1,0 +1,25 @@
+//! What is to be read: the files that are named, and folders.
+
+use text_files::FileKind;
+
+/// A folder whose files are to be read.
+#[derive(Debug, Drop)]
+pub struct Folder {
+    /// What its files hold.
+    pub kind: FileKind,
+    /// Its place among the folders of its kind: the least wins where names are equal.
+    pub rank: u8,
+    /// Its path, with what the line puts before it.
+    pub path: String,
+}
+
+/// What a line asks for.
+#[derive(Debug, Drop)]
+pub struct Wanted<'b, 'a> {
+    /// What the named files hold.
+    pub kind: FileKind,
+    /// The named files, in the order given.
+    pub files: &'b [&'a str],
+    /// The folders, in the order in which they are read.
+    pub folders: Vec<Folder>,
+}

@@ -1,0 +1,11 @@
+use Rattle.std.proofs.lemmas.Result.{IfOk-weaker}
+use Rattle.devdry_words.specs.Commands.{devdry}
+use Rattle.devdry_words.proofs.Chains.{one_more_command}
+use Rattle.devdry_words.proofs.commands.devdry_command.Goals as goal
+
+pub returns : goal.returns
+unfolding devdry
+returns c =
+    let first = one_more_command _ _ _ _ _ c.in_ok-program.ensures c.in_ok-update_command.ensures c.in_ok-subcommand.ensures in
+    let second = one_more_command _ _ _ _ _ first c.in_ok-query_command.ensures c.in_ok-subcommand-2.ensures in
+    IfOk-weaker c.subcommand-3.result _ _ (λ m h. one_more_command _ _ _ _ _ second c.in_ok-verify_command.ensures h) c.subcommand-3.ensures

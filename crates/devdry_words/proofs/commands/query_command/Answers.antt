@@ -1,0 +1,14 @@
+use Rattle.std.proofs.Common.{rules, codes}
+use Rattle.std.proofs.lemmas.Result.{IfOk-weaker}
+use Rattle.clap.specs.Simple.{new_shape}
+use Rattle.devdry_words.specs.Commands.{IsCommand}
+use Rattle.devdry_words.proofs.Chains.{one_more}
+use Rattle.devdry_words.proofs.commands.query_command.Goals as goal
+
+pub returns : goal.returns
+returns c =
+    let start : IsCommand (new_shape (codes "query")) c.about.result = search rules in
+    let first = one_more _ _ _ _ _ start c.root_option.ensures c.in_ok-arg.ensures in
+    let second = one_more _ _ _ _ _ first c.sources_flag.ensures c.in_ok-arg-2.ensures in
+    let third = one_more _ _ _ _ _ second c.modalias_argument.ensures c.in_ok-arg-3.ensures in
+    IfOk-weaker c.arg-4.result _ _ (λ m h. one_more _ _ _ _ _ third c.files_argument.ensures h) c.arg-4.ensures

@@ -1,0 +1,50 @@
+use Rattle.std.proofs.Common.{◌≡◌, ◌∙◌, ◌⊎◌, inl, inr, List, [], Result, Ok, Err, IfOk, ap, sym, subst, true}
+use Rattle.clap.specs.Words.{App, IsAmong, HasMatchesOf, Text, fault_of, is_simple, is_simple_and_free, subcommand_of, subcommand_rows_of}
+use Rattle.clap.specs.declared.parser.matches.ArgMatches.{ArgMatches}
+use Rattle.clap.specs.declared.error.kind.ErrorKind.{ErrorKind}
+use Rattle.clap.specs.declared.error.kind.ErrorKind.TheVariants as kind
+use Rattle.engine_line.specs.declared.LineFault.{LineFault}
+use Rattle.engine_line.specs.declared.LineFault.TheVariants.{Memory}
+use Rattle.devdry_words.specs.Commands.{devdry}
+use Rattle.devdry_words.specs.Lines.{AnswersOneOf, IsAnswer, IsLineOf, NamesVerb}
+use Rattle.devdry_words.proofs.Asked.{devdry_is_simple, devdry_is_simple_and_free, names_a_verb}
+use Rattle.devdry_words.proofs.parse.parse_line.Goals as goal
+
+asked_is : (a : App) (words : List Text) (m : ArgMatches) → a ≡ devdry → HasMatchesOf a words m → subcommand_rows_of m ≡ subcommand_of devdry words
+asked_is a words m is matches = (matches (ap is_simple is ∙ devdry_is_simple)).1 ∙ ap (λ x. subcommand_of x words) is
+
+faultless : (a : App) (words : List Text) → a ≡ devdry → (is_simple_and_free a ≡ true → fault_of a words ≡ []) → fault_of devdry words ≡ []
+faultless a words is free = sym (ap (λ x. fault_of x words) is) ∙ free (ap is_simple_and_free is ∙ devdry_is_simple_and_free)
+
+always : {T E : Type 0} {P : Type 0} (r : Result T E) → P → IfOk r (λ _. P)
+always (Ok x) p = p
+always (Err e) p = tt
+
+answered : (a : App) (words : List Text) (k : ErrorKind) (f : LineFault) → a ≡ devdry
+    → (is_simple_and_free a ≡ true → (k ≡ kind.OutOfMemory) ⊎ IsAmong k (fault_of a words))
+    → (k ≡ kind.OutOfMemory → f ≡ Memory) → IsAnswer f k → AnswersOneOf (fault_of devdry words) f
+answered a words k f is fails memory said = elim (fails (ap is_simple_and_free is ∙ devdry_is_simple_and_free)) [
+  | inl m ↦ inl (memory m)
+  | inr among ↦ inr (k, subst (λ x. IsAmong k (fault_of x words)) is among, said)
+]
+
+pub returns-in-Err-try_get_matches_from-clause-fault :
+    goal.returns-in-Err-try_get_matches_from-clause-fault
+returns-in-Err-try_get_matches_from-clause-fault c =
+    answered _ _ _ _ c.in-Ok.ensures c.in-Err-try_get_matches_from.ensures.kinds c.fault_from.ensures.memory c.fault_from.ensures.kind
+
+pub line_of-requires : goal.line_of-requires
+line_of-requires c =
+    let parsed = c.in-Ok-try_get_matches_from.ensures in
+    subst NamesVerb (sym (asked_is _ _ _ c.in-Ok.ensures parsed.matches)) (names_a_verb _ (faultless _ _ c.in-Ok.ensures parsed.kinds))
+
+pub returns-in-Ok-try_get_matches_from-clause-line :
+    goal.returns-in-Ok-try_get_matches_from-clause-line
+returns-in-Ok-try_get_matches_from-clause-line c =
+    let parsed = c.in-Ok-try_get_matches_from.ensures in
+    subst (λ asked. IfOk c.line_of.result (IsLineOf asked)) (asked_is _ _ _ c.in-Ok.ensures parsed.matches) c.line_of.ensures.line
+
+pub returns-in-Ok-try_get_matches_from-clause-faultless :
+    goal.returns-in-Ok-try_get_matches_from-clause-faultless
+returns-in-Ok-try_get_matches_from-clause-faultless c =
+    always c.line_of.result (faultless _ _ c.in-Ok.ensures c.in-Ok-try_get_matches_from.ensures.kinds)

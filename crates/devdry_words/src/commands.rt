@@ -1,0 +1,147 @@
+//! The command line of `devdry`, as `clap` is told of it.
+//!
+//! An argument is a function of its own where several subcommands take it, so that it is the same
+//! in each. `clap` wraps no text here, so that the texts of the help are broken by hand.
+ghost use Rattle.std.specs.Prelude.{◌≡◌, IfOk, false};
+ghost use Rattle.clap.specs.Words.{app_of, rule_of};
+ghost use Rattle.devdry_words.specs.Commands.{IsCommand, devdry, files_rule, flag_rule, modalias_rule};
+ghost use Rattle.devdry_words.specs.Commands.{no_style_rule, no_summary_rule, program as program_app};
+ghost use Rattle.devdry_words.specs.Commands.{query_shape, root_rule, sources_rule, strict_rule};
+ghost use Rattle.devdry_words.specs.Commands.{update_shape, verify_shape};
+
+use clap::{Arg, ArgAction, Command};
+use std::alloc::{AllocError, Global};
+
+const STATUSES: &str = "Status:
+  0  all went well, or help was asked for
+  1  verify found a bad file, or there was a message and
+     --strict was given, or there are too many rules or entries
+  2  the words of the command are not understood
+  3  a file, the input or an output failed
+  4  out of memory
+
+Examples:
+  devdry verify 60-mine.rules
+  devdry query usb:v1D6Bp0002 20-usb.hwdb
+";
+
+const DATABASE_FILES: &str = "Database files to read in place of the folders";
+
+const RULES_FILES: &str = "Rules files to read in place of the folders";
+
+fn root_option<'a>(alloc: Global) -> Arg<'a>
+    ensures { (rule_of result ≡ root_rule) × (result.global ≡ false) }
+{
+    Arg::new(alloc, "root")
+        .short('r')
+        .long("root")
+        .value_name("DIR")
+        .help("Folder to put before each folder that is read")
+}
+
+fn flag<'a>(alloc: Global, name: &'a str, help: &'a str) -> Arg<'a>
+    ensures { (rule_of result ≡ flag_rule name.entry.now) × (result.global ≡ false) }
+{
+    Arg::new(alloc, name)
+        .long(name)
+        .action(ArgAction::SetTrue)
+        .help(help)
+}
+
+fn strict_flag<'a>(alloc: Global) -> Arg<'a>
+    ensures { (rule_of result ≡ strict_rule) × (result.global ≡ false) }
+{
+    flag(alloc, "strict", "Exit with status 1 if there is a message").short('s')
+}
+
+fn sources_flag<'a>(alloc: Global) -> Arg<'a>
+    ensures { (rule_of result ≡ sources_rule) × (result.global ≡ false) }
+{
+    flag(alloc, "sources", "Say where each property comes from")
+}
+
+fn no_summary_flag<'a>(alloc: Global) -> Arg<'a>
+    ensures { (rule_of result ≡ no_summary_rule) × (result.global ≡ false) }
+{
+    flag(
+        alloc,
+        "no-summary",
+        "Do not count the good and the bad files",
+    )
+}
+
+fn no_style_flag<'a>(alloc: Global) -> Arg<'a>
+    ensures { (rule_of result ≡ no_style_rule) × (result.global ≡ false) }
+{
+    flag(alloc, "no-style", "Give no messages about style")
+}
+
+fn modalias_argument<'a>(alloc: Global) -> Arg<'a>
+    ensures { (rule_of result ≡ modalias_rule) × (result.global ≡ false) }
+{
+    Arg::new(alloc, "MODALIAS")
+        .required(true)
+        .help("Device to look up, by its modalias")
+}
+
+fn files_argument<'a>(alloc: Global, help: &'a str) -> Arg<'a>
+    ensures { (rule_of result ≡ files_rule) × (result.global ≡ false) }
+{
+    Arg::new(alloc, "FILE").action(ArgAction::Append).help(help)
+}
+
+fn update_command<'a>(alloc: Global) -> Result<Command<'a>, AllocError>
+    ensures { IfOk result (IsCommand update_shape) }
+{
+    Command::new(alloc, "update")
+        .about("Checks the files of the hardware database")
+        .arg(root_option(alloc))?
+        .arg(strict_flag(alloc))?
+        .arg(files_argument(alloc, DATABASE_FILES))
+}
+
+fn query_command<'a>(alloc: Global) -> Result<Command<'a>, AllocError>
+    ensures { IfOk result (IsCommand query_shape) }
+{
+    Command::new(alloc, "query")
+        .about("Prints the properties that the hardware database has for a device")
+        .arg(root_option(alloc))?
+        .arg(sources_flag(alloc))?
+        .arg(modalias_argument(alloc))?
+        .arg(files_argument(alloc, DATABASE_FILES))
+}
+
+fn verify_command<'a>(alloc: Global) -> Result<Command<'a>, AllocError>
+    ensures { IfOk result (IsCommand verify_shape) }
+{
+    Command::new(alloc, "verify")
+        .about("Checks rules files")
+        .arg(root_option(alloc))?
+        .arg(no_summary_flag(alloc))?
+        .arg(no_style_flag(alloc))?
+        .arg(files_argument(alloc, RULES_FILES))
+}
+
+fn program<'a>(alloc: Global) -> Result<Command<'a>, AllocError>
+    ensures { IfOk result (λ c. app_of c ≡ program_app) }
+{
+    Command::new(alloc, "devdry")
+        .no_binary_name(true)
+        .version("0.1.0")
+        .propagate_version(true)
+        .about("A dry run of udev's rules and hardware database")
+        .after_help(STATUSES)
+        .arg_required_else_help(true)
+        .subcommand_required(true)
+        .bin_name("devdry")
+}
+
+/// The command line of `devdry`, with its subcommands. `Err` is want of memory.
+pub fn devdry_command<'a>(alloc: Global) -> Result<Command<'a>, AllocError>
+    ensures { IfOk result (λ c. app_of c ≡ devdry) }
+{
+    program(alloc)?
+        .subcommand(update_command(alloc)?)?
+        .subcommand(query_command(alloc)?)?
+        .subcommand(verify_command(alloc)?)
+}

@@ -1,0 +1,181 @@
+//! Reads the words of a command line.
+//!
+//! `clap` decides which words it takes and what it says of others; here its matches become a line,
+//! and its errors the faults that the program tells apart by their status.
+ghost use Rattle.std.specs.Prelude.{◌≡◌, ◌↔◌, IsTrue, IfErr, IfOk, [], map, string_bytes, true};
+ghost use Rattle.clap.specs.Words.{fault_of, kind_of, subcommand_of, subcommand_rows_of, takes};
+ghost use Rattle.devdry_words.specs.Commands.{devdry};
+ghost use Rattle.devdry_words.specs.Lines.{AnswersOneOf, IsAnswer, IsLineOf, IsRequest, NamesVerb};
+
+use crate::commands::devdry_command;
+use crate::line_reading::{line_with, verb_of};
+use clap::error::ErrorKind;
+use clap::{ArgMatches, Error};
+use engine_line::{Line, LineFault};
+use std::alloc::Global;
+
+// Whether help or the version was asked for.
+fn is_request(kind: ErrorKind) -> bool
+    ensures { IsTrue result ↔ IsRequest kind }
+{
+    matches!(kind, ErrorKind::DisplayHelp | ErrorKind::DisplayVersion)
+}
+
+// The fault of an error of `clap`, with its text.
+fn fault_from(alloc: Global, error: &Error) -> LineFault
+    ensures memory { kind_of error.now ≡ ErrorKind.OutOfMemory → result ≡ LineFault.Memory }
+    ensures kind { IsAnswer result (kind_of error.now) }
+{
+    if error.kind() == ErrorKind::OutOfMemory {
+        return LineFault::Memory;
+    }
+    match error.to_string(alloc) {
+        Ok(text) => {
+            if is_request(error.kind()) {
+                LineFault::Help(text)
+            } else {
+                LineFault::Usage(text)
+            }
+        }
+        Err(_) => LineFault::Memory,
+    }
+}
+
+// The line of the matches, which name a subcommand.
+fn line_of<'a>(alloc: Global, matches: &ArgMatches<'a>) -> Result<Line<'a>, LineFault>
+    requires { NamesVerb (subcommand_rows_of matches.now) }
+    ensures line { IfOk result (IsLineOf (subcommand_rows_of matches.now)) }
+    ensures refusal { IfErr result (λ fault. fault ≡ LineFault.Memory) }
+{
+    let Some((name, inner)) = matches.subcommand() else {
+        prove!(false);
+        return Err(LineFault::Memory);
+    };
+    match line_with(alloc, verb_of(name), inner) {
+        Ok(line) => Ok(line),
+        Err(_) => Err(LineFault::Memory),
+    }
+}
+
+/// Reads the words after the program's name.
+///
+/// The subcommands and their options are those of `systemd-hwdb(8)` and `udevadm(8)` as far as
+/// `devdry` has them: `update [-s] [-r DIR] [FILE]..`, `query [-r DIR] [--sources] MODALIAS
+/// [FILE]..` and `verify [-r DIR] [--no-summary] [--no-style] [FILE]..`.
+///
+/// `LineFault::Help` comes for `--help`, `-h`, `help`, `--version` and `-V`, also after a
+/// subcommand; `LineFault::Usage` for all else that `clap` does not take, no words at all among
+/// it; `LineFault::Memory` where an allocation was refused.
+pub fn parse_line<'a>(alloc: Global, words: &'a [String]) -> Result<Line<'a>, LineFault>
+    // A line is that of the subcommand which the words name, with the values that they give.
+    ensures line { IfOk result (IsLineOf (subcommand_of devdry (map string_bytes words.now))) }
+    // No line comes from words that are at fault.
+    ensures faultless { IfOk result (λ line. fault_of devdry (map string_bytes words.now) ≡ []) }
+    // A fault answers what is wrong with the words: help, or usage.
+    ensures fault { IfErr result (AnswersOneOf (fault_of devdry (map string_bytes words.now))) }
+    // Words that are taken are refused for want of memory alone.
+    ensures refusal { takes devdry (map string_bytes words.now) ≡ true
+        → IfErr result (λ fault. fault ≡ LineFault.Memory) }
+{
+    let command = match devdry_command(alloc) {
+        Ok(command) => command,
+        Err(_) => return Err(LineFault::Memory),
+    };
+    match command.try_get_matches_from(words) {
+        Ok(matches) => line_of(alloc, &matches),
+        Err(error) => Err(fault_from(alloc, &error)),
+    }
+}
+
+#[cfg(test)]
+mod tests {
+    use super::*;
+    use engine_line::Verb;
+    use std::alloc::AllocError;
+    use std::test::Fail;
+
+    // The words of a text, cut at its blanks.
+    fn words_of(alloc: Global, text: &str) -> Result<Vec<String>, AllocError> {
+        let mut words = Vec::new(alloc);
+        for word in text.split_whitespace() {
+            words.push(String::from_str(alloc, word)?)?;
+        }
+        Ok(words)
+    }
+
+    #[test]
+    fn reads_a_query(rt: HostRuntime) -> Result<(), Fail> {
+        let words = words_of(rt.alloc(), "query -r /mnt usb:v1 --sources a.hwdb -- -b")?;
+        let line = parse_line(rt.alloc(), &words)?;
+        assert_eq!(rt; line.verb, Verb::Query);
+        assert_eq!(rt; line.root, "/mnt");
+        assert_eq!(rt; line.files.as_slice(), ["a.hwdb", "-b"].as_slice());
+        assert_eq!(rt; line.modalias, "usb:v1");
+        assert!(rt; line.sources && !line.strict);
+        Ok(())
+    }
+
+    #[test]
+    fn reads_an_update(rt: HostRuntime) -> Result<(), Fail> {
+        let words = words_of(rt.alloc(), "update --strict")?;
+        let line = parse_line(rt.alloc(), &words)?;
+        assert_eq!(rt; line.verb, Verb::Update);
+        assert_eq!(rt; line.root, "");
+        assert!(rt; line.files.is_empty() && line.strict && !line.sources);
+        assert!(rt; line.summary && line.style);
+        Ok(())
+    }
+
+    #[test]
+    fn reads_a_verify(rt: HostRuntime) -> Result<(), Fail> {
+        let words = words_of(rt.alloc(), "verify --root /mnt --no-style b.rules a.rules")?;
+        let line = parse_line(rt.alloc(), &words)?;
+        assert_eq!(rt; line.verb, Verb::Verify);
+        assert_eq!(rt; line.root, "/mnt");
+        assert_eq!(rt; line.files.as_slice(), ["b.rules", "a.rules"].as_slice());
+        assert!(rt; line.summary && !line.style && !line.strict);
+        Ok(())
+    }
+
+    // The fault of a text's words, if they have one.
+    fn fault_at(alloc: Global, text: &str) -> Result<Option<LineFault>, AllocError> {
+        let words = words_of(alloc, text)?;
+        match parse_line(alloc, &words) {
+            Ok(_line) => Ok(None),
+            Err(fault) => Ok(Some(fault)),
+        }
+    }
+
+    #[test]
+    fn tells_help_from_usage(rt: HostRuntime) -> Result<(), Fail> {
+        for (text, is_help, said) in [
+            ("--help", true, "Status:"),
+            ("-h", true, "devdry query usb:v1D6Bp0002"),
+            ("help", true, "hardware database"),
+            ("help query", true, "<MODALIAS> [FILE]..."),
+            ("query --help", true, "--sources"),
+            ("verify --help", true, "--no-summary"),
+            ("--version", true, "devdry 0.1.0\n"),
+            ("-V", true, "devdry 0.1.0\n"),
+            ("query --version", true, "0.1.0\n"),
+            ("", false, "Usage: devdry <COMMAND>"),
+            ("query", false, "<MODALIAS>"),
+            ("query m --strict", false, "--strict"),
+            ("update -s -s", false, "--strict"),
+            ("update --root", false, "--root <DIR>"),
+            ("verify --sources", false, "--sources"),
+            ("install", false, "install"),
+        ] {
+            match fault_at(rt.alloc(), text)? {
+                Some(LineFault::Help(answer)) => {
+                    assert!(rt; is_help && answer.contains(said), "{text}: {answer}");
+                }
+                Some(LineFault::Usage(answer)) => {
+                    assert!(rt; !is_help && answer.contains(said), "{text}: {answer}");
+                }
+                _ => assert!(rt; false, "{text}"),
+            }
+        }
+        Ok(())
+    }
+}

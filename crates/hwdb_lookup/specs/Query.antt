@@ -1,0 +1,68 @@
+-- What a database answers for a modalias.
+use Rattle.std.specs.Prelude.{ℕ, nat_lt, if◌then◌else◌, List, ◌∷◌, [], map, filter, fold}
+use Rattle.std.specs.Borrow.{Bor}
+use Rattle.std.specs.Ordering.{nat_cmp}
+use Rattle.std.specs.declared.cmp.Ordering.{Ordering}
+use Rattle.std.specs.declared.cmp.Ordering.TheVariants.{Less, Equal, Greater}
+use Rattle.std.specs.Cmp.Lexicographic.{slice_cmp}
+use Rattle.text_core.specs.Fits.{fits}
+use Rattle.hwdb_lookup.specs.declared.entry.Entry.{Entry}
+use Rattle.hwdb_lookup.specs.declared.lookup.Sourced.{Sourced}
+
+-- how a key compares with another, byte by byte: a key comes before a longer one that begins with it
+abbrev pub key_order : List ℕ → List ℕ → Ordering
+key_order key other = slice_cmp nat_cmp key other
+
+-- the entries for a device: those whose pattern its modalias fits
+abbrev pub fitting : List Entry → List ℕ → List Entry
+fitting entries modalias = filter (λ e. fits e.pattern modalias) entries
+
+-- of two entries with one key the one that counts: that of the greater order, and of equal orders the one listed later
+abbrev pub winner : Entry → Entry → Entry
+winner earlier later = if nat_lt later.order earlier.order then earlier else later
+
+-- an entry e, listed later than x, behind x, in the place that the two dispute, or before x
+abbrev pub placed : Ordering → Entry → Entry → List Entry → List Entry → List Entry
+placed Less e x xs behind = x ∷ behind
+placed Equal e x xs behind = winner x e ∷ xs
+placed Greater e x xs behind = e ∷ x ∷ xs
+
+-- an entry in its place among others, all listed earlier, that are sorted by key
+abbrev pub put : List Entry → Entry → List Entry
+put [] e = e ∷ []
+put (x ∷ xs) e = placed (key_order x.key e.key) e x xs (put xs e)
+
+-- the entries that fit, for each key the one that counts, sorted by key
+abbrev pub winners : List Entry → List ℕ → List Entry
+winners entries modalias = fold put [] (fitting entries modalias)
+
+-- the key and the value that an entry gives
+abbrev pub property : Entry → List ℕ × List ℕ
+property e = (e.key, e.value)
+
+-- the properties that apply: keys and values, sorted by key
+abbrev pub query : List Entry → List ℕ → List (List ℕ × List ℕ)
+query entries modalias = map property (winners entries modalias)
+
+-- a property with the file and the line that it comes from
+pub record Origin : Type 0 where
+  pub key : List ℕ
+  pub value : List ℕ
+  pub file : List ℕ
+  pub line : ℕ
+
+-- what an entry gives, with its file and line
+abbrev pub origin : Entry → Origin
+origin e = record { key = e.key; value = e.value; file = e.file; line = e.line }
+
+-- the properties that apply, each with where it comes from
+abbrev pub sourced : List Entry → List ℕ → List Origin
+sourced entries modalias = map origin (winners entries modalias)
+
+-- the keys and values that pairs of references lead to
+abbrev pub shown : List (Bor (List ℕ) × Bor (List ℕ)) → List (List ℕ × List ℕ)
+shown pairs = map (λ p. (p.0.now, p.1.now)) pairs
+
+-- the property that a `Sourced` shows
+abbrev pub shown_origin : Sourced → Origin
+shown_origin s = record { key = s.key.now; value = s.value.now; file = s.file.now; line = s.line }

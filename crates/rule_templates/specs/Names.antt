@@ -1,0 +1,53 @@
+-- The names of substitutions.
+use Rattle.std.specs.Prelude.{ℕ, List, [], ◌∷◌, Option, Some, None, length, nat_eq, if◌then◌else◌, codes}
+use Rattle.std.specs.List.{starts_with}
+use Rattle.rule_templates.specs.declared.names.Substitution.{Substitution}
+use Rattle.rule_templates.specs.declared.names.Substitution.TheVariants as name
+
+-- the names behind a `$`, with what each asks for; `sysfs` and `tempnode` are refused, and `$$` is `$`
+abbrev pub long_names : List (List ℕ × Substitution)
+long_names =
+    (codes "kernel", name.Kernel)
+    ∷ (codes "number", name.Number)
+    ∷ (codes "devpath", name.Devpath)
+    ∷ (codes "id", name.Id)
+    ∷ (codes "driver", name.Driver)
+    ∷ (codes "attr", name.Attr)
+    ∷ (codes "env", name.Env)
+    ∷ (codes "major", name.Major)
+    ∷ (codes "minor", name.Minor)
+    ∷ (codes "result", name.Result)
+    ∷ (codes "parent", name.Parent)
+    ∷ (codes "name", name.Name)
+    ∷ (codes "links", name.Links)
+    ∷ (codes "root", name.Root)
+    ∷ (codes "sysfs", name.Refused)
+    ∷ (codes "sys", name.Sys)
+    ∷ (codes "devnode", name.Devnode)
+    ∷ (codes "tempnode", name.Refused)
+    ∷ (codes "$", name.Dollar)
+    ∷ []
+
+-- the letters behind a `%`
+abbrev pub short_names : List (List ℕ × Substitution)
+short_names =
+    (codes "k", name.Kernel)
+    ∷ (codes "n", name.Number)
+    ∷ (codes "p", name.Devpath)
+    ∷ (codes "b", name.Id)
+    ∷ (codes "s", name.Attr)
+    ∷ (codes "E", name.Env)
+    ∷ (codes "M", name.Major)
+    ∷ (codes "m", name.Minor)
+    ∷ (codes "c", name.Result)
+    ∷ (codes "P", name.Parent)
+    ∷ (codes "r", name.Root)
+    ∷ (codes "S", name.Sys)
+    ∷ (codes "N", name.Devnode)
+    ∷ (codes "%", name.Percent)
+    ∷ []
+
+-- what the first name at the front of a text asks for, and the length of that name
+abbrev pub named : List (List ℕ × Substitution) → List ℕ → Option (Substitution × ℕ)
+named [] text = None
+named (row ∷ rows) text = if starts_with nat_eq text row.0 then Some (row.1, length row.0) else named rows text

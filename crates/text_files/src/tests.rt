@@ -1,0 +1,55 @@
+//! Each public function at values that a person wrote down.
+use crate::{FileKind, SourceFile, escape, order_files};
+use std::alloc::{AllocError, Global};
+use std::test::Fail;
+use text_bytes::Bytes;
+
+fn file(alloc: Global, rank: u8, name: &[u8], bytes: &[u8]) -> Result<SourceFile, AllocError> {
+    Ok(SourceFile {
+        kind: FileKind::Hwdb,
+        rank,
+        name: Bytes::copy_of(alloc, name)?,
+        bytes: Bytes::copy_of(alloc, bytes)?,
+    })
+}
+
+/// A line for each file: its name and what it holds.
+fn listed(alloc: Global, files: &[SourceFile]) -> Result<Vec<u8>, AllocError> {
+    let mut lines = Vec::new(alloc);
+    for file in files {
+        lines.extend_from_slice(file.name.as_slice())?;
+        lines.push(b' ')?;
+        lines.extend_from_slice(file.bytes.as_slice())?;
+        lines.push(b'\n')?;
+    }
+    Ok(lines)
+}
+
+#[test]
+fn escapes_controls_and_backslashes(rt: HostRuntime) -> Result<(), AllocError> {
+    let shown = escape(rt.alloc(), b"60-a\n\\x\x7F\x1F ~\xFF")?;
+    assert_eq!(rt;
+        shown.as_slice(),
+        b"60-a\\x0A\\x5Cx\\x7F\\x1F ~\xFF".as_slice()
+    );
+    Ok(())
+}
+
+#[test]
+fn of_each_name_the_first_of_least_rank_is_kept_in_order(rt: HostRuntime) -> Result<(), Fail> {
+    let alloc = rt.alloc();
+    let mut files = Vec::new(alloc);
+    files.push(file(alloc, 1, b"70-b.hwdb", b"1")?)?;
+    files.push(file(alloc, 1, b"60-a.hwdb", b"2")?)?;
+    files.push(file(alloc, 0, b"80-c.txt", b"3")?)?;
+    files.push(file(alloc, 0, b"70-b.hwdb", b"4")?)?;
+    files.push(file(alloc, 1, b"60-a.hwdb", b"5")?)?;
+    files.push(file(alloc, 2, b"70-b.hwdb", b"6")?)?;
+    files.push(file(alloc, 1, b"60.hwdb", b"7")?)?;
+    let kept = order_files(alloc, files, b".hwdb")?;
+    assert_eq!(rt;
+        listed(alloc, &kept)?.as_slice(),
+        b"60-a.hwdb 2\n60.hwdb 7\n70-b.hwdb 4\n".as_slice()
+    );
+    Ok(())
+}

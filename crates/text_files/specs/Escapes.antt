@@ -1,5 +1,6 @@
 -- How bytes of a file are written in an output, so that none of them can be taken for a part of it.
-use Rattle.std.specs.Prelude.{ℕ, Bool, ◌==◌, ◌||◌, ◌/◌, ◌%◌, nat_lt, List, ◌∷◌, [], ◌++◌, codes, slice_index, flat_map, if◌then◌else◌}
+use Rattle.std.specs.Prelude.{ℕ, ◌+◌, ◌*◌, Bool, ◌==◌, ◌||◌, ◌/◌, ◌%◌, nat_lt, List, ◌∷◌, [], ◌++◌, codes, slice_index, flat_map, if◌then◌else◌}
+use Rattle.std.specs.List.{position_or_len}
 use Rattle.text_bytes.specs.Names.{space, delete, backslash}
 
 -- a control byte of ASCII
@@ -10,9 +11,13 @@ is_control b = nat_lt b space || b == delete
 abbrev pub is_escaped : ℕ → Bool
 is_escaped b = is_control b || b == backslash
 
--- the upper case hexadecimal digit of a number below 16
+-- the upper case hexadecimal digits, in the order of their numbers
+abbrev pub hex_digits : List ℕ
+hex_digits = codes "0123456789ABCDEF"
+
+-- the digit of a number below 16
 abbrev pub hex_digit : ℕ → ℕ
-hex_digit n = slice_index (codes "0123456789ABCDEF") n
+hex_digit n = slice_index hex_digits n
 
 -- a byte as it is written: by `\x` and two hexadecimal digits, or as it is
 abbrev pub escape_byte : ℕ → List ℕ
@@ -21,3 +26,18 @@ escape_byte b = if is_escaped b then codes "\\x" ++ hex_digit (b / 16) ∷ hex_d
 -- a text as it is written, byte by byte
 abbrev pub escape_text : List ℕ → List ℕ
 escape_text text = flat_map escape_byte text
+
+-- the number below 16 that a digit writes
+abbrev pub digit_value : ℕ → ℕ
+digit_value digit = position_or_len (λ d. d == digit) hex_digits
+
+-- The text that is written so: a backslash, the byte behind it and two digits are the byte of their number, and any other byte
+-- is itself.
+abbrev pub unescaped : List ℕ → List ℕ
+unescaped [] = []
+unescaped (b ∷ []) = b ∷ []
+unescaped (b ∷ c ∷ []) = b ∷ c ∷ []
+unescaped (b ∷ c ∷ d ∷ []) = b ∷ c ∷ d ∷ []
+unescaped (b ∷ x ∷ high ∷ low ∷ rest) =
+    if b == backslash then (16 * digit_value high + digit_value low) ∷ unescaped rest
+    else b ∷ unescaped (x ∷ high ∷ low ∷ rest)

@@ -1,4 +1,6 @@
-pub mod Escapes
+pub mod Kinds
 pub mod FileOrder
-pub mod Places
 pub mod OrderLaws
+pub mod Messages
+pub mod Escapes
+pub mod Places

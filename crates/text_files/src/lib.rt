@@ -12,8 +12,8 @@ mod source_file;
 
 pub use escapes::escape;
 pub use file_order::order_files;
-pub use laws::kept_files;
-pub use message::{Message, MessageKind};
+pub use laws::{escaped_is_read_back, kept_files};
+pub use message::{Message, MessageKind, capped, word_of};
 pub use source_file::{FileKind, SourceFile};
 
 #[cfg(test)]

@@ -1,8 +1,14 @@
 //! Messages about a line of a file.
 //!
 //! A message is kept as what it says and not as text: the texts are made once, where they are written.
+ghost use Rattle.std.specs.Prelude.{◌≡◌, IfOk};
+ghost use Rattle.text_files.specs.Messages.{capped, message, word_of};
 
+use std::alloc::{AllocError, Global};
 use text_bytes::Bytes;
+
+/// How many bytes of a text a message keeps.
+const MAX_WORD: usize = 32;
 
 /// What is wrong with a line: of the database (H), with a rule (V), or with how a rule is written (S).
 #[derive(Clone, Copy, Debug, PartialEq, Eq)]
@@ -64,4 +70,41 @@ pub struct Message {
     pub kind: MessageKind,
     /// The first 32 bytes of the part of the line that it is about, before they are escaped.
     pub word: Bytes,
+}
+
+impl Message {
+    /// The message that something is wrong with a line of a file, told with a text of that line.
+    ///
+    /// The error comes where memory is refused.
+    pub fn about(
+        alloc: Global,
+        file: &[u8],
+        number: usize,
+        kind: MessageKind,
+        text: &[u8],
+    ) -> Result<Message, AllocError>
+        ensures { IfOk result (λ told. told ≡ message file.now number kind text.now) }
+    {
+        Ok(Message {
+            file: Bytes::copy_of(alloc, file)?,
+            line: capped(number),
+            kind,
+            word: Bytes::copy_of(alloc, word_of(text))?,
+        })
+    }
+}
+
+/// The number of a line as messages and entries of the database give it: one over 2^32 - 1 as that.
+pub fn capped(number: usize) -> u32
+    ensures { result ≡ capped number }
+{
+    number.min(u32::MAX as usize) as u32
+}
+
+/// What a message keeps of a text: its first 32 bytes.
+#[tactic(auto, using(std::proofs::lemmas::List::take_min))]
+pub fn word_of(text: &[u8]) -> &[u8]
+    ensures { result.now ≡ word_of text.now }
+{
+    &text[..MAX_WORD.min(text.len())]
 }

@@ -1,4 +1,6 @@
 //! Files as they are handed in, whole and in memory: no crate below the program opens one.
+ghost use Rattle.std.specs.Prelude.{◌≡◌};
+ghost use Rattle.text_files.specs.Kinds.{suffix_of};
 
 use text_bytes::Bytes;
 
@@ -9,6 +11,19 @@ pub enum FileKind {
     Hwdb,
     /// Rules, as udev(7) says.
     Rules,
+}
+
+impl FileKind {
+    /// How the names of a folder's files of this kind end; files that are named one by one may have
+    /// any name.
+    pub fn suffix(self) -> &'static str
+        ensures { result.now ≡ suffix_of self }
+    {
+        match self {
+            FileKind::Hwdb => ".hwdb",
+            FileKind::Rules => ".rules",
+        }
+    }
 }
 
 /// A file that was read whole.

@@ -1,5 +1,5 @@
 //! Each public function at values that a person wrote down.
-use crate::{FileKind, SourceFile, escape, order_files};
+use crate::{FileKind, Message, MessageKind, SourceFile, capped, escape, order_files};
 use std::alloc::{AllocError, Global};
 use std::test::Fail;
 use text_bytes::Bytes;
@@ -52,4 +52,21 @@ fn of_each_name_the_first_of_least_rank_is_kept_in_order(rt: HostRuntime) -> Res
         b"60-a.hwdb 2\n60.hwdb 7\n70-b.hwdb 4\n".as_slice()
     );
     Ok(())
+}
+
+#[test]
+fn a_message_keeps_32_bytes_of_a_text(rt: HostRuntime) -> Result<(), Fail> {
+    let text = b"0123456789abcdef0123456789abcdef01234567";
+    let told = Message::about(rt.alloc(), b"60-a.rules", 7, MessageKind::BadSyntax, text)?;
+    assert!(rt; told.file.as_slice() == b"60-a.rules".as_slice());
+    assert!(rt; told.line == 7 && told.kind == MessageKind::BadSyntax);
+    assert!(rt; told.word.as_slice() == b"0123456789abcdef0123456789abcdef".as_slice());
+    assert_eq!(rt; capped(4_294_967_296), 4_294_967_295);
+    Ok(())
+}
+
+#[test]
+fn each_kind_has_its_suffix(rt: HostRuntime) {
+    assert!(rt; FileKind::Hwdb.suffix() == ".hwdb");
+    assert!(rt; FileKind::Rules.suffix() == ".rules");
 }

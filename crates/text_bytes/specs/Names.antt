@@ -58,6 +58,12 @@ dot = 46
 abbrev pub slash : ℕ
 slash = 47
 
+abbrev pub digit_zero : ℕ
+digit_zero = 48
+
+abbrev pub digit_nine : ℕ
+digit_nine = 57
+
 abbrev pub colon : ℕ
 colon = 58
 

@@ -1,0 +1,27 @@
+-- The lines of a text.
+use Rattle.std.specs.Prelude.{ℕ, ◌+◌, ◌-◌, ◌^◌, ◌==◌, min, if◌then◌else◌, List, [], ◌∷◌}
+use Rattle.std.specs.List.{onto_first}
+use Rattle.text_bytes.specs.Names.{newline}
+
+-- the texts that newlines end, and what stands behind the last newline, if anything does
+abbrev pub lines : List ℕ → List (List ℕ)
+lines [] = []
+lines (b ∷ text) = if b == newline then [] ∷ lines text else onto_first b (lines text)
+
+-- a line: its number in its text, and its bytes
+pub record NumberedLine : Type 0 where
+  pub number : ℕ
+  pub text : List ℕ
+
+-- texts as lines, of which the first has this number
+abbrev pub numbered_from : ℕ → List (List ℕ) → List NumberedLine
+numbered_from n [] = []
+numbered_from n (t ∷ ts) = record { number = n; text = t } ∷ numbered_from (n + 1) ts
+
+-- the lines of a text, counted from 1
+abbrev pub numbered_lines : List ℕ → List NumberedLine
+numbered_lines text = numbered_from 1 (lines text)
+
+-- the number of a line as it is told: one over 2^32 - 1 is told as that
+abbrev pub told_number : ℕ → ℕ
+told_number n = min n (2 ^ 32 - 1)

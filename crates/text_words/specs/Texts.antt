@@ -1,0 +1,26 @@
+-- Words for texts that several readers use.
+use Rattle.std.specs.Prelude.{ℕ, Bool, true, false, ◌==◌, List, [], ◌∷◌, take, drop}
+use Rattle.std.specs.List.{prefix_len}
+use Rattle.text_bytes.specs.Names.{is_blank}
+
+-- whether a list has nothing in it
+abbrev pub is_empty : {X : Type 0} → List X → Bool
+is_empty [] = true
+is_empty (x ∷ xs) = false
+
+-- whether a text begins with this byte
+abbrev pub begins_with : ℕ → List ℕ → Bool
+begins_with byte [] = false
+begins_with byte (b ∷ text) = b == byte
+
+-- what stands behind the elements at the front that pass a test
+abbrev pub skip_while : {X : Type 0} → (X → Bool) → List X → List X
+skip_while test xs = drop (prefix_len test xs) xs
+
+-- a text without the spaces and tabs at its start
+abbrev pub unindented : List ℕ → List ℕ
+unindented text = skip_while is_blank text
+
+-- the front of a text that a message shows: its first 32 bytes
+abbrev pub shown_word : List ℕ → List ℕ
+shown_word text = take 32 text

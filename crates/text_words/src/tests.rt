@@ -1,0 +1,45 @@
+use super::*;
+use std::test::Fail;
+
+#[test]
+fn each_line_has_its_number(rt: HostRuntime) -> Result<(), Fail> {
+    let mut lines = Lines::new(b"one\n\ntwo");
+    let one = lines.next().ok_or("none")?;
+    assert_eq!(rt; one.number(), 1);
+    assert_eq!(rt; one.text(), b"one".as_slice());
+    let none = lines.next().ok_or("none")?;
+    assert_eq!(rt; none.text(), b"".as_slice());
+    let two = lines.next().ok_or("none")?;
+    assert_eq!(rt; two.number(), 3);
+    assert_eq!(rt; two.with_text(b"t").text(), b"t".as_slice());
+    assert!(rt; lines.next().is_none());
+    assert_eq!(rt; told_number(5_000_000_000), 4_294_967_295);
+    let (first, behind) = first_line(b"a\nb");
+    assert_eq!(rt; first, b"a".as_slice());
+    assert_eq!(rt; behind, b"b".as_slice());
+    Ok(())
+}
+
+#[test]
+fn numbers(rt: HostRuntime) -> Result<(), Fail> {
+    assert_eq!(rt; decimal_below(256, b"255"), Some(255));
+    assert_eq!(rt; decimal_below(256, b"256"), None);
+    assert_eq!(rt; decimal_below(256, b"0000000000007"), Some(7));
+    assert_eq!(rt; decimal_below(256, b""), None);
+    assert_eq!(rt; decimal_below(256, b"1x"), None);
+    Ok(())
+}
+
+#[test]
+fn texts(rt: HostRuntime) -> Result<(), Fail> {
+    assert!(rt; begins_with(b'#', b"# text"));
+    assert!(rt; !begins_with(b'#', b""));
+    assert_eq!(rt; unindented(b" \t a "), b"a ".as_slice());
+    assert!(rt; is_whitespace(b'\r') && !is_blank(b'\r'));
+    assert_eq!(rt;
+        shown_word(b"0123456789012345678901234567890123456789").len(),
+        32
+    );
+    assert_eq!(rt; shown_word(b"short"), b"short".as_slice());
+    Ok(())
+}

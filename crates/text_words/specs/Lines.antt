@@ -1,5 +1,5 @@
 -- The lines of a text.
-use Rattle.std.specs.Prelude.{ℕ, ◌+◌, ◌-◌, ◌^◌, ◌==◌, min, if◌then◌else◌, List, [], ◌∷◌}
+use Rattle.std.specs.Prelude.{ℕ, ◌+◌, ◌==◌, if◌then◌else◌, List, [], ◌∷◌}
 use Rattle.std.specs.List.{onto_first}
 use Rattle.text_bytes.specs.Names.{newline}
 
@@ -21,7 +21,3 @@ numbered_from n (t ∷ ts) = record { number = n; text = t } ∷ numbered_from (
 -- the lines of a text, counted from 1
 abbrev pub numbered_lines : List ℕ → List NumberedLine
 numbered_lines text = numbered_from 1 (lines text)
-
--- the number of a line as it is told: one over 2^32 - 1 is told as that
-abbrev pub told_number : ℕ → ℕ
-told_number n = min n (2 ^ 32 - 1)

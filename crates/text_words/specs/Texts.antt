@@ -1,5 +1,5 @@
 -- Words for texts that several readers use.
-use Rattle.std.specs.Prelude.{ℕ, Bool, true, false, ◌==◌, List, [], ◌∷◌, take, drop}
+use Rattle.std.specs.Prelude.{ℕ, Bool, true, false, ◌==◌, List, [], ◌∷◌, drop}
 use Rattle.std.specs.List.{prefix_len}
 use Rattle.text_bytes.specs.Names.{is_blank}
 
@@ -20,7 +20,3 @@ skip_while test xs = drop (prefix_len test xs) xs
 -- a text without the spaces and tabs at its start
 abbrev pub unindented : List ℕ → List ℕ
 unindented text = skip_while is_blank text
-
--- the front of a text that a message shows: its first 32 bytes
-abbrev pub shown_word : List ℕ → List ℕ
-shown_word text = take 32 text

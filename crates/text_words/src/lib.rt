@@ -1,5 +1,4 @@
-//! Words that readers of texts share: lines and their numbers, decimal numbers, blanks, and the
-//! front of a text that a message shows.
+//! Words that readers of texts share: lines and their numbers, decimal numbers and blanks.
 //!
 //! Rules, database files and event blocks are all read by lines. What a line is, which number it
 //! has and what a decimal number means is said here once, so that no two readers differ in it.
@@ -11,6 +10,6 @@ mod numbers;
 mod tests;
 mod texts;
 
-pub use lines::{Line, Lines, first_line, told_number};
+pub use lines::{Line, Lines, first_line};
 pub use numbers::{decimal_below, is_digit};
-pub use texts::{begins_with, is_blank, is_whitespace, shown_word, unindented};
+pub use texts::{begins_with, is_blank, is_whitespace, unindented};

@@ -1,6 +1,6 @@
 //! The lines of a text, with their numbers.
 ghost use Rattle.std.specs.Prelude.{◌≡◌, ◌<◌, ◌∷◌, length};
-ghost use Rattle.text_words.specs.Lines.{lines, numbered_lines, told_number};
+ghost use Rattle.text_words.specs.Lines.{lines, numbered_lines};
 
 use std::marker::Model;
 use text_bytes::find;
@@ -107,11 +107,4 @@ pub fn first_line(text: &[u8]) -> (&[u8], &[u8])
         None => (text, &[]),
         Some(at) => (&text[..at], &text[at + 1..]),
     }
-}
-
-/// The number of a line as it is told: one over 2^32 - 1 is told as that.
-pub fn told_number(number: usize) -> u32
-    ensures { result ≡ told_number number }
-{
-    number.min(u32::MAX as usize) as u32
 }

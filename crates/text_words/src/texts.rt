@@ -1,11 +1,8 @@
 //! What a text begins with, and its blanks.
-ghost use Rattle.std.specs.Prelude.{◌≡◌, ◌≤◌, length, take};
+ghost use Rattle.std.specs.Prelude.{◌≡◌, ◌≤◌, length};
 ghost use Rattle.std.specs.List.{prefix_len};
 ghost use Rattle.text_bytes.specs.Names.{is_blank, is_whitespace};
-ghost use Rattle.text_words.specs.Texts.{begins_with, shown_word, unindented};
-
-/// How many bytes of a text a message shows.
-const WORD_LENGTH: usize = 32;
+ghost use Rattle.text_words.specs.Texts.{begins_with, unindented};
 
 /// Whether a byte is a space or a tab.
 pub fn is_blank(byte: u8) -> bool
@@ -45,18 +42,4 @@ fn leading_blanks(text: &[u8]) -> usize
     ensures within { result ≤ length text.now }
 {
     text.iter().take_while(|byte| is_blank(**byte)).count()
-}
-
-/// The front of a text that a message shows: its first 32 bytes, or all where it has fewer.
-pub fn shown_word(text: &[u8]) -> &[u8]
-    ensures { result.now ≡ shown_word text.now }
-{
-    front(text, WORD_LENGTH)
-}
-
-/// The first bytes of a text, at most so many.
-fn front(text: &[u8], length: usize) -> &[u8]
-    ensures { result.now ≡ take length text.now }
-{
-    &text[..length.min(text.len())]
 }

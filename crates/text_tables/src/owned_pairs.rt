@@ -1,0 +1,101 @@
+//! Owned names with owned values: properties that rules set and take away.
+ghost use Rattle.std.specs.Prelude.{◌≡◌, [], length, option_map, map, OnOk, OnErr};
+ghost use Rattle.text_tables.specs.Texts.{AreOnce};
+ghost use Rattle.text_tables.specs.Pairs.{names, value_of, with_value, with_values, without_name};
+
+use crate::pairs::Pairs;
+use indexmap::IndexMap;
+use std::alloc::{AllocError, Global};
+use std::marker::Model;
+use text_bytes::Bytes;
+
+/// Names and values of its own, in the order in which the names came, each name once.
+#[derive(Drop)]
+pub struct OwnedPairs {
+    held: IndexMap<Vec<u8>, Bytes>,
+}
+
+impl Model for OwnedPairs {
+    ghost use Rattle.std.specs.Prelude.{List, ℕ, map};
+
+    ghost Value = { List (List ℕ × List ℕ) };
+
+    ghost view = { λ p. map (λ e. (e.0.items, e.1)) p.held.entries };
+}
+
+impl OwnedPairs {
+    /// No names.
+    pub fn new(alloc: Global) -> OwnedPairs
+        ensures { result ≡ [] }
+    {
+        OwnedPairs {
+            held: IndexMap::new(alloc),
+        }
+    }
+
+    /// How many names there are; none is there twice.
+    pub fn len(&self) -> usize
+        ensures count { result ≡ length self.now }
+        ensures once { AreOnce (names self.now) }
+    {
+        self.held.len()
+    }
+
+    /// Lends the map, whose order is that of the names.
+    pub fn as_map(&self) -> &IndexMap<Vec<u8>, Bytes>
+        ensures { map (λ e. (e.0.items, e.1)) result.now.entries ≡ self.now }
+    {
+        &self.held
+    }
+
+    /// Lends the value of a name.
+    pub fn get(&self, name: &[u8]) -> Option<&Bytes>
+        ensures { option_map (λ v. v.now) result ≡ value_of self.now name.now }
+    {
+        self.held.get(name)
+    }
+
+    /// Gives a name a copy of a value: a name that is there takes it in its place, another one is
+    /// added at the end. Where memory is refused, the names and values stay as they are.
+    pub fn set(&mut self, alloc: Global, name: &[u8], value: &[u8]) -> Result<(), AllocError>
+        ensures pairs { OnOk result (self.new ≡ with_value self.old name.now value.now) }
+        ensures refused { OnErr result (self.new ≡ self.old) }
+    {
+        let value = Bytes::copy_of(alloc, value)?;
+        self.put(alloc, name, value)
+    }
+
+    /// Gives a name a value as `set` does, without a copy of the value.
+    pub fn put(&mut self, alloc: Global, name: &[u8], value: Bytes) -> Result<(), AllocError>
+        ensures pairs { OnOk result (self.new ≡ with_value self.old name.now value) }
+        ensures refused { OnErr result (self.new ≡ self.old) }
+    {
+        let name = Vec::from_slice(alloc, name)?;
+        self.held.insert(name, value)?;
+        Ok(())
+    }
+
+    /// Sets each of these names. Where memory is refused, some are set.
+    pub fn set_all(&mut self, alloc: Global, pairs: &Pairs<'_>) -> Result<(), AllocError>
+        ensures { OnOk result (self.new ≡ with_values self.old pairs.now) }
+    {
+        for (name, value) in pairs.as_map().iter() {
+            self.set(alloc, name, value)?;
+        }
+        Ok(())
+    }
+
+    /// Takes a name and its value away; the others keep their order.
+    pub fn remove(&mut self, name: &[u8])
+        ensures { self.new ≡ without_name self.old name.now }
+    {
+        self.held.shift_remove(name);
+    }
+
+    /// Takes all names away.
+    pub fn clear(&mut self)
+        ensures { self.new ≡ [] }
+    {
+        self.held.clear();
+    }
+}

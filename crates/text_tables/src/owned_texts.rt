@@ -1,0 +1,83 @@
+//! Owned texts, each once: what rules add and take away.
+ghost use Rattle.std.specs.Prelude.{◌≡◌, [], map, OnOk, OnErr};
+ghost use Rattle.text_tables.specs.Texts.{is_among, with_text, with_texts, without_text, AreOnce};
+
+use crate::texts::Texts;
+use indexmap::IndexSet;
+use std::alloc::{AllocError, Global};
+use std::marker::Model;
+
+/// Texts of its own in the order in which they came, each once.
+#[derive(Drop)]
+pub struct OwnedTexts {
+    held: IndexSet<Vec<u8>>,
+}
+
+impl Model for OwnedTexts {
+    ghost use Rattle.std.specs.Prelude.{List, ℕ, map};
+
+    ghost Value = { List (List ℕ) };
+
+    ghost view = { λ t. map (λ k. k.items) t.held.keys };
+}
+
+impl OwnedTexts {
+    /// No texts.
+    pub fn new(alloc: Global) -> OwnedTexts
+        ensures { result ≡ [] }
+    {
+        OwnedTexts {
+            held: IndexSet::new(alloc),
+        }
+    }
+
+    /// Lends the texts, in their order; none is there twice.
+    pub fn as_slice(&self) -> &[Vec<u8>]
+        ensures texts { map (λ k. k.items) result.now ≡ self.now }
+        ensures once { AreOnce self.now }
+    {
+        self.held.as_slice()
+    }
+
+    /// Whether a text is among them.
+    pub fn contains(&self, text: &[u8]) -> bool
+        ensures { result ≡ is_among self.now text.now }
+    {
+        self.held.contains(text)
+    }
+
+    /// Adds a copy of a text at the end, unless it is there. Where memory is refused, the texts
+    /// stay as they are.
+    pub fn add(&mut self, alloc: Global, text: &[u8]) -> Result<(), AllocError>
+        ensures texts { OnOk result (self.new ≡ with_text self.old text.now) }
+        ensures refused { OnErr result (self.new ≡ self.old) }
+    {
+        let text = Vec::from_slice(alloc, text)?;
+        self.held.insert(text)?;
+        Ok(())
+    }
+
+    /// Adds each of these texts. Where memory is refused, some are added.
+    pub fn add_all(&mut self, alloc: Global, texts: &Texts<'_>) -> Result<(), AllocError>
+        ensures { OnOk result (self.new ≡ with_texts self.old texts.now) }
+    {
+        for text in texts.as_slice() {
+            self.add(alloc, text)?;
+        }
+        Ok(())
+    }
+
+    /// Takes a text away; the others keep their order.
+    pub fn remove(&mut self, text: &[u8])
+        ensures { self.new ≡ without_text self.old text.now }
+    {
+        self.held.shift_remove(text);
+    }
+
+    /// Takes all texts away.
+    pub fn clear(&mut self)
+        ensures { self.new ≡ [] }
+    {
+        self.held.clear();
+    }
+}

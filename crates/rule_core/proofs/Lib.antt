@@ -2,5 +2,9 @@ mod Capping
 mod Adding
 mod Filing
 mod Listing
-mod Jumping
+mod Landed
+mod Outcomes
+mod Landing
+mod Numbering
+mod Ordering
 mod Understanding

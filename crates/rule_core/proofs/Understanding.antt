@@ -1,5 +1,5 @@
 -- Files about which there is no message.
-use Rattle.std.proofs.Common.{◌≡◌, ℕ, Bool, true, false, not, cond, List, [], ◌∷◌, ◌++◌, map, zip, Option, Some, None, Result, Ok, Err, refl, sym, ◌∙◌, ap, subst, ◌⊎◌, inl, inr, Contains, Any, All}
+use Rattle.std.proofs.Common.{◌≡◌, ℕ, Bool, true, false, not, cond, List, [], ◌∷◌, ◌++◌, map, Option, Some, None, Result, Ok, Err, refl, sym, ◌∙◌, ap, subst, ◌⊎◌, inl, inr, Contains, Any, All}
 use Rattle.std.specs.List.{AllZip, flat_map, onto_first}
 use Rattle.std.proofs.lemmas.List.Elements.{All-cons, All-nil}
 use Rattle.text_files.specs.declared.message.Message.{Message}
@@ -7,10 +7,11 @@ use Rattle.text_files.specs.declared.source_file.SourceFile.{SourceFile}
 use Rattle.rule_parts.specs.declared.finding.Finding.{Finding}
 use Rattle.rule_lines.specs.Lines.{NumberedLine, Piece, capped, is_comment, is_empty, is_open, joined_lines, kept, lines_of_runs, open_of_runs, piece_of, run_number, run_text, runs, unindented}
 use Rattle.rule_drafts.specs.Drafts.{Draft, draft_of}
-use Rattle.rule_jumps.specs.Jumps.{Names, is_lost, is_unused, landings, landings_below}
+use Rattle.rule_jumps.specs.Jumps.{Names, is_lost, is_unused, landings}
 use Rattle.rule_jumps.specs.declared.jumps.Landing.{Landing}
 use Rattle.rule_core.specs.Rules.{Reading, Rule, file_messages, file_rules, findings_of, line_messages, line_rules, message_at, names_of, open_messages, reading_of, rule_at, set_of}
 use Rattle.rule_core.specs.Laws.{IsEmptyOrRule, IsKnown, IsUnderstood, IsWritten, runs_of, well_landed, written_lines}
+use Rattle.rule_core.proofs.Landed.{rules_below, told_below}
 use Rattle.rule_core.proofs.Listing.{Has, all_from_has, back_empty, contains, front_empty, has_map, map_empty, not_told}
 
 well : (l : Landing) → l.lost ≡ false → l.unused ≡ false → l ≡ well_landed
@@ -28,16 +29,6 @@ written_line file l (Ok d) k more ls rules e m f =
     let others = back_empty _ _ said in
     let unused : k.unused ≡ false = not_told _ k.unused (back_empty d.findings _ others) in
     (record { draft = d; reads = e; is = ap (rule_at file l.number d) (well k lost unused); quiet = front_empty d.findings _ others }, f (back_empty _ more m))
-
--- the lines of a file with what becomes of their jumps, below others
-abbrev landed_below : List Names → List NumberedLine → List (Reading × Landing)
-landed_below above ls = zip (map reading_of ls) (landings_below above (map (λ r. names_of r.read) (map reading_of ls)))
-
-abbrev told_below : List ℕ → List Names → List NumberedLine → List Message
-told_below file above ls = flat_map (λ x. line_messages file x.0.line x.0.read x.1) (landed_below above ls)
-
-abbrev rules_below : List ℕ → List Names → List NumberedLine → List Rule
-rules_below file above ls = flat_map (λ x. line_rules file x.0.line x.0.read x.1) (landed_below above ls)
 
 written : (file : List ℕ) (above : List Names) (ls : List NumberedLine) → told_below file above ls ≡ [] → AllZip (IsWritten file) ls (rules_below file above ls)
 written file above [] e = tt

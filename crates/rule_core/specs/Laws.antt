@@ -1,5 +1,5 @@
 -- What the rules of files come to, whatever stands in the files.
-use Rattle.std.specs.Prelude.{◌≡◌, ◌⊎◌, ℕ, true, false, List, [], ◌∷◌, ◌++◌, map, All, Any, Contains, None, Some, Ok}
+use Rattle.std.specs.Prelude.{◌≡◌, ◌⊎◌, ℕ, true, false, List, [], map, All, Any, Contains, None, Ok}
 use Rattle.std.specs.List.{AllZip}
 use Rattle.text_files.specs.declared.source_file.SourceFile.{SourceFile}
 use Rattle.rule_lines.specs.Lines.{NumberedLine, Piece, capped, is_comment, joined_lines, kept, lines, numbered_from, piece_of, run_number, run_text, runs, unindented}
@@ -39,7 +39,3 @@ pub record IsUnderstood (f : SourceFile) : Type 0 where
   pub rules : AllZip (IsWritten f.name) (joined_lines f.bytes).lines (file_rules f)
   pub closed : (joined_lines f.bytes).open_at ≡ None
   pub lines : All (IsKnown f) (written_lines f)
-
--- each of these rules that jumps has, behind it, a rule with the label that it jumps to
-abbrev pub JumpsEnd : List Rule → Type 0
-JumpsEnd rules = (before behind : List Rule) (r : Rule) (name : List ℕ) → rules ≡ before ++ r ∷ behind → r.goto ≡ Some name → Any (λ q. q.label ≡ Some name) behind

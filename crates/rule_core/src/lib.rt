@@ -11,13 +11,15 @@ mod messages;
 mod reading;
 mod readings;
 mod rule;
+mod rule_set;
 #[cfg(test)]
 mod tests;
 
 pub use fault::RulesFault;
 pub use reading::read_rules;
-pub use rule::{Rule, RuleSet};
+pub use rule::Rule;
 pub use rule_keys::{ImportType, Key, import_type};
 pub use rule_parts::{Part, RuleOption, Value};
+pub use rule_set::RuleSet;
 pub use rule_templates::{Piece, Template, TemplateFault};
 pub use rule_tokens::{Operator, Quote, Span, Token, TokenFault, TokenFaultKind, Tokens, unquote};

@@ -4,7 +4,6 @@ ghost use Rattle.std.specs.Prelude.{◌≡◌, option_map};
 use rule_parts::Part;
 use std::marker::Model;
 use text_bytes::Bytes;
-use text_files::Message;
 
 /// A rule: where it stands, and its parts in the order in which they are evaluated. `read_rules`
 /// alone makes it.
@@ -107,45 +106,5 @@ impl Rule {
         ensures { result.now ≡ self.now.sets }
     {
         &self.sets
-    }
-}
-
-/// The rules of files, and the messages about them. `read_rules` alone makes it.
-#[derive(Debug, Drop)]
-pub struct RuleSet {
-    pub(crate) rules: Vec<Rule>,
-    pub(crate) messages: Vec<Message>,
-}
-
-impl Model for RuleSet {
-    ghost use Rattle.rule_core.specs.Rules as sets;
-
-    ghost Value = { sets.RuleSet };
-
-    ghost view = { λ s. record { rules = s.rules.items; messages = s.messages.items } };
-}
-
-impl RuleSet {
-    /// Lends the rules, in the order of the files and their lines.
-    pub fn rules(&self) -> &[Rule]
-        ensures { result.now ≡ self.now.rules }
-    {
-        &self.rules
-    }
-
-    /// Lends the messages: by file, then by line; of one line the V by number and place, then the S
-    /// by place and number, S4 last.
-    pub fn messages(&self) -> &[Message]
-        ensures { result.now ≡ self.now.messages }
-    {
-        &self.messages
-    }
-
-    /// Gives up the rules for the messages.
-    pub fn into_messages(self) -> Vec<Message>
-        ensures { result.items ≡ self.messages }
-    {
-        let RuleSet { rules: _, messages } = self;
-        messages
     }
 }

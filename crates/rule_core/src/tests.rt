@@ -71,9 +71,10 @@ fn a_jump_without_its_label(rt: HostRuntime) -> Result<(), Fail> {
     let set = read(rt.alloc(), b"g.rules", b"GOTO=\"y\", ENV{D}=\"1\"")?;
     assert_eq!(rt; set.messages().len(), 1);
     assert!(rt; tells(&set, 0, 1, MessageKind::NoLaterLabel, b"y"));
-    assert_eq!(rt; set.rules().len(), 1);
-    assert!(rt; set.rules()[0].goto().is_none());
-    assert_eq!(rt; set.rules()[0].sets().len(), 1);
+    let rules = set.into_rules();
+    assert_eq!(rt; rules.len(), 1);
+    assert!(rt; rules[0].goto().is_none());
+    assert_eq!(rt; rules[0].sets().len(), 1);
     Ok(())
 }
 

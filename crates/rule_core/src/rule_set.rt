@@ -1,0 +1,65 @@
+//! The rules of all files together.
+//!
+//! That they have not too many tokens is known of each value, so that what is made of rules can be
+//! counted without a case for more.
+ghost use Rattle.std.specs.Prelude.{◌≡◌, ◌^◌, ◌≤◌};
+ghost use Rattle.rule_core.specs.Rules.{tokens_in};
+
+use crate::Rule;
+use std::marker::Model;
+use text_files::Message;
+
+/// The rules of files, of which at most 2^24 tokens are left, and the messages about them.
+/// `read_rules` alone makes it.
+#[derive(Debug, Drop)]
+pub struct RuleSet {
+    pub(crate) rules: Vec<Rule>,
+    pub(crate) messages: Vec<Message>,
+}
+
+impl Model for RuleSet {
+    ghost use Rattle.std.specs.Prelude.{◌^◌, ◌≤◌};
+    ghost use Rattle.rule_core.specs.Rules as sets;
+    ghost use Rattle.rule_core.specs.Rules.{tokens_in};
+
+    ghost Value = { sets.RuleSet };
+
+    ghost view = { λ s. record { rules = s.rules.items; messages = s.messages.items } };
+
+    ghost invariant = { λ s. tokens_in s.rules.items ≤ 2 ^ 24 };
+}
+
+impl RuleSet {
+    /// Lends the rules, in the order of the files and their lines.
+    pub fn rules(&self) -> &[Rule]
+        ensures lent { result.now ≡ self.now.rules }
+        ensures within { tokens_in self.now.rules ≤ 2 ^ 24 }
+    {
+        &self.rules
+    }
+
+    /// Lends the messages: by file, then by line; of one line the V by number and place, then the S
+    /// by place and number, S4 last.
+    pub fn messages(&self) -> &[Message]
+        ensures { result.now ≡ self.now.messages }
+    {
+        &self.messages
+    }
+
+    /// Gives up the messages for the rules.
+    pub fn into_rules(self) -> Vec<Rule>
+        ensures given { result.items ≡ self.rules }
+        ensures within { tokens_in self.rules ≤ 2 ^ 24 }
+    {
+        let RuleSet { rules, messages: _ } = self;
+        rules
+    }
+
+    /// Gives up the rules for the messages.
+    pub fn into_messages(self) -> Vec<Message>
+        ensures { result.items ≡ self.messages }
+    {
+        let RuleSet { rules: _, messages } = self;
+        messages
+    }
+}

@@ -1,5 +1,4 @@
-pub mod Naming
-pub mod Passing
-pub mod Labelled
-pub mod Reached
-pub mod Placed
+mod Passing
+mod Labelled
+mod Reached
+mod Placed

@@ -1,11 +1,13 @@
 -- What the passes over the rules of a file keep.
-use Rattle.std.proofs.Common.{◌≡◌, ℕ, ◌+◌, ◌<◌, ◌≤◌, suc, Bool, true, false, cond, not, ◌||◌, List, [], ◌∷◌, ◌++◌, length, map, get_or, take, drop, Option, Some, None, reverse, refl, ap, sym, ◌∙◌, append-nil, append_assoc, length-drop, arith}
+use Rattle.std.proofs.Common.{◌≡◌, ℕ, ◌+◌, ◌<◌, ◌≤◌, suc, Bool, true, false, cond, not, ◌||◌, List, [], ◌∷◌, ◌++◌, length, map, get_or, take, drop, Option, Some, None, unwrap_or, reverse, refl, ap, sym, ◌∙◌, append-nil, append_assoc, length-drop, arith}
 use Rattle.std.proofs.Math.Seq.{drop-cons}
 use Rattle.std.proofs.lemmas.List.{reverse-append, reverse-reverse, take_more}
 use Rattle.std.specs.List.{zip}
 use Rattle.rule_jumps.specs.Jumps.{Names, has_label, is_awaited, is_lost, is_named, is_unused, landings, landings_below}
-use Rattle.rule_jumps.specs.Tables.{is_met, is_waited_for, leaves_unused, misses}
-use Rattle.rule_jumps.specs.Flags.{joined, lost_flags, unused_flags}
+use Rattle.text_tables.specs.Texts.{is_among, same_text}
+use Rattle.text_tables.specs.Pairs.{value_of}
+use Rattle.text_tables.proofs.Found.{among_added, value_set}
+use Rattle.rule_jumps.specs.Passes.{is_waited_for, joined, leaves_unused, lost_flags, misses, unused_flags, with_name, with_note}
 
 -- the two lists of flags are what becomes of the jumps
 landings-joined : (above rules : List Names) → map joined (zip (lost_flags rules) (unused_flags above rules)) ≡ landings_below above rules
@@ -18,32 +20,52 @@ landings-from_flags rules = landings-joined [] rules
 
 -- going up: the labels met and the flags so far are those of the rules gone past, from the last one on
 pub record GoesUp (met : List (List ℕ)) (flags : List Bool) (past : List Names) : Type 0 where
-  pub labels : (name : List ℕ) → is_met name met ≡ has_label name (reverse past)
+  pub labels : (name : List ℕ) → is_among met name ≡ has_label name (reverse past)
   pub so_far : reverse flags ≡ lost_flags (reverse past)
 
 -- going down: the names waited for are those of the rules above, and the flags so far and those of the rules below are all
 pub record GoesDown (waiting : List (List ℕ × Bool)) (flags : List Bool) (rules : List Names) (i : ℕ) : Type 0 where
-  pub waits : (name : List ℕ) → is_waited_for name waiting ≡ is_awaited name (reverse (take i rules))
+  pub waits : (name : List ℕ) → is_waited_for waiting name ≡ is_awaited name (reverse (take i rules))
   pub so_far : flags ++ unused_flags (reverse (take i rules)) (drop i rules) ≡ unused_flags [] rules
 
 -- what misses the labels met is lost
-missed : (met : List (List ℕ)) (goto : Option (List ℕ)) (below : List Names) → ((name : List ℕ) → is_met name met ≡ has_label name below) → misses met goto ≡ is_lost goto below
+missed : (met : List (List ℕ)) (goto : Option (List ℕ)) (below : List Names) → ((name : List ℕ) → is_among met name ≡ has_label name below) → misses met goto ≡ is_lost goto below
 missed met None below same = refl
 missed met (Some name) below same = ap not (same name)
 
+or_swapped : (a b : Bool) → (a || b) ≡ (b || a)
+or_swapped true true = refl
+or_swapped true false = refl
+or_swapped false true = refl
+or_swapped false false = refl
+
+-- names with one more
+named_more : (names : List (List ℕ)) (new : Option (List ℕ)) (name : List ℕ) → is_among (with_name names new) name ≡ (is_named name new || is_among names name)
+named_more names None name = refl
+named_more names (Some new) name = among_added names new name ∙ or_swapped (is_among names name) (same_text name new)
+
+-- what is noted last of a name stands, and other names keep what they had
+noted_more : (waiting : List (List ℕ × Bool)) (new : Option (List ℕ)) (waits : Bool) (name : List ℕ) → is_waited_for (with_note waiting new waits) name ≡ cond (is_named name new) waits (is_waited_for waiting name)
+noted_more waiting None waits name = refl
+noted_more waiting (Some new) waits name = ap (λ (o : Option Bool). unwrap_or o false) (value_set waiting new waits name) ∙ by (same_text name new)
+  where
+    by : (b : Bool) → unwrap_or (cond b (Some waits) (value_of waiting name)) false ≡ cond b waits (is_waited_for waiting name)
+    by true = refl
+    by false = refl
+
 pub up_start : (met : List (List ℕ)) (flags : List Bool) → met ≡ [] → flags ≡ [] → GoesUp met flags []
 up_start met flags e f = record {
-  labels = λ name. ap (is_met name) e;
+  labels = λ name. ap (λ (names : List (List ℕ)). is_among names name) e;
   so_far = ap reverse f;
 }
 
 pub up_past : (met more : List (List ℕ)) (flags longer : List Bool) (past : List Names) (r : Names) (lost : Bool) → GoesUp met flags past
-    → lost ≡ misses met r.goto → longer ≡ flags ++ lost ∷ [] → ((name : List ℕ) → is_met name more ≡ (is_named name r.label || is_met name met))
+    → lost ≡ misses met r.goto → longer ≡ flags ++ lost ∷ [] → more ≡ with_name met r.label
     → GoesUp more longer (past ++ r ∷ [])
 up_past met more flags longer past r lost before is_missed pushed added =
     let turned : reverse (past ++ r ∷ []) ≡ r ∷ reverse past = reverse-append past (r ∷ []) in
     record {
-      labels = λ name. added name ∙ ap (λ b. is_named name r.label || b) (before.labels name) ∙ ap (has_label name) (sym turned);
+      labels = λ name. ap (λ (names : List (List ℕ)). is_among names name) added ∙ named_more met r.label name ∙ ap (λ b. is_named name r.label || b) (before.labels name) ∙ ap (has_label name) (sym turned);
       so_far =
           ap reverse pushed ∙ reverse-append flags (lost ∷ []) ∙ ap (λ b. b ∷ reverse flags) (is_missed ∙ missed met r.goto (reverse past) before.labels)
           ∙ ap (λ bs. is_lost r.goto (reverse past) ∷ bs) before.so_far ∙ ap lost_flags (sym turned);
@@ -53,13 +75,13 @@ pub up_end : (met : List (List ℕ)) (flags turned : List Bool) (past rules : Li
 up_end met flags turned past rules before whole e = e ∙ before.so_far ∙ ap (λ rs. lost_flags (reverse rs)) whole ∙ ap lost_flags (reverse-reverse rules)
 
 -- what nothing waits for is unused
-unwaited : (waiting : List (List ℕ × Bool)) (label : Option (List ℕ)) (above : List Names) → ((name : List ℕ) → is_waited_for name waiting ≡ is_awaited name above) → leaves_unused waiting label ≡ is_unused label above
+unwaited : (waiting : List (List ℕ × Bool)) (label : Option (List ℕ)) (above : List Names) → ((name : List ℕ) → is_waited_for waiting name ≡ is_awaited name above) → leaves_unused waiting label ≡ is_unused label above
 unwaited waiting None above same = refl
 unwaited waiting (Some name) above same = ap not (same name)
 
 pub down_start : (waiting : List (List ℕ × Bool)) (flags : List Bool) (rules : List Names) → waiting ≡ [] → flags ≡ [] → GoesDown waiting flags rules 0
 down_start waiting flags rules e f = record {
-  waits = λ name. ap (is_waited_for name) e;
+  waits = λ name. ap (λ (w : List (List ℕ × Bool)). is_waited_for w name) e;
   so_far = ap (λ bs. bs ++ unused_flags [] rules) f;
 }
 
@@ -71,15 +93,15 @@ rule_item rules i r h e =
 
 pub down_past : (waiting between more : List (List ℕ × Bool)) (flags longer : List Bool) (rules : List Names) (i : ℕ) (r : Names) (unused : Bool) → GoesDown waiting flags rules i
     → i < length rules → r ≡ get_or rules i r → unused ≡ leaves_unused waiting r.label → longer ≡ flags ++ unused ∷ []
-    → ((name : List ℕ) → is_waited_for name between ≡ cond (is_named name r.label) false (is_waited_for name waiting))
-    → ((name : List ℕ) → is_waited_for name more ≡ cond (is_named name r.goto) true (is_waited_for name between))
+    → between ≡ with_note waiting r.label false → more ≡ with_note between r.goto true
     → GoesDown more longer rules (i + 1)
 down_past waiting between more flags longer rules i r unused before h e is_left pushed arrives leaves =
     let above : List Names = reverse (take i rules) in
     let turned : reverse (take (i + 1) rules) ≡ r ∷ above = ap reverse (take_more rules i r h ∙ ap (λ x. take i rules ++ x ∷ []) (sym e)) ∙ reverse-append (take i rules) (r ∷ []) in
     record {
       waits = λ name.
-          leaves name ∙ ap (λ b. cond (is_named name r.goto) true b) (arrives name ∙ ap (λ b. cond (is_named name r.label) false b) (before.waits name))
+          ap (λ (w : List (List ℕ × Bool)). is_waited_for w name) leaves ∙ noted_more between r.goto true name
+          ∙ ap (λ b. cond (is_named name r.goto) true b) (ap (λ (w : List (List ℕ × Bool)). is_waited_for w name) arrives ∙ noted_more waiting r.label false name ∙ ap (λ b. cond (is_named name r.label) false b) (before.waits name))
           ∙ ap (is_awaited name) (sym turned);
       so_far =
           ap (λ bs. bs ++ unused_flags (reverse (take (i + 1) rules)) (drop (i + 1) rules)) pushed

@@ -1,4 +1,3 @@
 pub mod Jumps
-pub mod Tables
-pub mod Flags
 pub mod Landings
+pub mod Passes

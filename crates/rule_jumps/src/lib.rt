@@ -6,12 +6,10 @@
 #![tactic(auto)]
 
 mod jumps;
-mod labels;
 mod laws;
 mod passes;
 #[cfg(test)]
 mod tests;
-mod waiting;
 
 pub use jumps::{Jump, Landing};
 pub use laws::{a_jump_that_is_not_lost_reaches_a_rule, each_rule_has_its_landing};

@@ -1,6 +1,6 @@
 use Rattle.std.proofs.Common.{◌≡◌, ◌∙◌, [], Bool, IfOk, List, map, ap, subst}
 use Rattle.std.specs.List.{zip}
-use Rattle.rule_jumps.specs.Flags.{joined, lost_flags, unused_flags}
+use Rattle.rule_jumps.specs.Passes.{joined, lost_flags, unused_flags}
 use Rattle.rule_jumps.specs.Jumps.{landings}
 use Rattle.rule_jumps.specs.declared.jumps.Landing.{Landing}
 use Rattle.rule_jumps.proofs.Passing.{landings-from_flags}

@@ -1,9 +1,9 @@
-use Rattle.std.proofs.Common.{◌||◌, ◌∙◌, [], ◌∷◌, ◌++◌, List, map, ap, sym, subst}
+use Rattle.std.proofs.Common.{◌∙◌, [], ◌∷◌, ◌++◌, List, map, ap, sym, subst}
 use Rattle.std.proofs.lemmas.List.{map-append}
 use Rattle.std.proofs.lemmas.Iterator.Adapters.{YieldsList-from_rev_slice}
 use Rattle.std.proofs.lemmas.Iterator.Consumers.{YieldsList-end}
-use Rattle.rule_jumps.specs.Jumps.{Names, is_named}
-use Rattle.rule_jumps.specs.Tables.{is_met, misses}
+use Rattle.rule_jumps.specs.Jumps.{Names}
+use Rattle.rule_jumps.specs.Passes.{misses, with_name}
 use Rattle.rule_jumps.proofs.Passing.{GoesUp, up_start, up_past, up_end}
 use Rattle.rule_jumps.proofs.passes.lost_flags.Goals as goal
 
@@ -13,11 +13,11 @@ loop-rule-init c = up_start c.new-below.result c.in_ok-flags.flags.items c.new-b
 pub loop-rule-preserved : goal.loop-rule-preserved
 loop-rule-preserved c =
     let past : List Names = map (λ r. r.now) c.loop-rule.yielded in
-    let more : GoesUp c.add.new.self c.push.new.self.items (past ++ c.in-Some.rule.now ∷ []) =
-    up_past c.loop-rule.below c.add.new.self c.loop-rule.flags.items c.push.new.self.items past c.in-Some.rule.now c.misses.result c.loop-rule.invariant
+    let more : GoesUp c.add.new.names c.push.new.self.items (past ++ c.in-Some.rule.now ∷ []) =
+    up_past c.loop-rule.below c.add.new.names c.loop-rule.flags.items c.push.new.self.items past c.in-Some.rule.now c.misses.result c.loop-rule.invariant
     (c.misses.ensures ∙ ap (misses c.loop-rule.below) c.goto.ensures) c.in_ok-push.ensures.items
-    (λ n. c.in_ok-add.ensures n ∙ ap (λ l. is_named n l || is_met n c.loop-rule.below) c.label.ensures) in
-    subst (λ (rs : List Names). GoesUp c.add.new.self c.push.new.self.items rs) (sym (map-append (λ r. r.now) c.loop-rule.yielded (c.in-Some.rule ∷ []))) more
+    (c.in_ok-add.ensures ∙ ap (with_name c.loop-rule.below) c.label.ensures) in
+    subst (λ (rs : List Names). GoesUp c.add.new.names c.push.new.self.items rs) (sym (map-append (λ r. r.now) c.loop-rule.yielded (c.in-Some.rule ∷ []))) more
 
 pub returns : goal.returns
 returns c =

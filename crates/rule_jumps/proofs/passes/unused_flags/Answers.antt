@@ -1,6 +1,5 @@
-use Rattle.std.proofs.Common.{◌∙◌, false, true, cond, ap}
-use Rattle.rule_jumps.specs.Jumps.{is_named}
-use Rattle.rule_jumps.specs.Tables.{is_waited_for, leaves_unused}
+use Rattle.std.proofs.Common.{◌∙◌, false, true, ap}
+use Rattle.rule_jumps.specs.Passes.{leaves_unused, with_note}
 use Rattle.rule_jumps.proofs.Passing.{down_start, down_past, down_end}
 use Rattle.rule_jumps.proofs.passes.unused_flags.Goals as goal
 
@@ -9,10 +8,10 @@ loop-rule-init c = down_start c.new-waiting.result c.in_ok-flags.flags.items c.a
 
 pub loop-rule-preserved : goal.loop-rule-preserved
 loop-rule-preserved c =
-    down_past c.loop-rule.waiting c.note.new.self c.note-in-loop-rule.new.self c.loop-rule.flags.items c.push.new.self.items c.args.rules.now c.loop-rule.rule-index c.rule-item.result c.leaves_unused.result
+    down_past c.loop-rule.waiting c.note.new.waiting c.note-in-loop-rule.new.waiting c.loop-rule.flags.items c.push.new.self.items c.args.rules.now c.loop-rule.rule-index c.rule-item.result c.leaves_unused.result
     c.loop-rule.invariant c.loop-rule-test.true c.rule-item.is (c.leaves_unused.ensures ∙ ap (leaves_unused c.loop-rule.waiting) c.label.ensures) c.in_ok-push.ensures.items
-    (λ n. c.in_ok-note.ensures n ∙ ap (λ l. cond (is_named n l) false (is_waited_for n c.loop-rule.waiting)) c.label-in-loop-rule.ensures)
-    (λ n. c.in_ok-note-2.ensures n ∙ ap (λ l. cond (is_named n l) true (is_waited_for n c.note.new.self)) c.goto.ensures)
+    (c.in_ok-note.ensures ∙ ap (λ l. with_note c.loop-rule.waiting l false) c.label-in-loop-rule.ensures)
+    (c.in_ok-note-2.ensures ∙ ap (λ l. with_note c.note.new.waiting l true) c.goto.ensures)
 
 pub returns : goal.returns
 returns c = down_end c.loop-rule.waiting c.loop-rule.flags.items c.args.rules.now c.loop-rule.rule-index c.loop-rule.invariant c.loop-rule-test.false

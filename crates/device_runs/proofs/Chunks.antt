@@ -5,7 +5,8 @@ use Rattle.std.proofs.lemmas.List.{append-nil, take_more, take_all, get_or-drop}
 use Rattle.std.proofs.Math.Seq.{take-add}
 use Rattle.std.proofs.lemmas.Grind.{common_steps}
 use Rattle.device_runs.specs.Runs.{complete_runs, rest_of}
-use Rattle.device_runs.specs.Filling.{begins_after, first_line}
+use Rattle.device_runs.specs.Filling.{first_line}
+use Rattle.device_runs.specs.Holding.{begins_after}
 use Rattle.device_runs.proofs.Law.{byte_stays, begins_after-push, complete_runs-append}
 
 -- none of the bytes is the newline of an empty line

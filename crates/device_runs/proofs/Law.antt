@@ -3,7 +3,7 @@ use Rattle.std.specs.Prelude.{◌≡◌, ◌≢◌, ◌+◌, ◌<◌, take, leng
 use Rattle.std.proofs.Common.{append_assoc, get_or, ap, sym, ◌∙◌, subst}
 use Rattle.std.proofs.lemmas.List.{append-nil, take_more}
 use Rattle.device_runs.specs.Runs.{lines_of, onto_first_line, Parts, parts_of, next_line, onto_first, not_empty, complete_runs, rest_of, runs}
-use Rattle.device_runs.specs.Filling.{begins_after}
+use Rattle.device_runs.specs.Holding.{begins_after}
 
 -- the parts byte by byte, from a place where a line begins or not
 abbrev pub parts_from : Bool → List ℕ → Parts

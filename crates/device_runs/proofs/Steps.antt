@@ -1,10 +1,11 @@
 -- A room, filled a line at a time.
-use Rattle.std.proofs.Common.{◌≡◌, ◌≢◌, ℕ, ◌+◌, ◌-◌, ◌<◌, ◌≤◌, ◌==◌, ◌&&◌, Bool, true, false, List, [], ◌∷◌, ◌++◌, length, take, drop, get_or, refl, ap, sym, ◌∙◌, arith, add-zero}
-use Rattle.std.proofs.lemmas.List.{get_or-drop}
+use Rattle.std.proofs.Common.{◌≡◌, ◌≢◌, ℕ, ◌+◌, ◌-◌, ◌<◌, ◌≤◌, ◌==◌, ◌&&◌, Bool, true, false, List, [], ◌∷◌, ◌++◌, length, take, drop, get_or, refl, append_assoc, ap, sym, ◌∙◌, arith, add-zero}
+use Rattle.std.proofs.lemmas.List.{get_or-drop, take_more}
+use Rattle.std.proofs.Math.Seq.{take-length}
 use Rattle.std.proofs.lemmas.Grind.{common_steps}
 use Rattle.device_runs.specs.Runs.{complete_runs, rest_of}
-use Rattle.device_runs.specs.Filling.{begins_after, first_line}
-use Rattle.device_runs.specs.Holding.{IsPending}
+use Rattle.device_runs.specs.Filling.{first_line, Completes, Overflows}
+use Rattle.device_runs.specs.Holding.{begins_after, IsPending}
 use Rattle.device_runs.proofs.Law.{rest_of-alone, piece_ends, not_empty-one}
 use Rattle.device_runs.proofs.Chunks.{GoesOn, chunk_stays, line_goes_on, take_chunk, begins_after-chunk}
 
@@ -24,11 +25,11 @@ skips {before} {piece} {i} {room} {len} {start} f h z e =
     record { within = f.within; inside = omega arith; begins = f.begins; none = rw held at p.0; rest = p.1 ∙ sym held }
 
 -- the run is complete
-pub ends : {before piece : List ℕ} {i : ℕ} {room : List ℕ} {len : ℕ} {start : Bool} → Filling before piece i room len start → i < length piece → len ≢ 0 → (start && (get_or piece i 0 == 10)) ≡ true → (complete_runs (before ++ take (i + 1) piece) ≡ take len room ∷ []) × (rest_of (before ++ take (i + 1) piece) ≡ [])
+pub ends : {before piece : List ℕ} {i : ℕ} {room : List ℕ} {len : ℕ} {start : Bool} → Filling before piece i room len start → i < length piece → len ≢ 0 → (start && (get_or piece i 0 == 10)) ≡ true → Completes before piece (i + 1) (take len room)
 ends {before} {piece} {i} {room} {len} {start} f h z e =
     let p = piece_ends before piece i (take len room) start h f.rest f.begins e f.none in
     let some : length (take len room) ≢ 0 = grind (arith, common_steps, f.within) in
-    (p.0 ∙ not_empty-one (take len room) some, p.1)
+    record { run = p.0 ∙ not_empty-one (take len room) some; rest = p.1; some = omega arith }
 
 -- the bytes of a line that is not empty
 goes_on : (start : Bool) (piece : List ℕ) (i n : ℕ) → (start && (get_or piece i 0 == 10)) ≡ false → n ≤ length (first_line (drop i piece)) → GoesOn start (take n (drop i piece))
@@ -36,7 +37,7 @@ goes_on start piece i n e l =
     let first : get_or (drop i piece) 0 0 ≡ get_or piece i 0 = get_or-drop i piece 0 0 ∙ ap (λ k. get_or piece k 0) (add-zero i) in
     line_goes_on start (drop i piece) n l (ap (λ b. start && (b == 10)) first ∙ e)
 
-stays : {before piece : List ℕ} {i : ℕ} {room : List ℕ} {len : ℕ} {start : Bool} (n : ℕ) → Filling before piece i room len start → (start && (get_or piece i 0 == 10)) ≡ false → n ≤ length (first_line (drop i piece))
+pub stays : {before piece : List ℕ} {i : ℕ} {room : List ℕ} {len : ℕ} {start : Bool} (n : ℕ) → Filling before piece i room len start → (start && (get_or piece i 0 == 10)) ≡ false → n ≤ length (first_line (drop i piece))
     → (complete_runs (before ++ take (i + n) piece) ≡ []) × (rest_of (before ++ take (i + n) piece) ≡ take len room ++ take n (drop i piece))
 stays {before} {piece} {i} {room} {len} {start} n f e l =
     let p = chunk_stays (before ++ take i piece) (take len room) (take n (drop i piece)) start f.rest f.begins (goes_on start piece i n e l) in
@@ -59,22 +60,21 @@ puts {before} {piece} {i} {room} {len} {start} n now f e some l inside within he
 -- the run is longer than the room
 pub overflows : {before piece : List ℕ} {i : ℕ} {room : List ℕ} {len : ℕ} {start : Bool} (n : ℕ) (now : List ℕ) → Filling before piece i room len start → (start && (get_or piece i 0 == 10)) ≡ false
     → n + 1 ≤ length (first_line (drop i piece)) → i + n < length piece → take (len + n) now ≡ take len room ++ take n (drop i piece) → len + n ≡ length now
-    → record {
-      below : complete_runs (before ++ take (i + n) piece) ≡ [];
-      none : complete_runs (before ++ take (i + n + 1) piece) ≡ [];
-      rest : rest_of (before ++ take (i + n) piece) ≡ take (length now) now;
-      longer : length (rest_of (before ++ take (i + n + 1) piece)) ≡ length now + 1;
-    }
+    → Overflows before piece (i + n) (take (length now) now) now
 overflows {before} {piece} {i} {room} {len} {start} n now f e l inside held full =
-    let p = stays n f e (omega arith) in
     let q = stays (n + 1) f e l in
     let next : i + (n + 1) ≡ i + n + 1 = omega arith in
-    let size : length (take len room ++ take (n + 1) (drop i piece)) ≡ length now + 1 = grind (arith, common_steps, f.within) in
+    let here : n < length (drop i piece) = grind (arith, common_steps) in
+    let whole : take (length now) now ≡ take len room ++ take n (drop i piece) = ap (λ k. take k now) (sym full) ∙ held in
     record {
-      below = p.0;
+      within = inside;
+      full = take-length now;
+      byte = get_or (drop i piece) n 0;
       none = ap (λ k. complete_runs (before ++ take k piece)) (sym next) ∙ q.0;
-      rest = p.1 ∙ sym held ∙ ap (λ k. take k now) full;
-      longer = ap (λ k. length (rest_of (before ++ take k piece))) (sym next) ∙ ap length q.1 ∙ size;
+      rest = ap (λ k. rest_of (before ++ take k piece)) (sym next) ∙ q.1
+          ∙ ap (λ l. take len room ++ l) (take_more (drop i piece) n 0 here)
+          ∙ sym (append_assoc (take len room) (take n (drop i piece)) (get_or (drop i piece) n 0 ∷ []))
+          ∙ ap (λ l. l ++ get_or (drop i piece) n 0 ∷ []) (sym whole);
     }
 
 -- what a text holds of a run that is not complete

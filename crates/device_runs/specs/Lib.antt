@@ -1,4 +1,7 @@
 pub mod Runs
+pub mod Cuts
+pub mod Blocks
 pub mod Splits
-pub mod Filling
+pub mod Calls
 pub mod Holding
+pub mod Filling

@@ -1,16 +1,24 @@
 -- What a splitter is to its callers, and what its calls do.
-use Rattle.std.specs.Prelude.{◌≡◌, ◌≢◌, ◌↔◌, ℕ, ◌==◌, ◌+◌, ◌<◌, ◌≤◌, Bool, true, false, IsTrue, List, [], ◌∷◌, ◌++◌, length, take, count_by}
-use Rattle.text_bytes.specs.Names.{newline}
-use Rattle.device_runs.specs.Runs.{complete_runs, rest_of}
+use Rattle.std.specs.Prelude.{◌≡◌, ◌≢◌, ◌↔◌, ℕ, ◌<◌, ◌≤◌, Bool, true, false, IsTrue, List, [], ◌∷◌, ◌++◌, length, take}
+use Rattle.device_runs.specs.Runs.{complete_runs, rest_of, runs}
+use Rattle.device_runs.specs.Blocks.{most_bytes, line_of_excess}
 use Rattle.device_runs.specs.declared.splitter.Taken.{Taken}
 use Rattle.device_runs.specs.declared.splitter.SplitFault.{SplitFault}
 use Rattle.device_runs.specs.declared.splitter.SplitFault.TheVariants.{TooLong, Ended}
 
--- the bytes taken of a run that is not complete, the block just completed, and whether no more is taken
+-- the bytes taken of a run that is not complete, the block that is lent, and whether no more is taken
 pub record Split : Type 0 where
   pub pending : List ℕ
   pub block : List ℕ
   pub ended : Bool
+
+-- at an input's start
+abbrev pub opened : Split
+opened = record { pending = []; block = []; ended = false }
+
+-- nothing is held, nothing lent, and no more is taken
+abbrev pub closed : Split
+closed = record { pending = []; block = []; ended = true }
 
 -- the block, if one is complete
 abbrev pub given : Bool → List ℕ → List (List ℕ)
@@ -26,33 +34,34 @@ pub record Takes (old : Split) (piece : List ℕ) (taken : Taken) (new : Split) 
   pub pending : rest_of (old.pending ++ take taken.used piece) ≡ new.pending
   pub first : (n : ℕ) → n < taken.used → complete_runs (old.pending ++ take n piece) ≡ []
   pub all : taken.whole ≡ false → (taken.used ≡ length piece) × (new.block ≡ [])
-  pub pending_fits : length new.pending ≤ 65536
-  pub block_fits : length new.block ≤ 65536
+  pub pending_fits : length new.pending ≤ most_bytes
+  pub block_fits : length new.block ≤ most_bytes
   pub moves : 0 < length piece → 0 < taken.used
-  pub alone : (complete_runs new.pending ≡ []) × (rest_of new.pending ≡ new.pending)
   pub goes_on : (old.ended ≡ false) × (new.ended ≡ false)
 
--- how many lines end in a text
-abbrev pub newlines : List ℕ → ℕ
-newlines text = count_by (λ byte. byte == newline) text
+-- The first run of the text has more bytes than a block may have, the first of them too many in this line.
+pub record BeginsTooLong (text : List ℕ) (line : ℕ) : Type 0 where
+  pub run : List ℕ
+  pub others : List (List ℕ)
+  pub found : runs text ≡ run ∷ others
+  pub too_long : most_bytes < length run
+  pub counted : line ≡ line_of_excess run
 
--- A byte of the piece is the 65,537th of a run, and stands in this of its lines.
-pub record IsTooLong (old : Split) (piece : List ℕ) (line : ℕ) : Type 0 where
-  pub at : ℕ
-  pub within : at < length piece
-  pub none : complete_runs (old.pending ++ take (at + 1) piece) ≡ []
-  pub longer : length (rest_of (old.pending ++ take (at + 1) piece)) ≡ 65537
-  pub counted : line ≡ newlines (rest_of (old.pending ++ take at piece)) + 1
-
--- What `take` does where it fails: after a run that is too long nothing is held and no more is taken,
--- and where no more is taken nothing changes.
+-- What `take` does where it fails. The run that begins with the pending bytes and goes on with the
+-- piece is too long, whatever comes behind the piece; or the input had ended.
 abbrev pub FailsBy : SplitFault → Split → List ℕ → Split → Type 0
-FailsBy (TooLong line) old piece new = IsTooLong old piece line × (old.ended ≡ false) × (new ≡ record { pending = []; block = []; ended = true })
-FailsBy Ended old piece new = (old.ended ≡ true) × (new ≡ old)
+FailsBy (TooLong line) old piece new = ((later : List ℕ) → BeginsTooLong (old.pending ++ piece ++ later) line) × (old.ended ≡ false) × (new ≡ closed)
+FailsBy Ended old piece new = (old.ended ≡ true) × (new ≡ closed)
 
 -- What `end` does: the pending bytes are the last block, if there are any.
 pub record Ends (old : Split) (some : Bool) (new : Split) : Type 0 where
   pub goes_on : old.ended ≡ false
   pub gives : new ≡ record { pending = []; block = old.pending; ended = true }
-  pub fits : length old.pending ≤ 65536
+  pub fits : length old.pending ≤ most_bytes
   pub answers : IsTrue some ↔ (old.pending ≢ [])
+
+-- What `end` does where it fails: the input had ended before.
+pub record HadEnded (fault : SplitFault) (old new : Split) : Type 0 where
+  pub is : fault ≡ Ended
+  pub ended : old.ended ≡ true
+  pub closes : new ≡ closed

@@ -1,9 +1,10 @@
 //! The bytes of a piece, put behind those of a run that is not complete.
 //!
 //! A line at a time is copied: the search for its newline is `memchr`'s.
-ghost use Rattle.std.specs.Prelude.{◌≡◌, ℕ, ◌+◌, ◌≤◌, ◌<◌, [], ◌++◌, length, take, true};
-ghost use Rattle.device_runs.specs.Runs.{complete_runs, rest_of};
-ghost use Rattle.device_runs.specs.Filling.{begins_after, first_line, Fills};
+ghost use Rattle.std.specs.Prelude.{◌≡◌, ℕ, ◌+◌, ◌≤◌, ◌<◌, [], ◌++◌, length, take};
+ghost use Rattle.device_runs.specs.Runs.{complete_runs};
+ghost use Rattle.device_runs.specs.Holding.{IsPending};
+ghost use Rattle.device_runs.specs.Filling.{first_line, Fills};
 
 use text_bytes::find;
 
@@ -33,9 +34,7 @@ pub(crate) struct Filled {
 /// Puts the bytes of a piece behind the first `held` of the room, up to the end of a run.
 pub(crate) fn fill(room: &mut [u8], held: usize, begins: bool, piece: &[u8]) -> Filled
     requires within { held ≤ length room.old }
-    requires none { complete_runs (take held room.old) ≡ [] }
-    requires rest { rest_of (take held room.old) ≡ take held room.old }
-    requires begins { begins ≡ begins_after true (take held room.old) }
+    requires pending { IsPending (take held room.old) begins }
     ensures used { result.used ≤ length piece.now }
     ensures len { result.len ≤ length room.new }
     ensures room { length room.new ≡ length room.old }

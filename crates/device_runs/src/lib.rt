@@ -9,7 +9,10 @@ mod filling;
 mod laws;
 mod splitter;
 
-pub use laws::runs_of_pieces;
+pub use laws::{
+    a_text_is_cut_one_way, blocks_end_at_the_first_fault, calls_give_the_blocks,
+    other_faults_end_the_blocks_sooner, runs_of_pieces,
+};
 pub use splitter::{SplitFault, Splitter, Taken};
 
 #[cfg(test)]

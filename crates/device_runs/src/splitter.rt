@@ -1,9 +1,13 @@
-//! The splitter: blocks of an input that comes in pieces, in room taken once.
-ghost use Rattle.std.specs.Prelude.{◌≡◌, ◌≢◌, ◌≤◌, ◌+◌, ◌↔◌, ℕ, [], length, true, false, IsTrue, IfOk, IfErr};
-ghost use Rattle.device_runs.specs.Splits.{Takes, Ends, FailsBy, newlines};
+//! The splitter: blocks of an input that comes in pieces.
+//!
+//! Its room is a boxed slice, which can't grow: no call but `new` could take memory.
+ghost use Rattle.std.specs.Prelude.{◌≡◌, ◌≤◌, ◌+◌, [], length, IfOk, IfErr};
+ghost use Rattle.device_runs.specs.Blocks.{newlines};
+ghost use Rattle.device_runs.specs.Splits.{opened, Takes, Ends, FailsBy, HadEnded};
 
 use crate::filling::{Stop, fill};
 use std::alloc::{AllocError, Global};
+use std::boxed::BoxedSlice;
 use std::marker::Model;
 
 /// The longest block, in bytes.
@@ -35,10 +39,14 @@ pub enum SplitFault {
 /// `udevadm info --export-db` of udevadm(8) part the devices that it lists.
 #[derive(Drop)]
 pub struct Splitter {
-    room: Vec<u8>,
+    room: BoxedSlice<u8>,
+    /// How many bytes of the room are held.
     len: usize,
+    /// Whether a line begins behind them.
     at_start: bool,
+    /// Whether they are a block, and no more a run that is not complete.
     standing: bool,
+    /// Whether no more is taken.
     ended: bool,
 }
 
@@ -46,12 +54,13 @@ impl Model for Splitter {
     ghost use Rattle.device_runs.specs.Splits.{Split};
     ghost use Rattle.device_runs.specs.Holding.{split_of, IsSplitter};
     ghost use Rattle.std.specs.Prelude.{take};
+    ghost use Rattle.std.specs.Box.{boxed_slice_items};
 
     ghost Value = { Split };
 
-    ghost view = { λ s. split_of s.standing (take s.len s.room.items) s.ended };
+    ghost view = { λ s. split_of s.standing (take s.len (boxed_slice_items s.room)) s.ended };
 
-    ghost invariant = { λ s. IsSplitter s.room.items s.len s.at_start s.standing };
+    ghost invariant = { λ s. IsSplitter (boxed_slice_items s.room) s.len s.at_start s.standing s.ended };
 }
 
 impl Splitter {
@@ -59,11 +68,11 @@ impl Splitter {
     ///
     /// The error comes where memory is refused.
     pub fn new(alloc: Global) -> Result<Splitter, AllocError>
-        ensures { IfOk result (λ s. s ≡ record { pending = []; block = []; ended = false }) }
+        ensures { IfOk result (λ s. s ≡ opened) }
     {
         let room = vec![in alloc; 0u8; ROOM]?;
         Ok(Splitter {
-            room,
+            room: room.into_boxed_slice(),
             len: 0,
             at_start: true,
             standing: false,
@@ -79,6 +88,7 @@ impl Splitter {
         ensures err { IfErr result (λ fault. FailsBy fault self.old piece.now self.new) }
     {
         if self.ended {
+            self.len = 0;
             return Err(SplitFault::Ended);
         }
         if self.standing {
@@ -104,14 +114,14 @@ impl Splitter {
             Stop::Full => {
                 let line = line_after(&self.room[..self.len]);
                 self.len = 0;
-                self.at_start = true;
                 self.ended = true;
                 Err(SplitFault::TooLong { line })
             }
         }
     }
 
-    /// The block that the last call completed, without the empty line behind it, or nothing.
+    /// The block that the last call completed, without the empty line behind it; nothing if that call
+    /// completed none or failed.
     pub fn block(&self) -> &[u8]
         ensures { result.now ≡ self.now.block }
     {
@@ -127,9 +137,10 @@ impl Splitter {
     /// `Ended` comes after a block that was too long, and after `end`.
     pub fn end(&mut self) -> Result<bool, SplitFault>
         ensures ok { IfOk result (λ some. Ends self.old some self.new) }
-        ensures err { IfErr result (λ fault. (fault ≡ SplitFault.Ended) × (self.old.ended ≡ true) × (self.new ≡ self.old)) }
+        ensures err { IfErr result (λ fault. HadEnded fault self.old self.new) }
     {
         if self.ended {
+            self.len = 0;
             return Err(SplitFault::Ended);
         }
         if self.standing {

@@ -1,0 +1,33 @@
+-- Calls of `take` in a row, each with what is handed to it: pieces of an input, and what is left of them.
+use Rattle.std.specs.Prelude.{◌≡◌, ◌<◌, List, ℕ, [], ◌∷◌, ◌++◌, length, take}
+use Rattle.device_runs.specs.Blocks.{blocks_of, is_too_long, most_bytes, line_of_excess}
+use Rattle.device_runs.specs.Splits.{Split, Takes, given}
+use Rattle.device_runs.specs.declared.splitter.Taken.{Taken}
+
+-- a call: the piece, what came of it, and the splitter behind it
+pub record Call : Type 0 where
+  pub piece : List ℕ
+  pub taken : Taken
+  pub after : Split
+
+-- each call goes on where the one before it stopped
+abbrev pub TakesAll : Split → List Call → Split → Type 0
+TakesAll old [] new = old ≡ new
+TakesAll old (call ∷ calls) new = Takes old call.piece call.taken call.after × TakesAll call.after calls new
+
+-- all bytes that the calls used, in order
+abbrev pub used_by : List Call → List ℕ
+used_by [] = []
+used_by (call ∷ calls) = take call.taken.used call.piece ++ used_by calls
+
+-- all blocks that they gave, in order
+abbrev pub given_by : List Call → List (List ℕ)
+given_by [] = []
+given_by (call ∷ calls) = given call.taken.whole call.after.block ++ given_by calls
+
+-- The blocks of the input are these and one more, which is too long, in this line.
+pub record EndsTooLong (input : List ℕ) (blocks : List (List ℕ)) (line : ℕ) : Type 0 where
+  pub last : List ℕ
+  pub are : blocks_of is_too_long input ≡ blocks ++ last ∷ []
+  pub too_long : most_bytes < length last
+  pub counted : line ≡ line_of_excess last

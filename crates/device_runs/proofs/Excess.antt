@@ -3,14 +3,14 @@ use Rattle.std.proofs.Common.{◌≡◌, ℕ, ◌+◌, ◌<◌, List, [], ◌∷
 use Rattle.std.proofs.lemmas.List.{take-append-drop}
 use Rattle.std.proofs.Math.Seq.{take-append_seam}
 use Rattle.device_runs.specs.Runs.{complete_runs, rest_of, runs}
-use Rattle.device_runs.specs.Blocks.{most_bytes, newlines, line_of_excess}
+use Rattle.device_runs.specs.Blocks.{most_bytes, newline_count, line_of_excess}
 use Rattle.device_runs.specs.Splits.{BeginsTooLong}
 use Rattle.device_runs.proofs.Law.{runs-append, runs-rest}
 
 -- the line of the first byte too many is known as soon as that byte is
-line_of_excess-is : (held later : List ℕ) → length held ≡ most_bytes → line_of_excess (held ++ later) ≡ newlines held + 1
+line_of_excess-is : (held later : List ℕ) → length held ≡ most_bytes → line_of_excess (held ++ later) ≡ newline_count held + 1
 unfolding line_of_excess
-line_of_excess-is held later size = ap (λ n. newlines (take n (held ++ later)) + 1) (sym size) ∙ ap (λ l. newlines l + 1) (take-append_seam held later)
+line_of_excess-is held later size = ap (λ n. newline_count (take n (held ++ later)) + 1) (sym size) ∙ ap (λ l. newline_count l + 1) (take-append_seam held later)
 
 some_byte : (text : List ℕ) → 0 < length text → text ≡ [] → ⊥
 some_byte [] h e = absurd (omega arith)
@@ -19,7 +19,7 @@ some_byte (byte ∷ text) h e = absurd cc
 -- a run that goes on behind a full room is too long, whatever comes later
 pub begins_too_long : (before piece later held : List ℕ) (used byte line : ℕ)
     → complete_runs (before ++ take (used + 1) piece) ≡ [] → rest_of (before ++ take (used + 1) piece) ≡ held ++ byte ∷ []
-    → length held ≡ most_bytes → line ≡ newlines held + 1 → BeginsTooLong (before ++ piece ++ later) line
+    → length held ≡ most_bytes → line ≡ newline_count held + 1 → BeginsTooLong (before ++ piece ++ later) line
 begins_too_long before piece later held used byte line none rest size counted =
     let s : List ℕ = before ++ take (used + 1) piece in
     let t : List ℕ = drop (used + 1) piece ++ later in

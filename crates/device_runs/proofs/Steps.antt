@@ -29,7 +29,7 @@ pub ends : {before piece : List ℕ} {i : ℕ} {room : List ℕ} {len : ℕ} {st
 ends {before} {piece} {i} {room} {len} {start} f h z e =
     let p = piece_ends before piece i (take len room) start h f.rest f.begins e f.none in
     let some : length (take len room) ≢ 0 = grind (arith, common_steps, f.within) in
-    record { run = p.0 ∙ not_empty-one (take len room) some; rest = p.1; some = omega arith }
+    record { has_byte = omega (arith, some); run = p.0 ∙ not_empty-one (take len room) some; rest = p.1; moves = omega arith }
 
 -- the bytes of a line that is not empty
 goes_on : (start : Bool) (piece : List ℕ) (i n : ℕ) → (start && (get_or piece i 0 == 10)) ≡ false → n ≤ length (first_line (drop i piece)) → GoesOn start (take n (drop i piece))

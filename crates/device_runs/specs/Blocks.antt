@@ -1,4 +1,4 @@
--- The blocks of an input, and where a run is too long to be one without a fault.
+-- The blocks of an input, and runs that are too long.
 use Rattle.std.specs.Prelude.{◌≡◌, ℕ, ◌+◌, ◌==◌, Bool, true, false, List, [], ◌∷◌, ◌++◌, length, take, count_by, nat_lt, if◌then◌else◌, All}
 use Rattle.text_bytes.specs.Names.{newline}
 use Rattle.device_runs.specs.Runs.{runs}
@@ -31,14 +31,14 @@ pub record FindsFaulty (is_faulty : List ℕ → Bool) (texts found : List (List
 abbrev pub most_bytes : ℕ
 most_bytes = 65536
 
--- a run of more bytes is faulty
+-- whether a run has more
 abbrev pub is_too_long : List ℕ → Bool
 is_too_long run = nat_lt most_bytes (length run)
 
 -- how many lines end in a text
-abbrev pub newlines : List ℕ → ℕ
-newlines text = count_by (λ byte. byte == newline) text
+abbrev pub newline_count : List ℕ → ℕ
+newline_count text = count_by (λ byte. byte == newline) text
 
--- the line of a run in which its first byte too many stands, counted from 1
+-- the line in which a run's first byte too many stands, counted from 1
 unfoldable pub line_of_excess : List ℕ → ℕ
-line_of_excess run = newlines (take most_bytes run) + 1
+line_of_excess run = newline_count (take most_bytes run) + 1

@@ -21,9 +21,10 @@ pub record UsesAll (before piece : List ℕ) (used : ℕ) (begins : Bool) (held 
 
 -- What is held is a complete run.
 pub record Completes (before piece : List ℕ) (used : ℕ) (held : List ℕ) : Type 0 where
+  pub has_byte : 0 < length held
   pub run : complete_runs (before ++ take used piece) ≡ held ∷ []
   pub rest : rest_of (before ++ take used piece) ≡ []
-  pub some : 0 < used
+  pub moves : 0 < used
 
 -- The room is full, and the run goes on with the next byte of the piece.
 pub record Overflows (before piece : List ℕ) (used : ℕ) (held room : List ℕ) : Type 0 where

@@ -1,5 +1,5 @@
 -- For proofs only, no reader has to believe it: how a splitter's fields hang together.
-use Rattle.std.specs.Prelude.{◌≡◌, ℕ, ◌==◌, ◌≤◌, Bool, true, false, List, [], ◌∷◌, length, take}
+use Rattle.std.specs.Prelude.{◌≡◌, ℕ, ◌==◌, ◌<◌, ◌≤◌, Bool, true, false, List, [], ◌∷◌, length, take}
 use Rattle.text_bytes.specs.Names.{newline}
 use Rattle.device_runs.specs.Runs.{complete_runs, rest_of}
 use Rattle.device_runs.specs.Blocks.{most_bytes}
@@ -21,8 +21,11 @@ abbrev pub split_of : Bool → List ℕ → Bool → Split
 split_of true held ended = record { pending = []; block = held; ended = ended }
 split_of false held ended = record { pending = held; block = []; ended = ended }
 
--- the room has its size, and what is held is pending where no block stands and more is taken
+-- The room has its size. A block that stands has a byte, and where none stands, what is held is pending:
+-- nothing once the input has ended.
 pub record IsSplitter (room : List ℕ) (len : ℕ) (at_start standing ended : Bool) : Type 0 where
   pub sized : length room ≡ most_bytes
   pub within : len ≤ most_bytes
+  pub some : standing ≡ true → 0 < len
   pub pending : standing ≡ false → ended ≡ false → IsPending (take len room) at_start
+  pub nothing : standing ≡ false → ended ≡ true → len ≡ 0

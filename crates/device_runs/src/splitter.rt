@@ -2,7 +2,7 @@
 //!
 //! Its room is a boxed slice, which can't grow: no call but `new` could take memory.
 ghost use Rattle.std.specs.Prelude.{◌≡◌, ◌≤◌, ◌+◌, [], length, IfOk, IfErr};
-ghost use Rattle.device_runs.specs.Blocks.{newlines};
+ghost use Rattle.device_runs.specs.Blocks.{most_bytes, newline_count};
 ghost use Rattle.device_runs.specs.Splits.{opened, Takes, Ends, FailsBy, HadEnded};
 
 use crate::filling::{Stop, fill};
@@ -10,7 +10,7 @@ use std::alloc::{AllocError, Global};
 use std::boxed::BoxedSlice;
 use std::marker::Model;
 
-/// The longest block, in bytes.
+/// The most bytes of a block.
 const ROOM: usize = 65_536;
 
 /// What taking a piece came to.
@@ -44,7 +44,7 @@ pub struct Splitter {
     len: usize,
     /// Whether a line begins behind them.
     at_start: bool,
-    /// Whether they are a block, and no more a run that is not complete.
+    /// Whether they are a block that is lent.
     standing: bool,
     /// Whether no more is taken.
     ended: bool,
@@ -87,14 +87,9 @@ impl Splitter {
         ensures ok { IfOk result (λ taken. Takes self.old piece.now taken self.new) }
         ensures err { IfErr result (λ fault. FailsBy fault self.old piece.now self.new) }
     {
+        self.let_go();
         if self.ended {
-            self.len = 0;
             return Err(SplitFault::Ended);
-        }
-        if self.standing {
-            self.standing = false;
-            self.len = 0;
-            self.at_start = true;
         }
         let filled = fill(&mut self.room, self.len, self.at_start, piece);
         self.len = filled.len;
@@ -125,11 +120,10 @@ impl Splitter {
     pub fn block(&self) -> &[u8]
         ensures { result.now ≡ self.now.block }
     {
-        if self.standing {
-            &self.room[..self.len]
-        } else {
-            &[]
+        if !self.standing {
+            return &[];
         }
+        &self.room[..self.len]
     }
 
     /// Ends the input, and says whether its end completes a block.
@@ -139,23 +133,31 @@ impl Splitter {
         ensures ok { IfOk result (λ some. Ends self.old some self.new) }
         ensures err { IfErr result (λ fault. HadEnded fault self.old self.new) }
     {
+        self.let_go();
         if self.ended {
-            self.len = 0;
             return Err(SplitFault::Ended);
         }
-        if self.standing {
-            self.len = 0;
-        }
-        self.standing = true;
         self.ended = true;
-        Ok(self.len != 0)
+        self.standing = self.len != 0;
+        Ok(self.standing)
+    }
+
+    /// Lets go of the block, if one is lent.
+    fn let_go(&mut self)
+        ensures { self.new ≡ record self.old { block = [] } }
+    {
+        if self.standing {
+            self.standing = false;
+            self.len = 0;
+            self.at_start = true;
+        }
     }
 }
 
 /// In which line the byte behind a text stands, counted from 1.
 fn line_after(text: &[u8]) -> usize
-    requires { length text.now ≤ 65536 }
-    ensures { result ≡ newlines text.now + 1 }
+    requires { length text.now ≤ most_bytes }
+    ensures { result ≡ newline_count text.now + 1 }
 {
     text.iter().filter(|b| **b == b'\n').count() + 1
 }

@@ -97,8 +97,18 @@ fn each_call_ends_at_the_first_complete_block(rt: HostRuntime) -> Result<(), Fai
         assert_eq!(rt; splitter.block(), block);
     }
     assert!(rt; splitter.end() == Ok(false));
-    assert!(rt; splitter.end() == Err(SplitFault::Ended));
+    Ok(())
+}
+
+#[test]
+fn nothing_comes_after_the_end(rt: HostRuntime) -> Result<(), Fail> {
+    let mut splitter = Splitter::new(rt.alloc())?;
+    assert!(rt; splitter.take(b"C: add").is_ok());
+    assert!(rt; splitter.end() == Ok(true));
+    assert_eq!(rt; splitter.block(), b"C: add".as_slice());
     assert!(rt; splitter.take(b"x") == Err(SplitFault::Ended));
+    assert_eq!(rt; splitter.block(), b"".as_slice());
+    assert!(rt; splitter.end() == Err(SplitFault::Ended));
     assert_eq!(rt; splitter.block(), b"".as_slice());
     Ok(())
 }

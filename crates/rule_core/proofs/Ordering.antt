@@ -8,10 +8,12 @@ use Rattle.rule_tokens.specs.Grammar.{Placed}
 use Rattle.rule_tokens.specs.Lines.{items_of}
 use Rattle.rule_tokens.specs.Values.{ends_in}
 use Rattle.rule_lines.specs.Lines.{NumberedLine, joined_lines}
-use Rattle.rule_parts.specs.Parts.{Part, finding, is_read_as_assign}
+use Rattle.rule_parts.specs.Parts.{is_read_as_assign}
+use Rattle.rule_parts.specs.Values.{finding}
+use Rattle.rule_parts.specs.declared.part.Part.{Part}
+use Rattle.rule_parts.specs.declared.part.Part.TheVariants as part
 use Rattle.rule_parts.specs.declared.finding.Finding.{Finding}
-use Rattle.rule_parts.specs.declared.value.Value.{Value}
-use Rattle.rule_drafts.specs.Drafts.{Draft, Named, Role, again, draft, draft_of, draft_with, jumps, labels, name_by, named_behind, named_by, neither, parts_of, role_of_key}
+use Rattle.rule_drafts.specs.Drafts.{Draft, Named, again, draft, draft_of, draft_with, name_by, named_behind, named_by, parts_of}
 use Rattle.rule_drafts.specs.Style.{between, commas, gap_findings, operator_findings, style_behind, style_findings}
 use Rattle.rule_jumps.specs.Jumps.{Names, landings}
 use Rattle.rule_jumps.specs.declared.jumps.Landing.{Landing}
@@ -47,18 +49,22 @@ unless n f true e = omega arith
 unless n f false e = (omega arith, omega arith)
 
 -- names that are given a second time
-again_within : (name : Option (List ℕ)) (v : Value) → Within 8 8 (again name v)
-again_within None v = omega arith
-again_within (Some name) v = (omega arith, omega arith)
+again_within : (name : Option (List ℕ)) (later : List ℕ) → Within 8 8 (again name later)
+again_within None later = omega arith
+again_within (Some name) later = (omega arith, omega arith)
 
-one_named : (n : Named) (r : Role) (v : Value) → Within 8 8 n.findings → Within 8 8 (name_by n r v).findings
-one_named n labels v w = within_both 8 8 8 n.findings (again n.label v) w (again_within n.label v)
-one_named n jumps v w = within_both 8 8 8 n.findings (again n.goto v) w (again_within n.goto v)
-one_named n neither v w = w
+one_named : (n : Named) (p : Part) → Within 8 8 n.findings → Within 8 8 (name_by n p).findings
+one_named n (part.Label name) w = within_both 8 8 8 n.findings (again n.label name) w (again_within n.label name)
+one_named n (part.Goto name) w = within_both 8 8 8 n.findings (again n.goto name) w (again_within n.goto name)
+one_named n (part.Plain m) w = w
+one_named n (part.Up m) w = w
+one_named n (part.Act a) w = w
+one_named n (part.Result c) w = w
+one_named n (part.Set a) w = w
 
 named_within : (n : Named) (parts : List Part) → Within 8 8 n.findings → Within 8 8 (named_behind n parts).findings
 named_within n [] w = w
-named_within n (p ∷ parts) w = named_within (name_by n (role_of_key p.key) p.value) parts (one_named n (role_of_key p.key) p.value w)
+named_within n (p ∷ parts) w = named_within (name_by n p) parts (one_named n p w)
 
 -- how a line is written
 gap_within : (gap key : List ℕ) → Within 13 13 (gap_findings gap key)

@@ -4,7 +4,8 @@ use Rattle.text_files.specs.declared.message.Message.{Message}
 use Rattle.text_files.specs.declared.message.MessageKind.TheVariants.{NoLaterLabel, OpenAtEnd, LabelUnused}
 use Rattle.text_files.specs.declared.source_file.SourceFile.{SourceFile}
 use Rattle.rule_lines.specs.Lines.{NumberedLine, joined_lines}
-use Rattle.rule_parts.specs.Parts.{Part, finding}
+use Rattle.rule_parts.specs.Values.{finding}
+use Rattle.rule_parts.specs.declared.part.Part.{Part}
 use Rattle.rule_parts.specs.declared.finding.Finding.{Finding}
 use Rattle.rule_drafts.specs.Drafts.{Draft, draft_of}
 use Rattle.rule_jumps.specs.Jumps.{Names, landings}

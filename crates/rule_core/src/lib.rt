@@ -18,8 +18,12 @@ mod tests;
 pub use fault::RulesFault;
 pub use reading::read_rules;
 pub use rule::Rule;
-pub use rule_keys::{ImportType, Key, import_type};
-pub use rule_parts::{Part, RuleOption, Value};
+pub use rule_keys::{
+    AssignOperator, ImportType, Key, MatchOperator, PlainKey, RunType, Target, UpKey,
+};
+pub use rule_parts::{
+    Act, Assignment, Change, Comparison, Deed, Import, Part, PlainMatch, RuleOption, UpMatch,
+};
 pub use rule_set::RuleSet;
 pub use rule_templates::{Piece, Template, TemplateFault};
 pub use rule_tokens::{Operator, Quote, Span, Token, TokenFault, TokenFaultKind, Tokens, unquote};

@@ -1,7 +1,7 @@
 //! What is found of the lines of a file, as messages.
 ghost use Rattle.std.specs.Prelude.{◌≡◌, ◌∷◌, ◌++◌, [], if◌then◌else◌, OnOk, map};
 ghost use Rattle.text_files.specs.declared.message.MessageKind.TheVariants.{OpenAtEnd};
-ghost use Rattle.rule_parts.specs.Parts.{finding};
+ghost use Rattle.rule_parts.specs.Values.{finding};
 ghost use Rattle.rule_core.specs.Rules.{message_at, name_in, open_messages};
 
 use rule_parts::Finding;

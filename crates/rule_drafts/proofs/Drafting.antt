@@ -5,7 +5,8 @@ use Rattle.text_files.specs.declared.message.MessageKind.TheVariants.{LineTooLon
 use Rattle.rule_tokens.specs.Grammar.{Item}
 use Rattle.rule_tokens.specs.Lines.{items_of}
 use Rattle.rule_parts.specs.Faults.{FaultOf}
-use Rattle.rule_parts.specs.Parts.{Part, finding}
+use Rattle.rule_parts.specs.Values.{finding}
+use Rattle.rule_parts.specs.declared.part.Part.{Part}
 use Rattle.rule_parts.specs.declared.finding.PartFault.{PartFault}
 use Rattle.rule_parts.specs.declared.finding.PartFault.TheVariants.{Wrong, Memory}
 use Rattle.rule_parts.specs.declared.finding.Finding.{Finding}

@@ -3,7 +3,7 @@ use Rattle.std.proofs.Common.{◌≡◌, ℕ, ◌+◌, ◌≤◌, ◌==◌, ◌&
 use Rattle.std.specs.List.{count_by}
 use Rattle.std.proofs.lemmas.Bool.{eqb-true, leb-true}
 use Rattle.std.proofs.lemmas.List.Sums.{sum_by-cons, sum_by-append}
-use Rattle.rule_parts.specs.Parts.{Part}
+use Rattle.rule_parts.specs.declared.part.Part.{Part}
 use Rattle.rule_drafts.specs.declared.turns.Turn.{Turn}
 use Rattle.rule_drafts.specs.declared.turns.Turn.TheVariants as turn
 use Rattle.rule_drafts.specs.Drafts.{draft}

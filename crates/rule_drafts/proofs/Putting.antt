@@ -1,7 +1,7 @@
 -- Sorting the parts of a rule one by one gives the lists of each turn.
 use Rattle.std.proofs.Common.{◌≡◌, ◌==◌, Bool, true, false, cond, List, [], ◌∷◌, ◌++◌, length, map, refl, ap, sym, ◌∙◌, append_assoc, append-nil, arith}
 use mathlib.Core.Path.{fun_ext}
-use Rattle.rule_parts.specs.Parts.{Part}
+use Rattle.rule_parts.specs.declared.part.Part.{Part}
 use Rattle.rule_drafts.specs.declared.turns.Turn.{Turn}
 use Rattle.rule_drafts.specs.declared.turns.Turn.TheVariants as turn
 use Rattle.rule_drafts.specs.Turns.{act_turns, parts_by, parts_in, rank, set_turns, turn_of}

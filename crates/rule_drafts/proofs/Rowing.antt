@@ -1,6 +1,6 @@
 -- Rows of parts, and a part more in one of them.
 use Rattle.std.proofs.Common.{◌≡◌, ℕ, zero, suc, ◌<◌, List, [], ◌∷◌, ◌++◌, length, get_or, map, set, ap, sym, ◌∙◌, append_assoc, append-nil, arith}
-use Rattle.rule_parts.specs.Parts.{Part}
+use Rattle.rule_parts.specs.declared.part.Part.{Part}
 use Rattle.rule_drafts.specs.Sorting.{joined, with_part_in}
 
 -- a row that got a part at its end

@@ -6,12 +6,11 @@ use Rattle.rule_tokens.specs.Lines.{items_of}
 use Rattle.rule_tokens.specs.Prefixes.{letters_at}
 use Rattle.rule_tokens.specs.declared.kinds.TokenFaultKind.{TokenFaultKind}
 use Rattle.rule_tokens.specs.declared.kinds.TokenFaultKind.TheVariants.{Syntax, Prefix}
-use Rattle.rule_keys.specs.declared.keys.Key.{Key}
-use Rattle.rule_keys.specs.declared.keys.Key.TheVariants as key
-use Rattle.rule_parts.specs.Parts.{Part, finding, part_of}
+use Rattle.rule_parts.specs.Parts.{part_of}
+use Rattle.rule_parts.specs.Values.{finding}
+use Rattle.rule_parts.specs.declared.part.Part.{Part}
 use Rattle.rule_parts.specs.declared.finding.Finding.{Finding}
-use Rattle.rule_parts.specs.declared.value.Value.{Value}
-use Rattle.rule_parts.specs.declared.value.Value.TheVariants as value
+use Rattle.rule_parts.specs.declared.part.Part.TheVariants as part
 use Rattle.rule_drafts.specs.Style.{style_findings}
 use Rattle.rule_drafts.specs.Turns.{act_turns, parts_by, set_turns}
 use Rattle.rule_drafts.specs.declared.turns.Turn.TheVariants as turn
@@ -54,58 +53,15 @@ tokens_of [] = []
 tokens_of (Ok t ∷ items) = t ∷ tokens_of items
 tokens_of (Err fault ∷ items) = tokens_of items
 
--- a value as a text
-abbrev pub text_of : Value → List ℕ
-text_of (value.Choice c) = []
-text_of (value.Template t) = t.written
-text_of (value.Option o) = []
-text_of (value.Text t) = t
-
--- what a part is for the jumps of a rule
-pub data Role : Type 0 where
-  labels jumps neither : Role
-
--- what a key is for the jumps of a rule
-abbrev pub role_of_key : Key → Role
-role_of_key key.Action = neither
-role_of_key key.Devpath = neither
-role_of_key key.Kernel = neither
-role_of_key key.Subsystem = neither
-role_of_key key.Driver = neither
-role_of_key key.Kernels = neither
-role_of_key key.Subsystems = neither
-role_of_key key.Drivers = neither
-role_of_key key.Tags = neither
-role_of_key key.Result = neither
-role_of_key key.Attrs = neither
-role_of_key key.Const = neither
-role_of_key key.Test = neither
-role_of_key key.Program = neither
-role_of_key key.Import = neither
-role_of_key key.Name = neither
-role_of_key key.Symlink = neither
-role_of_key key.Tag = neither
-role_of_key key.Attr = neither
-role_of_key key.Sysctl = neither
-role_of_key key.Env = neither
-role_of_key key.Owner = neither
-role_of_key key.Group = neither
-role_of_key key.Mode = neither
-role_of_key key.Seclabel = neither
-role_of_key key.Run = neither
-role_of_key key.Options = neither
-role_of_key key.Label = labels
-role_of_key key.Goto = jumps
-
 -- a name, or the one that was given before it
-abbrev pub first_given : Option (List ℕ) → Value → Option (List ℕ)
-first_given (Some name) v = Some name
-first_given None v = Some (text_of v)
+abbrev pub first_given : Option (List ℕ) → List ℕ → Option (List ℕ)
+first_given (Some name) later = Some name
+first_given None name = Some name
 
 -- a name that was given before
-abbrev pub again : Option (List ℕ) → Value → List Finding
-again None v = []
-again (Some name) v = finding GivenTwice (text_of v) ∷ []
+abbrev pub again : Option (List ℕ) → List ℕ → List Finding
+again None name = []
+again (Some name) later = finding GivenTwice later ∷ []
 
 -- the names for jumps of a rule, and those that are given a second time
 pub record Named : Type 0 where
@@ -113,16 +69,16 @@ pub record Named : Type 0 where
   pub goto : Option (List ℕ)
   pub findings : List Finding
 
--- one part more, by its role
-abbrev pub name_by : Named → Role → Value → Named
-name_by n labels v = record { label = first_given n.label v; goto = n.goto; findings = n.findings ++ again n.label v }
-name_by n jumps v = record { label = n.label; goto = first_given n.goto v; findings = n.findings ++ again n.goto v }
-name_by n neither v = n
+-- one part more: a label or a jump gives its name
+abbrev pub name_by : Named → Part → Named
+name_by n (part.Label name) = record { label = first_given n.label name; goto = n.goto; findings = n.findings ++ again n.label name }
+name_by n (part.Goto name) = record { label = n.label; goto = first_given n.goto name; findings = n.findings ++ again n.goto name }
+name_by n _ = n
 
 -- the names for jumps that parts give behind others
 abbrev pub named_behind : Named → List Part → Named
 named_behind n [] = n
-named_behind n (p ∷ parts) = named_behind (name_by n (role_of_key p.key) p.value) parts
+named_behind n (p ∷ parts) = named_behind (name_by n p) parts
 
 -- the names for jumps that parts give: of several labels the first counts, and so of several jumps
 abbrev pub named_by : List Part → Named

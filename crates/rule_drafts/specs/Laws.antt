@@ -1,7 +1,7 @@
 -- What sorting the parts of a rule keeps, and in which order they then stand.
 use Rattle.std.specs.Prelude.{◌≡◌, ℕ, ◌+◌, ◌≤◌, Bool, List, [], ◌∷◌, ◌++◌, ⊤}
 use Rattle.std.specs.List.{count_by}
-use Rattle.rule_parts.specs.Parts.{Part}
+use Rattle.rule_parts.specs.declared.part.Part.{Part}
 use Rattle.rule_drafts.specs.declared.turns.Turn.TheVariants as turn
 use Rattle.rule_drafts.specs.Drafts.{Draft, draft}
 use Rattle.rule_drafts.specs.Turns.{parts_in, rank, turn_of}

@@ -1,6 +1,6 @@
 -- Sorting the parts of a rule one by one.
 use Rattle.std.specs.Prelude.{ℕ, zero, suc, List, [], ◌∷◌, ◌++◌, flat_map, map}
-use Rattle.rule_parts.specs.Parts.{Part}
+use Rattle.rule_parts.specs.declared.part.Part.{Part}
 use Rattle.rule_drafts.specs.declared.sorting.Place.{Place}
 use Rattle.rule_drafts.specs.declared.sorting.Place.TheVariants as place
 use Rattle.rule_drafts.specs.declared.turns.Turn.{Turn}

@@ -5,7 +5,8 @@ use Rattle.text_bytes.specs.Names.{comma}
 use Rattle.text_files.specs.declared.message.MessageKind.TheVariants.{CommaExpected, BlankExpected, ReadAsAssign}
 use Rattle.rule_tokens.specs.Grammar.{Placed}
 use Rattle.rule_tokens.specs.Values.{ends_in}
-use Rattle.rule_parts.specs.Parts.{finding, is_read_as_assign}
+use Rattle.rule_parts.specs.Parts.{is_read_as_assign}
+use Rattle.rule_parts.specs.Values.{finding}
 use Rattle.rule_parts.specs.declared.finding.Finding.{Finding}
 
 -- how many commas a gap has

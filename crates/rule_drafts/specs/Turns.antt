@@ -1,67 +1,61 @@
 -- When each part of a rule has its turn as the rule is evaluated.
-use Rattle.std.specs.Prelude.{ℕ, Bool, ◌==◌, if◌then◌else◌, List, [], ◌∷◌, filter, flat_map, Option, Some, None}
-use Rattle.rule_tokens.specs.Grammar.{compares}
-use Rattle.rule_keys.specs.declared.keys.Key.{Key}
-use Rattle.rule_keys.specs.declared.keys.Key.TheVariants as key
-use Rattle.rule_keys.specs.declared.attributes.ImportType as types
-use Rattle.rule_keys.specs.declared.attributes.ImportType.TheVariants as import_of
-use Rattle.rule_parts.specs.Parts.{Part, type_of}
+use Rattle.std.specs.Prelude.{ℕ, ◌==◌, List, [], ◌∷◌, filter, flat_map}
+use Rattle.rule_keys.specs.declared.roles.Target.{Target}
+use Rattle.rule_keys.specs.declared.roles.Target.TheVariants as target
+use Rattle.rule_parts.specs.declared.part.Part.{Part}
+use Rattle.rule_parts.specs.declared.part.Part.TheVariants as part
+use Rattle.rule_parts.specs.declared.part.Deed.{Deed}
+use Rattle.rule_parts.specs.declared.part.Deed.TheVariants as deed
+use Rattle.rule_parts.specs.declared.part.Import.{Import}
+use Rattle.rule_parts.specs.declared.part.Import.TheVariants as import
+use Rattle.rule_parts.specs.declared.part.Change.{Change}
+use Rattle.rule_parts.specs.declared.part.Change.TheVariants as change
 use Rattle.rule_drafts.specs.declared.turns.Turn.{Turn}
 use Rattle.rule_drafts.specs.declared.turns.Turn.TheVariants as turn
 
--- the turn of an IMPORT of a type
-abbrev pub turn_of_type : types.ImportType → Turn
-turn_of_type import_of.File = turn.ImportFile
-turn_of_type import_of.Program = turn.ImportProgram
-turn_of_type import_of.Builtin = turn.ImportBuiltin
-turn_of_type import_of.Db = turn.ImportDb
-turn_of_type import_of.Cmdline = turn.ImportCmdline
-turn_of_type import_of.Parent = turn.ImportParent
+-- the turn of each IMPORT
+abbrev pub turn_of_import : Import → Turn
+turn_of_import (import.File t) = turn.ImportFile
+turn_of_import (import.Program t) = turn.ImportProgram
+turn_of_import (import.Builtin t) = turn.ImportBuiltin
+turn_of_import (import.Db name) = turn.ImportDb
+turn_of_import (import.Cmdline name) = turn.ImportCmdline
+turn_of_import (import.Parent names) = turn.ImportParent
 
--- the turn of an IMPORT, which always has a type
-abbrev pub turn_of_import : Option types.ImportType → Turn
-turn_of_import None = turn.ImportParent
-turn_of_import (Some t) = turn_of_type t
+-- the turn of what an act does
+abbrev pub turn_of_deed : Deed → Turn
+turn_of_deed (deed.Test mask t) = turn.Test
+turn_of_deed (deed.Program t) = turn.Program
+turn_of_deed (deed.Import i) = turn_of_import i
 
--- the turn of a key that can be compared and assigned
-abbrev pub plain_or : Bool → Turn → Turn
-plain_or compared assigned = if compared then turn.Plain else assigned
+-- the turn of an assignment of a text
+abbrev pub turn_of_target : Target → Turn
+turn_of_target target.Owner = turn.Owner
+turn_of_target target.Group = turn.Group
+turn_of_target target.Mode = turn.Mode
+turn_of_target target.Tag = turn.Tag
+turn_of_target (target.Seclabel name) = turn.Seclabel
+turn_of_target (target.Env name) = turn.Env
+turn_of_target target.Name = turn.Name
+turn_of_target target.Symlink = turn.Symlink
+turn_of_target (target.Attr name) = turn.Attr
+turn_of_target (target.Sysctl name) = turn.Sysctl
 
--- the turn of each key: whether it is compared, and the type of an IMPORT
-abbrev pub turn_of_key : Key → Bool → Option types.ImportType → Turn
-turn_of_key key.Action c t = turn.Plain
-turn_of_key key.Devpath c t = turn.Plain
-turn_of_key key.Kernel c t = turn.Plain
-turn_of_key key.Subsystem c t = turn.Plain
-turn_of_key key.Driver c t = turn.Plain
-turn_of_key key.Kernels c t = turn.Up
-turn_of_key key.Subsystems c t = turn.Up
-turn_of_key key.Drivers c t = turn.Up
-turn_of_key key.Tags c t = turn.Up
-turn_of_key key.Result c t = turn.Result
-turn_of_key key.Attrs c t = turn.Up
-turn_of_key key.Const c t = turn.Plain
-turn_of_key key.Test c t = turn.Test
-turn_of_key key.Program c t = turn.Program
-turn_of_key key.Import c t = turn_of_import t
-turn_of_key key.Name c t = plain_or c turn.Name
-turn_of_key key.Symlink c t = plain_or c turn.Symlink
-turn_of_key key.Tag c t = plain_or c turn.Tag
-turn_of_key key.Attr c t = plain_or c turn.Attr
-turn_of_key key.Sysctl c t = plain_or c turn.Sysctl
-turn_of_key key.Env c t = plain_or c turn.Env
-turn_of_key key.Owner c t = turn.Owner
-turn_of_key key.Group c t = turn.Group
-turn_of_key key.Mode c t = turn.Mode
-turn_of_key key.Seclabel c t = turn.Seclabel
-turn_of_key key.Run c t = turn.Run
-turn_of_key key.Options c t = turn.Options
-turn_of_key key.Label c t = turn.Jump
-turn_of_key key.Goto c t = turn.Jump
+-- the turn of what an assignment changes
+abbrev pub turn_of_change : Change → Turn
+turn_of_change (change.Option known) = turn.Options
+turn_of_change (change.Text t text) = turn_of_target t
+turn_of_change (change.Run type text) = turn.Run
 
 -- the turn of a part
 abbrev pub turn_of : Part → Turn
-turn_of p = turn_of_key p.key (compares p.operator) (type_of p.attribute)
+turn_of (part.Plain m) = turn.Plain
+turn_of (part.Up m) = turn.Up
+turn_of (part.Act a) = turn_of_deed a.deed
+turn_of (part.Result c) = turn.Result
+turn_of (part.Set a) = turn_of_change a.change
+turn_of (part.Label name) = turn.Jump
+turn_of (part.Goto name) = turn.Jump
 
 -- the number of a turn among all, in the order of evaluation
 abbrev pub rank : Turn → ℕ

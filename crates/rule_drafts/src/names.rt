@@ -3,11 +3,10 @@
 //! Of several labels of a rule the first counts, and so of several jumps. The others are told of, and
 //! the rule stays.
 ghost use Rattle.std.specs.Prelude.{◌≡◌, ◌++◌, None, [], IfOk, OnOk};
-ghost use Rattle.rule_drafts.specs.Drafts.{again, first_given, name_by, named_by, role_of_key, text_of};
+ghost use Rattle.rule_drafts.specs.Drafts.{again, first_given, name_by, named_by};
 
 use crate::telling::tell;
-use rule_keys::Key;
-use rule_parts::{Finding, Part, Value};
+use rule_parts::{Finding, Part};
 use std::alloc::{AllocError, Global};
 use std::marker::Model;
 use text_bytes::Bytes;
@@ -47,11 +46,11 @@ impl Names {
 
     /// Adds the name that a part gives, if it gives one.
     fn add(&mut self, alloc: Global, part: &Part) -> Result<(), AllocError>
-        ensures { OnOk result (self.new ≡ name_by self.old (role_of_key part.now.key) part.now.value) }
+        ensures { OnOk result (self.new ≡ name_by self.old part.now) }
     {
-        match part.key() {
-            Key::Label => give(alloc, &mut self.label, &mut self.findings, part.value()),
-            Key::Goto => give(alloc, &mut self.goto, &mut self.findings, part.value()),
+        match part {
+            Part::Label(given) => give(alloc, &mut self.label, &mut self.findings, given),
+            Part::Goto(given) => give(alloc, &mut self.goto, &mut self.findings, given),
             _ => Ok(()),
         }
     }
@@ -62,27 +61,16 @@ fn give(
     alloc: Global,
     name: &mut Option<Bytes>,
     findings: &mut Vec<Finding>,
-    value: &Value,
+    given: &Bytes,
 ) -> Result<(), AllocError>
-    ensures name { OnOk result (name.new ≡ first_given name.old value.now) }
-    ensures findings { OnOk result (findings.new.items ≡ findings.old.items ++ again name.old value.now) }
+    ensures name { OnOk result (name.new ≡ first_given name.old given.now) }
+    ensures findings { OnOk result (findings.new.items ≡ findings.old.items ++ again name.old given.now) }
 {
     match name {
-        Some(_) => tell(alloc, findings, MessageKind::GivenTwice, text_of(value)),
+        Some(_) => tell(alloc, findings, MessageKind::GivenTwice, given.as_slice()),
         None => {
-            *name = Some(Bytes::copy_of(alloc, text_of(value))?);
+            *name = Some(Bytes::copy_of(alloc, given.as_slice())?);
             Ok(())
         }
-    }
-}
-
-/// A value as a text.
-fn text_of(value: &Value) -> &[u8]
-    ensures { result.now ≡ text_of value.now }
-{
-    match value {
-        Value::Text(text) => text.as_slice(),
-        Value::Template(template) => template.written(),
-        Value::Choice(_) | Value::Option(_) => &[],
     }
 }

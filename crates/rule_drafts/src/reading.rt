@@ -33,6 +33,7 @@ pub fn read_draft(alloc: Global, line: &[u8]) -> Result<Draft, PartFault>
 }
 
 /// The parts of a line, up to the first token with a fault, which is then what is wrong.
+#[tactic(auto, using(crate::proofs::Drafting::part_read))]
 fn read_parts(alloc: Global, line: &[u8]) -> Result<Vec<Part>, PartFault>
     ensures { MatchResult result (λ parts. parts_of line.now (items_of line.now) ≡ Ok parts.items) (λ f. FaultOf f (parts_of line.now (items_of line.now))) }
 {

@@ -14,7 +14,7 @@ pub(crate) struct Rows {
 
 impl Model for Rows {
     ghost use Rattle.std.specs.Prelude.{List, map};
-    ghost use Rattle.rule_parts.specs.Parts as parts;
+    ghost use Rattle.rule_parts.specs.declared.part.Part as parts;
 
     ghost Value = { List (List parts.Part) };
 

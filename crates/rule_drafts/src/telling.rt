@@ -1,6 +1,6 @@
 //! What is to be said of a rule.
 ghost use Rattle.std.specs.Prelude.{◌≡◌, ◌++◌, ◌∷◌, [], OnOk};
-ghost use Rattle.rule_parts.specs.Parts.{finding};
+ghost use Rattle.rule_parts.specs.Values.{finding};
 
 use rule_parts::Finding;
 use std::alloc::{AllocError, Global};

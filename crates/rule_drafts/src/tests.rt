@@ -36,11 +36,19 @@ fn tells(findings: &[Finding], at: usize, kind: MessageKind, word: &[u8]) -> boo
     }
 }
 
-/// Whether the part at a place has this key.
-fn has(parts: &[Part], at: usize, key: Key) -> bool {
+/// Whether the part at a place does this.
+fn does(parts: &[Part], at: usize, deed: Key) -> bool {
     match parts.get(at) {
-        None => false,
-        Some(part) => part.key() == key,
+        Some(Part::Act(act)) => act.deed.key() == deed,
+        _ => false,
+    }
+}
+
+/// Whether the part at a place changes this.
+fn sets(parts: &[Part], at: usize, key: Key) -> bool {
+    match parts.get(at) {
+        Some(Part::Set(assignment)) => assignment.change.key() == key,
+        _ => false,
     }
 }
 
@@ -124,18 +132,18 @@ fn the_order_of_evaluation(rt: HostRuntime) -> Result<(), Fail> {
     let read = draft(rt.alloc(), line)?;
     assert_eq!(rt; read.findings.len(), 0);
     assert_eq!(rt; read.plain.len(), 1);
-    assert!(rt; has(&read.plain, 0, Key::Env));
+    assert!(rt; matches!(read.plain.first(), Some(Part::Plain(_))));
     assert_eq!(rt; read.up.len(), 1);
-    assert!(rt; has(&read.up, 0, Key::Attrs));
+    assert!(rt; matches!(read.up.first(), Some(Part::Up(_))));
     assert_eq!(rt; read.acts.len(), 3);
-    assert!(rt; has(&read.acts, 0, Key::Test));
-    assert!(rt; has(&read.acts, 1, Key::Program));
-    assert!(rt; has(&read.acts, 2, Key::Import));
+    assert!(rt; does(&read.acts, 0, Key::Test));
+    assert!(rt; does(&read.acts, 1, Key::Program));
+    assert!(rt; does(&read.acts, 2, Key::Import));
     assert_eq!(rt; read.results.len(), 1);
-    assert!(rt; has(&read.results, 0, Key::Result));
+    assert!(rt; matches!(read.results.first(), Some(Part::Result(_))));
     assert_eq!(rt; read.sets.len(), 2);
-    assert!(rt; has(&read.sets, 0, Key::Env));
-    assert!(rt; has(&read.sets, 1, Key::Run));
+    assert!(rt; sets(&read.sets, 0, Key::Env));
+    assert!(rt; sets(&read.sets, 1, Key::Run));
     parts_are_kept_in_order();
     Ok(())
 }

@@ -1,11 +1,9 @@
 //! When each part of a rule has its turn.
-ghost use Rattle.std.specs.Prelude.{◌≡◌, option_map};
-ghost use Rattle.rule_tokens.specs.Grammar.{compares};
-ghost use Rattle.rule_parts.specs.Parts.{type_of};
-ghost use Rattle.rule_drafts.specs.Turns.{plain_or, turn_of, turn_of_import, turn_of_key, turn_of_type};
+ghost use Rattle.std.specs.Prelude.{◌≡◌};
+ghost use Rattle.rule_drafts.specs.Turns.{turn_of, turn_of_change, turn_of_deed, turn_of_import, turn_of_target};
 
-use rule_keys::{ImportType, Key, Operator, import_type};
-use rule_parts::Part;
+use rule_keys::Target;
+use rule_parts::{Change, Deed, Import, Part};
 
 /// When a part has its turn as a rule is evaluated, in this order.
 #[derive(Clone, Copy, Debug, PartialEq, Eq)]
@@ -40,85 +38,66 @@ pub enum Turn {
 pub(crate) fn turn_of(part: &Part) -> Turn
     ensures { result ≡ turn_of part.now }
 {
-    turn_of_key(part.key(), compares(part.operator()), part.attribute())
-}
-
-/// The turn of a key with an attribute, by whether it is compared.
-fn turn_of_key(key: Key, compared: bool, attribute: Option<&[u8]>) -> Turn
-    ensures { result ≡ turn_of_key key compared (type_of (option_map (λ text. text.now) attribute.entry)) }
-{
-    match key {
-        Key::Action | Key::Devpath | Key::Kernel | Key::Subsystem | Key::Driver | Key::Const => {
-            Turn::Plain
-        }
-        Key::Kernels | Key::Subsystems | Key::Drivers | Key::Tags | Key::Attrs => Turn::Up,
-        Key::Result => Turn::Result,
-        Key::Test => Turn::Test,
-        Key::Program => Turn::Program,
-        Key::Import => turn_of_import(type_of(attribute)),
-        Key::Name => plain_or(compared, Turn::Name),
-        Key::Symlink => plain_or(compared, Turn::Symlink),
-        Key::Tag => plain_or(compared, Turn::Tag),
-        Key::Attr => plain_or(compared, Turn::Attr),
-        Key::Sysctl => plain_or(compared, Turn::Sysctl),
-        Key::Env => plain_or(compared, Turn::Env),
-        Key::Owner => Turn::Owner,
-        Key::Group => Turn::Group,
-        Key::Mode => Turn::Mode,
-        Key::Seclabel => Turn::Seclabel,
-        Key::Run => Turn::Run,
-        Key::Options => Turn::Options,
-        Key::Label | Key::Goto => Turn::Jump,
+    match part {
+        Part::Plain(_) => Turn::Plain,
+        Part::Up(_) => Turn::Up,
+        Part::Act(act) => turn_of_deed(&act.deed),
+        Part::Result(_) => Turn::Result,
+        Part::Set(assignment) => turn_of_change(&assignment.change),
+        Part::Label(_) | Part::Goto(_) => Turn::Jump,
     }
 }
 
-/// The turn of a key that can be compared and assigned.
-fn plain_or(compared: bool, assigned: Turn) -> Turn
-    ensures { result ≡ plain_or compared assigned }
+/// The turn of what an act does.
+fn turn_of_deed(deed: &Deed) -> Turn
+    ensures { result ≡ turn_of_deed deed.now }
 {
-    if compared { Turn::Plain } else { assigned }
-}
-
-/// Whether an operator compares.
-fn compares(operator: Operator) -> bool
-    ensures { result ≡ compares operator }
-{
-    match operator {
-        Operator::Equal | Operator::NotEqual => true,
-        Operator::Add | Operator::Remove | Operator::AssignFinal | Operator::Assign => false,
+    match deed {
+        Deed::Test(_, _) => Turn::Test,
+        Deed::Program(_) => Turn::Program,
+        Deed::Import(import) => turn_of_import(import),
     }
 }
 
-/// The type that an attribute names, if there is one and it is one of IMPORT.
-fn type_of(attribute: Option<&[u8]>) -> Option<ImportType>
-    ensures { result ≡ type_of (option_map (λ text. text.now) attribute.entry) }
+/// The turn of an IMPORT.
+fn turn_of_import(import: &Import) -> Turn
+    ensures { result ≡ turn_of_import import.now }
 {
-    match attribute {
-        None => None,
-        Some(text) => import_type(text),
+    match import {
+        Import::File(_) => Turn::ImportFile,
+        Import::Program(_) => Turn::ImportProgram,
+        Import::Builtin(_) => Turn::ImportBuiltin,
+        Import::Db(_) => Turn::ImportDb,
+        Import::Cmdline(_) => Turn::ImportCmdline,
+        Import::Parent(_) => Turn::ImportParent,
     }
 }
 
-/// The turn of an IMPORT, which always has a type.
-fn turn_of_import(known: Option<ImportType>) -> Turn
-    ensures { result ≡ turn_of_import known }
+/// The turn of what an assignment changes.
+fn turn_of_change(change: &Change) -> Turn
+    ensures { result ≡ turn_of_change change.now }
 {
-    match known {
-        None => Turn::ImportParent,
-        Some(kind) => turn_of_type(kind),
+    match change {
+        Change::Option(_) => Turn::Options,
+        Change::Text(target, _) => turn_of_target(target),
+        Change::Run(_, _) => Turn::Run,
     }
 }
 
-/// The turn of an IMPORT of a type.
-fn turn_of_type(kind: ImportType) -> Turn
-    ensures { result ≡ turn_of_type kind }
+/// The turn of an assignment of a text.
+fn turn_of_target(target: &Target) -> Turn
+    ensures { result ≡ turn_of_target target.now }
 {
-    match kind {
-        ImportType::File => Turn::ImportFile,
-        ImportType::Program => Turn::ImportProgram,
-        ImportType::Builtin => Turn::ImportBuiltin,
-        ImportType::Db => Turn::ImportDb,
-        ImportType::Cmdline => Turn::ImportCmdline,
-        ImportType::Parent => Turn::ImportParent,
+    match target {
+        Target::Owner => Turn::Owner,
+        Target::Group => Turn::Group,
+        Target::Mode => Turn::Mode,
+        Target::Tag => Turn::Tag,
+        Target::Seclabel(_) => Turn::Seclabel,
+        Target::Env(_) => Turn::Env,
+        Target::Name => Turn::Name,
+        Target::Symlink => Turn::Symlink,
+        Target::Attr(_) => Turn::Attr,
+        Target::Sysctl(_) => Turn::Sysctl,
     }
 }

@@ -1,2 +1,5 @@
 pub mod Names
-pub mod Keys
+pub mod Topics
+pub mod Operators
+pub mod Roles
+pub mod Written

@@ -1,6 +1,6 @@
 //! The keys and their names.
-ghost use Rattle.std.specs.Prelude.{◌≡◌, map};
-ghost use Rattle.rule_keys.specs.Names.{key_names, named};
+ghost use Rattle.std.specs.Prelude.{◌≡◌, Some, IfSome};
+ghost use Rattle.rule_keys.specs.Names.{key_name, key_of};
 
 /// A key of a rule's token, by its name in udev(7).
 #[derive(Clone, Copy, Debug, PartialEq, Eq)]
@@ -36,54 +36,85 @@ pub enum Key {
     Goto,
 }
 
-/// Each name with its key.
-const KEY_NAMES: [(&[u8], Key); 29] = [
-    (b"ACTION", Key::Action),
-    (b"DEVPATH", Key::Devpath),
-    (b"KERNEL", Key::Kernel),
-    (b"SUBSYSTEM", Key::Subsystem),
-    (b"DRIVER", Key::Driver),
-    (b"KERNELS", Key::Kernels),
-    (b"SUBSYSTEMS", Key::Subsystems),
-    (b"DRIVERS", Key::Drivers),
-    (b"TAGS", Key::Tags),
-    (b"RESULT", Key::Result),
-    (b"ATTRS", Key::Attrs),
-    (b"CONST", Key::Const),
-    (b"TEST", Key::Test),
-    (b"PROGRAM", Key::Program),
-    (b"IMPORT", Key::Import),
-    (b"NAME", Key::Name),
-    (b"SYMLINK", Key::Symlink),
-    (b"TAG", Key::Tag),
-    (b"ATTR", Key::Attr),
-    (b"SYSCTL", Key::Sysctl),
-    (b"ENV", Key::Env),
-    (b"OWNER", Key::Owner),
-    (b"GROUP", Key::Group),
-    (b"MODE", Key::Mode),
-    (b"SECLABEL", Key::Seclabel),
-    (b"RUN", Key::Run),
-    (b"OPTIONS", Key::Options),
-    (b"LABEL", Key::Label),
-    (b"GOTO", Key::Goto),
+/// All keys.
+const KEYS: [Key; 29] = [
+    Key::Action,
+    Key::Devpath,
+    Key::Kernel,
+    Key::Subsystem,
+    Key::Driver,
+    Key::Kernels,
+    Key::Subsystems,
+    Key::Drivers,
+    Key::Tags,
+    Key::Result,
+    Key::Attrs,
+    Key::Const,
+    Key::Test,
+    Key::Program,
+    Key::Import,
+    Key::Name,
+    Key::Symlink,
+    Key::Tag,
+    Key::Attr,
+    Key::Sysctl,
+    Key::Env,
+    Key::Owner,
+    Key::Group,
+    Key::Mode,
+    Key::Seclabel,
+    Key::Run,
+    Key::Options,
+    Key::Label,
+    Key::Goto,
 ];
 
-/// The key beside a name.
-fn named(rows: &[(&[u8], Key)], text: &[u8]) -> Option<Key>
-    ensures { result ≡ named (map (λ row. (row.0.now, row.1)) rows.now) text.now }
-{
-    for row in rows {
-        if row.0 == text {
-            return Some(row.1);
+impl Key {
+    /// Its name in capital letters, by which `key_of` finds it.
+    #[tactic(auto, unfolding(crate::specs::Names::key_of))]
+    pub fn name(self) -> &'static [u8]
+        ensures name { result.now ≡ key_name self }
+        ensures found { key_of (key_name self) ≡ Some self }
+    {
+        match self {
+            Key::Action => b"ACTION",
+            Key::Devpath => b"DEVPATH",
+            Key::Kernel => b"KERNEL",
+            Key::Subsystem => b"SUBSYSTEM",
+            Key::Driver => b"DRIVER",
+            Key::Kernels => b"KERNELS",
+            Key::Subsystems => b"SUBSYSTEMS",
+            Key::Drivers => b"DRIVERS",
+            Key::Tags => b"TAGS",
+            Key::Result => b"RESULT",
+            Key::Attrs => b"ATTRS",
+            Key::Const => b"CONST",
+            Key::Test => b"TEST",
+            Key::Program => b"PROGRAM",
+            Key::Import => b"IMPORT",
+            Key::Name => b"NAME",
+            Key::Symlink => b"SYMLINK",
+            Key::Tag => b"TAG",
+            Key::Attr => b"ATTR",
+            Key::Sysctl => b"SYSCTL",
+            Key::Env => b"ENV",
+            Key::Owner => b"OWNER",
+            Key::Group => b"GROUP",
+            Key::Mode => b"MODE",
+            Key::Seclabel => b"SECLABEL",
+            Key::Run => b"RUN",
+            Key::Options => b"OPTIONS",
+            Key::Label => b"LABEL",
+            Key::Goto => b"GOTO",
         }
     }
-    None
 }
 
 /// The key of a name. Names are told apart by case, and any other text is none.
+#[tactic(auto, unfolding(crate::specs::Names::key_of))]
 pub fn key_of(text: &[u8]) -> Option<Key>
-    ensures { result ≡ named key_names text.now }
+    ensures value { result ≡ key_of text.now }
+    ensures named { IfSome result (λ key. key_name key ≡ text.now) }
 {
-    named(&KEY_NAMES, text)
+    KEYS.iter().copied().find(|key| key.name() == text)
 }

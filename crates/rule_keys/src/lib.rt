@@ -1,19 +1,23 @@
-//! The keys of rules: what udev(7) lists under "match keys" and "assign keys", as one table.
+//! The keys of rules: what udev(7) lists under "match keys" and "assign keys", as tables.
 //!
-//! Everything that is known of a key before its value is looked at stands here: its name, whether
-//! it takes an attribute, which operators it takes, and how its value is to be read. A reader of
-//! rules asks this table and has no case for any key of its own.
+//! Everything that is known of a token before its value is looked at stands here: the names of keys,
+//! what may stand in their braces, which operators they take, and what a token then is for its rule.
+//! What can't come is left out by type: a token that is compared has an operator that compares, an
+//! IMPORT has its type, and a key that only labels and jumps know is no assignment.
 #![tactic(auto)]
 
-mod attributes;
 mod keys;
 mod operators;
+mod roles;
 #[cfg(test)]
 mod tests;
-mod values;
+mod topics;
+mod types;
+mod written;
 
-pub use attributes::{ImportType, Need, import_type, need_of, takes_attribute};
 pub use keys::{Key, key_of};
-pub use operators::{Use, use_of};
+pub use operators::{is_read_as_assign, read_as};
+pub use roles::{AssignOperator, MatchOperator, PlainKey, Role, Target, UpKey, role_of};
 pub use rule_tokens::Operator;
-pub use values::{ValueKind, value_kind};
+pub use topics::{Topic, topic_of};
+pub use types::{ImportType, RunType, import_type_of, run_type_of};

@@ -1,104 +1,51 @@
-//! What an operator does with a key.
+//! Operators that are read as `=`, which should have been written.
 ghost use Rattle.std.specs.Prelude.{◌≡◌};
-ghost use Rattle.rule_keys.specs.Keys.{row_of};
+ghost use Rattle.rule_keys.specs.Operators.{is_add, is_add_or_final, is_final, is_read_as_assign, read_as};
 
 use crate::Key;
 use rule_tokens::Operator;
 
-/// How an operator is used with a key.
-#[derive(Clone, Copy, Debug, PartialEq, Eq)]
-pub enum Use {
-    /// The key is compared. IMPORT and PROGRAM are matches too, and take `=`, `+=` and `:=` as `==`.
-    Matches,
-    /// The key is changed as the operator says.
-    Assigns,
-    /// The key is given the value as by `=`, which should have been written.
-    AsSet,
-    /// The key does not take the operator.
-    Refused,
-}
-
-/// How an operator is used with a key.
-pub fn use_of(key: Key, operator: Operator) -> Use
-    ensures { result ≡ (row_of key).operators operator }
+/// Whether an operator is read as `=` behind a key.
+#[tactic(auto, unfolding(crate::specs::Operators::is_read_as_assign))]
+pub fn is_read_as_assign(key: Key, operator: Operator) -> bool
+    ensures { result ≡ is_read_as_assign key operator }
 {
     match key {
-        Key::Action
-        | Key::Devpath
-        | Key::Kernel
-        | Key::Subsystem
-        | Key::Driver
-        | Key::Kernels
-        | Key::Subsystems
-        | Key::Drivers
-        | Key::Tags
-        | Key::Result
-        | Key::Attrs
-        | Key::Const
-        | Key::Test => match operator {
-            Operator::Equal | Operator::NotEqual => Use::Matches,
-            Operator::Assign | Operator::Add | Operator::Remove | Operator::AssignFinal => {
-                Use::Refused
-            }
-        },
-        Key::Program | Key::Import => match operator {
-            Operator::Remove => Use::Refused,
-            Operator::Equal
-            | Operator::NotEqual
-            | Operator::Assign
-            | Operator::Add
-            | Operator::AssignFinal => Use::Matches,
-        },
-        Key::Name => match operator {
-            Operator::Equal | Operator::NotEqual => Use::Matches,
-            Operator::Assign | Operator::AssignFinal => Use::Assigns,
-            Operator::Add => Use::AsSet,
-            Operator::Remove => Use::Refused,
-        },
-        Key::Symlink => match operator {
-            Operator::Equal | Operator::NotEqual => Use::Matches,
-            Operator::Assign | Operator::Add | Operator::Remove | Operator::AssignFinal => {
-                Use::Assigns
-            }
-        },
-        Key::Tag => match operator {
-            Operator::Equal | Operator::NotEqual => Use::Matches,
-            Operator::Assign | Operator::Add | Operator::Remove => Use::Assigns,
-            Operator::AssignFinal => Use::AsSet,
-        },
-        Key::Attr | Key::Sysctl => match operator {
-            Operator::Equal | Operator::NotEqual => Use::Matches,
-            Operator::Assign => Use::Assigns,
-            Operator::Add | Operator::AssignFinal => Use::AsSet,
-            Operator::Remove => Use::Refused,
-        },
-        Key::Env => match operator {
-            Operator::Equal | Operator::NotEqual => Use::Matches,
-            Operator::Assign | Operator::Add => Use::Assigns,
-            Operator::AssignFinal => Use::AsSet,
-            Operator::Remove => Use::Refused,
-        },
-        Key::Owner | Key::Group | Key::Mode => match operator {
-            Operator::Assign | Operator::AssignFinal => Use::Assigns,
-            Operator::Add => Use::AsSet,
-            Operator::Equal | Operator::NotEqual | Operator::Remove => Use::Refused,
-        },
-        Key::Seclabel => match operator {
-            Operator::Assign | Operator::Add => Use::Assigns,
-            Operator::AssignFinal => Use::AsSet,
-            Operator::Equal | Operator::NotEqual | Operator::Remove => Use::Refused,
-        },
-        Key::Run | Key::Options => match operator {
-            Operator::Assign | Operator::Add | Operator::AssignFinal => Use::Assigns,
-            Operator::Equal | Operator::NotEqual | Operator::Remove => Use::Refused,
-        },
-        Key::Label | Key::Goto => match operator {
-            Operator::Assign => Use::Assigns,
-            Operator::Equal
-            | Operator::NotEqual
-            | Operator::Add
-            | Operator::Remove
-            | Operator::AssignFinal => Use::Refused,
-        },
+        Key::Name | Key::Owner | Key::Group | Key::Mode => is_add(operator),
+        Key::Tag | Key::Env | Key::Seclabel => is_final(operator),
+        Key::Attr | Key::Sysctl => is_add_or_final(operator),
+        _ => false,
     }
+}
+
+/// The operator as which one is read behind a key.
+pub fn read_as(key: Key, operator: Operator) -> Operator
+    ensures { result ≡ read_as key operator }
+{
+    if is_read_as_assign(key, operator) {
+        Operator::Assign
+    } else {
+        operator
+    }
+}
+
+/// Whether an operator is `+=`.
+fn is_add(operator: Operator) -> bool
+    ensures { result ≡ is_add operator }
+{
+    matches!(operator, Operator::Add)
+}
+
+/// Whether an operator is `:=`.
+fn is_final(operator: Operator) -> bool
+    ensures { result ≡ is_final operator }
+{
+    matches!(operator, Operator::AssignFinal)
+}
+
+/// Whether an operator is `+=` or `:=`.
+fn is_add_or_final(operator: Operator) -> bool
+    ensures { result ≡ is_add_or_final operator }
+{
+    matches!(operator, Operator::Add | Operator::AssignFinal)
 }

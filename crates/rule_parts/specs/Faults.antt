@@ -3,7 +3,7 @@ use Rattle.std.specs.Prelude.{◌≡◌, ℕ, List, Result, Ok, Err}
 use Rattle.text_files.specs.declared.message.MessageKind.{MessageKind}
 use Rattle.text_core.specs.declared.glob_fault.GlobFault.{GlobFault}
 use Rattle.text_core.specs.declared.glob_fault.GlobFault.TheVariants as glob
-use Rattle.rule_parts.specs.Parts.{choice_fault, finding}
+use Rattle.rule_parts.specs.Values.{choice_fault, finding}
 use Rattle.rule_parts.specs.declared.finding.Finding.{Finding}
 use Rattle.rule_parts.specs.declared.finding.PartFault.{PartFault}
 use Rattle.rule_parts.specs.declared.finding.PartFault.TheVariants.{Wrong, Memory}

@@ -3,9 +3,13 @@ use Rattle.std.specs.Prelude.{ℕ, ◌^◌, ◌-◌, ℤ, pos, neg_ℤ, Bool, �
 use Rattle.std.specs.Cmp.Lexicographic.{pointwise}
 use Rattle.std.specs.Str.{all_ascii_digits}
 use Rattle.std.specs.Str.Parse.{digits_value, starts_with_minus, without_leading_sign}
-use Rattle.rule_keys.specs.Names.{named}
 use Rattle.rule_parts.specs.declared.options.RuleOption.{RuleOption}
 use Rattle.rule_parts.specs.declared.options.RuleOption.TheVariants.{LinkPriority, KeepEscapes, ReplaceEscapes, Watch, NoWatch, DbPersist, Ignored}
+
+-- what stands beside a name in a table
+abbrev pub named : {X : Type 0} → List (List ℕ × X) → List ℕ → Option X
+named [] text = None
+named (row ∷ rows) text = if pointwise nat_eq row.0 text then Some row.1 else named rows text
 
 -- the options that are one word
 abbrev pub words : List (List ℕ × RuleOption)

@@ -1,6 +1,6 @@
 //! What is wrong with a part of a rule.
 ghost use Rattle.std.specs.Prelude.{◌≡◌, IfOk, take};
-ghost use Rattle.rule_parts.specs.Parts.{finding};
+ghost use Rattle.rule_parts.specs.Values.{finding};
 ghost use Rattle.rule_parts.specs.Faults.{Tells};
 
 use std::alloc::{AllocError, AllocFailed, Global};

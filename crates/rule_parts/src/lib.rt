@@ -11,11 +11,10 @@ mod part;
 mod reading;
 #[cfg(test)]
 mod tests;
-mod value;
 mod values;
+mod written;
 
 pub use finding::{Finding, PartFault};
 pub use options::RuleOption;
-pub use part::Part;
+pub use part::{Act, Assignment, Change, Comparison, Deed, Import, Part, PlainMatch, UpMatch};
 pub use reading::{is_read_as_assign, read_part};
-pub use value::Value;

@@ -1,7 +1,6 @@
 //! The options of OPTIONS.
 ghost use Rattle.std.specs.Prelude.{◌≡◌, map};
-ghost use Rattle.rule_keys.specs.Names.{named};
-ghost use Rattle.rule_parts.specs.Options.{is_ignored, number_of, option_of, other_option};
+ghost use Rattle.rule_parts.specs.Options.{is_ignored, named, number_of, option_of, other_option};
 
 /// An option of a rule, as OPTIONS names it in udev(7).
 #[derive(Clone, Copy, Debug, PartialEq, Eq)]

@@ -1,59 +1,110 @@
-//! One part of a rule.
-ghost use Rattle.std.specs.Prelude.{◌≡◌, option_map};
-ghost use Rattle.rule_parts.specs.Parts.{Part};
+//! One part of a rule, by what it is for.
 
-use crate::Value;
-use rule_keys::{Key, Operator};
-use std::marker::Model;
+use crate::RuleOption;
+use rule_keys::{AssignOperator, MatchOperator, PlainKey, RunType, Target, UpKey};
+use rule_templates::Template;
 use text_bytes::Bytes;
+use text_core::Choice;
 
-/// A part of a rule: what is done with a key, and by which value. `read_part` alone makes it.
+/// A part of a rule: what one token asks for.
 #[derive(Debug, Drop)]
-pub struct Part {
-    pub(crate) key: Key,
-    pub(crate) attribute: Option<Bytes>,
-    pub(crate) operator: Operator,
-    pub(crate) value: Value,
+pub enum Part {
+    /// A match of the event.
+    Plain(PlainMatch),
+    /// A match of one device of the chain.
+    Up(UpMatch),
+    /// Something that is done, and perhaps stops the rule.
+    Act(Act),
+    /// A match of the result of PROGRAM.
+    Result(Comparison),
+    /// An assignment.
+    Set(Assignment),
+    /// The name that jumps find the rule by.
+    Label(Bytes),
+    /// The label to which the rule jumps.
+    Goto(Bytes),
 }
 
-impl Model for Part {
-    ghost use Rattle.rule_parts.specs.Parts as parts;
-
-    ghost Value = { parts.Part };
-
-    ghost view = { λ p. record { key = p.key; attribute = p.attribute; operator = p.operator; value = p.value } };
+/// Patterns, and whether one of them is to fit or none.
+#[derive(Debug, Drop)]
+pub struct Comparison {
+    /// `==` where one is to fit, `!=` where none is.
+    pub operator: MatchOperator,
+    /// The patterns.
+    pub choice: Choice,
 }
 
-impl Part {
-    /// What is compared or changed.
-    pub fn key(&self) -> Key
-        ensures { result ≡ self.now.key }
-    {
-        self.key
-    }
+/// A match of the event.
+#[derive(Debug, Drop)]
+pub struct PlainMatch {
+    /// What is compared.
+    pub key: PlainKey,
+    /// What it is compared with.
+    pub wanted: Comparison,
+}
 
-    /// What stands in braces behind the key, if braces do.
-    pub fn attribute(&self) -> Option<&[u8]>
-        ensures { option_map (λ a. a.now) result ≡ self.now.attribute }
-    {
-        match &self.attribute {
-            None => None,
-            Some(text) => Some(text.as_slice()),
-        }
-    }
+/// A match of one device of the chain.
+#[derive(Debug, Drop)]
+pub struct UpMatch {
+    /// What is compared.
+    pub key: UpKey,
+    /// What it is compared with.
+    pub wanted: Comparison,
+}
 
-    /// What is done: `==` or `!=` in a match; in an assignment any other, where one that the key
-    /// takes as `=` is that.
-    pub fn operator(&self) -> Operator
-        ensures { result ≡ self.now.operator }
-    {
-        self.operator
-    }
+/// Something that is done while a rule is matched.
+#[derive(Debug, Drop)]
+pub struct Act {
+    /// `==` where the rule goes on if it is done, `!=` where it goes on if it is not.
+    pub operator: MatchOperator,
+    /// What is done.
+    pub deed: Deed,
+}
 
-    /// Lends the value.
-    pub fn value(&self) -> &Value
-        ensures { result.now ≡ self.now.value }
-    {
-        &self.value
-    }
+/// What an act does.
+#[derive(Debug, Drop)]
+pub enum Deed {
+    /// TEST asks whether the event device has a file, with a mask of file modes if there is one.
+    Test(Option<Bytes>, Template),
+    /// PROGRAM asks for the output of a command.
+    Program(Template),
+    /// IMPORT takes properties.
+    Import(Import),
+}
+
+/// From where IMPORT takes properties.
+#[derive(Debug, Drop)]
+pub enum Import {
+    /// The output of a command.
+    Program(Template),
+    /// A command that is built into udev.
+    Builtin(Template),
+    /// A file, by its path.
+    File(Template),
+    /// The parent device: the properties whose names fit. Case counts.
+    Parent(Choice),
+    /// The kernel's command line, by a parameter's name.
+    Cmdline(Bytes),
+    /// udev's database, by a property's name.
+    Db(Bytes),
+}
+
+/// An assignment.
+#[derive(Debug, Drop)]
+pub struct Assignment {
+    /// How it stands to what was there. An operator that the key takes as `=` is that.
+    pub operator: AssignOperator,
+    /// What is changed.
+    pub change: Change,
+}
+
+/// What an assignment changes.
+#[derive(Debug, Drop)]
+pub enum Change {
+    /// An option of OPTIONS.
+    Option(RuleOption),
+    /// A text, once its substitutions are made.
+    Text(Target, Template),
+    /// RUN: a command that is run in the end, with its type if one is given; else it is a program.
+    Run(Option<RunType>, Template),
 }

@@ -1,13 +1,18 @@
 //! Reading a token as a part of a rule.
-ghost use Rattle.std.specs.Prelude.{◌≡◌, Ok, Err, IfOk, MatchResult, option_map};
-ghost use Rattle.rule_parts.specs.Parts.{compared_by, ignores_case, is_as_set, is_read_as_assign, part_of, part_of_key, part_read, part_used, type_of};
+ghost use Rattle.std.specs.Prelude.{◌≡◌, Ok, IfOk, MatchResult, Some, option_map};
+ghost use Rattle.rule_keys.specs.Names.{key_of};
+ghost use Rattle.rule_keys.specs.Written.{attribute_of_role, key_of_role};
 ghost use Rattle.rule_parts.specs.Faults.{FaultOf, Gives};
+ghost use Rattle.rule_parts.specs.Written.{attribute_of_part, key_of_part, type_of};
+ghost use Rattle.rule_parts.specs.Parts.{comparison, ignores_case, import_by, is_match, is_read_as_assign, part_by, part_of, value_part};
 
 use crate::finding::wrong;
-use crate::values::value_by;
-use crate::{Part, PartFault};
-use rule_keys::{ImportType, Key, Use, import_type, key_of, takes_attribute, use_of, value_kind};
-use rule_tokens::{Operator, Quote, Token, unquote};
+use crate::values::{read_choice, read_name, read_option, read_template};
+use crate::{
+    Act, Assignment, Change, Comparison, Deed, Import, Part, PartFault, PlainMatch, UpMatch,
+};
+use rule_keys::{ImportType, MatchOperator, Role, key_of, read_as, role_of, topic_of};
+use rule_tokens::{Quote, Token, unquote};
 use std::alloc::{AllocError, Global};
 use text_bytes::Bytes;
 use text_files::MessageKind;
@@ -19,61 +24,21 @@ use text_files::MessageKind;
 /// growth was refused.
 #[tactic(auto, unfolding(crate::specs::Parts::part_of))]
 pub fn read_part(alloc: Global, token: &Token<'_>) -> Result<Part, PartFault>
-    ensures { MatchResult result (λ p. part_of token.now ≡ Ok p) (λ f. FaultOf f (part_of token.now)) }
+    ensures part { MatchResult result (λ p. part_of token.now ≡ Ok p) (λ f. FaultOf f (part_of token.now)) }
+    ensures written { IfOk result (λ p. (key_of token.now.parts.head.key ≡ Some (key_of_part p)) × (attribute_of_part p ≡ token.now.parts.head.attribute)) }
 {
-    match key_of(token.key()) {
-        None => Err(wrong(alloc, MessageKind::UnknownKey, token.key())),
-        Some(key) => part_of_key(alloc, key, token),
-    }
-}
-
-/// Reads a token of a known key: its attribute is looked at first.
-#[tactic(auto, unfolding(crate::specs::Parts::part_of_key))]
-fn part_of_key(alloc: Global, key: Key, token: &Token<'_>) -> Result<Part, PartFault>
-    ensures { Gives result (part_of_key key token.now) }
-{
-    if takes_attribute(key, token.attribute()) {
-        part_used(alloc, key, token, use_of(key, token.operator()))
-    } else {
-        Err(wrong(alloc, MessageKind::WrongAttribute, token.key()))
-    }
-}
-
-/// Reads a token whose operator is used so.
-#[tactic(auto, unfolding(crate::specs::Parts::part_used))]
-fn part_used(alloc: Global, key: Key, token: &Token<'_>, used: Use) -> Result<Part, PartFault>
-    ensures { Gives result (part_used key token.now used) }
-{
-    match used {
-        Use::Refused => Err(wrong(alloc, MessageKind::OperatorNotAllowed, token.key())),
-        Use::Matches => part_read(alloc, key, token, true, compared_by(token.operator())),
-        Use::Assigns => part_read(alloc, key, token, false, token.operator()),
-        Use::AsSet => part_read(alloc, key, token, false, Operator::Assign),
-    }
-}
-
-/// Reads the value of a token, and makes the part. `matched` says that the key is matched, and
-/// `operator` is what the token's is read as.
-#[tactic(auto, unfolding(crate::specs::Parts::part_read))]
-fn part_read(
-    alloc: Global,
-    key: Key,
-    token: &Token<'_>,
-    matched: bool,
-    operator: Operator,
-) -> Result<Part, PartFault>
-    ensures { Gives result (part_read key token.now matched operator) }
-{
-    let kind = value_kind(key, matched, type_of(token.attribute()));
-    let text = unquote(alloc, token)?;
-    let value = value_by(alloc, kind, ignores_case(token.quote()), text)?;
+    let Some(key) = key_of(token.key()) else {
+        return Err(wrong(alloc, MessageKind::UnknownKey, token.key()));
+    };
     let attribute = copied(alloc, token.attribute())?;
-    Ok(Part {
-        key,
-        attribute,
-        operator,
-        value,
-    })
+    let Some(topic) = topic_of(key, attribute) else {
+        return Err(wrong(alloc, MessageKind::WrongAttribute, token.key()));
+    };
+    let Some(role) = role_of(topic, read_as(key, token.operator())) else {
+        return Err(wrong(alloc, MessageKind::OperatorNotAllowed, token.key()));
+    };
+    let text = unquote(alloc, token)?;
+    value_part(alloc, role, ignores_case(token.quote()), text)
 }
 
 /// A copy of an attribute, if there is one.
@@ -83,16 +48,6 @@ fn copied(alloc: Global, attribute: Option<&[u8]>) -> Result<Option<Bytes>, Allo
     match attribute {
         None => Ok(None),
         Some(text) => Ok(Some(Bytes::copy_of(alloc, text)?)),
-    }
-}
-
-/// The type that an attribute names, if there is one and it is one of IMPORT.
-fn type_of(attribute: Option<&[u8]>) -> Option<ImportType>
-    ensures { result ≡ type_of (option_map (λ text. text.now) attribute.entry) }
-{
-    match attribute {
-        None => None,
-        Some(text) => import_type(text),
     }
 }
 
@@ -106,17 +61,99 @@ fn ignores_case(quote: Quote) -> bool
     }
 }
 
-/// The operator by which a match compares.
-fn compared_by(operator: Operator) -> Operator
-    ensures { result ≡ compared_by operator }
+/// The part of a role with this value. `blind` says that the value asks for its case to be ignored,
+/// which matches alone take.
+#[tactic(auto, unfolding(crate::specs::Parts::value_part))]
+fn value_part(alloc: Global, role: Role, blind: bool, text: Vec<u8>) -> Result<Part, PartFault>
+    ensures part { Gives result (value_part role blind text.items) }
+    ensures written { IfOk result (λ p. (key_of_part p ≡ key_of_role role) × (attribute_of_part p ≡ attribute_of_role role)) }
 {
-    match operator {
-        Operator::NotEqual => Operator::NotEqual,
-        Operator::Equal
-        | Operator::Add
-        | Operator::Remove
-        | Operator::AssignFinal
-        | Operator::Assign => Operator::Equal,
+    if blind && !is_match(&role) {
+        Err(wrong(alloc, MessageKind::BadValue, &text))
+    } else {
+        part_by(alloc, role, blind, text)
+    }
+}
+
+/// Whether a role is a match.
+fn is_match(role: &Role) -> bool
+    ensures { result ≡ is_match role.now }
+{
+    matches!(role, Role::Plain(_, _) | Role::Up(_, _) | Role::Result(_))
+}
+
+/// Reads the value of a role, and makes the part.
+#[tactic(auto, unfolding(crate::specs::Parts::part_by))]
+fn part_by(alloc: Global, role: Role, blind: bool, text: Vec<u8>) -> Result<Part, PartFault>
+    ensures part { Gives result (part_by role blind text.items) }
+    ensures written { IfOk result (λ p. (key_of_part p ≡ key_of_role role) × (attribute_of_part p ≡ attribute_of_role role)) }
+{
+    match role {
+        Role::Plain(key, operator) => {
+            let wanted = comparison(alloc, operator, blind, &text)?;
+            Ok(Part::Plain(PlainMatch { key, wanted }))
+        }
+        Role::Up(key, operator) => {
+            let wanted = comparison(alloc, operator, blind, &text)?;
+            Ok(Part::Up(UpMatch { key, wanted }))
+        }
+        Role::Result(operator) => Ok(Part::Result(comparison(alloc, operator, blind, &text)?)),
+        Role::Test(mask, operator) => {
+            let deed = Deed::Test(mask, read_template(alloc, &text)?);
+            Ok(Part::Act(Act { operator, deed }))
+        }
+        Role::Program(operator) => {
+            let deed = Deed::Program(read_template(alloc, &text)?);
+            Ok(Part::Act(Act { operator, deed }))
+        }
+        Role::Import(known, operator) => {
+            let deed = Deed::Import(import_by(alloc, known, text)?);
+            Ok(Part::Act(Act { operator, deed }))
+        }
+        Role::Set(target, operator) => {
+            let change = Change::Text(target, read_template(alloc, &text)?);
+            Ok(Part::Set(Assignment { operator, change }))
+        }
+        Role::Run(known, operator) => {
+            let change = Change::Run(known, read_template(alloc, &text)?);
+            Ok(Part::Set(Assignment { operator, change }))
+        }
+        Role::Option(operator) => {
+            let change = Change::Option(read_option(alloc, &text)?);
+            Ok(Part::Set(Assignment { operator, change }))
+        }
+        Role::Label => Ok(Part::Label(read_name(alloc, text)?)),
+        Role::Goto => Ok(Part::Goto(read_name(alloc, text)?)),
+    }
+}
+
+/// Reads patterns that something is compared with.
+#[tactic(auto, unfolding(crate::specs::Parts::comparison))]
+fn comparison(
+    alloc: Global,
+    operator: MatchOperator,
+    blind: bool,
+    text: &[u8],
+) -> Result<Comparison, PartFault>
+    ensures { Gives result (comparison operator blind text.now) }
+{
+    let choice = read_choice(alloc, blind, text)?;
+    Ok(Comparison { operator, choice })
+}
+
+/// Reads the value of an IMPORT of a type.
+#[tactic(auto, unfolding(crate::specs::Parts::import_by))]
+fn import_by(alloc: Global, known: ImportType, text: Vec<u8>) -> Result<Import, PartFault>
+    ensures import { Gives result (import_by known text.items) }
+    ensures written { IfOk result (λ i. type_of i ≡ known) }
+{
+    match known {
+        ImportType::Program => Ok(Import::Program(read_template(alloc, &text)?)),
+        ImportType::Builtin => Ok(Import::Builtin(read_template(alloc, &text)?)),
+        ImportType::File => Ok(Import::File(read_template(alloc, &text)?)),
+        ImportType::Parent => Ok(Import::Parent(read_choice(alloc, false, &text)?)),
+        ImportType::Cmdline => Ok(Import::Cmdline(Bytes::new(text))),
+        ImportType::Db => Ok(Import::Db(Bytes::new(text))),
     }
 }
 
@@ -127,16 +164,6 @@ pub fn is_read_as_assign(token: &Token<'_>) -> bool
 {
     match key_of(token.key()) {
         None => false,
-        Some(key) => is_as_set(use_of(key, token.operator())),
-    }
-}
-
-/// Whether a use is that of `=` by another operator.
-fn is_as_set(used: Use) -> bool
-    ensures { result ≡ is_as_set used }
-{
-    match used {
-        Use::AsSet => true,
-        Use::Matches | Use::Assigns | Use::Refused => false,
+        Some(key) => rule_keys::is_read_as_assign(key, token.operator()),
     }
 }

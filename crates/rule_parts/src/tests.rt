@@ -1,7 +1,10 @@
 //! Tokens with the parts or the faults that udev(7) gives them.
 
-use crate::{Part, PartFault, RuleOption, Value, is_read_as_assign, read_part};
-use rule_keys::{Key, Operator};
+use crate::{
+    Act, Assignment, Change, Comparison, Deed, Import, Part, PartFault, PlainMatch, RuleOption,
+    is_read_as_assign, read_part,
+};
+use rule_keys::{AssignOperator, MatchOperator, PlainKey, Target};
 use rule_tokens::Tokens;
 use std::alloc::Global;
 use std::test::Fail;
@@ -11,6 +14,11 @@ use text_files::MessageKind;
 fn first(alloc: Global, line: &[u8]) -> Option<Result<Part, PartFault>> {
     let token = Tokens::new(line).next()?.ok()?;
     Some(read_part(alloc, &token))
+}
+
+/// The part that a line's first token is.
+fn part(alloc: Global, line: &[u8]) -> Option<Part> {
+    first(alloc, line)?.ok()
 }
 
 /// Whether a line's first token is wrong so, told with this word.
@@ -28,19 +36,19 @@ fn is_bad_value(alloc: Global, line: &[u8], word: &[u8]) -> bool {
 
 /// The option that a line's first token names, if it names one.
 fn option(alloc: Global, line: &[u8]) -> Option<RuleOption> {
-    match first(alloc, line)?.ok()?.value() {
-        Value::Option(known) => Some(*known),
+    match part(alloc, line)? {
+        Part::Set(assignment) => match assignment.change {
+            Change::Option(known) => Some(known),
+            _ => None,
+        },
         _ => None,
     }
 }
 
-/// Whether a line's first token has a choice that fits a text.
+/// Whether a line's first token is a match of the event whose patterns fit a text.
 fn fits(alloc: Global, line: &[u8], text: &[u8]) -> bool {
-    match first(alloc, line) {
-        Some(Ok(part)) => match part.value() {
-            Value::Choice(choice) => choice.fits(text),
-            _ => false,
-        },
+    match part(alloc, line) {
+        Some(Part::Plain(plain)) => plain.wanted.choice.fits(text),
         _ => false,
     }
 }
@@ -95,28 +103,48 @@ fn priorities(rt: HostRuntime) {
 }
 
 #[test]
-fn lenders(rt: HostRuntime) -> Result<(), Fail> {
-    let token = Tokens::new(br#"IMPORT{parent}="ID_*""#)
-        .next()
-        .ok_or("no token")??;
-    let Ok(part) = read_part(rt.alloc(), &token) else {
-        return Err("no part".into());
-    };
-    assert!(rt; part.key() == Key::Import);
-    assert_eq!(rt; part.attribute(), Some(b"parent".as_slice()));
-    assert!(rt; part.operator() == Operator::Equal);
-    assert!(rt; matches!(part.value(), Value::Choice(_)));
-    Ok(())
+fn parts_by_what_they_are_for(rt: HostRuntime) {
+    let alloc = rt.alloc();
+    let wanted = part(alloc, br#"KERNEL!="sd*""#);
+    assert!(rt;
+        matches!(
+            wanted,
+            Some(Part::Plain(PlainMatch {
+                key: PlainKey::Kernel,
+                wanted: Comparison {
+                    operator: MatchOperator::NotEqual,
+                    choice: _
+                }
+            }))
+        )
+    );
+    let import = part(alloc, br#"IMPORT{parent}="ID_*""#);
+    assert!(rt;
+        matches!(
+            import,
+            Some(Part::Act(Act {
+                operator: MatchOperator::Equal,
+                deed: Deed::Import(Import::Parent(_))
+            }))
+        )
+    );
+    assert!(rt; matches!(part(alloc, br#"TAGS=="seat""#), Some(Part::Up(_))));
+    assert!(rt; matches!(part(alloc, br#"RESULT=="1""#), Some(Part::Result(_))));
+    assert!(rt; matches!(part(alloc, br#"GOTO="end""#), Some(Part::Goto(_))));
 }
 
 #[test]
 fn operators_that_are_read_as_assign(rt: HostRuntime) -> Result<(), Fail> {
     let token = Tokens::new(br#"ENV{A}:="1""#).next().ok_or("no token")??;
     assert!(rt; is_read_as_assign(&token));
-    let Ok(part) = read_part(rt.alloc(), &token) else {
-        return Err("no part".into());
-    };
-    assert!(rt; part.operator() == Operator::Assign);
-    assert!(rt; matches!(part.value(), Value::Template(_)));
+    assert!(rt;
+        matches!(
+            read_part(rt.alloc(), &token),
+            Ok(Part::Set(Assignment {
+                operator: AssignOperator::Assign,
+                change: Change::Text(Target::Env(_), _)
+            }))
+        )
+    );
     Ok(())
 }

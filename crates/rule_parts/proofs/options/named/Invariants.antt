@@ -1,5 +1,5 @@
 use Rattle.std.proofs.Common.{◌≡◌, map, drop}
-use Rattle.rule_keys.specs.Names.{named}
+use Rattle.rule_parts.specs.Options.{named}
 use Rattle.rule_parts.proofs.options.named.Given as goal
 
 abbrev pub invariant-loop-row : goal.invariant-loop-row

@@ -3,7 +3,6 @@ use Rattle.std.proofs.Common.{◌≡◌, ℕ, ◌+◌, ◌-◌, ◌^◌, ◌<◌
 use Rattle.std.specs.List.{sum_by}
 use Rattle.std.proofs.lemmas.List.Sums.{sum_by_push}
 use Rattle.text_files.specs.declared.Message.{Message}
-use Rattle.text_files.specs.declared.MessageKind.{MessageKind}
 use Rattle.text_core.specs.declared.item.Item.{Item}
 use Rattle.hwdb_lookup.specs.declared.Entry.{Entry}
 use Rattle.hwdb_core.specs.Properties.{Property}
@@ -73,16 +72,13 @@ counted_entry es n t e c order room fits =
       map_push [] = refl
       map_push (x ∷ xs) = ap (λ (ps : List Property). property_of x ∷ ps) (map_push xs)
 
-pub told_as : (es : List Entry) (ms now : List Message) (n : ℕ) (start : Found) (file given word kept : List ℕ) (line number : ℕ) (kind : MessageKind)
-    → given ≡ file → number ≡ line → kept ≡ word → now ≡ ms ++ record { file = given; line = number; kind = kind; word = kept } ∷ [] → found_of es ms n ≡ start
-    → found_of es now n ≡ join start (only_messages (record { file = file; line = line; kind = kind; word = word } ∷ []))
-told_as es ms now n start file given word kept line number kind e f g h s =
+pub told_as : (es : List Entry) (ms now : List Message) (n : ℕ) (start : Found) (made m : Message) → made ≡ m → now ≡ ms ++ made ∷ [] → found_of es ms n ≡ start
+    → found_of es now n ≡ join start (only_messages (m ∷ []))
+told_as es ms now n start made m e h s =
     ap (λ (xs : List Message). found_of es xs n) h
-    ∙ told es ms n (record { file = given; line = number; kind = kind; word = kept })
-    ∙ ap (λ (x : Found). join x (only_messages (record { file = given; line = number; kind = kind; word = kept } ∷ []))) s
-    ∙ ap (λ (x : List ℕ). join start (only_messages (record { file = x; line = number; kind = kind; word = kept } ∷ []))) e
-    ∙ ap (λ (x : ℕ). join start (only_messages (record { file = file; line = x; kind = kind; word = kept } ∷ []))) f
-    ∙ ap (λ (x : List ℕ). join start (only_messages (record { file = file; line = line; kind = kind; word = x } ∷ []))) g
+    ∙ told es ms n made
+    ∙ ap (λ (x : Found). join x (only_messages (made ∷ []))) s
+    ∙ ap (λ (x : Message). join start (only_messages (x ∷ []))) e
 
 pub counted_as : (es now : List Entry) (n t : ℕ) (pattern : List Item) (key value : List ℕ) (order : ℕ) (file : List ℕ) (line : ℕ) (k v : List ℕ)
     → key ≡ k → value ≡ v → order ≡ length es

@@ -3,14 +3,15 @@ use Rattle.std.proofs.Common.{◌≡◌, ℕ, ◌+◌, ◌<◌, ◌≤◌, suc, 
 use Rattle.std.specs.List.{flat_map, list_any, slice_get}
 use Rattle.std.proofs.Math.Seq.{drop-cons}
 use Rattle.std.proofs.lemmas.List.Concat.{flat_map_single}
+use Rattle.text_files.specs.Messages.{capped, message}
 use Rattle.text_files.specs.declared.MessageKind.{MessageKind}
 use Rattle.text_core.specs.Spell.{spell}
 use Rattle.text_core.specs.declared.glob_fault.GlobFault.{GlobFault}
 use Rattle.text_core.specs.declared.item.Item.{Item}
 use Rattle.hwdb_core.specs.Lines.{NumberedLine}
 use Rattle.hwdb_core.specs.Paragraphs.{Cut}
-use Rattle.hwdb_core.specs.Properties.{Pair, capped, cut_match_bytes, cut_properties, from_line, from_pair, from_spelled, pair_of, property_text}
-use Rattle.hwdb_core.specs.Messages.{about_early, about_match, about_pair, about_property, about_spelled, cut_messages, message}
+use Rattle.hwdb_core.specs.Properties.{Pair, cut_match_bytes, cut_properties, from_line, from_pair, from_spelled, pair_of, property_text}
+use Rattle.hwdb_core.specs.Messages.{about_early, about_match, about_pair, about_property, about_spelled, cut_messages}
 use Rattle.hwdb_core.specs.Found.{Found, found_in, join, nothing, only_messages}
 use Rattle.hwdb_core.specs.Parts.{bare_found, cut_found, early_found, match_found, pair_found, property_found, rest_found}
 use Rattle.hwdb_core.proofs.Joining.{found_as, found_in_is, found_in_messages, found_in_properties, same_found}

@@ -1,5 +1,6 @@
 -- The messages about a paragraph.
 use Rattle.std.specs.Prelude.{ℕ, ◌==◌, if◌then◌else◌, List, [], ◌∷◌, ◌++◌, length, take, map, flat_map, Result, Ok, Err}
+use Rattle.text_files.specs.Messages.{message}
 use Rattle.text_files.specs.declared.Message.{Message}
 use Rattle.text_files.specs.declared.MessageKind.{MessageKind}
 use Rattle.text_files.specs.declared.MessageKind.TheVariants.{PropertyWithoutMatch, MatchWithoutProperty, UnindentedLine, PatternNotSupported}
@@ -8,11 +9,7 @@ use Rattle.text_core.specs.declared.item.Item.{Item}
 use Rattle.text_core.specs.declared.glob_fault.GlobFault.{GlobFault}
 use Rattle.hwdb_core.specs.Lines.{NumberedLine}
 use Rattle.hwdb_core.specs.Paragraphs.{Cut}
-use Rattle.hwdb_core.specs.Properties.{Pair, capped, pair_of, property_text}
-
--- a message about a line of a file, with the first 32 bytes of the word
-abbrev pub message : List ℕ → ℕ → MessageKind → List ℕ → Message
-message file number kind word = record { file = file; line = capped number; kind = kind; word = take 32 word }
+use Rattle.hwdb_core.specs.Properties.{Pair, pair_of, property_text}
 
 -- a property that no match stands before
 abbrev pub about_early : List ℕ → NumberedLine → Message

@@ -1,7 +1,8 @@
 -- The properties that a paragraph gives the devices that its matches fit.
-use Rattle.std.specs.Prelude.{ℕ, zero, suc, ◌+◌, ◌-◌, ◌^◌, ◌&&◌, ◌==◌, if◌then◌else◌, List, [], ◌∷◌, length, take, drop, position, flat_map, sum_by, Option, Some, None, Result, Ok, Err, is_ok, min}
+use Rattle.std.specs.Prelude.{ℕ, zero, suc, ◌+◌, ◌&&◌, ◌==◌, if◌then◌else◌, List, [], ◌∷◌, length, take, drop, position, flat_map, sum_by, Option, Some, None, Result, Ok, Err, is_ok}
 use Rattle.std.specs.List.{list_any}
 use Rattle.text_bytes.specs.Names.{equals, is_blank}
+use Rattle.text_files.specs.Messages.{capped}
 use Rattle.text_files.specs.declared.MessageKind.{MessageKind}
 use Rattle.text_files.specs.declared.MessageKind.TheVariants.{NoEquals, EmptyKey}
 use Rattle.text_core.specs.Spell.{spell}
@@ -28,10 +29,6 @@ property_text l = behind is_blank l.text
 -- what a property says, or what is wrong with it
 abbrev pub pair_of : NumberedLine → Result Pair MessageKind
 pair_of l = pair_at (property_text l) (position (λ b. b == equals) (property_text l))
-
--- the number of a line, as entries and messages give it
-abbrev pub capped : ℕ → ℕ
-capped n = min n (2 ^ 32 - 1)
 
 -- an entry of the database but for its place among all
 pub record Property : Type 0 where

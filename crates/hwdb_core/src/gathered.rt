@@ -2,9 +2,8 @@
 //!
 //! Nothing is kept that passes a bound, so that the bounds hold of each value here.
 
-ghost use Rattle.std.specs.Prelude.{◌≡◌, ◌∷◌, [], take};
-ghost use Rattle.hwdb_core.specs.Messages.{message};
-ghost use Rattle.hwdb_core.specs.Properties.{capped};
+ghost use Rattle.std.specs.Prelude.{◌≡◌, ◌∷◌, []};
+ghost use Rattle.text_files.specs.Messages.{capped, message};
 ghost use Rattle.hwdb_core.specs.Sources.{entries_from};
 ghost use Rattle.hwdb_core.specs.Found.{Adds, IsKept, nothing, only_messages};
 
@@ -15,7 +14,7 @@ use std::alloc::Global;
 use std::marker::Model;
 use text_bytes::Bytes;
 use text_core::Pattern;
-use text_files::{Message, MessageKind};
+use text_files::{Message, MessageKind, capped};
 
 /// How many entries there may be.
 const MAX_ENTRIES: usize = 1 << 24;
@@ -25,9 +24,6 @@ const MAX_MATCH_BYTES: usize = (1 << 25) - 1;
 
 /// How many bytes the keys and values of all entries may have.
 const MAX_TEXT_BYTES: usize = 1 << 30;
-
-/// How many bytes of a line a message keeps.
-const MAX_WORD: usize = 32;
 
 /// Entries and messages, in order.
 #[derive(Debug, Drop)]
@@ -73,13 +69,8 @@ impl Gathered {
     ) -> Result<(), HwdbFault>
         ensures { Adds self.old self.new (only_messages (message file.now number kind word.now ∷ [])) result }
     {
-        let message = Message {
-            file: Bytes::copy_of(alloc, file)?,
-            line: capped(number),
-            kind,
-            word: Bytes::copy_of(alloc, front(word, MAX_WORD))?,
-        };
-        self.messages.push(message)?;
+        self.messages
+            .push(Message::about(alloc, file, number, kind, word)?)?;
         Ok(())
     }
 
@@ -139,18 +130,4 @@ impl Gathered {
         } = self;
         (entries, messages)
     }
-}
-
-/// The first bytes of a text, at most so many.
-fn front(text: &[u8], len: usize) -> &[u8]
-    ensures { result.now ≡ take len text.now }
-{
-    &text[..len.min(text.len())]
-}
-
-/// A line's number as entries and messages give it.
-fn capped(number: usize) -> u32
-    ensures { result ≡ capped number }
-{
-    number.min(u32::MAX as usize) as u32
 }

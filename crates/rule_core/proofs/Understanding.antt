@@ -5,7 +5,8 @@ use Rattle.std.proofs.lemmas.List.Elements.{All-cons, All-nil}
 use Rattle.text_files.specs.declared.message.Message.{Message}
 use Rattle.text_files.specs.declared.source_file.SourceFile.{SourceFile}
 use Rattle.rule_parts.specs.declared.finding.Finding.{Finding}
-use Rattle.rule_lines.specs.Lines.{NumberedLine, Piece, capped, is_comment, is_empty, is_open, joined_lines, kept, lines_of_runs, open_of_runs, piece_of, run_number, run_text, runs, unindented}
+use Rattle.rule_lines.specs.Lines.{NumberedLine, Piece, is_comment, is_empty, is_open, joined_lines, kept, lines_of_runs, open_of_runs, piece_of, run_number, run_text, runs, unindented}
+use Rattle.text_files.specs.Messages.{capped}
 use Rattle.rule_drafts.specs.Drafts.{Draft, draft_of}
 use Rattle.rule_jumps.specs.Jumps.{Names, is_lost, is_unused, landings}
 use Rattle.rule_jumps.specs.declared.jumps.Landing.{Landing}

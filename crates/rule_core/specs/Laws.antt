@@ -2,7 +2,8 @@
 use Rattle.std.specs.Prelude.{◌≡◌, ◌⊎◌, ℕ, true, false, List, [], map, All, Any, Contains, None, Ok}
 use Rattle.std.specs.List.{AllZip}
 use Rattle.text_files.specs.declared.source_file.SourceFile.{SourceFile}
-use Rattle.rule_lines.specs.Lines.{NumberedLine, Piece, capped, is_comment, joined_lines, kept, lines, numbered_from, piece_of, run_number, run_text, runs, unindented}
+use Rattle.rule_lines.specs.Lines.{NumberedLine, Piece, is_comment, joined_lines, kept, lines, numbered_from, piece_of, run_number, run_text, runs, unindented}
+use Rattle.text_files.specs.Messages.{capped}
 use Rattle.rule_drafts.specs.Drafts.{Draft, draft_of}
 use Rattle.rule_jumps.specs.declared.jumps.Landing.{Landing}
 use Rattle.rule_core.specs.Rules.{Rule, file_rules, rule_at}

@@ -1,7 +1,8 @@
 -- The joined lines of a rules file.
-use Rattle.std.specs.Prelude.{ℕ, ◌+◌, ◌-◌, ◌^◌, min, Bool, true, false, not, ◌&&◌, ◌==◌, nat_eq, if◌then◌else◌, List, [], ◌∷◌, ◌++◌, length, take, drop, map, filter, Option, Some, None}
+use Rattle.std.specs.Prelude.{ℕ, ◌+◌, ◌-◌, Bool, true, false, not, ◌&&◌, ◌==◌, nat_eq, if◌then◌else◌, List, [], ◌∷◌, ◌++◌, length, take, drop, map, filter, Option, Some, None}
 use Rattle.std.specs.List.{onto_first, prefix_len, ends_with}
 use Rattle.text_bytes.specs.Names.{newline, hash, backslash, is_blank}
+use Rattle.text_files.specs.Messages.{capped}
 
 -- a line: its number in its file, and its bytes
 pub record NumberedLine : Type 0 where
@@ -68,10 +69,6 @@ run_text (p ∷ ps) = p.text ++ run_text ps
 abbrev pub run_number : List Piece → ℕ
 run_number [] = 0
 run_number (p ∷ ps) = p.number
-
--- a number, or the greatest that is told where it is over that
-abbrev pub capped : ℕ → ℕ
-capped n = min n (2 ^ 32 - 1)
 
 -- whether a text has no byte
 abbrev pub is_empty : List ℕ → Bool

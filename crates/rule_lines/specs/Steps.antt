@@ -1,6 +1,7 @@
 -- Joining line by line: what the lines so far have given, and what one more makes of it.
 use Rattle.std.specs.Prelude.{ℕ, Bool, if◌then◌else◌, List, [], ◌∷◌, ◌++◌, Option, Some, None}
-use Rattle.rule_lines.specs.Lines.{NumberedLine, Piece, Joined, capped, is_empty, joined_as}
+use Rattle.rule_lines.specs.Lines.{NumberedLine, Piece, Joined, is_empty, joined_as}
+use Rattle.text_files.specs.Messages.{capped}
 
 -- the joined lines so far, and the piece that the lines of an open one make
 pub record SoFar : Type 0 where

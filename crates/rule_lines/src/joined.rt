@@ -1,9 +1,11 @@
 //! The joined lines of a file, as they are given to a caller.
 ghost use Rattle.std.specs.Prelude.{◌≡◌};
-ghost use Rattle.rule_lines.specs.Lines.{capped, joined_as};
+ghost use Rattle.rule_lines.specs.Lines.{joined_as};
+ghost use Rattle.text_files.specs.Messages.{capped};
 
 use crate::text::Text;
 use std::marker::Model;
+use text_files::capped;
 
 /// A joined line of a rules file: the text of a rule, which may borrow the file.
 #[derive(Debug, Drop)]
@@ -85,11 +87,4 @@ impl<'a> JoinedLines<'a> {
     {
         self.open_at
     }
-}
-
-/// A line's number, or the greatest that is told where it is over that.
-pub(crate) fn capped(number: usize) -> u32
-    ensures { result ≡ capped number }
-{
-    number.min(u32::MAX as usize) as u32
 }

@@ -4,11 +4,12 @@ ghost use Rattle.std.specs.Prelude.{◌≡◌, [], None, IfOk, OnOk};
 ghost use Rattle.rule_lines.specs.Lines.{joined_lines};
 ghost use Rattle.rule_lines.specs.Steps.{after, ended, sofar};
 
-use crate::joined::{JoinedLine, JoinedLines, capped};
+use crate::joined::{JoinedLine, JoinedLines};
 use crate::lines::{Lines, Piece};
 use crate::text::Text;
 use std::alloc::{AllocError, Global};
 use std::marker::Model;
+use text_files::capped;
 
 /// A joined line of which all lines so far end in a backslash.
 #[derive(Debug, Drop)]

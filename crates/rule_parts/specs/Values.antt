@@ -1,5 +1,6 @@
 -- The value of a token, read as what its role asks for.
-use Rattle.std.specs.Prelude.{ℕ, Bool, if◌then◌else◌, List, [], ◌∷◌, take, Option, Some, None, Result, Ok, Err}
+use Rattle.std.specs.Prelude.{ℕ, Bool, if◌then◌else◌, List, [], ◌∷◌, Option, Some, None, Result, Ok, Err}
+use Rattle.text_files.specs.Messages.{word_of}
 use Rattle.text_files.specs.declared.message.MessageKind.{MessageKind}
 use Rattle.text_files.specs.declared.message.MessageKind.TheVariants.{BadValue, BadSubstitution, SetNotSupported}
 use Rattle.text_core.specs.Choices.{choice, choice_blind}
@@ -16,7 +17,7 @@ use Rattle.rule_parts.specs.declared.options.RuleOption.{RuleOption}
 
 -- what is wrong, told with the first 32 bytes of a word
 abbrev pub finding : MessageKind → List ℕ → Finding
-finding kind word = record { kind = kind; word = take 32 word }
+finding kind text = record { kind = kind; word = word_of text }
 
 -- what is wrong with a value that spells no choice of patterns
 abbrev pub choice_fault : GlobFault → MessageKind

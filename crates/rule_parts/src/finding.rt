@@ -1,14 +1,11 @@
 //! What is wrong with a part of a rule.
-ghost use Rattle.std.specs.Prelude.{◌≡◌, IfOk, take};
+ghost use Rattle.std.specs.Prelude.{◌≡◌, IfOk};
 ghost use Rattle.rule_parts.specs.Values.{finding};
 ghost use Rattle.rule_parts.specs.Faults.{Tells};
 
 use std::alloc::{AllocError, AllocFailed, Global};
 use text_bytes::Bytes;
-use text_files::MessageKind;
-
-/// How many bytes of a text a finding keeps.
-const WORD_LENGTH: usize = 32;
+use text_files::{MessageKind, word_of};
 
 /// What is wrong with a part of a rule, before it is told where the rule stands.
 #[derive(Debug, Drop)]
@@ -50,13 +47,6 @@ impl<T: Drop> From<AllocFailed<T>> for PartFault {
     }
 }
 
-/// The first so many bytes of a text, or all where it has fewer.
-fn front(text: &[u8], length: usize) -> &[u8]
-    ensures { result.now ≡ take length text.now }
-{
-    &text[..length.min(text.len())]
-}
-
 impl Finding {
     /// What is wrong, told with the first 32 bytes of the text that it is about. The error comes
     /// where memory is refused.
@@ -65,7 +55,7 @@ impl Finding {
     {
         Ok(Finding {
             kind,
-            word: Bytes::copy_of(alloc, front(text, WORD_LENGTH))?,
+            word: Bytes::copy_of(alloc, word_of(text))?,
         })
     }
 }

@@ -1,11 +1,23 @@
 -- A set at the front of a text, and what the reading of its brackets finds.
 use Rattle.std.proofs.Common.{◌≡◌, ℕ, suc, ◌+◌, ◌<◌, Bool, true, false, cond, ◌||◌, List, ◌∷◌, [], ◌++◌, length, take, drop, Option, Some, None, eqb, refl, sym, ◌∙◌, ap, arith, add-one, length-append}
+use Rattle.std.specs.List.{position}
+use Rattle.std.specs.Option.{option_map}
 use Rattle.std.proofs.lemmas.Bool.{eqb-true}
 use Rattle.std.proofs.Math.Seq.{take-append_seam, drop-append-add}
 use Rattle.text_bytes.specs.Names.{bang, caret, close_bracket, open_bracket}
-use Rattle.text_core.specs.Grammar.{Sign, no_sign, bang_sign, caret_sign, print_sign, negates, closes, IsSet, NoSet}
-use Rattle.text_core.specs.Spell.{is_sign, negated, sign_len, close_of}
+use Rattle.text_core.specs.Grammar.{Sign, no_sign, bang_sign, caret_sign, print_sign, negates, IsSet, NoSet}
+use Rattle.text_core.specs.Spell.{closes, is_sign, negated, sign_len, members_len}
 use Rattle.text_core.proofs.Places.{Found, found, joined}
+
+-- the place of the first `]` that is not the first byte, counted from the second
+abbrev pub close_of : List ℕ → Option ℕ
+close_of m = position closes (drop 1 m)
+
+pub members_len-some : (m : List ℕ) (k : ℕ) → close_of m ≡ Some k → members_len m ≡ Some (k + 1)
+members_len-some m k e = ap (option_map (λ n. n + 1)) e
+
+pub members_len-none : (m : List ℕ) → close_of m ≡ None → members_len m ≡ None
+members_len-none m e = ap (option_map (λ n. n + 1)) e
 
 -- the sign at the front of a text
 abbrev pub sign_of : List ℕ → Sign
@@ -39,20 +51,20 @@ signed (b ∷ t) =
 -- what is counted of a set: a text that is ps, the members x and before, and a `]` before the rest
 record Counted (t body : List ℕ) (members rest : List ℕ) (s k : ℕ) : Type 0 where
   pub front : take (k + 1) body ≡ members
-  pub behind : drop (s + k + 2) t ≡ rest
-  pub whole : length t ≡ s + k + 2 + length rest
+  pub behind : drop (s + (k + 1) + 1) t ≡ rest
+  pub whole : length t ≡ s + (k + 1) + 1 + length rest
 
 counted : (t ps body : List ℕ) (x : ℕ) (before rest : List ℕ) (s k : ℕ) → t ≡ ps ++ body → length ps ≡ s
     → body ≡ (x ∷ before) ++ close_bracket ∷ rest → length before ≡ k → Counted t body (x ∷ before) rest s k
 counted t ps body x before rest s k text sign inner len =
     let whole : t ≡ ps ++ (x ∷ (before ++ close_bracket ∷ rest)) = text ∙ ap (λ (b : List ℕ). ps ++ b) inner in
-    let past : s + k + 2 ≡ length ps + suc (length before + 1) = omega arith in
+    let past : s + (k + 1) + 1 ≡ length ps + suc (length before + 1) = omega arith in
     record {
       front =
           ap (take (k + 1)) inner ∙ ap (λ (n : ℕ). take n (x ∷ (before ++ close_bracket ∷ rest))) (add-one k)
           ∙ ap (λ (ys : List ℕ). x ∷ ys) (ap (λ (n : ℕ). take n (before ++ close_bracket ∷ rest)) (sym len) ∙ take-append_seam before (close_bracket ∷ rest));
       behind =
-          ap (drop (s + k + 2)) whole ∙ ap (λ (n : ℕ). drop n (ps ++ (x ∷ (before ++ close_bracket ∷ rest)))) past
+          ap (drop (s + (k + 1) + 1)) whole ∙ ap (λ (n : ℕ). drop n (ps ++ (x ∷ (before ++ close_bracket ∷ rest)))) past
           ∙ drop-append-add ps (x ∷ (before ++ close_bracket ∷ rest)) (suc (length before + 1))
           ∙ drop-append-add before (close_bracket ∷ rest) 1;
       whole =
@@ -67,8 +79,8 @@ pub record Closed (t : List ℕ) (k : ℕ) : Type 0 where
   pub rest : List ℕ
   pub a_set : IsSet (open_bracket ∷ t) (sign_of t) members rest
   pub front : take (k + 1) (drop (sign_len t) t) ≡ members
-  pub behind : drop (sign_len t + k + 2) t ≡ rest
-  pub whole : length t ≡ sign_len t + k + 2 + length rest
+  pub behind : drop (sign_len t + (k + 1) + 1) t ≡ rest
+  pub whole : length t ≡ sign_len t + (k + 1) + 1 + length rest
   pub sign : length (print_sign (sign_of t)) ≡ sign_len t
   pub negates : negates (sign_of t) ≡ negated t
 
@@ -111,8 +123,8 @@ pub record Again (t : List ℕ) (sign : Sign) (members rest : List ℕ) : Type 0
   pub last : ℕ
   pub close : close_of (drop (sign_len t) t) ≡ Some last
   pub front : take (last + 1) (drop (sign_len t) t) ≡ members
-  pub behind : drop (sign_len t + last + 2) t ≡ rest
-  pub whole : length t ≡ sign_len t + last + 2 + length rest
+  pub behind : drop (sign_len t + (last + 1) + 1) t ≡ rest
+  pub whole : length t ≡ sign_len t + (last + 1) + 1 + length rest
   pub sign_is : sign_len t ≡ length (print_sign sign)
   pub negated_is : negated t ≡ negates sign
 

@@ -4,16 +4,21 @@ use Rattle.std.proofs.lemmas.Bool.{eqb-true, eq-eqb, ne_eqb}
 use Rattle.text_bytes.specs.Names.{open_bracket, question_mark, star}
 use Rattle.text_core.specs.Grammar.{Sign, print_sign, IsSet, IsClassAt, NoClass, NoSet, Piece, many, one, set, byte, IsPiece, item_of}
 use Rattle.text_core.specs.Sets.{set_of, set_takes}
-use Rattle.text_core.specs.Spell.{sign_len, close_of, class_place, bracket, itself, front}
+use Rattle.text_core.specs.Spell.{sign_len, class_place, bracket, itself, front}
 use Rattle.text_core.specs.declared.glob_fault.GlobFault.{GlobFault}
 use Rattle.text_core.specs.declared.glob_fault.GlobFault.TheVariants.{Class}
 use Rattle.text_core.specs.declared.item.Item.{Item}
 use Rattle.text_core.specs.declared.item.Item.TheVariants.{Byte, One, Many, Among}
 use Rattle.text_core.specs.declared.reading.Reading.{Reading}
 use Rattle.text_core.specs.declared.reading.Reading.TheVariants.{Exact, Blind}
-use Rattle.text_core.proofs.Enclosed.{Closed, set_found, Again, set_again, no_set, close_none, sign_of}
+use Rattle.text_core.specs.declared.spell.Head.{Head}
+use Rattle.text_core.proofs.Enclosed.{close_of, members_len-none, members_len-some, Closed, set_found, Again, set_again, no_set, close_none, sign_of}
 use Rattle.text_core.proofs.Classes.{First, no_class, first_class, class_none, class_some}
 use Rattle.text_core.proofs.Opened.{bracket_open, bracket_class, bracket_set}
+
+-- an item of one byte
+abbrev pub alone : Item → Head
+alone x = record { item = x; behind = 0 }
 
 -- a text is a piece that means an item, and then what stands n bytes behind its first byte
 pub record Begins (reading : Reading) (b : ℕ) (t : List ℕ) (x : Item) (n : ℕ) : Type 0 where
@@ -34,8 +39,8 @@ pub record Faulty (b : ℕ) (t : List ℕ) (at : ℕ) (e : GlobFault) : Type 0 w
   pub fault : e ≡ Class (at + 1 + length (print_sign sign) + place)
 
 -- what is found in front of a text says how the text begins
-abbrev Tells : Reading → ℕ → ℕ → List ℕ → Result (Item × ℕ) GlobFault → Type 0
-Tells reading at b t (Ok found) = Begins reading b t found.0 found.1
+abbrev Tells : Reading → ℕ → ℕ → List ℕ → Result Head GlobFault → Type 0
+Tells reading at b t (Ok head) = Begins reading b t head.item head.behind
 Tells reading at b t (Err e) = Faulty b t at e
 
 byte_91 : (reading : Reading) (b : ℕ) → b ≡ open_bracket → itself reading b ≡ Byte open_bracket
@@ -46,7 +51,7 @@ bracket_tells : (reading : Reading) (at b : ℕ) (t : List ℕ) → b ≡ open_b
 bracket_tells reading at b t is = by_close (close_of (drop (sign_len t) t)) refl where
   by_close : (o : Option ℕ) → close_of (drop (sign_len t) t) ≡ o → Tells reading at b t (bracket reading at t)
   by_close None e =
-      subst (Tells reading at b t) (sym (bracket_open reading at t (drop (sign_len t) t) refl e)) (record {
+      subst (Tells reading at b t) (sym (bracket_open reading at t (drop (sign_len t) t) refl (members_len-none (drop (sign_len t) t) e))) (record {
         piece = byte b;
         is = (
           refl,
@@ -67,7 +72,7 @@ bracket_tells reading at b t is = by_close (close_of (drop (sign_len t) t)) refl
     by_class : (o : Option ℕ) → class_place f.members ≡ o → Tells reading at b t (bracket reading at t)
     by_class None c =
         let none : NoClass f.members = no_class f.members c in
-        subst (Tells reading at b t) (sym (bracket_set reading at t (drop (sign_len t) t) refl k f.members e (sym f.front) c)) (record {
+        subst (Tells reading at b t) (sym (bracket_set reading at t (drop (sign_len t) t) refl (k + 1) f.members (members_len-some (drop (sign_len t) t) k e) (sym f.front) c)) (record {
           piece = set (sign_of t) f.members;
           is = (subst (λ (r : List ℕ). IsSet (b ∷ t) (sign_of t) f.members r) (sym f.behind) here, none);
           means = ap (λ (v : Bool). Among (set_of (set_takes reading v f.members))) (sym f.negates);
@@ -76,7 +81,7 @@ bracket_tells reading at b t is = by_close (close_of (drop (sign_len t) t)) refl
     by_class (Some n) c =
         let g : First f.members 0 n = first_class f.members n c in
         let same : at + 1 + sign_len t + n ≡ at + 1 + length (print_sign (sign_of t)) + g.place = omega (arith, g.from, f.sign) in
-        subst (Tells reading at b t) (sym (bracket_class reading at t (drop (sign_len t) t) refl k f.members e (sym f.front) n c)) (record {
+        subst (Tells reading at b t) (sym (bracket_class reading at t (drop (sign_len t) t) refl (k + 1) f.members (members_len-some (drop (sign_len t) t) k e) (sym f.front) n c)) (record {
           sign = sign_of t;
           members = f.members;
           rest = f.rest;
@@ -90,7 +95,7 @@ bracket_tells reading at b t is = by_close (close_of (drop (sign_len t) t)) refl
 -- the same, by whether the first byte is a star, a question mark or a bracket
 abbrev TellsBy : Reading → ℕ → ℕ → List ℕ → Bool → Bool → Bool → Type 0
 TellsBy reading at b t v w u =
-    Tells reading at b t (cond v (Ok (Many, 0)) (cond w (Ok (One, 0)) (cond u (bracket reading at t) (Ok (itself reading b, 0)))))
+    Tells reading at b t (cond v (Ok (alone Many)) (cond w (Ok (alone One)) (cond u (bracket reading at t) (Ok (alone (itself reading b))))))
 
 not_equal : (b c : ℕ) → eqb b c ≡ false → b ≡ c → ⊥
 not_equal b c e h = let right : eqb b c ≡ true = eq-eqb b c h in cc
@@ -117,7 +122,7 @@ pub record Starts (reading : Reading) (at : ℕ) (t : List ℕ) (x : Item) (rest
   pub behind : List ℕ
   pub passed : ℕ
   pub text : t ≡ first ∷ behind
-  pub found : front reading at first behind ≡ Ok (x, passed)
+  pub found : front reading at first behind ≡ Ok (record { item = x; behind = passed })
   pub back : drop passed behind ≡ rest
   pub within : passed ≤ length behind
 
@@ -135,11 +140,11 @@ set_starts reading at t inner sign members rest e a none =
     record {
       first = open_bracket;
       behind = inner;
-      passed = sign_len inner + g.last + 2;
+      passed = sign_len inner + (g.last + 1) + 1;
       text = e;
       found =
-          bracket_set reading at inner (drop (sign_len inner) inner) refl g.last members g.close (sym g.front) (class_none members none)
-          ∙ ap (λ (v : Bool). let r : Result (Item × ℕ) GlobFault = Ok (Among (set_of (set_takes reading v members)), sign_len inner + g.last + 2) in r) g.negated_is;
+          bracket_set reading at inner (drop (sign_len inner) inner) refl (g.last + 1) members (members_len-some (drop (sign_len inner) inner) g.last g.close) (sym g.front) (class_none members none)
+          ∙ ap (λ (v : Bool). let r : Result Head GlobFault = Ok (record { item = Among (set_of (set_takes reading v members)); behind = sign_len inner + (g.last + 1) + 1 }) in r) g.negated_is;
       back = g.behind;
       within = omega (arith, g.whole);
     }
@@ -156,16 +161,16 @@ byte_starts reading at t b rest e s q none =
       back = refl;
       within = omega arith;
       found =
-          ap (λ (v : Bool). cond v (Ok (Many, 0)) (cond (eqb b question_mark) (Ok (One, 0)) (cond (eqb b open_bracket) (bracket reading at rest) (Ok (itself reading b, 0))))) (ne_eqb b star s)
-          ∙ ap (λ (v : Bool). cond v (Ok (One, 0)) (cond (eqb b open_bracket) (bracket reading at rest) (Ok (itself reading b, 0)))) (ne_eqb b question_mark q)
+          ap (λ (v : Bool). cond v (Ok (alone Many)) (cond (eqb b question_mark) (Ok (alone One)) (cond (eqb b open_bracket) (bracket reading at rest) (Ok (alone (itself reading b)))))) (ne_eqb b star s)
+          ∙ ap (λ (v : Bool). cond v (Ok (alone One)) (cond (eqb b open_bracket) (bracket reading at rest) (Ok (alone (itself reading b))))) (ne_eqb b question_mark q)
           ∙ by_bracket (eqb b open_bracket) refl;
     } where
-      by_bracket : (u : Bool) → eqb b open_bracket ≡ u → cond u (bracket reading at rest) (Ok (itself reading b, 0)) ≡ Ok (itself reading b, 0)
+      by_bracket : (u : Bool) → eqb b open_bracket ≡ u → cond u (bracket reading at rest) (Ok (alone (itself reading b))) ≡ Ok (alone (itself reading b))
       by_bracket true h =
           let is : b ≡ open_bracket = eqb-true b open_bracket h in
           let here : NoSet (open_bracket ∷ rest) = subst (λ (u : List ℕ). NoSet u) (e ∙ ap (λ (c : ℕ). c ∷ rest) is) none in
-          bracket_open reading at rest (drop (sign_len rest) rest) refl (close_none rest here)
-          ∙ ap (λ (x : Item). let r : Result (Item × ℕ) GlobFault = Ok (x, 0) in r) (sym (byte_91 reading b is))
+          bracket_open reading at rest (drop (sign_len rest) rest) refl (members_len-none (drop (sign_len rest) rest) (close_none rest here))
+          ∙ ap (λ (x : Item). let r : Result Head GlobFault = Ok (alone x) in r) (sym (byte_91 reading b is))
       by_bracket false h = refl
 
 pub piece_starts : (reading : Reading) (at : ℕ) (piece : Piece) (t rest : List ℕ) → IsPiece piece t rest → Starts reading at t (item_of reading piece) rest
@@ -181,5 +186,5 @@ pub class_fails : (reading : Reading) (at : ℕ) (inner : List ℕ) (sign : Sign
 unfolding front
 class_fails reading at inner sign members rest n a c least =
     let g : Again inner sign members rest = set_again inner sign members rest a in
-    bracket_class reading at inner (drop (sign_len inner) inner) refl g.last members g.close (sym g.front) n (class_some members n c least)
-    ∙ ap (λ (k : ℕ). let r : Result (Item × ℕ) GlobFault = Err (Class (at + 1 + k + n)) in r) g.sign_is
+    bracket_class reading at inner (drop (sign_len inner) inner) refl (g.last + 1) members (members_len-some (drop (sign_len inner) inner) g.last g.close) (sym g.front) n (class_some members n c least)
+    ∙ ap (λ (k : ℕ). let r : Result Head GlobFault = Err (Class (at + 1 + k + n)) in r) g.sign_is

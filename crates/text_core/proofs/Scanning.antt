@@ -31,7 +31,7 @@ items_at-drop reading (b ∷ t) (suc n) at h =
 
 -- one item more has been read
 pub read_more : (reading : Reading) (items : List Item) (x : Item) (n at next : ℕ) (b : ℕ) (t rest more : List ℕ)
-    → rest ≡ b ∷ t → front reading at b t ≡ Ok (x, n) → more ≡ drop n t → n ≤ length t → at + 1 + n ≡ next
+    → rest ≡ b ∷ t → front reading at b t ≡ Ok (record { item = x; behind = n }) → more ≡ drop n t → n ≤ length t → at + 1 + n ≡ next
     → with_items (items ++ x ∷ []) (items_at reading more 0 next) ≡ with_items items (items_at reading rest 0 at)
 read_more reading items x n at next b t rest more e found back fits place =
     with_items-push items x (items_at reading more 0 next)

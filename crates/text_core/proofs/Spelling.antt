@@ -8,6 +8,7 @@ use Rattle.text_core.specs.declared.glob_fault.GlobFault.{GlobFault}
 use Rattle.text_core.specs.declared.glob_fault.GlobFault.TheVariants.{Class}
 use Rattle.text_core.specs.declared.item.Item.{Item}
 use Rattle.text_core.specs.declared.reading.Reading.{Reading}
+use Rattle.text_core.specs.declared.spell.Head.{Head}
 use Rattle.text_core.proofs.Pieces.{Begins, Faulty, front_tells, Starts, piece_starts, inner_of, class_fails}
 use Rattle.text_core.proofs.Scanning.{with_items, with_items-none, items_at-drop}
 
@@ -102,13 +103,13 @@ says reading (b ∷ t) zero at next place =
       here : at ≡ next
       here = omega arith
 
-      Tells : Result (Item × ℕ) GlobFault → Type 0
-      Tells r = elim r as (λ _. Type 0) [ Ok found ↦ Begins reading b t found.0 found.1 | Err e ↦ Faulty b t at e ]
+      Tells : Result Head GlobFault → Type 0
+      Tells r = elim r as (λ _. Type 0) [ Ok head ↦ Begins reading b t head.item head.behind | Err e ↦ Faulty b t at e ]
 
-      by_front : (r : Result (Item × ℕ) GlobFault) → Tells r → ((n : ℕ) → Says reading (drop n t) (at + 1 + n) (items_at reading t n (at + 1)))
+      by_front : (r : Result Head GlobFault) → Tells r → ((n : ℕ) → Says reading (drop n t) (at + 1 + n) (items_at reading t n (at + 1)))
           → Says reading (b ∷ t) next (with_front r (λ n. items_at reading t n (at + 1)))
-      by_front (Ok found) begins again =
-          says_more reading b t next (at + 1 + found.1) found.0 found.1 (items_at reading t found.1 (at + 1)) begins (omega arith) (again found.1)
+      by_front (Ok head) begins again =
+          says_more reading b t next (at + 1 + head.behind) head.item head.behind (items_at reading t head.behind (at + 1)) begins (omega arith) (again head.behind)
       by_front (Err e) faulty again = says_fault reading b t next e (subst (λ (k : ℕ). Faulty b t k e) here faulty)
 
 -- what a text says in whole

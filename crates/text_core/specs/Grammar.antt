@@ -1,10 +1,10 @@
 -- The grammar of a pattern's text: the pieces that it is written in, and what each of them means.
 -- It says the same as the reading of `Spell` without its order, its places and its counts.
-use Rattle.std.specs.Prelude.{◌≡◌, ◌≢◌, ℕ, ◌+◌, ◌<◌, ◌≤◌, ◌↔◌, Bool, true, false, ◌==◌, List, ◌∷◌, [], ◌++◌, length, map, drop, Result, Ok, Err}
+use Rattle.std.specs.Prelude.{◌≡◌, ◌≢◌, ℕ, ◌+◌, ◌<◌, ◌≤◌, ◌↔◌, Bool, true, false, List, ◌∷◌, [], ◌++◌, length, map, drop, Result, Ok, Err}
 use Rattle.std.specs.List.{list_any}
 use Rattle.text_bytes.specs.Names.{bang, caret, close_bracket, open_bracket, question_mark, star}
 use Rattle.text_core.specs.Sets.{set_of, set_takes}
-use Rattle.text_core.specs.Spell.{itself, max_len, negated, opens_class}
+use Rattle.text_core.specs.Spell.{closes, itself, max_len, negated, opens_class}
 use Rattle.text_core.specs.declared.glob_fault.GlobFault.{GlobFault}
 use Rattle.text_core.specs.declared.glob_fault.GlobFault.TheVariants.{Class, TooLong}
 use Rattle.text_core.specs.declared.item.Item.{Item}
@@ -28,10 +28,6 @@ abbrev pub negates : Sign → Bool
 negates no_sign = false
 negates bang_sign = true
 negates caret_sign = true
-
--- A byte that ends a set.
-abbrev pub closes : ℕ → Bool
-closes b = b == close_bracket
 
 -- A text is a set and then the rest: `[`, a sign, members and `]`. The members are one byte or more; only the first of
 -- them may be a `]`; and where no sign is written, they begin with none.

@@ -1,7 +1,8 @@
--- The items that a text spells.
+-- What a text spells as a pattern: its items from the left, or its first fault.
 use Rattle.std.specs.Prelude.{ℕ, zero, suc, ◌+◌, Bool, false, ◌==◌, ◌||◌, ◌&&◌, nat_lt, if◌then◌else◌, List, ◌∷◌, [], length, take, drop, position, Option, Some, None, Result, Ok, Err}
 use Rattle.std.specs.Char.{is_ascii_alphabetic}
 use Rattle.std.specs.List.{zip}
+use Rattle.std.specs.Option.{option_map}
 use Rattle.text_bytes.specs.Names.{bang, caret, close_bracket, colon, dot, equals, open_bracket, question_mark, star}
 use Rattle.text_core.specs.Sets.{set_of, set_takes}
 use Rattle.text_core.specs.declared.glob_fault.GlobFault.{GlobFault}
@@ -10,6 +11,7 @@ use Rattle.text_core.specs.declared.item.Item.{Item}
 use Rattle.text_core.specs.declared.item.Item.TheVariants.{Byte, One, Many, Among}
 use Rattle.text_core.specs.declared.reading.Reading.{Reading}
 use Rattle.text_core.specs.declared.reading.Reading.TheVariants.{Exact, Blind}
+use Rattle.text_core.specs.declared.spell.Head.{Head}
 
 -- How many bytes a text may have that is to be read.
 abbrev pub max_len : ℕ
@@ -19,44 +21,64 @@ max_len = 16384
 abbrev pub is_sign : ℕ → Bool
 is_sign b = b == bang || b == caret
 
+-- A byte that ends a set.
+abbrev pub closes : ℕ → Bool
+closes b = b == close_bracket
+
 -- A byte that, directly behind a `[` among the members, makes it the beginning of a class.
 abbrev pub opens_class : ℕ → Bool
 opens_class b = b == colon || b == dot || b == equals
 
--- Whether the text after a `[` begins with a sign.
+-- Whether the text behind a `[` begins with a sign.
 abbrev pub negated : List ℕ → Bool
 negated [] = false
 negated (b ∷ t) = is_sign b
 
--- How many bytes of the text after a `[` come before the members.
+-- How many bytes of the text behind a `[` come before the members.
 abbrev pub sign_len : List ℕ → ℕ
 sign_len t = if negated t then 1 else 0
 
--- The place of the first `]` that is not the first byte, less one.
-abbrev pub close_of : List ℕ → Option ℕ
-close_of m = position (λ b. b == close_bracket) (drop 1 m)
+-- How many members stand at the front of a text: the first byte is one, and the first `]` behind it ends them.
+abbrev pub members_len : List ℕ → Option ℕ
+members_len t = option_map (λ n. n + 1) (position closes (drop 1 t))
 
--- The place of the first `[` that is directly followed by `:`, `.` or `=`.
+-- The place of the first `[` among members that `:`, `.` or `=` directly follows.
 abbrev pub class_place : List ℕ → Option ℕ
-class_place m = position (λ pair. pair.0 == open_bracket && opens_class pair.1) (zip m (drop 1 m))
+class_place members = position (λ pair. pair.0 == open_bracket && opens_class pair.1) (zip members (drop 1 members))
 
--- A set of these members, which takes len bytes behind the `[`; or the fault, where a class begins among them.
-abbrev pub set_unless_class : Reading → Option ℕ → ℕ → ℕ → Bool → List ℕ → Result (Item × ℕ) GlobFault
-set_unless_class reading (Some n) at len negated members = Err (Class (at + n))
-set_unless_class reading None at len negated members =
-    Ok (Among (set_of (set_takes reading negated members)), len)
+-- A set as it is written behind its `[`: whether a sign negates it, its members, their place in the whole text, and how
+-- many bytes it takes with its `]`.
+pub record WrittenSet : Type 0 where
+  pub negated : Bool
+  pub members : List ℕ
+  pub place : ℕ
+  pub len : ℕ
 
--- A set whose members end at place k + 1 of the bytes m, which stand at a place of the text; without an end the `[` is a byte.
-abbrev pub set_until : Reading → Option ℕ → ℕ → Bool → ℕ → List ℕ → Result (Item × ℕ) GlobFault
-set_until reading None at negated sign m = Ok (Byte open_bracket, 0)
-set_until reading (Some k) at negated sign m =
-    set_unless_class reading (class_place (take (k + 1) m)) at (sign + k + 2) negated (take (k + 1) m)
+-- The set that is written behind a `[` at a place, if a `]` ends one.
+abbrev pub set_behind : ℕ → List ℕ → Option WrittenSet
+set_behind at t =
+    let unsigned = drop (sign_len t) t in
+    option_map (λ n. record {
+      negated = negated t;
+      members = take n unsigned;
+      place = at + 1 + sign_len t;
+      len = sign_len t + n + 1;
+    }) (members_len unsigned)
+
+-- The item of a set; or the fault, where a class is found among its members.
+abbrev pub set_unless_class : Reading → WrittenSet → Option ℕ → Result Head GlobFault
+set_unless_class reading set None =
+    Ok (record { item = Among (set_of (set_takes reading set.negated set.members)); behind = set.len })
+set_unless_class reading set (Some n) = Err (Class (set.place + n))
+
+-- The item of a set, or else of a `[` that begins none and means itself.
+abbrev pub set_or_byte : Reading → Option WrittenSet → Result Head GlobFault
+set_or_byte reading None = Ok (record { item = Byte open_bracket; behind = 0 })
+set_or_byte reading (Some set) = set_unless_class reading set (class_place set.members)
 
 -- What a `[` at a place begins, before the text t.
-unfoldable pub bracket : Reading → ℕ → List ℕ → Result (Item × ℕ) GlobFault
-bracket reading at t =
-    let m = drop (sign_len t) t in
-    set_until reading (close_of m) (at + 1 + sign_len t) (negated t) (sign_len t) m
+unfoldable pub bracket : Reading → ℕ → List ℕ → Result Head GlobFault
+bracket reading at t = set_or_byte reading (set_behind at t)
 
 -- The item of a byte that means itself. Read blind, a letter is the set of that letter, so of both its cases.
 abbrev pub itself : Reading → ℕ → Item
@@ -64,12 +86,12 @@ itself Exact b = Byte b
 itself Blind b = if is_ascii_alphabetic b then Among (set_of (set_takes Blind false (b ∷ []))) else Byte b
 
 -- The item that the byte b at a place begins, and how many of the bytes t behind it belong to it.
-unfoldable pub front : Reading → ℕ → ℕ → List ℕ → Result (Item × ℕ) GlobFault
+unfoldable pub front : Reading → ℕ → ℕ → List ℕ → Result Head GlobFault
 front reading at b t =
-    if b == star then Ok (Many, 0)
-    else if b == question_mark then Ok (One, 0)
+    if b == star then Ok (record { item = Many; behind = 0 })
+    else if b == question_mark then Ok (record { item = One; behind = 0 })
     else if b == open_bracket then bracket reading at t
-    else Ok (itself reading b, 0)
+    else Ok (record { item = itself reading b; behind = 0 })
 
 -- An item, and behind it those that the rest spells.
 abbrev pub with_item : Item → Result (List Item) GlobFault → Result (List Item) GlobFault
@@ -77,11 +99,11 @@ with_item x (Ok items) = Ok (x ∷ items)
 with_item x (Err e) = Err e
 
 -- The item found in front, and behind it what the rest spells once the item's own bytes are passed over.
-abbrev pub with_front : Result (Item × ℕ) GlobFault → (ℕ → Result (List Item) GlobFault) → Result (List Item) GlobFault
-with_front (Ok found) rest = with_item found.0 (rest found.1)
+abbrev pub with_front : Result Head GlobFault → (ℕ → Result (List Item) GlobFault) → Result (List Item) GlobFault
+with_front (Ok head) rest = with_item head.item (rest head.behind)
 with_front (Err e) rest = Err e
 
--- What the text from a place on spells, after the bytes to be passed over.
+-- What a text spells that stands at a place of a whole one, after so many bytes to be passed over.
 abbrev pub items_at : Reading → List ℕ → ℕ → ℕ → Result (List Item) GlobFault
 items_at reading [] passed at = Ok []
 items_at reading (b ∷ t) zero at = with_front (front reading at b t) (λ n. items_at reading t n (at + 1))

@@ -1,9 +1,10 @@
 //! Choices: patterns with a bar between, as the values of rules are, by udev(7).
 //!
 //! The bar is looked for before anything else is read, so that one inside a set cuts too.
-ghost use Rattle.std.specs.Prelude.{◌≡◌, ◌≢◌, ◌≤◌, length, Ok, Err, MatchResult};
+ghost use Rattle.std.specs.Prelude.{◌≡◌, ◌≢◌, ◌<◌, ◌≤◌, length, Ok, Err, IsErrOf, MatchResult};
 ghost use Rattle.text_core.specs.Choices.{choice, choice_blind, choice_by, choice_fits};
-ghost use Rattle.text_core.specs.declared.glob_fault.GlobFault.TheVariants.{Memory};
+ghost use Rattle.text_core.specs.Spell.{max_len};
+ghost use Rattle.text_core.specs.declared.glob_fault.GlobFault.TheVariants.{Memory, TooLong};
 
 use crate::GlobFault;
 use crate::pattern::{MAX_LEN, Pattern};
@@ -31,7 +32,8 @@ impl Choice {
     /// Reads the texts between the bars as patterns, in order. Of parts with a fault the first gives
     /// it, with the place in the whole text; a text over 16,384 bytes is `TooLong` before all else.
     pub fn read(alloc: Global, text: &[u8]) -> Result<Choice, GlobFault>
-        ensures { MatchResult result (λ c. choice text.now ≡ Ok c) (λ e. e ≢ Memory → choice text.now ≡ Err e) }
+        ensures value { MatchResult result (λ c. choice text.now ≡ Ok c) (λ e. e ≢ Memory → choice text.now ≡ Err e) }
+        ensures too_long { max_len < length text.now → IsErrOf result TooLong }
     {
         Choice::read_by(alloc, Reading::Exact, text)
     }
@@ -40,13 +42,15 @@ impl Choice {
     /// cases, and a set has both cases of each letter among its members before a sign negates it.
     /// Bytes over 0x7F are themselves.
     pub fn read_blind(alloc: Global, text: &[u8]) -> Result<Choice, GlobFault>
-        ensures { MatchResult result (λ c. choice_blind text.now ≡ Ok c) (λ e. e ≢ Memory → choice_blind text.now ≡ Err e) }
+        ensures value { MatchResult result (λ c. choice_blind text.now ≡ Ok c) (λ e. e ≢ Memory → choice_blind text.now ≡ Err e) }
+        ensures too_long { max_len < length text.now → IsErrOf result TooLong }
     {
         Choice::read_by(alloc, Reading::Blind, text)
     }
 
     fn read_by(alloc: Global, reading: Reading, text: &[u8]) -> Result<Choice, GlobFault>
-        ensures { MatchResult result (λ c. choice_by reading text.now ≡ Ok c) (λ e. e ≢ Memory → choice_by reading text.now ≡ Err e) }
+        ensures value { MatchResult result (λ c. choice_by reading text.now ≡ Ok c) (λ e. e ≢ Memory → choice_by reading text.now ≡ Err e) }
+        ensures too_long { max_len < length text.now → IsErrOf result TooLong }
     {
         if text.len() > MAX_LEN {
             return Err(GlobFault::TooLong);

@@ -2,10 +2,10 @@
 //!
 //! A pattern is read once and matched often, so it holds its items ready, each set as bits, and in
 //! just the room that they need: a database has more than a hundred thousand.
-ghost use Rattle.std.specs.Prelude.{◌≡◌, ◌≢◌, ◌+◌, ◌<◌, ◌^◌, length, Ok, Err, IfOk, MatchResult};
+ghost use Rattle.std.specs.Prelude.{◌≡◌, ◌≢◌, ◌+◌, ◌<◌, ◌^◌, length, Ok, Err, IfOk, IsErrOf, MatchResult};
 ghost use Rattle.text_core.specs.Fits.{fits};
-ghost use Rattle.text_core.specs.Spell.{items_at, spell};
-ghost use Rattle.text_core.specs.declared.glob_fault.GlobFault.TheVariants.{Memory};
+ghost use Rattle.text_core.specs.Spell.{items_at, max_len, spell};
+ghost use Rattle.text_core.specs.declared.glob_fault.GlobFault.TheVariants.{Memory, TooLong};
 
 use crate::reading::Reading;
 use crate::spell::front;
@@ -40,7 +40,8 @@ impl Pattern {
     /// set is `Class`, with the place of its inner `[`, the first of them; `Memory` comes where a
     /// growth was refused.
     pub fn read(alloc: Global, text: &[u8]) -> Result<Pattern, GlobFault>
-        ensures { MatchResult result (λ p. spell text.now ≡ Ok p) (λ e. e ≢ Memory → spell text.now ≡ Err e) }
+        ensures value { MatchResult result (λ p. spell text.now ≡ Ok p) (λ e. e ≢ Memory → spell text.now ≡ Err e) }
+        ensures too_long { max_len < length text.now → IsErrOf result TooLong }
     {
         if text.len() > MAX_LEN {
             return Err(GlobFault::TooLong);
@@ -61,9 +62,9 @@ impl Pattern {
         let mut items = Vec::with_capacity(alloc, text.len())?;
         let mut rest = text;
         while let Some((byte, after)) = rest.split_first() {
-            let (item, len) = front(reading, at + (text.len() - rest.len()), *byte, after)?;
-            items.push(item)?;
-            (_, rest) = after.split_at(len);
+            let head = front(reading, at + (text.len() - rest.len()), *byte, after)?;
+            items.push(head.item)?;
+            (_, rest) = after.split_at(head.behind);
         }
         items.shrink_to_fit();
         Ok(Pattern { items })

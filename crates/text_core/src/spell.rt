@@ -1,11 +1,20 @@
 //! The items that a text spells, one at a time.
 ghost use Rattle.std.specs.Prelude.{◌≡◌, ◌+◌, ◌^◌, ◌<◌, ◌≤◌, length, IfOk, IfSome};
-ghost use Rattle.text_core.specs.Spell.{negated, sign_len, class_place, close_of, bracket, itself, front};
+ghost use Rattle.text_core.specs.Spell.{negated, sign_len, class_place, members_len, bracket, itself, front};
 
 use crate::reading::Reading;
 use crate::sets::set_of;
 use crate::{GlobFault, Item};
 use text_bytes::find;
+
+/// How a text begins.
+#[derive(Clone, Copy, Debug)]
+pub struct Head {
+    /// The item that the first byte begins.
+    pub item: Item,
+    /// How many of the bytes behind the first belong to it.
+    pub behind: usize,
+}
 
 fn is_negated(after: &[u8]) -> bool
     ensures { result ≡ negated after.now }
@@ -34,36 +43,45 @@ fn class_place(members: &[u8]) -> Option<usize>
         && (*b == b':' || *b == b'.' || *b == b'='))
 }
 
-/// The place of the first `]` that is not the first byte, less one.
-fn close_of(body: &[u8]) -> Option<usize>
-    ensures value { result ≡ close_of body.now }
-    ensures within { IfSome result (λ k. k + 1 < length body.now) }
+/// How many members stand at the front of a text: the first byte is one, and the first `]` behind it
+/// ends them.
+fn members_len(text: &[u8]) -> Option<usize>
+    ensures value { result ≡ members_len text.now }
+    ensures within { IfSome result (λ n. n < length text.now) }
 {
-    let (_, behind) = body.split_first()?;
-    find(b']', behind)
+    let (_, behind) = text.split_first()?;
+    let last = find(b']', behind)?;
+    Some(last + 1)
 }
 
 /// What a `[` at a place begins.
-fn bracket(reading: Reading, at: usize, after: &[u8]) -> Result<(Item, usize), GlobFault>
+fn bracket(reading: Reading, at: usize, after: &[u8]) -> Result<Head, GlobFault>
     requires { at + length after.now < 2 ^ 63 }
     ensures value { result ≡ bracket reading at after.now }
-    ensures len { IfOk result (λ found. found.1 ≤ length after.now) }
+    ensures len { IfOk result (λ head. head.behind ≤ length after.now) }
 {
     let sign = sign_len(after);
-    let (_, body) = after.split_at(sign);
-    let Some(close) = close_of(body) else {
-        return Ok((Item::Byte(b'['), 0));
+    let (_, unsigned) = after.split_at(sign);
+    let Some(len) = members_len(unsigned) else {
+        return Ok(alone(Item::Byte(b'[')));
     };
-    let (members, _) = body.split_at(close + 1);
+    let (members, _) = unsigned.split_at(len);
     if let Some(place) = class_place(members) {
         return Err(GlobFault::Class {
             at: at + 1 + sign + place,
         });
     }
-    Ok((
-        Item::Among(set_of(reading, is_negated(after), members)),
-        sign + close + 2,
-    ))
+    Ok(Head {
+        item: Item::Among(set_of(reading, is_negated(after), members)),
+        behind: sign + len + 1,
+    })
+}
+
+/// An item of one byte.
+fn alone(item: Item) -> Head
+    ensures { result ≡ record { item = item; behind = 0 } }
+{
+    Head { item, behind: 0 }
 }
 
 /// The item of a byte that means itself: read blind, a letter is the set of both its cases.
@@ -80,20 +98,15 @@ fn itself(reading: Reading, byte: u8) -> Item
 
 /// The item that a byte at a place begins, and how many of the bytes behind it belong to it.
 #[tactic(auto, unfolding(crate::specs::Spell::front))]
-pub fn front(
-    reading: Reading,
-    at: usize,
-    byte: u8,
-    after: &[u8],
-) -> Result<(Item, usize), GlobFault>
+pub fn front(reading: Reading, at: usize, byte: u8, after: &[u8]) -> Result<Head, GlobFault>
     requires { at + length after.now < 2 ^ 63 }
     ensures value { result ≡ front reading at byte after.now }
-    ensures len { IfOk result (λ found. found.1 ≤ length after.now) }
+    ensures len { IfOk result (λ head. head.behind ≤ length after.now) }
 {
     match byte {
-        b'*' => Ok((Item::Many, 0)),
-        b'?' => Ok((Item::One, 0)),
+        b'*' => Ok(alone(Item::Many)),
+        b'?' => Ok(alone(Item::One)),
         b'[' => bracket(reading, at, after),
-        _ => Ok((itself(reading, byte), 0)),
+        _ => Ok(alone(itself(reading, byte))),
     }
 }

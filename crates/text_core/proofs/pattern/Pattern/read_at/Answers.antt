@@ -3,25 +3,25 @@ use Rattle.std.proofs.lemmas.Result.{err_from_is_err_and}
 use Rattle.text_core.proofs.Scanning.{read_more, read_fault, read_all}
 use Rattle.text_core.proofs.pattern.Pattern.read_at.Goals as goal
 
-pub returns-in_err-item : goal.returns-in_err-item
-returns-in_err-item c =
-    let p = err_from_is_err_and c.from_residual-in_err-item.result c.from_residual-in_err-item.ensures.1 in
+pub returns-in_err-head : goal.returns-in_err-head
+returns-in_err-head c =
+    let p = err_from_is_err_and c.from_residual-in_err-head.result c.from_residual-in_err-head.ensures.1 in
     rw (p.1, p.2) (λ _. sym c.loop-byte.invariant.read
-    ∙ read_fault c.args.reading c.loop-byte.items.items c.in_err-item.field-0.0 (c.args.at + (length c.args.text.now - length c.loop-byte.rest.now)) c.in-Some.byte.now c.in-Some.after.now c.loop-byte.rest.now c.in-Some.ensures.cases.0 (sym c.in_err-item.ensures.value))
+    ∙ read_fault c.args.reading c.loop-byte.items.items c.in_err-head.field-0.0 (c.args.at + (length c.args.text.now - length c.loop-byte.rest.now)) c.in-Some.byte.now c.in-Some.after.now c.loop-byte.rest.now c.in-Some.ensures.cases.0 (sym c.in_err-head.ensures.value))
 
 pub loop-byte-preserved : goal.loop-byte-preserved
 loop-byte-preserved c = record {
   read =
       let at : ℕ = c.args.at + (length c.args.text.now - length c.loop-byte.rest.now) in
       let shorter : length c.in-Some.after.now + 1 ≡ length c.loop-byte.rest.now = c.in-Some.ensures.cases.1 in
-      let left : length c.split_at.result.1.now + c.in_ok-item.len ≡ length c.in-Some.after.now = c.split_at.ensures.back_len in
+      let left : length c.split_at.result.1.now + c.in_ok-head.head.behind ≡ length c.in-Some.after.now = c.split_at.ensures.back_len in
       let within : length c.loop-byte.rest.now ≤ length c.args.text.now = c.loop-byte.invariant.rest in
-      let next : at + 1 + c.in_ok-item.len ≡ c.args.at + (length c.args.text.now - length c.split_at.result.1.now) = omega arith in
-      let fits : c.in_ok-item.len ≤ length c.in-Some.after.now = omega arith in
+      let next : at + 1 + c.in_ok-head.head.behind ≡ c.args.at + (length c.args.text.now - length c.split_at.result.1.now) = omega arith in
+      let fits : c.in_ok-head.head.behind ≤ length c.in-Some.after.now = omega arith in
       rw c.in_ok-push.ensures.items (
-      read_more c.args.reading c.loop-byte.items.items c.in_ok-item.item c.in_ok-item.len at (c.args.at + (length c.args.text.now - length c.split_at.result.1.now))
+      read_more c.args.reading c.loop-byte.items.items c.in_ok-head.head.item c.in_ok-head.head.behind at (c.args.at + (length c.args.text.now - length c.split_at.result.1.now))
       c.in-Some.byte.now c.in-Some.after.now c.loop-byte.rest.now c.split_at.result.1.now
-      c.in-Some.ensures.cases.0 (sym c.in_ok-item.ensures.value) c.split_at.ensures.back fits next
+      c.in-Some.ensures.cases.0 (sym c.in_ok-head.ensures.value) c.split_at.ensures.back fits next
       ∙ c.loop-byte.invariant.read);
   rest = omega (arith, c.in-Some.ensures.cases.1, c.split_at.ensures.back_len);
 }

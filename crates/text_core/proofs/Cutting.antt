@@ -58,7 +58,7 @@ with_parts-push : (parts : List (List Item)) (x : List Item) (r : Result (List (
 with_parts-push parts x (Ok more) = ap Ok (append_assoc parts (x ∷ []) more)
 with_parts-push parts x (Err e) = refl
 
-with_fault : (e : GlobFault) (r : Result (List (List Item)) GlobFault) → with_part (Err e) r ≡ Err e
+pub with_fault : (e : GlobFault) (r : Result (List (List Item)) GlobFault) → with_part (Err e) r ≡ Err e
 with_fault e (Ok more) = refl
 with_fault e (Err d) = refl
 

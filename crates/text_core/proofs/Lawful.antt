@@ -11,7 +11,7 @@ use Rattle.text_core.proofs.Scanning.{spell_by_long, spell_by_short}
 use Rattle.text_core.proofs.Spelling.{Says, says, IsClass, said_items, said_class, spelled_read, class_read}
 
 -- a text that is not too long is read by its items
-never_long : (reading : Reading) (t : List ℕ) → items_at reading t 0 0 ≡ Err TooLong → ⊥
+pub never_long : (reading : Reading) (t : List ℕ) → items_at reading t 0 0 ≡ Err TooLong → ⊥
 never_long reading t e = let c : IsClass t 0 TooLong = subst (Says reading t 0) e (says reading t 0 0 0 refl) in let is = c.is in cc
 
 -- what is not TooLong was not too long

@@ -14,3 +14,5 @@ pub mod Cases
 pub mod Lawful
 pub mod Caseless
 pub mod Ranges
+pub mod Shifting
+pub mod Bars

@@ -1,4 +1,4 @@
--- What the items up to the next Many say of a text.
+-- Serves inner proofs only: what the items up to the next Many say of a text.
 use Rattle.std.specs.Prelude.{◌≡◌, ◌<◌, ◌≤◌, ℕ, true, false, List, length}
 use Rattle.text_core.specs.Fits.{fits, some_suffix}
 use Rattle.text_core.specs.declared.item.Item.{Item}

@@ -6,6 +6,8 @@
 ghost use Rattle.std.specs.Prelude.{◌≡◌, ◌≢◌, ◌↔◌, ℕ, ◌<◌, Bool, true, false, List, [], ◌∷◌, ◌++◌, IsTrue, Ok};
 ghost use Rattle.std.specs.Char.{eq_ignore_ascii_case};
 ghost use Rattle.std.specs.List.{list_any};
+ghost use Rattle.text_core.specs.ChoiceGrammar.{ReadsParts};
+ghost use Rattle.text_core.specs.Choices.{choice, choice_blind};
 ghost use Rattle.text_core.specs.Fits.{fits, SameButCase, Splits};
 ghost use Rattle.text_core.specs.Grammar.{FollowsGrammar};
 ghost use Rattle.text_core.specs.Items.{set_has, takes};
@@ -19,6 +21,13 @@ ghost use Rattle.text_core.specs.declared.reading.Reading.TheVariants.{Exact, Bl
 pub fn spelling_follows_the_grammar()
     ensures exact { FollowsGrammar Exact spell }
     ensures blind { FollowsGrammar Blind spell_blind }
+{}
+
+/// Both readings of a choice give the patterns of the texts between its bars, or the fault of the
+/// first of these that has one, with its place in the whole text.
+pub fn choices_are_read_part_by_part()
+    ensures exact { ReadsParts spell choice }
+    ensures blind { ReadsParts spell_blind choice_blind }
 {}
 
 /// The texts that fit: of no item the empty one, of an item that takes a byte those of such a byte,

@@ -5,6 +5,7 @@ use Rattle.std.proofs.lemmas.List.Sums.{sum_by_push}
 use Rattle.text_files.specs.declared.Message.{Message}
 use Rattle.text_core.specs.declared.item.Item.{Item}
 use Rattle.hwdb_lookup.specs.declared.Entry.{Entry}
+use Rattle.hwdb_lookup.specs.Bounds.{max_entries, max_match_bytes, max_text_bytes}
 use Rattle.hwdb_core.specs.Properties.{Property}
 use Rattle.hwdb_core.specs.Sources.{entries_from, entry_at, text_len}
 use Rattle.hwdb_core.specs.Found.{Found, IsKept, join, only_messages}
@@ -21,7 +22,7 @@ pub match_counted : (es : List Entry) (ms : List Message) (n len : ℕ) → foun
 unfolding join
 match_counted es ms n len = same_found (map property_of es) (map property_of es ++ []) ms (ms ++ []) (n + len) (n + len) (sym (append-nil (map property_of es))) (sym (append-nil ms)) refl
 
-pub too_many_match_bytes : (es : List Entry) (ms : List Message) (n len : ℕ) → n ≤ 2 ^ 25 - 1 → 2 ^ 25 - 1 - n < len → IsKept (join (found_of es ms n) (found_as [] [] len)) → ⊥
+pub too_many_match_bytes : (es : List Entry) (ms : List Message) (n len : ℕ) → n ≤ max_match_bytes → max_match_bytes - n < len → IsKept (join (found_of es ms n) (found_as [] [] len)) → ⊥
 unfolding join
 too_many_match_bytes es ms n len h over k = omega (arith, k.match_bytes)
 
@@ -37,13 +38,13 @@ len_map : (es : List Entry) → length (map property_of es) ≡ length es
 len_map [] = refl
 len_map (e ∷ es) = let h : length (map property_of es) ≡ length es = len_map es in omega arith
 
-pub too_many_entries : (es : List Entry) (ms : List Message) (n : ℕ) (p : Property) → 2 ^ 24 ≤ length es → IsKept (join (found_of es ms n) (found_as (p ∷ []) [] 0)) → ⊥
+pub too_many_entries : (es : List Entry) (ms : List Message) (n : ℕ) (p : Property) → max_entries ≤ length es → IsKept (join (found_of es ms n) (found_as (p ∷ []) [] 0)) → ⊥
 unfolding join
 too_many_entries es ms n p h k =
     let len : length (map property_of es ++ p ∷ []) ≡ length (map property_of es) + 1 = length-append (map property_of es) (p ∷ []) in
     omega (arith, k.entries, len, len_map es)
 
-pub too_many_text_bytes : (es : List Entry) (ms : List Message) (n : ℕ) (p : Property) (t : ℕ) → t ≡ sum_by text_len (map property_of es) → t ≤ 2 ^ 30 → 2 ^ 30 - t < text_len p → IsKept (join (found_of es ms n) (found_as (p ∷ []) [] 0)) → ⊥
+pub too_many_text_bytes : (es : List Entry) (ms : List Message) (n : ℕ) (p : Property) (t : ℕ) → t ≡ sum_by text_len (map property_of es) → t ≤ max_text_bytes → max_text_bytes - t < text_len p → IsKept (join (found_of es ms n) (found_as (p ∷ []) [] 0)) → ⊥
 unfolding join
 too_many_text_bytes es ms n p t e h over k =
     let sum : sum_by text_len (map property_of es ++ p ∷ []) ≡ sum_by text_len (map property_of es) + text_len p = sum_by_push text_len (map property_of es) p in
@@ -55,7 +56,7 @@ entries_from-push n (q ∷ ps) p =
     let at : n + 1 + length ps ≡ n + length (q ∷ ps) = omega arith in
     ap (λ (es : List Entry). entry_at n q ∷ es) (entries_from-push (n + 1) ps p ∙ ap (λ (k : ℕ). entries_from (n + 1) ps ++ entry_at k p ∷ []) at)
 
-pub counted_entry : (es : List Entry) (n t : ℕ) (e : Entry) → IsCounted es n t → e.order ≡ length es → length es < 2 ^ 24 → t + text_len (property_of e) ≤ 2 ^ 30 → IsCounted (es ++ e ∷ []) n (t + text_len (property_of e))
+pub counted_entry : (es : List Entry) (n t : ℕ) (e : Entry) → IsCounted es n t → e.order ≡ length es → length es < max_entries → t + text_len (property_of e) ≤ max_text_bytes → IsCounted (es ++ e ∷ []) n (t + text_len (property_of e))
 counted_entry es n t e c order room fits =
     let place : 0 + length (map property_of es) ≡ e.order = omega (arith, len_map es, order) in
     let push : map property_of (es ++ e ∷ []) ≡ map property_of es ++ property_of e ∷ [] = map_push es in
@@ -83,7 +84,7 @@ told_as es ms now n start made m e h s =
 pub counted_as : (es now : List Entry) (n t : ℕ) (pattern : List Item) (key value : List ℕ) (order : ℕ) (file : List ℕ) (line : ℕ) (k v : List ℕ)
     → key ≡ k → value ≡ v → order ≡ length es
     → now ≡ es ++ record { pattern = pattern; key = key; value = value; order = order; file = file; line = line } ∷ []
-    → IsCounted es n t → length es < 2 ^ 24 → t + (length k + length v) ≤ 2 ^ 30 → IsCounted now n (t + (length k + length v))
+    → IsCounted es n t → length es < max_entries → t + (length k + length v) ≤ max_text_bytes → IsCounted now n (t + (length k + length v))
 counted_as es now n t pattern key value order file line k v e f o h c room fits =
     let len : length key + length value ≡ length k + length v = ap (λ (x : List ℕ). length x + length value) e ∙ ap (λ (x : List ℕ). length k + length x) f in
     subst (λ (m : ℕ). IsCounted now n (t + m)) len

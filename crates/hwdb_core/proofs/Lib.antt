@@ -6,3 +6,4 @@ pub mod Orders
 pub mod Showing
 pub mod Totals
 pub mod Walking
+pub mod Telling

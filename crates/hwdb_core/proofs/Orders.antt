@@ -1,16 +1,18 @@
 -- The entries of all files rise, and none has an empty key.
-use Rattle.std.proofs.Common.{◌≡◌, ◌≢◌, ℕ, zero, suc, ◌+◌, ◌<◌, List, ◌∷◌, [], length, take, get_or, Option, Some, None, Result, Ok, Err, refl, ap, arith, ◌==◌}
+use Rattle.std.proofs.Common.{◌≡◌, ◌≢◌, ℕ, zero, suc, ◌+◌, ◌<◌, Bool, true, false, cond, List, ◌∷◌, [], length, take, drop, get_or, Option, Some, None, Result, Ok, Err, refl, ap, arith, ◌==◌}
 use Rattle.std.specs.List.{All, flat_map, position}
+use Rattle.std.proofs.lemmas.Bool.{eq-eqb}
 use Rattle.std.proofs.lemmas.List.{length-take-le}
 use Rattle.std.proofs.lemmas.List.Elements.{All-append, All-cons, All-push}
 use Rattle.text_bytes.specs.Names.{equals}
+use Rattle.text_files.specs.declared.MessageKind.TheVariants.{EmptyKey}
 use Rattle.text_files.specs.declared.SourceFile.{SourceFile}
 use Rattle.text_core.specs.Spell.{spell}
 use Rattle.text_core.specs.declared.glob_fault.GlobFault.{GlobFault}
 use Rattle.text_core.specs.declared.item.Item.{Item}
 use Rattle.hwdb_lookup.specs.Orders.{Rising}
 use Rattle.hwdb_lookup.specs.declared.Entry.{Entry}
-use Rattle.hwdb_core.specs.Lines.{NumberedLine}
+use Rattle.text_words.specs.Lines.{NumberedLine}
 use Rattle.hwdb_core.specs.Paragraphs.{Cut}
 use Rattle.hwdb_core.specs.Properties.{Property, cut_properties, from_line, from_pair, from_spelled, pair_at, property_text}
 use Rattle.hwdb_core.specs.Sources.{cuts_of, entries_from, entry_at, properties_of}
@@ -27,18 +29,22 @@ all_flat P f [] h = no_item P
 all_flat P f (x ∷ xs) h = All-append P (f x) (flat_map f xs) (h x) (all_flat P f xs h)
 
 -- what stands before an `=` that is not at the front
-has_key : (t : List ℕ) (k : ℕ) → position (λ b. b == equals) t ≡ Some (suc k) → take (k + 1) t ≢ []
-has_key t k e n =
-    let at = position_some (λ b. b == equals) t (suc k) e in
-    let within : suc k < length t = at.1 in
-    let len : length (take (k + 1) t) ≡ k + 1 = length-take-le (k + 1) t (omega arith) in
-    let none : length (take (k + 1) t) ≡ 0 = ap length n in
-    absurd (omega arith)
+has_key : (t : List ℕ) (at : ℕ) → position (λ b. b == equals) t ≡ Some at → (at == 0) ≡ false → take at t ≢ []
+has_key t at e first n =
+    let found = position_some (λ b. b == equals) t at e in
+    let within : at < length t = found.1 in
+    let len : length (take at t) ≡ at = length-take-le at t (omega arith) in
+    let none : length (take at t) ≡ 0 = ap length n in
+    let zero : at ≡ 0 = omega arith in
+    let right : (at == 0) ≡ true = eq-eqb at 0 zero in
+    cc
 
 keyed_pair : (file : List ℕ) (pattern : List Item) (number : ℕ) (t : List ℕ) (o : Option ℕ) → position (λ b. b == equals) t ≡ o → All Keyed (from_pair file pattern number (pair_at t o))
 keyed_pair file pattern number t None e = no_item Keyed
-keyed_pair file pattern number t (Some zero) e = no_item Keyed
-keyed_pair file pattern number t (Some (suc k)) e = All-push Keyed [] _ (no_item Keyed) (has_key t k e)
+keyed_pair file pattern number t (Some at) e = by_place (at == 0) refl where
+  by_place : (first : Bool) → (at == 0) ≡ first → All Keyed (from_pair file pattern number (cond first (Err EmptyKey) (Ok (record { key = take at t; value = drop (at + 1) t }))))
+  by_place true f = no_item Keyed
+  by_place false f = All-push Keyed [] _ (no_item Keyed) (has_key t at e f)
 
 keyed_line : (file : List ℕ) (pattern : List Item) (l : NumberedLine) → All Keyed (from_line file pattern l)
 keyed_line file pattern l = keyed_pair file pattern l.number (property_text l) (position (λ b. b == equals) (property_text l)) refl

@@ -8,7 +8,7 @@ use Rattle.text_files.specs.declared.MessageKind.{MessageKind}
 use Rattle.text_core.specs.Spell.{spell}
 use Rattle.text_core.specs.declared.glob_fault.GlobFault.{GlobFault}
 use Rattle.text_core.specs.declared.item.Item.{Item}
-use Rattle.hwdb_core.specs.Lines.{NumberedLine}
+use Rattle.text_words.specs.Lines.{NumberedLine}
 use Rattle.hwdb_core.specs.Paragraphs.{Cut}
 use Rattle.hwdb_core.specs.Properties.{Pair, cut_match_bytes, cut_properties, from_line, from_pair, from_spelled, pair_of, property_text}
 use Rattle.hwdb_core.specs.Messages.{about_early, about_match, about_pair, about_property, about_spelled, cut_messages}

@@ -3,6 +3,7 @@ use Rattle.std.proofs.Common.{◌≡◌, ℕ, ◌^◌, ◌≤◌, List, ◌∷�
 use Rattle.std.specs.List.{flat_map, sum_by}
 use Rattle.std.proofs.lemmas.List.Sums.{sum_by-cons}
 use Rattle.text_files.specs.declared.SourceFile.{SourceFile}
+use Rattle.hwdb_lookup.specs.Bounds.{max_name_bytes}
 use Rattle.hwdb_core.specs.Properties.{cut_match_bytes, cut_properties}
 use Rattle.hwdb_core.specs.Messages.{cut_messages}
 use Rattle.hwdb_core.specs.Sources.{WithinBounds, cuts_of, match_bytes_of, messages_of, properties_of}
@@ -24,7 +25,7 @@ all_found (f ∷ fs) =
 pub read_all : (now : Found) (files : List SourceFile) → now ≡ join nothing (found_in file_found files) → now ≡ found_as (properties_of files) (messages_of files) (match_bytes_of files)
 read_all now files e = e ∙ nothing_join (found_in file_found files) ∙ all_found files
 
-pub within : (now : Found) (files : List SourceFile) → now ≡ join nothing (found_in file_found files) → IsKept now → sum_by (λ f. length f.name) files ≤ 2 ^ 28 → WithinBounds files
+pub within : (now : Found) (files : List SourceFile) → now ≡ join nothing (found_in file_found files) → IsKept now → sum_by (λ f. length f.name) files ≤ max_name_bytes → WithinBounds files
 within now files e k n =
     let kept : IsKept (found_as (properties_of files) (messages_of files) (match_bytes_of files)) = subst IsKept (read_all now files e) k in
     record { entries = kept.entries; match_bytes = kept.match_bytes; text_bytes = kept.text_bytes; name_bytes = n }

@@ -4,7 +4,8 @@ use Rattle.std.specs.List.{All, filter, slice_split}
 use Rattle.std.proofs.lemmas.List.Splits.{slice_split_at, slice_split_none}
 use Rattle.std.proofs.lemmas.List.Elements.{All-push}
 use Rattle.text_files.specs.declared.SourceFile.{SourceFile}
-use Rattle.hwdb_core.specs.Lines.{NumberedLine, clean_lines, cleaned, is_comment, lines, lines_of, numbered_from}
+use Rattle.text_words.specs.Lines.{NumberedLine, lines, numbered_from}
+use Rattle.hwdb_core.specs.Lines.{clean_lines, cleaned, is_comment, lines_of}
 use Rattle.hwdb_core.specs.Paragraphs.{cut, has_lines, is_empty_line, paragraphs}
 use Rattle.hwdb_core.specs.Found.{Adds, FailsAt, Found, IsKept, found_in, join}
 use Rattle.hwdb_core.specs.Parts.{cut_found, file_found}

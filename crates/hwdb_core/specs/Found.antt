@@ -1,6 +1,7 @@
--- What was found so far, and how a part adds to it.
-use Rattle.std.specs.Prelude.{◌≡◌, ℕ, ◌+◌, ◌-◌, ◌^◌, ◌≤◌, List, [], ◌∷◌, ◌++◌, length, sum_by, Result, Ok, Err}
+-- Serves inner proofs only: what was found so far, and how a part adds to it.
+use Rattle.std.specs.Prelude.{◌≡◌, ℕ, ◌+◌, ◌≤◌, List, [], ◌∷◌, ◌++◌, length, sum_by, Result, Ok, Err}
 use Rattle.text_files.specs.declared.Message.{Message}
+use Rattle.hwdb_lookup.specs.Bounds.{max_entries, max_match_bytes, max_text_bytes}
 use Rattle.hwdb_core.specs.Properties.{Property}
 use Rattle.hwdb_core.specs.Sources.{text_len}
 use Rattle.hwdb_core.specs.declared.fault.HwdbFault.{HwdbFault}
@@ -31,9 +32,9 @@ found_in f (x ∷ xs) = join (f x) (found_in f xs)
 
 -- what may be kept
 pub record IsKept (a : Found) : Type 0 where
-  pub entries : length a.properties ≤ 2 ^ 24
-  pub match_bytes : a.match_bytes ≤ 2 ^ 25 - 1
-  pub text_bytes : sum_by text_len a.properties ≤ 2 ^ 30
+  pub entries : length a.properties ≤ max_entries
+  pub match_bytes : a.match_bytes ≤ max_match_bytes
+  pub text_bytes : sum_by text_len a.properties ≤ max_text_bytes
 
 -- why a part was not added: with it there were too many
 abbrev pub FailsAt : Found → Found → HwdbFault → Type 0

@@ -1,6 +1,7 @@
--- What was gathered, as what was found.
-use Rattle.std.specs.Prelude.{◌≡◌, ℕ, ◌-◌, ◌^◌, ◌≤◌, List, length, map, sum_by}
+-- Serves inner proofs only: what was gathered, as what was found.
+use Rattle.std.specs.Prelude.{◌≡◌, ℕ, ◌≤◌, List, length, map, sum_by}
 use Rattle.text_files.specs.declared.Message.{Message}
+use Rattle.hwdb_lookup.specs.Bounds.{max_entries, max_match_bytes, max_text_bytes}
 use Rattle.hwdb_lookup.specs.declared.Entry.{Entry}
 use Rattle.hwdb_core.specs.Properties.{Property}
 use Rattle.hwdb_core.specs.Sources.{entries_from, text_len}
@@ -18,6 +19,6 @@ found_of entries messages match_bytes = record { properties = map property_of en
 pub record IsCounted (es : List Entry) (match_bytes : ℕ) (text_bytes : ℕ) : Type 0 where
   pub in_order : es ≡ entries_from 0 (map property_of es)
   pub counted : text_bytes ≡ sum_by text_len (map property_of es)
-  pub entries : length es ≤ 2 ^ 24
-  pub matches : match_bytes ≤ 2 ^ 25 - 1
-  pub texts : text_bytes ≤ 2 ^ 30
+  pub entries : length es ≤ max_entries
+  pub matches : match_bytes ≤ max_match_bytes
+  pub texts : text_bytes ≤ max_text_bytes

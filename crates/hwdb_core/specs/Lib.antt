@@ -3,6 +3,7 @@ pub mod Paragraphs
 pub mod Properties
 pub mod Messages
 pub mod Sources
+pub mod MessageLaws
 pub mod Found
 pub mod Keeping
 pub mod Parts

@@ -1,27 +1,13 @@
--- The lines of a database file, and what is left of them once they are cleaned.
-use Rattle.std.specs.Prelude.{ℕ, ◌+◌, ◌-◌, Bool, false, not, ◌==◌, if◌then◌else◌, List, [], ◌∷◌, length, take, take_while, map, filter}
-use Rattle.std.specs.List.{onto_first, suffix_len}
-use Rattle.text_bytes.specs.Names.{newline, hash, is_whitespace}
-
--- a line: its number in its file, and its bytes
-pub record NumberedLine : Type 0 where
-  pub number : ℕ
-  pub text : List ℕ
-
--- the texts that newlines end, and what stands behind the last newline, if anything does
-abbrev pub lines : List ℕ → List (List ℕ)
-lines [] = []
-lines (b ∷ t) = if b == newline then [] ∷ lines t else onto_first b (lines t)
-
--- texts as lines, of which the first has this number
-abbrev pub numbered_from : ℕ → List (List ℕ) → List NumberedLine
-numbered_from n [] = []
-numbered_from n (t ∷ ts) = record { number = n; text = t } ∷ numbered_from (n + 1) ts
+-- What is left of the lines of a database file once they are cleaned.
+use Rattle.std.specs.Prelude.{ℕ, ◌-◌, Bool, not, ◌==◌, List, length, take, take_while, map, filter}
+use Rattle.std.specs.List.{suffix_len}
+use Rattle.text_bytes.specs.Names.{hash, is_whitespace}
+use Rattle.text_words.specs.Lines.{NumberedLine, numbered_lines}
+use Rattle.text_words.specs.Texts.{begins_with}
 
 -- whether a text begins with `#`
 abbrev pub is_comment : List ℕ → Bool
-is_comment [] = false
-is_comment (b ∷ t) = b == hash
+is_comment t = begins_with hash t
 
 -- a text up to its first `#`
 abbrev pub before_comment : List ℕ → List ℕ
@@ -41,4 +27,4 @@ clean_lines ls = map cleaned (filter (λ l. not (is_comment l.text)) ls)
 
 -- the clean lines of a file, which keep the numbers that they have in it, counted from 1
 abbrev pub lines_of : List ℕ → List NumberedLine
-lines_of bytes = clean_lines (numbered_from 1 (lines bytes))
+lines_of bytes = clean_lines (numbered_lines bytes)

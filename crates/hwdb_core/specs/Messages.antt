@@ -7,7 +7,7 @@ use Rattle.text_files.specs.declared.MessageKind.TheVariants.{PropertyWithoutMat
 use Rattle.text_core.specs.Spell.{spell}
 use Rattle.text_core.specs.declared.item.Item.{Item}
 use Rattle.text_core.specs.declared.glob_fault.GlobFault.{GlobFault}
-use Rattle.hwdb_core.specs.Lines.{NumberedLine}
+use Rattle.text_words.specs.Lines.{NumberedLine}
 use Rattle.hwdb_core.specs.Paragraphs.{Cut}
 use Rattle.hwdb_core.specs.Properties.{Pair, pair_of, property_text}
 

@@ -1,8 +1,9 @@
 -- The paragraphs of a file, and the four parts of each.
-use Rattle.std.specs.Prelude.{◌≡◌, ℕ, Bool, true, false, not, ◌==◌, List, [], ◌∷◌, ◌++◌, length, drop, take_while, filter, All}
-use Rattle.std.specs.List.{prefix_len, slice_split}
+use Rattle.std.specs.Prelude.{◌≡◌, Bool, true, not, ◌==◌, List, [], ◌∷◌, ◌++◌, length, take_while, filter, All}
+use Rattle.std.specs.List.{slice_split}
 use Rattle.text_bytes.specs.Names.{space}
-use Rattle.hwdb_core.specs.Lines.{NumberedLine}
+use Rattle.text_words.specs.Lines.{NumberedLine}
+use Rattle.text_words.specs.Texts.{begins_with, is_empty, skip_while}
 
 -- whether nothing is left of a line
 abbrev pub is_empty_line : NumberedLine → Bool
@@ -10,21 +11,15 @@ is_empty_line l = length l.text == 0
 
 -- whether there is a line
 abbrev pub has_lines : List NumberedLine → Bool
-has_lines [] = false
-has_lines (l ∷ ls) = true
+has_lines ls = not (is_empty ls)
 
 -- the longest runs of lines that are not empty: what stands between the empty lines, where that has lines
 abbrev pub paragraphs : List NumberedLine → List (List NumberedLine)
 paragraphs ls = filter has_lines (slice_split is_empty_line ls)
 
--- whether a text begins with a space
-abbrev pub begins_with_space : List ℕ → Bool
-begins_with_space [] = false
-begins_with_space (b ∷ t) = b == space
-
 -- a line that begins with a space is a property
 abbrev pub is_property : NumberedLine → Bool
-is_property l = begins_with_space l.text
+is_property l = begins_with space l.text
 
 -- any other is a match
 abbrev pub is_match : NumberedLine → Bool
@@ -57,18 +52,14 @@ pub record IsCut (p : List NumberedLine) (c : Cut) : Type 0 where
   pub no_matches : c.matches ≡ [] → c.properties ≡ []
   pub no_properties : c.properties ≡ [] → c.rest ≡ []
 
--- what stands behind the elements at the front that pass a test
-abbrev pub behind : {X : Type 0} → (X → Bool) → List X → List X
-behind p xs = drop (prefix_len p xs) xs
-
 -- the parts of a paragraph: properties as long as they last, then matches, then properties, then the rest
 abbrev pub cut : List NumberedLine → Cut
 cut p =
-    let from_matches = behind is_property p in
-    let from_properties = behind is_match from_matches in
+    let from_matches = skip_while is_property p in
+    let from_properties = skip_while is_match from_matches in
     record {
       early = take_while is_property p;
       matches = take_while is_match from_matches;
       properties = take_while is_property from_properties;
-      rest = behind is_property from_properties;
+      rest = skip_while is_property from_properties;
     }

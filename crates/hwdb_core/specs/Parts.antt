@@ -1,12 +1,11 @@
--- What each part of a file adds to what is found.
-use Rattle.std.specs.Prelude.{ℕ, ◌&&◌, if◌then◌else◌, List, [], ◌∷◌, length, is_ok}
-use Rattle.std.specs.List.{list_any}
+-- Serves inner proofs only: what each part of a file adds to what was found so far.
+use Rattle.std.specs.Prelude.{ℕ, if◌then◌else◌, List, [], ◌∷◌, length}
 use Rattle.text_files.specs.declared.SourceFile.{SourceFile}
 use Rattle.text_core.specs.Spell.{spell}
 use Rattle.text_core.specs.declared.item.Item.{Item}
-use Rattle.hwdb_core.specs.Lines.{NumberedLine}
+use Rattle.text_words.specs.Lines.{NumberedLine}
 use Rattle.hwdb_core.specs.Paragraphs.{Cut}
-use Rattle.hwdb_core.specs.Properties.{cut_match_bytes, cut_properties, from_line, from_spelled, pair_of}
+use Rattle.hwdb_core.specs.Properties.{cut_match_bytes, cut_properties, from_line, from_spelled, gives_entry}
 use Rattle.hwdb_core.specs.Messages.{about_bare, about_early, about_match, about_property, about_rest, cut_messages}
 use Rattle.hwdb_core.specs.Sources.{cuts_of}
 use Rattle.hwdb_core.specs.Found.{Found, found_in, only_messages}
@@ -28,7 +27,7 @@ abbrev pub match_found : List ℕ → List NumberedLine → NumberedLine → Fou
 match_found file properties l = record {
   properties = from_spelled file properties (spell l.text);
   messages = about_match file l;
-  match_bytes = if is_ok (spell l.text) && list_any (λ q. is_ok (pair_of q)) properties then length l.text else 0;
+  match_bytes = if gives_entry properties l then length l.text else 0;
 }
 
 -- a property with which something is wrong adds a message

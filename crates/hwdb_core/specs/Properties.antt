@@ -1,30 +1,30 @@
 -- The properties that a paragraph gives the devices that its matches fit.
-use Rattle.std.specs.Prelude.{ℕ, zero, suc, ◌+◌, ◌&&◌, ◌==◌, if◌then◌else◌, List, [], ◌∷◌, length, take, drop, position, flat_map, sum_by, Option, Some, None, Result, Ok, Err, is_ok}
+use Rattle.std.specs.Prelude.{ℕ, ◌+◌, Bool, ◌&&◌, ◌==◌, if◌then◌else◌, List, [], ◌∷◌, length, take, drop, position, flat_map, sum_by, Option, Some, None, Result, Ok, Err, is_ok}
 use Rattle.std.specs.List.{list_any}
-use Rattle.text_bytes.specs.Names.{equals, is_blank}
+use Rattle.text_bytes.specs.Names.{equals}
+use Rattle.text_words.specs.Lines.{NumberedLine}
+use Rattle.text_words.specs.Texts.{unindented}
 use Rattle.text_files.specs.Messages.{capped}
 use Rattle.text_files.specs.declared.MessageKind.{MessageKind}
 use Rattle.text_files.specs.declared.MessageKind.TheVariants.{NoEquals, EmptyKey}
 use Rattle.text_core.specs.Spell.{spell}
 use Rattle.text_core.specs.declared.item.Item.{Item}
 use Rattle.text_core.specs.declared.glob_fault.GlobFault.{GlobFault}
-use Rattle.hwdb_core.specs.Lines.{NumberedLine}
-use Rattle.hwdb_core.specs.Paragraphs.{Cut, behind}
+use Rattle.hwdb_core.specs.Paragraphs.{Cut}
 
 -- a key and its value
 pub record Pair : Type 0 where
   pub key : List ℕ
   pub value : List ℕ
 
--- what a text says whose first `=` stands at a place: the key is what stands before it, and may not be empty
+-- what a text says whose first `=` stands at a place: the key stands before it, and may not be empty, the value behind it
 abbrev pub pair_at : List ℕ → Option ℕ → Result Pair MessageKind
 pair_at t None = Err NoEquals
-pair_at t (Some zero) = Err EmptyKey
-pair_at t (Some (suc k)) = Ok (record { key = take (k + 1) t; value = drop (k + 2) t })
+pair_at t (Some at) = if at == 0 then Err EmptyKey else Ok (record { key = take at t; value = drop (at + 1) t })
 
 -- a property without its leading blanks
 abbrev pub property_text : NumberedLine → List ℕ
-property_text l = behind is_blank l.text
+property_text l = unindented l.text
 
 -- what a property says, or what is wrong with it
 abbrev pub pair_of : NumberedLine → Result Pair MessageKind
@@ -56,7 +56,10 @@ from_spelled file properties (Err fault) = []
 abbrev pub cut_properties : List ℕ → Cut → List Property
 cut_properties file c = flat_map (λ l. from_spelled file c.properties (spell l.text)) c.matches
 
+-- whether a match gives an entry: it is a pattern, and nothing is wrong with some property of it
+abbrev pub gives_entry : List NumberedLine → NumberedLine → Bool
+gives_entry properties l = is_ok (spell l.text) && list_any (λ q. is_ok (pair_of q)) properties
+
 -- how many bytes the matches of a paragraph have that give an entry
 abbrev pub cut_match_bytes : Cut → ℕ
-cut_match_bytes c =
-    sum_by (λ l. if is_ok (spell l.text) && list_any (λ q. is_ok (pair_of q)) c.properties then length l.text else 0) c.matches
+cut_match_bytes c = sum_by (λ l. if gives_entry c.properties l then length l.text else 0) c.matches

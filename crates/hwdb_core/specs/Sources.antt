@@ -1,7 +1,8 @@
 -- What database files say, taken together.
-use Rattle.std.specs.Prelude.{ℕ, ◌+◌, ◌-◌, ◌^◌, ◌≤◌, List, [], ◌∷◌, length, map, flat_map, sum_by}
+use Rattle.std.specs.Prelude.{ℕ, ◌+◌, ◌≤◌, List, [], ◌∷◌, length, map, flat_map, sum_by}
 use Rattle.text_files.specs.declared.Message.{Message}
 use Rattle.text_files.specs.declared.SourceFile.{SourceFile}
+use Rattle.hwdb_lookup.specs.Bounds.{max_entries, max_match_bytes, max_name_bytes, max_text_bytes}
 use Rattle.hwdb_lookup.specs.declared.Entry.{Entry}
 use Rattle.hwdb_core.specs.Lines.{lines_of}
 use Rattle.hwdb_core.specs.Paragraphs.{Cut, cut, paragraphs}
@@ -43,7 +44,7 @@ match_bytes_of files = sum_by (λ f. sum_by cut_match_bytes (cuts_of f)) files
 
 -- files that are not too many: by their entries, the matches that give these, their keys and values, and the files' names
 pub record WithinBounds (files : List SourceFile) : Type 0 where
-  pub entries : length (properties_of files) ≤ 2 ^ 24
-  pub match_bytes : match_bytes_of files ≤ 2 ^ 25 - 1
-  pub text_bytes : sum_by text_len (properties_of files) ≤ 2 ^ 30
-  pub name_bytes : sum_by (λ f. length f.name) files ≤ 2 ^ 28
+  pub entries : length (properties_of files) ≤ max_entries
+  pub match_bytes : match_bytes_of files ≤ max_match_bytes
+  pub text_bytes : sum_by text_len (properties_of files) ≤ max_text_bytes
+  pub name_bytes : sum_by (λ f. length f.name) files ≤ max_name_bytes

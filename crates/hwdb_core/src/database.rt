@@ -1,6 +1,7 @@
 //! The whole of a run's database files.
 
-ghost use Rattle.std.specs.Prelude.{◌≡◌, ◌≤◌, ◌^◌, ◌↔◌, IsTrue, IfOk, IfErr, sum_by, length};
+ghost use Rattle.std.specs.Prelude.{◌≡◌, ◌≤◌, ◌↔◌, IsTrue, IfOk, IfErr, sum_by, length};
+ghost use Rattle.hwdb_lookup.specs.Bounds.{max_name_bytes};
 ghost use Rattle.hwdb_lookup.specs.Orders.{Rising};
 ghost use Rattle.hwdb_core.specs.Sources.{entries_of, messages_of, WithinBounds};
 ghost use Rattle.hwdb_core.specs.Found.{Adds, found_in};
@@ -10,12 +11,9 @@ ghost use Rattle.hwdb_core.specs.declared.fault.HwdbFault.TheVariants.{TooMany};
 use crate::fault::HwdbFault;
 use crate::gathered::Gathered;
 use crate::reading::read_file;
-use hwdb_lookup::Entry;
+use hwdb_lookup::{Entry, MAX_NAME_BYTES};
 use std::alloc::Global;
 use text_core::{Message, SourceFile};
-
-/// How many bytes the names of the files may have together.
-const MAX_NAME_BYTES: usize = 1 << 28;
 
 /// What database files hold, and what is wrong with them.
 #[derive(Debug, Drop)]
@@ -59,7 +57,7 @@ fn read_files(alloc: Global, found: &mut Gathered, files: &[SourceFile]) -> Resu
 
 /// Whether the names of the files are short enough together.
 fn names_fit(files: &[SourceFile]) -> bool
-    ensures { IsTrue result ↔ (sum_by (λ f. length f.name) files.now ≤ 2 ^ 28) }
+    ensures { IsTrue result ↔ (sum_by (λ f. length f.name) files.now ≤ max_name_bytes) }
 {
     let mut room = MAX_NAME_BYTES;
     for file in files {

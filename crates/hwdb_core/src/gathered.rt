@@ -9,21 +9,12 @@ ghost use Rattle.hwdb_core.specs.Found.{Adds, IsKept, nothing, only_messages};
 
 use crate::fault::HwdbFault;
 use crate::paragraph::Pair;
-use hwdb_lookup::Entry;
+use hwdb_lookup::{Entry, MAX_ENTRIES, MAX_MATCH_BYTES, MAX_TEXT_BYTES};
 use std::alloc::Global;
 use std::marker::Model;
 use text_bytes::Bytes;
 use text_core::Pattern;
 use text_files::{Message, MessageKind, capped};
-
-/// How many entries there may be.
-const MAX_ENTRIES: usize = 1 << 24;
-
-/// How many bytes the matches may have that give an entry.
-const MAX_MATCH_BYTES: usize = (1 << 25) - 1;
-
-/// How many bytes the keys and values of all entries may have.
-const MAX_TEXT_BYTES: usize = 1 << 30;
 
 /// Entries and messages, in order.
 #[derive(Debug, Drop)]

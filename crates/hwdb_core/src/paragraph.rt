@@ -5,10 +5,10 @@ ghost use Rattle.std.specs.List.{prefix_len};
 ghost use Rattle.hwdb_core.specs.Paragraphs.{cut, is_match, is_property};
 ghost use Rattle.hwdb_core.specs.Properties.{pair_of};
 
-use crate::lines::Line;
-use std::marker::Model;
+use crate::lines::{is_property, property_text};
 use text_bytes::find;
 use text_core::MessageKind;
+use text_words::Line;
 
 /// A key and its value, both of a line.
 #[derive(Debug, Drop)]
@@ -21,7 +21,7 @@ pub struct Pair<'a> {
 pub fn pair_of<'a>(line: &Line<'a>) -> Result<Pair<'a>, MessageKind>
     ensures { MatchResult result (λ p. pair_of line.now ≡ Ok (record { key = p.key.now; value = p.value.now })) (λ kind. pair_of line.now ≡ Err kind) }
 {
-    let text = line.property_text();
+    let text = property_text(line);
     match find(b'=', text) {
         None => Err(MessageKind::NoEquals),
         Some(0) => Err(MessageKind::EmptyKey),
@@ -37,7 +37,7 @@ pub fn property_run(lines: &[Line<'_>]) -> usize
     ensures value { result ≡ prefix_len is_property lines.now }
     ensures within { result ≤ length lines.now }
 {
-    lines.iter().take_while(|line| line.is_property()).count()
+    lines.iter().take_while(|line| is_property(line)).count()
 }
 
 /// How many lines at the front are matches.
@@ -45,7 +45,7 @@ pub fn match_run(lines: &[Line<'_>]) -> usize
     ensures value { result ≡ prefix_len is_match lines.now }
     ensures within { result ≤ length lines.now }
 {
-    lines.iter().take_while(|line| !line.is_property()).count()
+    lines.iter().take_while(|line| !is_property(line)).count()
 }
 
 /// The four parts of a paragraph, in order.

@@ -12,10 +12,11 @@ ghost use Rattle.hwdb_core.specs.Parts.{bare_found, cut_found, early_found, file
 
 use crate::fault::HwdbFault;
 use crate::gathered::Gathered;
-use crate::lines::{Line, Lines};
+use crate::lines::{cleaned, is_comment, property_text};
 use crate::paragraph::{pair_of, parts_of};
 use std::alloc::Global;
 use text_core::{GlobFault, MessageKind, Pattern, SourceFile};
+use text_words::{Line, Lines};
 
 /// Reads a file.
 pub fn read_file(alloc: Global, found: &mut Gathered, file: &SourceFile) -> Result<(), HwdbFault>
@@ -24,11 +25,11 @@ pub fn read_file(alloc: Global, found: &mut Gathered, file: &SourceFile) -> Resu
     let name = file.name.as_slice();
     let mut open = Vec::new(alloc);
     for line in Lines::new(file.bytes.as_slice()) {
-        if line.is_comment() {
+        if is_comment(&line) {
             continue;
         }
-        let line = line.cleaned();
-        if line.is_empty() {
+        let line = cleaned(&line);
+        if line.text().is_empty() {
             read_paragraph(alloc, found, name, &open)?;
             open.clear();
         } else {
@@ -66,7 +67,7 @@ fn read_early(
 {
     for line in early {
         let kind = MessageKind::PropertyWithoutMatch;
-        found.tell(alloc, file, line.number(), kind, line.property_text())?;
+        found.tell(alloc, file, line.number(), kind, property_text(line))?;
     }
     Ok(())
 }
@@ -187,7 +188,7 @@ fn read_property(
 {
     match pair_of(line) {
         Ok(_) => Ok(()),
-        Err(kind) => found.tell(alloc, file, line.number(), kind, line.property_text()),
+        Err(kind) => found.tell(alloc, file, line.number(), kind, property_text(line)),
     }
 }
 

@@ -1,4 +1,5 @@
+pub mod Bounds
 pub mod Orders
-pub mod Places
 pub mod Query
 pub mod Winning
+pub mod Places

@@ -1,4 +1,4 @@
--- Entries behind references, and the place of a key among them.
+-- Serves inner proofs only: entries behind references, and the place of a key among them.
 use Rattle.std.specs.Prelude.{◌≡◌, ◌<◌, ◌≤◌, ℕ, List, map, length, HoldsAt, Result, MatchResult}
 use Rattle.std.specs.Borrow.{Bor}
 use Rattle.std.specs.List.{AllWithin}

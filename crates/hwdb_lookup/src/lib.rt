@@ -4,6 +4,7 @@
 //! another form, so that all of them speak of the same list.
 #![tactic(auto)]
 
+mod bounds;
 mod entry;
 mod law;
 mod lookup;
@@ -11,6 +12,7 @@ mod order;
 mod plain;
 mod winners;
 
+pub use bounds::{MAX_ENTRIES, MAX_MATCH_BYTES, MAX_NAME_BYTES, MAX_TEXT_BYTES};
 pub use entry::Entry;
 pub use law::winners_are_the_answer;
 pub use lookup::{Lookup, Sourced};

@@ -5,3 +5,4 @@ pub mod Excess
 pub mod CutLemmas
 pub mod BlockLemmas
 pub mod CallLemmas
+pub mod LineLemmas

@@ -1,9 +1,9 @@
 //! What holds of runs and blocks whatever text they stand in, and of a splitter's calls however an
 //! input is cut. Each law is the contract of a function that does nothing.
-ghost use Rattle.std.specs.Prelude.{◌≡◌, ◌↔◌, ◌⊎◌, List, ℕ, Bool, true, ◌++◌};
-ghost use Rattle.device_runs.specs.Runs.{complete_runs, rest_of, runs};
+ghost use Rattle.std.specs.Prelude.{◌≡◌, ◌<◌, ◌+◌, ◌↔◌, ◌⊎◌, List, ℕ, Bool, true, ◌++◌, length, take};
+ghost use Rattle.device_runs.specs.Runs.{lines_inclusive, complete_runs, rest_of, runs};
 ghost use Rattle.device_runs.specs.Cuts.{IsCutInto};
-ghost use Rattle.device_runs.specs.Blocks.{blocks_of, up_to_faulty, is_too_long, FindsAll, FindsFaulty};
+ghost use Rattle.device_runs.specs.Blocks.{blocks_of, up_to_faulty, most_bytes, is_too_long, line_of_excess, FindsAll, FindsFaulty};
 ghost use Rattle.device_runs.specs.Splits.{Split, opened, given, Ends, FailsBy};
 ghost use Rattle.device_runs.specs.Calls.{Call, TakesAll, used_by, given_by, EndsTooLong};
 ghost use Rattle.device_runs.specs.declared.splitter.SplitFault.TheVariants.{TooLong};
@@ -33,6 +33,11 @@ pub fn blocks_end_at_the_first_fault()
 /// that a splitter gives.
 pub fn other_faults_end_the_blocks_sooner()
     ensures { (is_faulty : List ℕ → Bool) → ((run : List ℕ) → is_too_long run ≡ true → is_faulty run ≡ true) → (input : List ℕ) → blocks_of is_faulty input ≡ up_to_faulty is_faulty (blocks_of is_too_long input) }
+{}
+
+/// The first byte too many of a run stands in the last line of its first 65,537 bytes.
+pub fn excess_stands_in_the_last_line()
+    ensures { (run : List ℕ) → most_bytes < length run → line_of_excess run ≡ length (lines_inclusive (take (most_bytes + 1) run)) }
 {}
 
 /// However an input is cut into pieces, a new splitter gives the complete runs of the bytes that it

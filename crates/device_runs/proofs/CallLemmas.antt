@@ -5,7 +5,7 @@ use Rattle.std.proofs.lemmas.List.{append-nil}
 use Rattle.device_runs.specs.Runs.{complete_runs, rest_of, runs, not_empty}
 use Rattle.device_runs.specs.Blocks.{blocks_of, up_to_faulty, is_too_long, most_bytes}
 use Rattle.device_runs.specs.Splits.{Split, opened, given, Ends, BeginsTooLong}
-use Rattle.device_runs.specs.Calls.{Call, TakesAll, used_by, given_by, EndsTooLong}
+use Rattle.device_runs.specs.Calls.{Call, TakesAll, used_by, given_by, GiveRuns, GiveAll, EndsTooLong}
 use Rattle.device_runs.proofs.Law.{complete_runs-append, rest_of-append, runs-append}
 use Rattle.device_runs.proofs.BlockLemmas.{NoneFaulty, none, one_more, past_good, all_good, fits_is_good}
 
@@ -27,10 +27,10 @@ goes_on (call ∷ calls) old now text e h =
       ap rest_of whole ∙ later.1,
     )
 
-pub given_is : (calls : List Call) (now : Split) → TakesAll opened calls now → given_by calls ≡ complete_runs (used_by calls)
+given_is : (calls : List Call) (now : Split) → TakesAll opened calls now → given_by calls ≡ complete_runs (used_by calls)
 given_is calls now h = sym (goes_on calls opened now [] refl h).0
 
-pub pending_is : (calls : List Call) (now : Split) → TakesAll opened calls now → now.pending ≡ rest_of (used_by calls)
+pending_is : (calls : List Call) (now : Split) → TakesAll opened calls now → now.pending ≡ rest_of (used_by calls)
 pending_is calls now h = sym (goes_on calls opened now [] refl h).1
 
 -- the pending bytes are the last run, if there are any
@@ -43,7 +43,7 @@ last_given false (byte ∷ pending) h k = let some : IsTrue false = k (λ e. abs
 last_is : (now last : Split) (some : Bool) → Ends now some last → given some last.block ≡ not_empty (now.pending ∷ [])
 last_is now last some h = ap (λ s. given some s.block) h.gives ∙ last_given some now.pending h.answers.0 h.answers.1
 
-pub end_is : (calls : List Call) (now last : Split) (some : Bool) → TakesAll opened calls now → Ends now some last → given_by calls ++ given some last.block ≡ runs (used_by calls)
+end_is : (calls : List Call) (now last : Split) (some : Bool) → TakesAll opened calls now → Ends now some last → given_by calls ++ given some last.block ≡ runs (used_by calls)
 end_is calls now last some h e =
     ap (λ l. l ++ given some last.block) (given_is calls now h)
     ∙ ap (λ l. complete_runs (used_by calls) ++ l) (last_is now last some e)
@@ -63,11 +63,17 @@ all_fit (call ∷ calls) old now later h rest =
 last_fits : (now last : Split) (some : Bool) → Ends now some last → length last.block ≤ most_bytes
 last_fits now last some e = subst (λ s. length s.block ≤ most_bytes) (sym e.gives) e.fits
 
-pub blocks_are : (calls : List Call) (now last : Split) (some : Bool) → TakesAll opened calls now → Ends now some last → given_by calls ++ given some last.block ≡ blocks_of is_too_long (used_by calls)
+blocks_are : (calls : List Call) (now last : Split) (some : Bool) → TakesAll opened calls now → Ends now some last → given_by calls ++ given some last.block ≡ blocks_of is_too_long (used_by calls)
 blocks_are calls now last some h e =
     let last_good : NoneFaulty is_too_long (given some last.block) = subst (NoneFaulty is_too_long) (append-nil (given some last.block)) (given_fits some last.block [] (last_fits now last some e) (none is_too_long)) in
     let good : NoneFaulty is_too_long (given_by calls ++ given some last.block) = all_fit calls opened now (given some last.block) h last_good in
     sym (ap (up_to_faulty is_too_long) (sym (end_is calls now last some h e)) ∙ all_good is_too_long (given_by calls ++ given some last.block) good)
+
+pub give_runs : (calls : List Call) (now : Split) → TakesAll opened calls now → GiveRuns calls now
+give_runs calls now h = record { given = given_is calls now h; pending = pending_is calls now h }
+
+pub give_all : (calls : List Call) (now last : Split) (some : Bool) → TakesAll opened calls now → Ends now some last → GiveAll calls (given some last.block)
+give_all calls now last some h e = record { runs_are = end_is calls now last some h e; blocks_are = blocks_are calls now last some h e }
 
 too_long_is : (run : List ℕ) → most_bytes < length run → is_too_long run ≡ true
 too_long_is run h = grind (arith, nat_tests)

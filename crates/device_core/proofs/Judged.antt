@@ -3,14 +3,15 @@ use Rattle.std.proofs.Common.{◌≡◌, ℕ, ◌+◌, Bool, true, false, not, �
 use Rattle.std.proofs.lemmas.List.{append-nil, length-append}
 use Rattle.std.specs.Option.{option_to_list}
 use Rattle.std.specs.List.{zip}
-use Rattle.device_core.specs.Pairs.{Text, Pair as NameAndValue, named, is_among}
-use Rattle.device_core.specs.Answers.{AnswerValue}
+use Rattle.text_words.specs.Texts.{is_empty}
+use Rattle.text_tables.specs.Texts.{Text, is_among}
+use Rattle.text_tables.specs.Pairs.{Pair as NameAndValue, named}
 use Rattle.device_core.specs.Lines.{Row, row_of, kind_of, begins_answer}
-use Rattle.device_core.specs.Parts.{is_empty, pair_of, number_of, answer_of, is_device_path, is_parent_path}
-use Rattle.device_core.specs.Values.{DeviceValue}
+use Rattle.device_core.specs.Parts.{pair_of, number_of, answer_of, is_device_path, is_parent_path}
+use Rattle.device_core.specs.Values.{NumberValue, DeviceValue, AnswerValue}
 use Rattle.device_core.specs.Blocks.{is_kind, texts, pairs, answers, first, programs, groups, devices, event}
-use Rattle.device_core.specs.Faults.{device_above, follows_command, is_wrong_number, is_half_field, has_field, has_name, first_of, row_fault, has_nul, line_fault, fault_unless, unless_faulty, given_below, given_by}
-use Rattle.device_core.specs.Steps.{if_ok, once_step, number_step, number_once, pair_step, with_pair, member_step, field_step, Sofar, bare_device, begun, unasked, path_step, device_step, above_step, command_step, answer_step, with_answer, row_step, plain_row, known_row, line_step, then_row, first_step, action_in, action_by, start, then_steps, steps, finished, with_last, then_finished, behind_first, read_lines}
+use Rattle.device_core.specs.Faults.{device_above, follows_command, is_wrong_number, is_half_field, has_field, has_name, first_of, row_fault, has_nul, line_fault, fault_unless, unless_faulty, given_with, given_below, given_by}
+use Rattle.device_core.specs.Steps.{if_ok, once_step, number_step, number_once, pair_step, with_pair, member_step, field_step, Sofar, bare_device, begun, unasked, path_step, device_step, above_step, command_step, answer_step, with_answer, row_step, plain_row, known_row, line_step, then_row, first_step, action_in, action_by, start, then_steps, steps, finished, with_devices, then_finished, behind_first, read_lines}
 use Rattle.device_core.specs.declared.lines.DeviceField.{DeviceField}
 use Rattle.device_core.specs.declared.lines.DeviceField.TheVariants.{Subsystem, Driver, Node, Devnum, Attribute, Property, Tag, Link}
 use Rattle.device_core.specs.declared.lines.LineKind.{LineKind}
@@ -35,7 +36,7 @@ once_agrees set true before rest = refl
 once_agrees set false None rest = (refl, refl)
 once_agrees set false (Some x) rest = refl
 
-number_agrees : (set : Option NameAndValue → DeviceValue) (before number : Option NameAndValue)
+number_agrees : (set : Option NumberValue → DeviceValue) (before number : Option NumberValue)
     → FieldAgrees (set (kept before number)) (first_of ((is_none number, Number) ∷ (false, Pair) ∷ (is_some before, Twice) ∷ [])) (if_ok (λ n. set (Some n)) (number_once before number))
 number_agrees set before None = refl
 number_agrees set None (Some n) = (refl, refl)
@@ -292,32 +293,32 @@ counted_by above below true o e = cc
 counted_by above below false None e = cc
 counted_by above below false (Some row) e = length-append above (row ∷ [])
 
-counted : (above : List Row) (line : Text) (below : List Text) → line_fault above line below ≡ None → length (above ++ option_to_list (row_of line)) ≡ length above + 1
+pub counted : (above : List Row) (line : Text) (below : List Text) → line_fault above line below ≡ None → length (above ++ option_to_list (row_of line)) ≡ length above + 1
 unfolding line_fault
 counted above line below e = counted_by above below (has_nul line) (row_of line) e
 
 -- ---- the end
 
 module _ (above : List Row) (action : Text) (s : Sofar) (h : Holds above action s) where
-  event_is : s.asked ≡ None → (d : DeviceValue) → s.last ≡ Some d → event above ≡ record { action = action; devices = s.closed ++ d ∷ []; programs = s.programs; constants = s.constants }
+  event_is : s.asked ≡ None → (device : DeviceValue) (parents : List DeviceValue) → event above device parents ≡ record { action = action; device = device; parents = parents; programs = s.programs; constants = s.constants }
   unfolding event programs
-  event_is idle d is =
+  event_is idle device parents =
       let commands : texts Command above ≡ h.answered = h.asked_are ∙ ap (λ o. h.answered ++ option_to_list o) idle ∙ append-nil h.answered in
       λ i. record {
         action = ap (λ o. unwrap_or o []) h.acted i;
-        devices = (h.devices_are ∙ ap (λ o. s.closed ++ option_to_list o) is) i;
+        device = device;
+        parents = parents;
         programs = (ap (λ cs. zip cs (answers above)) commands ∙ h.programs_are) i;
         constants = h.constants_are i;
       }
 
-  end_agrees : (n : ℕ) → n ≡ length above → s.asked ≡ None → (o : Option DeviceValue) → s.last ≡ o → with_last action s n o ≡ given_below above []
+  end_with : s.asked ≡ None → (ds : List DeviceValue) → with_devices action s (length above) ds ≡ given_with above ds
+  end_with idle [] = refl
+  end_with idle (device ∷ parents) = ap Ok (sym (event_is idle device parents))
+
+  end_agrees : (n : ℕ) → n ≡ length above → s.asked ≡ None → with_devices action s n (s.closed ++ option_to_list s.last) ≡ given_below above []
   unfolding given_below
-  end_agrees n e idle None is =
-      let none : devices above ≡ [] = h.devices_are ∙ (λ i. h.alone is i ++ option_to_list (is i)) in
-      rw (none, e) refl
-  end_agrees n e idle (Some d) is =
-      let some : is_empty (devices above) ≡ false = ap is_empty (h.devices_are ∙ ap (λ o. s.closed ++ option_to_list o) is) ∙ some_more s.closed d in
-      rw some (ap Ok (sym (event_is idle d is)))
+  end_agrees n e idle = ap (λ m. with_devices action s m (s.closed ++ option_to_list s.last)) e ∙ end_with idle (s.closed ++ option_to_list s.last) ∙ ap (given_with above) (sym h.devices_are)
 
 idle_end : (asked : Option Text) → IsNext asked [] → asked ≡ None
 unfolding begins_answer
@@ -336,7 +337,7 @@ step_on above more action n line below fault e grown rest (Ok t) agrees =
 
 lines_agree : (lines : List Text) (above : List Row) (action : Text) (s : Sofar) (n : ℕ) → n ≡ length above → Holds above action s → IsNext s.asked lines → then_finished action (steps s n lines) ≡ given_below above lines
 unfolding steps given_below finished
-lines_agree [] above action s n e h next = end_agrees above action s h n e (idle_end s.asked next) s.last refl
+lines_agree [] above action s n e h next = end_agrees above action s h n e (idle_end s.asked next)
 lines_agree (line ∷ below) above action s n e h next =
     step_on above (above ++ option_to_list (row_of line)) action n line below (line_fault above line below) e (counted above line below)
     (λ t m holds follows. lines_agree below (above ++ option_to_list (row_of line)) action t (n + 1) m holds follows)

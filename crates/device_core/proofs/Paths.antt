@@ -2,7 +2,8 @@
 use Rattle.std.proofs.Common.{◌≡◌, ℕ, Bool, true, false, ◌&&◌, List, [], ◌∷◌, ◌++◌, length, drop, refl, ap, sym, ◌∙◌, nat_eq, ◌==◌, arith}
 use Rattle.std.specs.List.{starts_with}
 use Rattle.text_bytes.specs.Names.{slash}
-use Rattle.device_core.specs.Parts.{is_parent_path, is_empty, begins_with_slash}
+use Rattle.text_words.specs.Texts.{is_empty, begins_with}
+use Rattle.device_core.specs.Parts.{is_parent_path}
 
 same_both : (a b : ℕ) → nat_eq a b ≡ nat_eq b a
 same_both a b = grind arith
@@ -15,14 +16,14 @@ and_both : (a b c d : Bool) → b ≡ (c && d) → (a && b) ≡ ((a && c) && d)
 and_both true b c d h = h
 and_both false b c d h = refl
 
-begins_is : (child parent : List ℕ) → starts_with nat_eq child (parent ++ slash ∷ []) ≡ (starts_with nat_eq child parent && begins_with_slash (drop (length parent) child))
+begins_is : (child parent : List ℕ) → starts_with nat_eq child (parent ++ slash ∷ []) ≡ (starts_with nat_eq child parent && begins_with slash (drop (length parent) child))
 begins_is [] [] = refl
 begins_is (c ∷ cs) [] = and_true (nat_eq slash c) ∙ same_both slash c
 begins_is [] (p ∷ ps) = refl
 begins_is (c ∷ cs) (p ∷ ps) = and_both (nat_eq p c) _ _ _ (begins_is cs ps)
 
 -- of a parent that is not empty
-pub parent_path_is : (child parent : List ℕ) → is_empty parent ≡ false → is_parent_path child parent ≡ (starts_with nat_eq child parent && begins_with_slash (drop (length parent) child))
+pub parent_path_is : (child parent : List ℕ) → is_empty parent ≡ false → is_parent_path child parent ≡ (starts_with nat_eq child parent && begins_with slash (drop (length parent) child))
 unfolding is_parent_path
 parent_path_is child parent h = rw h (begins_is child parent)
 
@@ -31,9 +32,9 @@ filled [] h = h
 filled (x ∷ xs) h = refl
 
 -- the answer of a reader that looks behind the parent
-pub parent_answer : (child parent behind : List ℕ) (r : Bool) → (length parent == 0) ≡ false → starts_with nat_eq child parent ≡ true → behind ≡ drop (length parent) child → r ≡ begins_with_slash behind → r ≡ is_parent_path child parent
-parent_answer child parent behind r some front back says = says ∙ ap begins_with_slash back ∙ sym (parent_path_is child parent (filled parent some) ∙ ap (λ b. b && begins_with_slash (drop (length parent) child)) front)
+pub parent_answer : (child parent behind : List ℕ) (r : Bool) → (length parent == 0) ≡ false → starts_with nat_eq child parent ≡ true → behind ≡ drop (length parent) child → r ≡ begins_with slash behind → r ≡ is_parent_path child parent
+parent_answer child parent behind r some front back says = says ∙ ap (begins_with slash) back ∙ sym (parent_path_is child parent (filled parent some) ∙ ap (λ b. b && begins_with slash (drop (length parent) child)) front)
 
 -- the answer of a reader that finds another beginning
 pub parent_not : (child parent : List ℕ) → (length parent == 0) ≡ false → starts_with nat_eq child parent ≡ false → false ≡ is_parent_path child parent
-parent_not child parent some front = sym (parent_path_is child parent (filled parent some) ∙ ap (λ b. b && begins_with_slash (drop (length parent) child)) front)
+parent_not child parent some front = sym (parent_path_is child parent (filled parent some) ∙ ap (λ b. b && begins_with slash (drop (length parent) child)) front)

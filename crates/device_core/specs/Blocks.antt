@@ -2,11 +2,11 @@
 -- before each `P:`, and each group that begins with one describes a device.
 use Rattle.std.specs.Prelude.{Bool, List, [], ◌∷◌, ◌==◌, Option, Some, None, unwrap_or, map, if◌then◌else◌}
 use Rattle.std.specs.List.{filter_map, zip}
-use Rattle.device_core.specs.Pairs.{Text, Pair}
-use Rattle.device_core.specs.Answers.{AnswerValue}
+use Rattle.text_tables.specs.Texts.{Text}
+use Rattle.text_tables.specs.Pairs.{Pair}
 use Rattle.device_core.specs.Lines.{Row, letter_of}
 use Rattle.device_core.specs.Parts.{pair_of, number_of, answer_of}
-use Rattle.device_core.specs.Values.{DeviceValue, EventValue}
+use Rattle.device_core.specs.Values.{NumberValue, DeviceValue, AnswerValue, EventValue}
 use Rattle.device_core.specs.declared.lines.DeviceField.TheVariants.{Subsystem, Driver, Node, Devnum, Attribute, Property, Tag, Link}
 use Rattle.device_core.specs.declared.lines.LineKind.{LineKind}
 use Rattle.device_core.specs.declared.lines.LineKind.TheVariants.{Action, Device, Field, Constant, Command, Answer}
@@ -28,7 +28,7 @@ unfoldable pub pairs : LineKind → List Row → List Pair
 pairs kind rows = filter_map pair_of (texts kind rows)
 
 -- the device numbers that lines give, in order
-unfoldable pub numbers : List Row → List Pair
+unfoldable pub numbers : List Row → List NumberValue
 numbers rows = filter_map number_of (texts (Field Devnum) rows)
 
 -- the answers that lines give, in order
@@ -72,11 +72,12 @@ devices rows = map device (groups rows)
 unfoldable pub programs : List Row → List (Text × AnswerValue)
 programs rows = zip (texts Command rows) (answers rows)
 
--- the event that lines describe, none of which is faulty
-unfoldable pub event : List Row → EventValue
-event rows = record {
+-- the event that lines describe, none of which is faulty, whose devices are these
+unfoldable pub event : List Row → DeviceValue → List DeviceValue → EventValue
+event rows device parents = record {
   action = unwrap_or (first (texts Action rows)) [];
-  devices = devices rows;
+  device = device;
+  parents = parents;
   programs = programs rows;
   constants = pairs Constant rows;
 }

@@ -2,10 +2,13 @@
 use Rattle.std.specs.Prelude.{ℕ, ◌+◌, Bool, false, not, ◌&&◌, ◌||◌, List, [], ◌∷◌, ◌++◌, take, length, count_by, position, ◌==◌, nat_le, nat_lt, Option, Some, None, Result, Ok, Err, if◌then◌else◌, is_some, is_none}
 use Rattle.std.specs.Option.{option_to_list}
 use Rattle.text_bytes.specs.Names.{nul, newline}
-use Rattle.device_core.specs.Pairs.{Text, Pair as NameAndValue, named, is_among}
-use Rattle.device_core.specs.Lines.{Row, row_of, lines_of, begins_answer}
-use Rattle.device_core.specs.Parts.{is_empty, pair_of, number_of, answer_of, is_device_path, is_parent_path}
-use Rattle.device_core.specs.Values.{DeviceValue, EventValue}
+use Rattle.text_words.specs.Texts.{is_empty}
+use Rattle.text_words.specs.Lines.{lines}
+use Rattle.text_tables.specs.Texts.{Text, is_among}
+use Rattle.text_tables.specs.Pairs.{Pair as NameAndValue, named}
+use Rattle.device_core.specs.Lines.{Row, row_of, begins_answer}
+use Rattle.device_core.specs.Parts.{pair_of, number_of, answer_of, is_device_path, is_parent_path}
+use Rattle.device_core.specs.Values.{DeviceValue, EventValue, most_devices}
 use Rattle.device_core.specs.Blocks.{is_kind, texts, pairs, devices, event}
 use Rattle.device_core.specs.declared.lines.DeviceField.{DeviceField}
 use Rattle.device_core.specs.declared.lines.DeviceField.TheVariants.{Subsystem, Driver, Node, Devnum, Attribute, Property, Tag, Link}
@@ -45,9 +48,9 @@ abbrev pub lacks_device : List Row → LineKind → Bool
 lacks_device above (Field field) = is_none (device_above above)
 lacks_device above _ = false
 
--- the line begins a device, and 64 stand above
+-- the line begins a device, and as many as there may be stand above
 abbrev pub is_too_deep : List Row → LineKind → Bool
-is_too_deep above Device = nat_le 64 (length (devices above))
+is_too_deep above Device = nat_le most_devices (length (devices above))
 is_too_deep above _ = false
 
 -- whether a path may follow that of a device above: as its parent's, or as the event device's where none is above
@@ -147,15 +150,20 @@ abbrev pub unless_faulty : ℕ → Option BlockFaultKind → Result EventValue B
 unless_faulty line None whole = whole
 unless_faulty line (Some kind) whole = Err (record { line = line; kind = kind })
 
+-- what lines give that are not faulty and describe these devices: their event, or at the last line the fault that there is none
+abbrev pub given_with : List Row → List DeviceValue → Result EventValue BlockFault
+given_with rows [] = Err (record { line = length rows; kind = NoDevice })
+given_with rows (device ∷ parents) = Ok (event rows device parents)
+
 -- what lines give below lines that are not faulty: the first fault, else the event
 unfoldable pub given_below : List Row → List Text → Result EventValue BlockFault
-given_below above [] = if is_empty (devices above) then Err (record { line = length above; kind = NoDevice }) else Ok (event above)
+given_below above [] = given_with above (devices above)
 given_below above (line ∷ below) = unless_faulty (length above + 1) (line_fault above line below) (given_below (above ++ option_to_list (row_of line)) below)
 
--- what lines give
+-- what lines give; where there is none, the first is missing
 unfoldable pub given_by : List Text → Result EventValue BlockFault
 given_by [] = Err (record { line = 1; kind = NoAction })
-given_by (line ∷ lines) = given_below [] (line ∷ lines)
+given_by (line ∷ below) = given_below [] (line ∷ below)
 
 -- the most bytes that a block may have
 abbrev pub most_bytes : ℕ
@@ -167,4 +175,4 @@ line_too_long block = count_by (λ b. b == newline) (take most_bytes block) + 1
 
 -- what a block gives: its event, or the first fault
 unfoldable pub block_gives : Text → Result EventValue BlockFault
-block_gives block = if nat_lt most_bytes (length block) then Err (record { line = line_too_long block; kind = TooLong }) else given_by (lines_of block)
+block_gives block = if nat_lt most_bytes (length block) then Err (record { line = line_too_long block; kind = TooLong }) else given_by (lines block)

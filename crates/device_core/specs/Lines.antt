@@ -1,23 +1,13 @@
--- The lines of a block, and what one line is.
+-- What one line of a block is.
 use Rattle.std.specs.Prelude.{ℕ, Bool, false, ◌&&◌, List, [], ◌∷◌, ◌==◌, Option, Some, None, option_map, if◌then◌else◌, nat_eq}
 use Rattle.std.specs.Option.{option_and_then}
 use Rattle.std.specs.List.{find, starts_with}
-use Rattle.text_bytes.specs.Names.{newline, colon, space}
-use Rattle.device_core.specs.Pairs.{Text}
+use Rattle.text_bytes.specs.Names.{colon, space}
+use Rattle.text_tables.specs.Texts.{Text}
 use Rattle.device_core.specs.declared.lines.DeviceField.{DeviceField}
 use Rattle.device_core.specs.declared.lines.DeviceField.TheVariants.{Subsystem, Driver, Node, Devnum, Attribute, Property, Tag, Link}
 use Rattle.device_core.specs.declared.lines.LineKind.{LineKind}
 use Rattle.device_core.specs.declared.lines.LineKind.TheVariants.{Action, Device, Field, Constant, Command, Answer}
-
--- a byte before the first of these lines
-abbrev pub onto_first : ℕ → List Text → List Text
-onto_first b [] = (b ∷ []) ∷ []
-onto_first b (line ∷ lines) = (b ∷ line) ∷ lines
-
--- the lines of a text: each ends with its newline, and the last at the latest with the text
-unfoldable pub lines_of : Text → List Text
-lines_of [] = []
-lines_of (b ∷ text) = if b == newline then [] ∷ lines_of text else onto_first b (lines_of text)
 
 -- the letter that a line about the device above begins with
 abbrev pub field_letter : DeviceField → ℕ

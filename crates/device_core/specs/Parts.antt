@@ -1,15 +1,13 @@
 -- What the rest of a line says: two parts, numbers, answers and paths.
-use Rattle.std.specs.Prelude.{ℕ, ◌+◌, ◌*◌, ◌-◌, ◌^◌, Bool, true, false, not, ◌&&◌, List, [], ◌∷◌, ◌++◌, take, drop, length, position, ◌==◌, nat_le, nat_lt, Option, Some, None, option_map, if◌then◌else◌, nat_eq, is_some}
+use Rattle.std.specs.Prelude.{ℕ, ◌+◌, ◌^◌, Bool, true, false, not, ◌&&◌, List, [], ◌∷◌, ◌++◌, take, drop, length, position, ◌==◌, nat_le, Option, Some, None, option_map, if◌then◌else◌, nat_eq, is_some}
 use Rattle.std.specs.Option.{option_and_then}
-use Rattle.std.specs.List.{list_all, starts_with}
+use Rattle.std.specs.List.{starts_with}
 use Rattle.text_bytes.specs.Names.{slash, colon, equals, space}
-use Rattle.device_core.specs.Pairs.{Text, Pair}
-use Rattle.device_core.specs.Answers.{AnswerValue}
-
--- whether a list has nothing in it
-abbrev pub is_empty : {X : Type 0} → List X → Bool
-is_empty [] = true
-is_empty (x ∷ xs) = false
+use Rattle.text_words.specs.Texts.{is_empty}
+use Rattle.text_words.specs.Numbers.{decimal_below}
+use Rattle.text_tables.specs.Texts.{Text}
+use Rattle.text_tables.specs.Pairs.{Pair}
+use Rattle.device_core.specs.Values.{NumberValue, AnswerValue}
 
 -- what stands before the first such byte, and what behind it
 unfoldable pub cut : ℕ → Text → Option Pair
@@ -23,41 +21,20 @@ with_name p = if is_empty p.0 then None else Some p
 unfoldable pub pair_of : Text → Option Pair
 pair_of rest = option_and_then with_name (cut equals rest)
 
--- the digits `0` to `9` of ASCII
-abbrev pub is_digit : ℕ → Bool
-is_digit b = nat_le 48 b && nat_le b 57
-
--- the number of a digit
-abbrev pub digit_of : ℕ → Option ℕ
-digit_of b = if is_digit b then Some (b - 48) else None
-
--- the number that digits write, behind those that were read as n
-abbrev pub decimal_from : ℕ → Text → ℕ
-decimal_from n [] = n
-decimal_from n (b ∷ text) = decimal_from (10 * n + (b - 48)) text
-
--- the number that digits write
-abbrev pub decimal : Text → ℕ
-decimal text = decimal_from 0 text
-
--- whether a text has 1 to `most` digits and nothing else, and their number is below the bound
-abbrev pub is_decimal : ℕ → ℕ → Text → Bool
-is_decimal most bound text = not (is_empty text) && nat_le (length text) most && list_all is_digit text && nat_lt (decimal text) bound
-
 -- the number that 1 to `most` digits write, if it is below the bound
-unfoldable pub decimal_below : ℕ → ℕ → Text → Option ℕ
-decimal_below most bound text = if is_decimal most bound text then Some (decimal text) else None
+unfoldable pub number_below : ℕ → ℕ → Text → Option ℕ
+number_below most bound text = if nat_le (length text) most then decimal_below bound text else None
 
 -- a part of a device number has 1 to 10 digits and is below 2^32
 abbrev pub is_part : Text → Bool
-is_part text = is_some (decimal_below 10 (2 ^ 32) text)
+is_part text = is_some (number_below 10 (2 ^ 32) text)
 
--- a pair whose two texts are parts of a device number
-abbrev pub with_parts : Pair → Option Pair
-with_parts p = if is_part p.0 then (if is_part p.1 then Some p else None) else None
+-- two texts as a device number, where both are parts of one
+abbrev pub with_parts : Pair → Option NumberValue
+with_parts p = if is_part p.0 && is_part p.1 then Some (record { major = p.0; minor = p.1 }) else None
 
 -- a device number: two numbers of 1 to 10 digits below 2^32, and a colon in between; as written
-unfoldable pub number_of : Text → Option Pair
+unfoldable pub number_of : Text → Option NumberValue
 number_of rest = option_and_then with_parts (cut colon rest)
 
 -- the status and the text of an answer: what stands before the first space and behind it
@@ -67,7 +44,7 @@ answer_parts rest (Some p) = p
 
 -- an answer whose first text is a status of 1 to 3 digits, at most 255
 abbrev pub with_status : Pair → Option AnswerValue
-with_status p = option_map (λ status. record { status = status; text = p.1 }) (decimal_below 3 256 p.0)
+with_status p = option_map (λ status. record { status = status; text = p.1 }) (number_below 3 256 p.0)
 
 -- an answer: a status of 1 to 3 digits, at most 255, and then nothing or a space and a text
 unfoldable pub answer_of : Text → Option AnswerValue
@@ -77,11 +54,6 @@ answer_of rest = with_status (answer_parts rest (cut space rest))
 abbrev pub names_follow : Bool → Text → Bool
 names_follow after_slash [] = not after_slash
 names_follow after_slash (b ∷ text) = if b == slash then not after_slash && names_follow true text else names_follow false text
-
--- whether a text begins with a slash
-abbrev pub begins_with_slash : Text → Bool
-begins_with_slash [] = false
-begins_with_slash (b ∷ text) = b == slash
 
 -- the path of an event device: it begins with a slash, has no empty component and ends in no slash
 unfoldable pub is_device_path : Text → Bool

@@ -1,12 +1,13 @@
--- What the private parts of the reader do with the lines so far. The clause of `read_block` names
--- none of this; it only carries the proof from one function to the next.
+-- For the proof alone: what the private parts of the reader do with the lines so far. The clause of
+-- `read_block` names none of this; it only carries the proof from one function to the next.
 use Rattle.std.specs.Prelude.{◌≡◌, ℕ, ◌+◌, Bool, not, ◌||◌, List, [], ◌∷◌, ◌++◌, length, nat_le, Option, Some, None, option_map, Result, Ok, Err, if◌then◌else◌, is_some, map}
 use Rattle.std.specs.Option.{option_to_list}
-use Rattle.device_core.specs.Pairs.{Text, Pair as NameAndValue, named, is_among}
-use Rattle.device_core.specs.Answers.{AnswerValue}
+use Rattle.text_words.specs.Texts.{is_empty}
+use Rattle.text_tables.specs.Texts.{Text, is_among}
+use Rattle.text_tables.specs.Pairs.{Pair as NameAndValue, named}
 use Rattle.device_core.specs.Lines.{Row, row_of, begins_answer}
-use Rattle.device_core.specs.Parts.{is_empty, pair_of, number_of, answer_of, is_device_path, is_parent_path}
-use Rattle.device_core.specs.Values.{DeviceValue, EventValue, device_value}
+use Rattle.device_core.specs.Parts.{pair_of, number_of, answer_of, is_device_path, is_parent_path}
+use Rattle.device_core.specs.Values.{NumberValue, DeviceValue, AnswerValue, EventValue}
 use Rattle.device_core.specs.Faults.{has_nul}
 use Rattle.device_core.specs.declared.lines.DeviceField.{DeviceField}
 use Rattle.device_core.specs.declared.lines.DeviceField.TheVariants.{Subsystem, Driver, Node, Devnum, Attribute, Property, Tag, Link}
@@ -46,12 +47,12 @@ unfoldable pub once_step : Option Text → Text → Result Text BlockFaultKind
 once_step before rest = if is_empty rest then Err Pair else (if is_some before then Err Twice else Ok rest)
 
 -- a device number that may be given once
-abbrev pub number_once : Option NameAndValue → Option NameAndValue → Result NameAndValue BlockFaultKind
+abbrev pub number_once : Option NumberValue → Option NumberValue → Result NumberValue BlockFaultKind
 number_once before None = Err Number
 number_once before (Some number) = if is_some before then Err Twice else Ok number
 
 -- the rest of a line as a device number that may be given once
-unfoldable pub number_step : Option NameAndValue → Text → Result NameAndValue BlockFaultKind
+unfoldable pub number_step : Option NumberValue → Text → Result NumberValue BlockFaultKind
 number_step before rest = number_once before (number_of rest)
 
 -- a name and its value behind those known, where the name is new
@@ -88,7 +89,7 @@ pub record Sofar : Type 0 where
 
 -- what a contract sees of a draft
 abbrev pub sofar : Draft → Sofar
-sofar d = record { closed = map device_value d.closed.items; last = option_map device_value d.last; programs = d.programs; asked = option_map (λ t. t.now) d.asked; constants = d.constants }
+sofar d = record { closed = d.closed.items; last = d.last; programs = d.programs; asked = option_map (λ t. t.now) d.asked; constants = d.constants }
 
 -- a device of which only the path is known
 abbrev pub bare_device : Text → DeviceValue
@@ -196,14 +197,14 @@ unfoldable pub steps : Sofar → ℕ → List Text → Result (Sofar × ℕ) Blo
 steps s above [] = Ok (s, above)
 steps s above (line ∷ below) = then_steps (above + 1) (λ t. steps t (above + 1) below) (line_step s line (begins_answer below))
 
--- the event, where the last device is there
-abbrev pub with_last : Text → Sofar → ℕ → Option DeviceValue → Result EventValue BlockFault
-with_last action s count None = Err (record { line = count; kind = NoDevice })
-with_last action s count (Some d) = Ok (record { action = action; devices = s.closed ++ d ∷ []; programs = s.programs; constants = s.constants })
+-- the event with these devices
+abbrev pub with_devices : Text → Sofar → ℕ → List DeviceValue → Result EventValue BlockFault
+with_devices action s count [] = Err (record { line = count; kind = NoDevice })
+with_devices action s count (device ∷ parents) = Ok (record { action = action; device = device; parents = parents; programs = s.programs; constants = s.constants })
 
 -- the event of all lines
 unfoldable pub finished : Text → Sofar → ℕ → Result EventValue BlockFault
-finished action s count = with_last action s count s.last
+finished action s count = with_devices action s count (s.closed ++ option_to_list s.last)
 
 -- the event of the lines that were read, or their fault
 abbrev pub then_finished : Text → Result (Sofar × ℕ) BlockFault → Result EventValue BlockFault

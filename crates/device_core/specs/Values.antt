@@ -1,10 +1,12 @@
 -- An event, without where its texts lie in memory.
-use Rattle.std.specs.Prelude.{List, Option, option_map, map}
-use Rattle.device_core.specs.Pairs.{Text, Pair}
-use Rattle.device_core.specs.Answers.{AnswerValue}
-use Rattle.device_core.specs.declared.events.DeviceNumber.{DeviceNumber}
-use Rattle.device_core.specs.declared.events.Device.{Device}
-use Rattle.device_core.specs.declared.events.Event.{Event}
+use Rattle.std.specs.Prelude.{ℕ, List, ◌∷◌, Option}
+use Rattle.text_tables.specs.Texts.{Text}
+use Rattle.text_tables.specs.Pairs.{Pair}
+
+-- a device number, its two parts as written
+pub record NumberValue : Type 0 where
+  pub major : Text
+  pub minor : Text
 
 -- a device of the chain
 pub record DeviceValue : Type 0 where
@@ -12,42 +14,29 @@ pub record DeviceValue : Type 0 where
   pub subsystem : Option Text
   pub driver : Option Text
   pub node : Option Text
-  pub number : Option Pair
+  pub number : Option NumberValue
   pub attrs : List Pair
   pub env : List Pair
   pub tags : List Text
   pub links : List Text
 
--- an event: its action, its devices, the answers of programs and the constants
+-- what a program answered
+pub record AnswerValue : Type 0 where
+  pub status : ℕ
+  pub text : Text
+
+-- an event: its action, its device, the parents of that from the nearest on, the answers of programs under their commands, and the constants
 pub record EventValue : Type 0 where
   pub action : Text
-  pub devices : List DeviceValue
+  pub device : DeviceValue
+  pub parents : List DeviceValue
   pub programs : List (Text × AnswerValue)
   pub constants : List Pair
 
--- what a contract sees of a device number
-abbrev pub number_value : DeviceNumber → Pair
-number_value n = (n.major.now, n.minor.now)
+-- the devices of an event: its own, then the parents
+abbrev pub chain : EventValue → List DeviceValue
+chain event = event.device ∷ event.parents
 
--- what a contract sees of a device
-abbrev pub device_value : Device → DeviceValue
-device_value d = record {
-  path = d.path.now;
-  subsystem = option_map (λ t. t.now) d.subsystem;
-  driver = option_map (λ t. t.now) d.driver;
-  node = option_map (λ t. t.now) d.node;
-  number = option_map number_value d.number;
-  attrs = d.attrs;
-  env = d.env;
-  tags = d.tags;
-  links = d.links;
-}
-
--- what a contract sees of an event
-abbrev pub event_value : Event → EventValue
-event_value e = record {
-  action = e.action.now;
-  devices = map device_value e.devices.items;
-  programs = e.programs;
-  constants = e.constants;
-}
+-- the most devices that an event may have
+abbrev pub most_devices : ℕ
+most_devices = 64

@@ -2,20 +2,18 @@
 //!
 //! The device that lines are added to is kept apart from those above it, so that it changes in
 //! place. A command waits for its answer, which is the next line.
-ghost use Rattle.std.specs.Prelude.{◌≡◌, ◌∷◌, ◌++◌, [], option_map, map, length, Some, Ok};
+ghost use Rattle.std.specs.Prelude.{◌≡◌, ◌++◌, option_map, length, Some, Ok};
 ghost use Rattle.std.specs.Option.{option_to_list};
-ghost use Rattle.device_core.specs.Answers.{answer_value};
-ghost use Rattle.device_core.specs.Values.{device_value, number_value};
-ghost use Rattle.device_core.specs.Steps.{Gives, if_ok, once_step, number_step, pair_step, member_step, field_step, above_step, path_step, device_step, command_step, answer_step, row_step, line_step, sofar, start, bare_device};
+ghost use Rattle.device_core.specs.Steps.{Gives, if_ok, above_step, path_step, device_step, command_step, answer_step, row_step, sofar, start};
 
-use crate::events::{Device, DeviceNumber};
+use crate::devices::Device;
 use crate::faults::BlockFaultKind;
+use crate::fields::{add_field, add_pair, bare_device};
 use crate::lines::{DeviceField, LineKind};
-use crate::pairs::Pairs;
-use crate::parts::{answer_of, is_device_path, is_parent_path, number_of, pair_of};
-use crate::programs::Programs;
-use crate::texts::Texts;
+use crate::parts::{answer_of, is_device_path, is_parent_path};
+use crate::programs::ProgramAnswer;
 use std::alloc::Global;
+use text_tables::{Pairs, Table};
 
 /// The most devices that may stand above the last: 64 in all.
 const MOST_ABOVE_LAST: usize = 63;
@@ -25,7 +23,7 @@ const MOST_ABOVE_LAST: usize = 63;
 pub(crate) struct Draft<'a> {
     pub(crate) closed: Vec<Device<'a>>,
     pub(crate) last: Option<Device<'a>>,
-    pub(crate) programs: Programs<'a>,
+    pub(crate) programs: Table<'a, ProgramAnswer<'a>>,
     pub(crate) asked: Option<&'a [u8]>,
     pub(crate) constants: Pairs<'a>,
 }
@@ -37,108 +35,10 @@ pub(crate) fn new_draft<'a>(alloc: Global) -> Draft<'a>
     Draft {
         closed: Vec::new(alloc),
         last: None,
-        programs: Programs::new(alloc),
+        programs: Table::new(alloc),
         asked: None,
         constants: Pairs::new(alloc),
     }
-}
-
-/// A device of which only the path is known.
-fn bare_device<'a>(alloc: Global, path: &'a [u8]) -> Device<'a>
-    ensures { device_value result ≡ bare_device path.now }
-{
-    Device {
-        path,
-        subsystem: None,
-        driver: None,
-        node: None,
-        number: None,
-        attrs: Pairs::new(alloc),
-        env: Pairs::new(alloc),
-        tags: Texts::new(alloc),
-        links: Texts::new(alloc),
-    }
-}
-
-/// A text that a device may have once.
-#[tactic(auto, unfolding(crate::specs::Steps::once_step))]
-fn text_once<'a>(before: Option<&'a [u8]>, rest: &'a [u8]) -> Result<&'a [u8], BlockFaultKind>
-    ensures { Gives (λ t. t.now) result (once_step (option_map (λ t. t.now) before.entry) rest.now) }
-{
-    if rest.is_empty() {
-        return Err(BlockFaultKind::Pair);
-    }
-    if before.is_some() {
-        return Err(BlockFaultKind::Twice);
-    }
-    Ok(rest)
-}
-
-/// The number of a device.
-#[tactic(auto, unfolding(crate::specs::Steps::number_step))]
-fn number_once<'a>(
-    before: Option<DeviceNumber<'a>>,
-    rest: &'a [u8],
-) -> Result<DeviceNumber<'a>, BlockFaultKind>
-    ensures { Gives number_value result (number_step (option_map number_value before.entry) rest.now) }
-{
-    let Some(number) = number_of(rest) else {
-        return Err(BlockFaultKind::Number);
-    };
-    if before.is_some() {
-        return Err(BlockFaultKind::Twice);
-    }
-    Ok(number)
-}
-
-/// One more name with its value.
-#[tactic(auto, unfolding(crate::specs::Steps::pair_step))]
-fn add_pair<'a>(pairs: &mut Pairs<'a>, rest: &'a [u8]) -> Result<(), BlockFaultKind>
-    ensures { Gives (λ _. pairs.new) result (pair_step pairs.old rest.now) }
-{
-    let Some((name, value)) = pair_of(rest) else {
-        return Err(BlockFaultKind::Pair);
-    };
-    if !pairs.add(name, value)? {
-        return Err(BlockFaultKind::Twice);
-    }
-    Ok(())
-}
-
-/// One more tag or link.
-#[tactic(auto, unfolding(crate::specs::Steps::member_step))]
-fn add_text<'a>(texts: &mut Texts<'a>, rest: &'a [u8]) -> Result<(), BlockFaultKind>
-    ensures { Gives (λ _. texts.new) result (member_step texts.old rest.now) }
-{
-    if rest.is_empty() {
-        return Err(BlockFaultKind::Pair);
-    }
-    if !texts.add(rest)? {
-        return Err(BlockFaultKind::Twice);
-    }
-    Ok(())
-}
-
-/// A line about the device above.
-#[tactic(auto, unfolding(crate::specs::Steps::field_step))]
-fn add_field<'a>(
-    device: &mut Device<'a>,
-    field: DeviceField,
-    rest: &'a [u8],
-) -> Result<(), BlockFaultKind>
-    ensures { Gives (λ _. device_value device.new) result (field_step (device_value device.old) field rest.now) }
-{
-    match field {
-        DeviceField::Subsystem => device.subsystem = Some(text_once(device.subsystem, rest)?),
-        DeviceField::Driver => device.driver = Some(text_once(device.driver, rest)?),
-        DeviceField::Node => device.node = Some(text_once(device.node, rest)?),
-        DeviceField::Devnum => device.number = Some(number_once(device.number, rest)?),
-        DeviceField::Attribute => add_pair(&mut device.attrs, rest)?,
-        DeviceField::Property => add_pair(&mut device.env, rest)?,
-        DeviceField::Tag => add_text(&mut device.tags, rest)?,
-        DeviceField::Link => add_text(&mut device.links, rest)?,
-    }
-    Ok(())
 }
 
 /// A line about the device above, if there is one.
@@ -148,7 +48,7 @@ fn add_to_last<'a>(
     field: DeviceField,
     rest: &'a [u8],
 ) -> Result<(), BlockFaultKind>
-    ensures { Gives (λ _. option_map device_value last.new) result (if_ok Some (above_step (option_map device_value last.old) field rest.now)) }
+    ensures { Gives (λ _. last.new) result (if_ok Some (above_step last.old field rest.now)) }
 {
     match last {
         Some(device) => add_field(device, field, rest),
@@ -159,7 +59,7 @@ fn add_to_last<'a>(
 /// Whether a device may begin below these.
 #[tactic(auto, unfolding(crate::specs::Steps::path_step))]
 fn check_path(closed: usize, last: &Option<Device<'_>>, path: &[u8]) -> Result<(), BlockFaultKind>
-    ensures { Gives (λ _. tt) result (path_step closed (option_map device_value last.now) path.now) }
+    ensures { Gives (λ _. tt) result (path_step closed last.now path.now) }
 {
     let Some(above) = last else {
         if is_device_path(path) {
@@ -177,12 +77,11 @@ fn check_path(closed: usize, last: &Option<Device<'_>>, path: &[u8]) -> Result<(
 }
 
 /// The device that was the last so far joins those above.
-#[tactic(auto, using(crate::proofs::Tables::devices_push))]
 pub(crate) fn close_last<'a>(
     closed: &mut Vec<Device<'a>>,
     last: Option<Device<'a>>,
 ) -> Result<(), BlockFaultKind>
-    ensures { Gives (λ _. map device_value closed.new.items) result (Ok (map device_value closed.old.items ++ option_to_list (option_map device_value last.entry))) }
+    ensures { Gives (λ _. closed.new.items) result (Ok (closed.old.items ++ option_to_list last.entry)) }
 {
     if let Some(device) = last {
         closed.push(device)?;
@@ -208,7 +107,7 @@ fn begin_device<'a>(
 /// A command, with whether its answer follows.
 #[tactic(auto, unfolding(crate::specs::Steps::command_step))]
 fn check_command<'a>(
-    programs: &Programs<'a>,
+    programs: &Table<'a, ProgramAnswer<'a>>,
     rest: &'a [u8],
     answered: bool,
 ) -> Result<&'a [u8], BlockFaultKind>
@@ -220,7 +119,7 @@ fn check_command<'a>(
     if !answered {
         return Err(BlockFaultKind::Pair);
     }
-    if programs.has(rest) {
+    if programs.contains(rest) {
         return Err(BlockFaultKind::Twice);
     }
     Ok(rest)
@@ -229,7 +128,7 @@ fn check_command<'a>(
 /// The answer to a command.
 #[tactic(auto, unfolding(crate::specs::Steps::answer_step))]
 fn add_answer<'a>(
-    programs: &mut Programs<'a>,
+    programs: &mut Table<'a, ProgramAnswer<'a>>,
     asked: Option<&'a [u8]>,
     rest: &'a [u8],
 ) -> Result<(), BlockFaultKind>

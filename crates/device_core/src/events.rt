@@ -1,50 +1,89 @@
 //! What happened to a device, and all that is known of it and of its parents.
+//!
+//! The event device stands apart from its parents, so that nothing has to say what an event without
+//! a device would be. `read_block` alone makes an event.
+ghost use Rattle.std.specs.Prelude.{◌≡◌, ◌<◌, ◌≤◌, length, option_copied, slice_get};
+ghost use Rattle.device_core.specs.Values.{chain, most_devices};
 
-use crate::pairs::Pairs;
-use crate::programs::Programs;
-use crate::texts::Texts;
+use crate::devices::Device;
+use crate::programs::ProgramAnswer;
+use std::marker::Model;
+use text_tables::{Pairs, Table};
 
-/// A device number, its two parts as written: 1 to 10 digits each, below 2^32.
-#[derive(Clone, Copy, Debug, PartialEq, Eq)]
-pub struct DeviceNumber<'a> {
-    /// What stands before the `:`.
-    pub major: &'a [u8],
-    /// What stands behind it.
-    pub minor: &'a [u8],
-}
-
-/// A device, as the lines from its `P:` up to the next describe it.
-#[derive(Drop)]
-pub struct Device<'a> {
-    /// `P:`, its path below `/sys`.
-    pub path: &'a [u8],
-    /// `U:`, its subsystem.
-    pub subsystem: Option<&'a [u8]>,
-    /// `V:`, its driver.
-    pub driver: Option<&'a [u8]>,
-    /// `N:`, its node below `/dev`.
-    pub node: Option<&'a [u8]>,
-    /// `D:`, its number.
-    pub number: Option<DeviceNumber<'a>>,
-    /// `A:`, its attributes.
-    pub attrs: Pairs<'a>,
-    /// `E:`, its properties.
-    pub env: Pairs<'a>,
-    /// `G:`, its tags.
-    pub tags: Texts<'a>,
-    /// `S:`, its links.
-    pub links: Texts<'a>,
-}
-
-/// An event: what happened, and to which device.
+/// An event: what happened, to which device, and what else the block says.
 #[derive(Drop)]
 pub struct Event<'a> {
-    /// `C:`, the action; not empty.
-    pub action: &'a [u8],
-    /// The event device and then its parents, 1 to 64 in all.
-    pub devices: Vec<Device<'a>>,
-    /// `Q:` and `R:`, what programs answered.
-    pub programs: Programs<'a>,
+    pub(crate) action: &'a [u8],
+    pub(crate) device: Device<'a>,
+    pub(crate) parents: Vec<Device<'a>>,
+    pub(crate) programs: Table<'a, ProgramAnswer<'a>>,
+    pub(crate) constants: Pairs<'a>,
+}
+
+impl<'a> Model for Event<'a> {
+    ghost use Rattle.std.specs.Prelude.{◌<◌, length};
+    ghost use Rattle.device_core.specs.Values.{EventValue, most_devices};
+
+    ghost Value = { EventValue };
+
+    ghost view = { λ e. record { action = e.action.now; device = e.device; parents = e.parents.items; programs = e.programs; constants = e.constants } };
+
+    ghost invariant = { λ e. length e.parents.items < most_devices };
+}
+
+impl<'a> Event<'a> {
+    /// `C:`, the action.
+    pub fn action(&self) -> &'a [u8]
+        ensures { result.now ≡ self.now.action }
+    {
+        self.action
+    }
+
+    /// The event device.
+    pub fn device(&self) -> &Device<'a>
+        ensures { result.now ≡ self.now.device }
+    {
+        &self.device
+    }
+
+    /// The parents of the event device, the nearest first, at most 63.
+    pub fn parents(&self) -> &[Device<'a>]
+        ensures value { result.now ≡ self.now.parents }
+        ensures few { length result.now < most_devices }
+    {
+        &self.parents
+    }
+
+    /// How many devices the chain has, the event device and its parents: 1 to 64.
+    pub fn device_count(&self) -> usize
+        ensures value { result ≡ length (chain self.now) }
+        ensures some { 1 ≤ result }
+        ensures few { result ≤ most_devices }
+    {
+        1 + self.parents.len()
+    }
+
+    /// The device at a place of the chain, where there is one; the event device stands at 0.
+    pub fn device_at(&self, place: usize) -> Option<&Device<'a>>
+        ensures { option_copied result ≡ slice_get (chain self.now) place }
+    {
+        match place.checked_sub(1) {
+            None => Some(&self.device),
+            Some(above) => self.parents.get(above),
+        }
+    }
+
+    /// `Q:` and `R:`, what programs answered, each answer under its command.
+    pub fn programs(&self) -> &Table<'a, ProgramAnswer<'a>>
+        ensures { result.now ≡ self.now.programs }
+    {
+        &self.programs
+    }
+
     /// `K:`, constants such as the architecture.
-    pub constants: Pairs<'a>,
+    pub fn constants(&self) -> &Pairs<'a>
+        ensures { result.now ≡ self.now.constants }
+    {
+        &self.constants
+    }
 }

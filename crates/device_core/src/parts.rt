@@ -1,12 +1,11 @@
 //! What the rest of a line says: two parts, numbers, answers and paths.
 ghost use Rattle.std.specs.Prelude.{◌≡◌, ◌+◌, ◌^◌, ◌<◌, ◌≤◌, length, option_map, is_some, IfSome, true};
-ghost use Rattle.device_core.specs.Answers.{answer_value};
-ghost use Rattle.device_core.specs.Values.{number_value};
-ghost use Rattle.device_core.specs.Parts.{cut, pair_of, number_of, answer_of, digit_of, decimal_below, is_decimal, is_part, names_follow, begins_with_slash, is_device_path, is_parent_path};
+ghost use Rattle.device_core.specs.Parts.{cut, pair_of, number_of, answer_of, number_below, is_part, names_follow, is_device_path, is_parent_path};
 
-use crate::events::DeviceNumber;
+use crate::devices::DeviceNumber;
 use crate::programs::ProgramAnswer;
 use text_bytes::find;
+use text_words::{begins_with, decimal_below};
 
 /// What stands before the first such byte, and what behind it.
 #[tactic(auto, unfolding(crate::specs::Parts::cut))]
@@ -31,50 +30,30 @@ pub(crate) fn pair_of(rest: &[u8]) -> Option<(&[u8], &[u8])>
     Some((name, value))
 }
 
-/// The number of a digit.
-fn digit_of(b: u8) -> Option<u64>
-    ensures value { result ≡ digit_of b }
-    ensures small { IfSome result (λ d. d < 10) }
-{
-    match b {
-        b'0'..=b'9' => Some(u64::from(b - b'0')),
-        _ => None,
-    }
-}
-
 /// The number that 1 to `most` digits write, if it is below a bound.
-#[tactic(auto, unfolding(crate::specs::Parts::decimal_below))]
-fn decimal_below(text: &[u8], most: usize, bound: u64) -> Option<u64>
-    requires positive { 0 < bound }
-    requires small { bound ≤ 2 ^ 32 }
-    ensures value { result ≡ decimal_below most bound text.now }
-    ensures small { IfSome result (λ n. n < bound) }
+#[tactic(auto, unfolding(crate::specs::Parts::number_below))]
+fn number_below(text: &[u8], most: usize, bound: u64) -> Option<u64>
+    requires { bound ≤ 2 ^ 32 }
+    ensures value { result ≡ number_below most bound text.now }
+    ensures below { IfSome result (λ number. number < bound) }
 {
-    if text.is_empty() || text.len() > most {
+    if text.len() > most {
         return None;
     }
-    let mut value = 0u64;
-    for b in text {
-        let digit = digit_of(*b)?;
-        value = 10 * value + digit;
-        if value >= bound {
-            return None;
-        }
-    }
-    Some(value)
+    decimal_below(bound, text)
 }
 
 /// Whether a text is one part of a device number.
 fn is_part(text: &[u8]) -> bool
     ensures { result ≡ is_part text.now }
 {
-    decimal_below(text, 10, 1 << 32).is_some()
+    number_below(text, 10, 1 << 32).is_some()
 }
 
 /// A device number.
 #[tactic(auto, unfolding(crate::specs::Parts::number_of))]
 pub(crate) fn number_of(rest: &[u8]) -> Option<DeviceNumber<'_>>
-    ensures { option_map number_value result ≡ number_of rest.now }
+    ensures { result ≡ number_of rest.now }
 {
     let (major, minor) = cut(b':', rest)?;
     if !is_part(major) {
@@ -89,13 +68,13 @@ pub(crate) fn number_of(rest: &[u8]) -> Option<DeviceNumber<'_>>
 /// An answer: its status, and its text behind a space.
 #[tactic(auto, unfolding(crate::specs::Parts::answer_of))]
 pub(crate) fn answer_of(rest: &[u8]) -> Option<ProgramAnswer<'_>>
-    ensures { option_map answer_value result ≡ answer_of rest.now }
+    ensures { result ≡ answer_of rest.now }
 {
     let (status, text) = match cut(b' ', rest) {
         Some(parts) => parts,
         None => (rest, &rest[rest.len()..]),
     };
-    let status = decimal_below(status, 3, 256)?;
+    let status = number_below(status, 3, 256)?;
     Some(ProgramAnswer {
         status: status as u8,
         text,
@@ -128,16 +107,6 @@ pub(crate) fn is_device_path(path: &[u8]) -> bool
     }
 }
 
-/// Whether a text begins with a slash.
-fn begins_with_slash(text: &[u8]) -> bool
-    ensures { result ≡ begins_with_slash text.now }
-{
-    match text {
-        [b'/', ..] => true,
-        _ => false,
-    }
-}
-
 /// Whether a path is that of a parent.
 #[tactic(auto, unfolding(crate::specs::Parts::is_parent_path))]
 pub(crate) fn is_parent_path(child: &[u8], parent: &[u8]) -> bool
@@ -150,5 +119,5 @@ pub(crate) fn is_parent_path(child: &[u8], parent: &[u8]) -> bool
         return false;
     }
     let (_, behind) = child.split_at(parent.len());
-    begins_with_slash(behind)
+    begins_with(b'/', behind)
 }

@@ -1,7 +1,8 @@
 //! A whole block: its lines one after another, and the event at the end.
 ghost use Rattle.std.specs.Prelude.{◌≡◌, ◌≢◌, ◌∷◌, ◌+◌, ◌<◌, ◌≤◌, length, Ok, Err, IfOk, IfErr, nat_eq};
-ghost use Rattle.device_core.specs.Values.{event_value};
-ghost use Rattle.device_core.specs.Lines.{lines_of, begins_answer};
+ghost use Rattle.text_words.specs.Lines.{lines};
+ghost use Rattle.device_core.specs.Values.{most_devices};
+ghost use Rattle.device_core.specs.Lines.{begins_answer};
 ghost use Rattle.device_core.specs.Faults.{block_gives, line_too_long, most_bytes};
 ghost use Rattle.device_core.specs.Steps.{Gives, GivesAt, sofar, start, first_step, line_step, steps, finished, read_lines};
 
@@ -10,34 +11,22 @@ use crate::events::Event;
 use crate::faults::{BlockFault, BlockFaultKind};
 use crate::lines::{LineKind, plain_row};
 use std::alloc::Global;
-use text_bytes::find;
+use text_words::first_line;
 
 /// The most bytes of a block.
 const MOST_BYTES: usize = 65536;
 
-/// The first line of a text that is not empty, and what stands behind its newline.
-fn split_line(text: &[u8]) -> (&[u8], &[u8])
-    requires { 0 < length text.now }
-    ensures lines { lines_of text.now ≡ result.0.now ∷ lines_of result.1.now }
-    ensures shorter { length result.1.now < length text.now }
-{
-    match find(b'\n', text) {
-        Some(n) => (&text[..n], &text[n + 1..]),
-        None => text.split_at(text.len()),
-    }
-}
-
 /// Whether the next line begins as an answer does.
 #[tactic(auto, using(crate::proofs::LineLemmas::begins_answer_is))]
 fn begins_answer(below: &[u8]) -> bool
-    ensures { result ≡ begins_answer (lines_of below.now) }
+    ensures { result ≡ begins_answer (lines below.now) }
 {
     below.starts_with(b"R: ")
 }
 
 /// The action of the first line.
 #[tactic(auto, unfolding(crate::specs::Steps::first_step))]
-fn first_line(line: &[u8]) -> Result<&[u8], BlockFaultKind>
+fn action_in(line: &[u8]) -> Result<&[u8], BlockFaultKind>
     ensures { Gives (λ t. t.now) result (first_step line.now) }
 {
     let (kind, rest) = plain_row(line)?;
@@ -61,7 +50,7 @@ fn add_line<'a>(
     line: &'a [u8],
     below: &[u8],
 ) -> Result<(), BlockFaultKind>
-    ensures { Gives (λ _. sofar draft.new) result (line_step (sofar draft.old) line.now (begins_answer (lines_of below.now))) }
+    ensures { Gives (λ _. sofar draft.new) result (line_step (sofar draft.old) line.now (begins_answer (lines below.now))) }
 {
     let (kind, rest) = plain_row(line)?;
     add_row(alloc, draft, kind, rest, begins_answer(below))
@@ -70,13 +59,14 @@ fn add_line<'a>(
 /// The lines behind the first, and how many lines there are in all.
 fn read_rest<'a>(alloc: Global, text: &'a [u8]) -> Result<(Draft<'a>, usize), BlockFault>
     requires { length text.now ≤ most_bytes }
-    ensures { GivesAt (λ p. (sofar p.0, p.1)) result (steps start 1 (lines_of text.now)) }
+    ensures value { GivesAt (λ p. (sofar p.0, p.1)) result (steps start 1 (lines text.now)) }
+    ensures few { IfOk result (λ p. length p.0.closed.items < most_devices) }
 {
     let mut draft = new_draft(alloc);
     let mut rest = text;
     let mut above = 1usize;
     while !rest.is_empty() {
-        let (line, below) = split_line(rest);
+        let (line, below) = first_line(rest);
         match add_line(alloc, &mut draft, line, below) {
             Ok(()) => {}
             Err(kind) => {
@@ -95,7 +85,8 @@ fn read_rest<'a>(alloc: Global, text: &'a [u8]) -> Result<(Draft<'a>, usize), Bl
 /// The event of all lines.
 #[tactic(auto, unfolding(crate::specs::Steps::finished))]
 fn finish<'a>(action: &'a [u8], draft: Draft<'a>, count: usize) -> Result<Event<'a>, BlockFault>
-    ensures { GivesAt event_value result (finished action.now (sofar draft.entry) count) }
+    requires { length draft.closed.items < most_devices }
+    ensures { GivesAt (λ e. e) result (finished action.now (sofar draft.entry) count) }
 {
     let Draft {
         closed,
@@ -104,22 +95,25 @@ fn finish<'a>(action: &'a [u8], draft: Draft<'a>, count: usize) -> Result<Event<
         constants,
         asked: _,
     } = draft;
-    if last.is_none() {
+    let mut devices = closed;
+    match close_last(&mut devices, last) {
+        Ok(()) => {}
+        Err(kind) => return Err(BlockFault { line: count, kind }),
+    }
+    if devices.is_empty() {
         return Err(BlockFault {
             line: count,
             kind: BlockFaultKind::NoDevice,
         });
     }
-    let mut devices = closed;
-    match close_last(&mut devices, last) {
-        Ok(()) => Ok(Event {
-            action,
-            devices,
-            programs,
-            constants,
-        }),
-        Err(kind) => Err(BlockFault { line: count, kind }),
-    }
+    let device = devices.remove(0);
+    Ok(Event {
+        action,
+        device,
+        parents: devices,
+        programs,
+        constants,
+    })
 }
 
 /// The line that holds the first byte too many.
@@ -136,7 +130,7 @@ fn line_too_long(block: &[u8]) -> usize
 #[tactic(auto, unfolding(crate::specs::Steps::read_lines))]
 fn read_lines<'a>(alloc: Global, block: &'a [u8]) -> Result<Event<'a>, BlockFault>
     requires { length block.now ≤ most_bytes }
-    ensures { GivesAt event_value result (read_lines (lines_of block.now)) }
+    ensures { GivesAt (λ e. e) result (read_lines (lines block.now)) }
 {
     if block.is_empty() {
         return Err(BlockFault {
@@ -144,8 +138,8 @@ fn read_lines<'a>(alloc: Global, block: &'a [u8]) -> Result<Event<'a>, BlockFaul
             kind: BlockFaultKind::NoAction,
         });
     }
-    let (first, rest) = split_line(block);
-    let action = match first_line(first) {
+    let (first, rest) = first_line(block);
+    let action = match action_in(first) {
         Ok(action) => action,
         Err(kind) => return Err(BlockFault { line: 1, kind }),
     };
@@ -164,7 +158,7 @@ fn read_lines<'a>(alloc: Global, block: &'a [u8]) -> Result<Event<'a>, BlockFaul
 /// there is no device, the fault is `NoDevice` at the last line. `Memory` comes where room was
 /// refused. Nothing is copied: the event borrows the block.
 pub fn read_block<'a>(alloc: Global, block: &'a [u8]) -> Result<Event<'a>, BlockFault>
-    ensures event { IfOk result (λ e. block_gives block.now ≡ Ok (event_value e)) }
+    ensures event { IfOk result (λ e. block_gives block.now ≡ Ok e) }
     ensures fault { IfErr result (λ f. f.kind ≢ BlockFaultKind.Memory → block_gives block.now ≡ Err f) }
 {
     if block.len() > MOST_BYTES {

@@ -1,6 +1,6 @@
 //! Blocks that are read, and blocks that are refused.
 
-use crate::{BlockFault, BlockFaultKind, Event, ProgramAnswer, read_block};
+use crate::{BlockFault, BlockFaultKind, Device, Event, ProgramAnswer, read_block};
 use std::alloc::{AllocError, Global};
 use std::process::Abort;
 use std::test::Fail;
@@ -54,9 +54,9 @@ fn is_text(text: Option<&[u8]>, wanted: &[u8]) -> bool {
     }
 }
 
-fn has_answer(answer: Option<ProgramAnswer<'_>>, status: u8, text: &[u8]) -> bool {
+fn has_answer(answer: Option<&ProgramAnswer<'_>>, status: u8, text: &[u8]) -> bool {
     match answer {
-        Some(answer) => answer.status == status && answer.text == text,
+        Some(answer) => answer.status() == status && answer.text() == text,
         None => false,
     }
 }
@@ -167,53 +167,52 @@ R: 255
 ";
 
 fn check_event(rt: &impl Abort, event: &Event<'_>) {
-    assert!(rt; event.action == b"change".as_slice());
-    assert_eq!(rt; event.constants.as_map().len(), 1);
-    assert!(rt; is_text(event.constants.get(b"arch"), b"x86-64"));
-    assert_eq!(rt; event.programs.as_map().len(), 2);
-    assert!(rt; has_answer(event.programs.get(b"blkid -o x"), 0, b"TYPE=ext4 "));
-    assert!(rt; has_answer(event.programs.get(b"false"), 255, b""));
+    assert!(rt; event.action() == b"change".as_slice());
+    assert_eq!(rt; event.constants().as_map().len(), 1);
+    assert!(rt; is_text(event.constants().get(b"arch"), b"x86-64"));
+    assert_eq!(rt; event.programs().as_map().len(), 2);
+    assert!(rt; has_answer(event.programs().get(b"blkid -o x"), 0, b"TYPE=ext4 "));
+    assert!(rt; has_answer(event.programs().get(b"false"), 255, b""));
+    assert_eq!(rt; event.device_count(), 2);
+    assert_eq!(rt; event.parents().len(), 1);
+    assert!(rt; event.device_at(2).is_none());
 }
 
-fn check_usb(rt: &impl Abort, event: &Event<'_>) {
-    assert_eq!(rt; event.devices.len(), 2);
-    let device = &event.devices[0];
-    assert!(rt; device.path == b"/devices/pci0/usb1/1-1".as_slice());
-    assert!(rt; is_text(device.subsystem, b"usb"));
-    assert!(rt; is_text(device.driver, b"hub"));
-    assert!(rt; is_text(device.node, b"bus/usb/001/002"));
-    match device.number {
+fn check_usb(rt: &impl Abort, device: &Device<'_>) {
+    assert!(rt; device.path() == b"/devices/pci0/usb1/1-1".as_slice());
+    assert!(rt; is_text(device.subsystem(), b"usb"));
+    assert!(rt; is_text(device.driver(), b"hub"));
+    assert!(rt; is_text(device.node(), b"bus/usb/001/002"));
+    match device.number() {
         Some(number) => {
-            assert!(rt; number.major == b"189".as_slice());
-            assert!(rt; number.minor == b"001".as_slice());
+            assert!(rt; number.major() == b"189".as_slice());
+            assert!(rt; number.minor() == b"001".as_slice());
         }
         None => assert!(rt; false),
     }
-    assert_eq!(rt; device.attrs.as_map().len(), 1);
-    assert!(rt; is_text(device.attrs.get(b"serial"), b"7 = 7"));
-    assert_eq!(rt; device.env.as_map().len(), 2);
-    assert!(rt; is_text(device.env.get(b"ID"), b"a=b"));
-    assert!(rt; is_text(device.env.get(b"EMPTY"), b""));
-    assert_eq!(rt; device.tags.as_slice().len(), 2);
-    assert!(rt; is_text(device.tags.as_slice().first().copied(), b"seat"));
-    assert!(rt; device.tags.contains(b"systemd"));
-    assert_eq!(rt; device.links.as_slice().len(), 1);
-    assert!(rt; device.links.contains(b"disk/x"));
+    assert_eq!(rt; device.attrs().as_map().len(), 1);
+    assert!(rt; is_text(device.attrs().get(b"serial"), b"7 = 7"));
+    assert_eq!(rt; device.env().as_map().len(), 2);
+    assert!(rt; is_text(device.env().get(b"ID"), b"a=b"));
+    assert!(rt; is_text(device.env().get(b"EMPTY"), b""));
+    assert_eq!(rt; device.tags().as_slice().len(), 2);
+    assert!(rt; is_text(device.tags().as_slice().first().copied(), b"seat"));
+    assert!(rt; device.tags().contains(b"systemd"));
+    assert_eq!(rt; device.links().as_slice().len(), 1);
+    assert!(rt; device.links().contains(b"disk/x"));
 }
 
-fn check_pci(rt: &impl Abort, event: &Event<'_>) {
-    assert_eq!(rt; event.devices.len(), 2);
-    let device = &event.devices[1];
-    assert!(rt; device.path == b"/devices/pci0".as_slice());
-    assert!(rt; is_text(device.subsystem, b"pci"));
-    assert!(rt; device.driver.is_none());
-    assert!(rt; device.node.is_none());
-    assert!(rt; device.number.is_none());
-    assert_eq!(rt; device.attrs.as_map().len(), 1);
-    assert!(rt; is_text(device.attrs.get(b"serial"), b"8"));
-    assert_eq!(rt; device.env.as_map().len(), 0);
-    assert_eq!(rt; device.tags.as_slice().len(), 0);
-    assert_eq!(rt; device.links.as_slice().len(), 0);
+fn check_pci(rt: &impl Abort, device: &Device<'_>) {
+    assert!(rt; device.path() == b"/devices/pci0".as_slice());
+    assert!(rt; is_text(device.subsystem(), b"pci"));
+    assert!(rt; device.driver().is_none());
+    assert!(rt; device.node().is_none());
+    assert!(rt; device.number().is_none());
+    assert_eq!(rt; device.attrs().as_map().len(), 1);
+    assert!(rt; is_text(device.attrs().get(b"serial"), b"8"));
+    assert_eq!(rt; device.env().as_map().len(), 0);
+    assert_eq!(rt; device.tags().as_slice().len(), 0);
+    assert_eq!(rt; device.links().as_slice().len(), 0);
 }
 
 #[test]
@@ -221,8 +220,11 @@ fn whole_block(rt: HostRuntime) {
     match read_block(rt.alloc(), WHOLE) {
         Ok(event) => {
             check_event(&rt, &event);
-            check_usb(&rt, &event);
-            check_pci(&rt, &event);
+            check_usb(&rt, event.device());
+            match event.device_at(1) {
+                Some(parent) => check_pci(&rt, parent),
+                None => assert!(rt; false),
+            }
         }
         Err(fault) => assert!(rt; false, "{fault:?}"),
     }

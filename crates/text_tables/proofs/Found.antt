@@ -105,6 +105,15 @@ module _ {V : Type 0} where
       by true e more = more ∙ ap (λ n. cond (same_text other n) None (value_of ps other)) (is_same name p.0 e) ∙ twice (same_text other p.0) ∙ ap (λ n. cond (same_text other n) None (cond (same_text other p.0) (Some p.1) (value_of ps other))) (sym (is_same name p.0 e))
       by false e more = apart (same_text other name) (same_text other p.0) (λ x y. sym (are_same name p.0 (sym (is_same other name x) ∙ is_same other p.0 y)) ∙ e) (value_of (without_name ps name) other) more
 
+  -- a name that is new stands behind the others
+  pub set_behind : (pairs : List (Text × V)) (name : Text) (value : V) → named pairs name ≡ false → with_value pairs name value ≡ pairs ++ (name, value) ∷ []
+  set_behind [] name value new = refl
+  set_behind (p ∷ ps) name value new = by (same_text name p.0) new (set_behind ps name value)
+    where
+      by : (b : Bool) → (b || named ps name) ≡ false → (named ps name ≡ false → with_value ps name value ≡ ps ++ (name, value) ∷ []) → cond b ((p.0, value) ∷ ps) (p ∷ with_value ps name value) ≡ p ∷ (ps ++ (name, value) ∷ [])
+      by true new more = cc
+      by false new more = ap (λ qs. p ∷ qs) (more new)
+
   -- a name is there where it has a value
   pub named_is : (pairs : List (Text × V)) (name : Text) → named pairs name ≡ is_some (value_of pairs name)
   named_is [] name = refl

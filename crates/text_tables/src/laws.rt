@@ -1,7 +1,7 @@
 //! What is true of texts and names as they are added and taken away, said by what is found in them.
 //!
 //! Each function here is empty: its contract is the law.
-ghost use Rattle.std.specs.Prelude.{◌≡◌, ◌||◌, ◌&&◌, not, if◌then◌else◌, is_some, Some, None, List};
+ghost use Rattle.std.specs.Prelude.{◌≡◌, ◌∷◌, ◌++◌, [], ◌||◌, ◌&&◌, not, false, if◌then◌else◌, is_some, Some, None, List};
 ghost use Rattle.text_tables.specs.Texts.{Text, same_text, is_among, with_text, without_text};
 ghost use Rattle.text_tables.specs.Pairs.{Pair, named, value_of, with_value, without_name};
 
@@ -18,6 +18,11 @@ pub fn removed_texts_are_gone()
 /// A name that was set has its value, and other names keep theirs.
 pub fn set_names_have_their_values()
     ensures { (pairs : List Pair) (name value other : Text) → value_of (with_value pairs name value) other ≡ (if same_text other name then Some value else value_of pairs other) }
+{}
+
+/// A name that is new stands behind the others.
+pub fn new_names_stand_last()
+    ensures { (pairs : List Pair) (name value : Text) → named pairs name ≡ false → with_value pairs name value ≡ pairs ++ (name, value) ∷ [] }
 {}
 
 /// A name that was taken away has no value, and other names keep theirs.

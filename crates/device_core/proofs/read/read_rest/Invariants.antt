@@ -1,12 +1,14 @@
-use Rattle.std.proofs.Common.{◌≡◌, ◌+◌, ◌≤◌, length}
-use Rattle.device_core.specs.Lines.{lines_of}
+use Rattle.std.proofs.Common.{◌≡◌, ◌+◌, ◌<◌, ◌≤◌, length}
+use Rattle.text_words.specs.Lines.{lines}
+use Rattle.device_core.specs.Values.{most_devices}
 use Rattle.device_core.specs.Steps.{sofar, start, steps}
 use Rattle.device_core.proofs.read.read_rest.Given as goal
 
 abbrev pub invariant-loop-rest : goal.invariant-loop-rest
 invariant-loop-rest l = record {
   counted : l.above + length l.rest ≤ length l.fn.text + 1;
-  same : steps (sofar l.draft) l.above (lines_of l.rest) ≡ steps start 1 (lines_of l.fn.text);
+  few : length l.draft.closed.items < most_devices;
+  same : steps (sofar l.draft) l.above (lines l.rest) ≡ steps start 1 (lines l.fn.text);
 }
 
 abbrev pub decreases-loop-rest : goal.decreases-loop-rest

@@ -1,0 +1,27 @@
+-- A name that a table took as new.
+use Rattle.std.proofs.Common.{◌≡◌, ℕ, Bool, true, false, not, List, [], ◌∷◌, ◌++◌, Option, Some, None, Result, Ok, Err, refl, ap, sym, ◌∙◌, if◌then◌else◌}
+use Rattle.text_tables.specs.Texts.{Text}
+use Rattle.text_tables.specs.Pairs.{Pair, named, with_value}
+use Rattle.text_tables.proofs.Found.{set_behind}
+use Rattle.device_core.specs.Values.{AnswerValue}
+use Rattle.device_core.specs.Parts.{pair_of, answer_of}
+use Rattle.device_core.specs.Steps.{pair_step, with_pair, answer_step, with_answer}
+
+new_is : (new known : Bool) → new ≡ not known → new ≡ true → known ≡ false
+new_is new true h e = cc
+new_is new false h e = refl
+
+module _ {V : Type 0} (known after : List (Text × V)) (name : Text) (value : V) (new : Bool) (says : new ≡ not (named known name)) (is : new ≡ true) (kept : after ≡ with_value known name value) where
+  fresh : named known name ≡ false
+  fresh = new_is new (named known name) says is
+
+  behind : after ≡ known ++ (name, value) ∷ []
+  behind = kept ∙ set_behind known name value fresh
+
+pub pair_added : (known after : List Pair) (name value rest : Text) (new : Bool) → pair_of rest ≡ Some (name, value) → new ≡ not (named known name) → new ≡ true → after ≡ with_value known name value → pair_step known rest ≡ Ok after
+unfolding pair_step
+pair_added known after name value rest new e says is kept = rw (e, fresh known after name value new says is kept) (ap Ok (sym (behind known after name value new says is kept)))
+
+pub answer_added : (known after : List (Text × AnswerValue)) (command rest : Text) (answer : AnswerValue) (new : Bool) → answer_of rest ≡ Some answer → new ≡ not (named known command) → new ≡ true → after ≡ with_value known command answer → answer_step known (Some command) rest ≡ Ok after
+unfolding answer_step
+answer_added known after command rest answer new e says is kept = rw (e, fresh known after command answer new says is kept) (ap Ok (sym (behind known after command answer new says is kept)))

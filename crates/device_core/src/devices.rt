@@ -1,0 +1,124 @@
+//! What is known of a device.
+ghost use Rattle.std.specs.Prelude.{◌≡◌, option_copied, option_map};
+
+use std::marker::Model;
+use text_tables::{Pairs, Texts};
+
+/// A device number, its two parts as written: 1 to 10 digits each, below 2^32.
+#[derive(Debug, Drop)]
+pub struct DeviceNumber<'a> {
+    pub(crate) major: &'a [u8],
+    pub(crate) minor: &'a [u8],
+}
+
+impl<'a> Model for DeviceNumber<'a> {
+    ghost use Rattle.device_core.specs.Values.{NumberValue};
+
+    ghost Value = { NumberValue };
+
+    ghost view = { λ n. record { major = n.major.now; minor = n.minor.now } };
+}
+
+impl<'a> DeviceNumber<'a> {
+    /// What stands before the `:`.
+    pub fn major(&self) -> &'a [u8]
+        ensures { result.now ≡ self.now.major }
+    {
+        self.major
+    }
+
+    /// What stands behind it.
+    pub fn minor(&self) -> &'a [u8]
+        ensures { result.now ≡ self.now.minor }
+    {
+        self.minor
+    }
+}
+
+/// A device, as the lines from its `P:` up to the next describe it.
+#[derive(Drop)]
+pub struct Device<'a> {
+    pub(crate) path: &'a [u8],
+    pub(crate) subsystem: Option<&'a [u8]>,
+    pub(crate) driver: Option<&'a [u8]>,
+    pub(crate) node: Option<&'a [u8]>,
+    pub(crate) number: Option<DeviceNumber<'a>>,
+    pub(crate) attrs: Pairs<'a>,
+    pub(crate) env: Pairs<'a>,
+    pub(crate) tags: Texts<'a>,
+    pub(crate) links: Texts<'a>,
+}
+
+impl<'a> Model for Device<'a> {
+    ghost use Rattle.std.specs.Prelude.{option_map};
+    ghost use Rattle.device_core.specs.Values.{DeviceValue};
+
+    ghost Value = { DeviceValue };
+
+    ghost view = { λ d. record { path = d.path.now; subsystem = option_map (λ t. t.now) d.subsystem; driver = option_map (λ t. t.now) d.driver; node = option_map (λ t. t.now) d.node; number = d.number; attrs = d.attrs; env = d.env; tags = d.tags; links = d.links } };
+}
+
+impl<'a> Device<'a> {
+    /// `P:`, its path below `/sys`.
+    pub fn path(&self) -> &'a [u8]
+        ensures { result.now ≡ self.now.path }
+    {
+        self.path
+    }
+
+    /// `U:`, its subsystem.
+    pub fn subsystem(&self) -> Option<&'a [u8]>
+        ensures { option_map (λ t. t.now) result ≡ self.now.subsystem }
+    {
+        self.subsystem
+    }
+
+    /// `V:`, its driver.
+    pub fn driver(&self) -> Option<&'a [u8]>
+        ensures { option_map (λ t. t.now) result ≡ self.now.driver }
+    {
+        self.driver
+    }
+
+    /// `N:`, its node below `/dev`.
+    pub fn node(&self) -> Option<&'a [u8]>
+        ensures { option_map (λ t. t.now) result ≡ self.now.node }
+    {
+        self.node
+    }
+
+    /// `D:`, its number.
+    pub fn number(&self) -> Option<&DeviceNumber<'a>>
+        ensures { option_copied result ≡ self.now.number }
+    {
+        self.number.as_ref()
+    }
+
+    /// `A:`, its attributes.
+    pub fn attrs(&self) -> &Pairs<'a>
+        ensures { result.now ≡ self.now.attrs }
+    {
+        &self.attrs
+    }
+
+    /// `E:`, its properties.
+    pub fn env(&self) -> &Pairs<'a>
+        ensures { result.now ≡ self.now.env }
+    {
+        &self.env
+    }
+
+    /// `G:`, its tags.
+    pub fn tags(&self) -> &Texts<'a>
+        ensures { result.now ≡ self.now.tags }
+    {
+        &self.tags
+    }
+
+    /// `S:`, its links.
+    pub fn links(&self) -> &Texts<'a>
+        ensures { result.now ≡ self.now.links }
+    {
+        &self.links
+    }
+}

@@ -6,3 +6,6 @@ pub mod Judged
 pub mod Added
 pub mod Few
 pub mod Reading
+pub mod LeastFault
+pub mod Grouping
+pub mod Weighing

@@ -4,3 +4,5 @@ pub mod Parts
 pub mod Blocks
 pub mod Faults
 pub mod Steps
+pub mod Weights
+pub mod Laws

@@ -12,6 +12,7 @@ mod draft;
 mod events;
 mod faults;
 mod fields;
+mod laws;
 mod lines;
 mod parts;
 mod programs;
@@ -23,6 +24,11 @@ pub use device_runs::{SplitFault, Splitter, Taken};
 pub use devices::{Device, DeviceNumber};
 pub use events::Event;
 pub use faults::{BlockFault, BlockFaultKind};
+pub use laws::{
+    an_event_is_that_of_its_lines, an_event_weighs_no_more_than_its_block,
+    each_line_belongs_to_the_device_above, faultless_lines_with_a_device_give_an_event,
+    faultless_lines_without_a_device_lack_it, the_least_faulty_line_counts,
+};
 pub use programs::ProgramAnswer;
 pub use read::read_block;
 pub use text_tables::{Pairs, Table, Texts};

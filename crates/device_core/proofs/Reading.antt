@@ -2,7 +2,8 @@
 use Rattle.std.proofs.Common.{◌≡◌, ◌≢◌, ℕ, ◌+◌, ◌<◌, ◌≤◌, true, false, List, [], ◌∷◌, length, nat_lt, ◌==◌, Result, Ok, Err, IfOk, IfErr, refl, ap, sym, ◌∙◌, arith}
 use Rattle.device_core.specs.Lines.{begins_answer}
 use Rattle.text_words.specs.Lines.{lines}
-use Rattle.device_core.specs.Faults.{block_gives, line_too_long, most_bytes}
+use Rattle.device_runs.specs.Blocks.{is_too_long, line_of_excess, most_bytes}
+use Rattle.device_core.specs.Faults.{block_gives}
 use Rattle.device_core.specs.Steps.{Fails, unless_memory, GivesAt, Sofar, steps, line_step, read_lines, then_steps}
 use Rattle.device_core.specs.declared.events.Event.{Event}
 use Rattle.device_core.specs.declared.faults.BlockFault.{BlockFault}
@@ -47,7 +48,7 @@ steps_end s above (b ∷ text) all h inv = let some : (length (b ∷ text) == 0)
 
 -- ---- the whole block
 
-pub too_long : (block : List ℕ) (line : ℕ) → most_bytes < length block → line ≡ line_too_long block → block_gives block ≡ Err (record { line = line; kind = TooLong })
+pub too_long : (block : List ℕ) (line : ℕ) → most_bytes < length block → line ≡ line_of_excess block → block_gives block ≡ Err (record { line = line; kind = TooLong })
 unfolding block_gives
 too_long block line over is =
     let test : nat_lt most_bytes (length block) ≡ true = grind arith in

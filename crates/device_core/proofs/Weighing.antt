@@ -1,5 +1,5 @@
 -- The texts of an event are parts of its lines, and those of its block.
-use Rattle.std.proofs.Common.{◌≡◌, ℕ, ◌+◌, ◌≤◌, Bool, true, false, ◌&&◌, ◌||◌, ◌==◌, List, [], ◌∷◌, ◌++◌, length, take, drop, map, Option, Some, None, Result, Ok, Err, IsOk, unwrap_or, nat_lt, refl, ap, sym, ◌∙◌, subst, if◌then◌else◌, cond, option_map, arith}
+use Rattle.std.proofs.Common.{◌≡◌, ℕ, ◌+◌, ◌≤◌, Bool, true, false, ◌&&◌, ◌||◌, ◌==◌, List, [], ◌∷◌, ◌++◌, length, take, drop, map, Option, Some, None, Result, Ok, Err, IsOk, unwrap_or, refl, ap, sym, ◌∙◌, subst, if◌then◌else◌, cond, option_map, arith}
 use Rattle.std.proofs.lemmas.List.{length-take, length-drop}
 use Rattle.std.proofs.lemmas.List.Sums.{sum_by-cons}
 use Rattle.std.proofs.lemmas.List.Quantifiers.{position-Some}
@@ -14,7 +14,8 @@ use Rattle.device_core.specs.Values.{NumberValue, DeviceValue, AnswerValue, Even
 use Rattle.device_core.specs.Lines.{Row, form, kind_of, row_from, row_of}
 use Rattle.device_core.specs.Parts.{cut, with_name, pair_of, is_part, with_parts, number_of, number_below, answer_parts, with_status, answer_of}
 use Rattle.device_core.specs.Blocks.{is_kind, text_in, texts, pairs, numbers, answers, first, before_device, groups, device, devices, programs, event}
-use Rattle.device_core.specs.Faults.{given_by, block_gives, most_bytes}
+use Rattle.device_runs.specs.Blocks.{is_too_long}
+use Rattle.device_core.specs.Faults.{given_by, block_gives}
 use Rattle.device_core.specs.Weights.{text_weight, given_weight, texts_weight, pair_weight, pairs_weight, number_weight, device_weight, devices_weight, answer_weight, event_weight}
 use Rattle.device_core.specs.Laws.{rows_of, has_device}
 use Rattle.device_core.specs.declared.lines.DeviceField.TheVariants.{Subsystem, Driver, Node, Devnum, Attribute, Property, Tag, Link}
@@ -349,7 +350,7 @@ given_from false fault whole given e = e
 
 from_block : (block : Text) (given : EventValue) → block_gives block ≡ Ok given → given_by (lines block) ≡ Ok given
 unfolding block_gives
-from_block block given e = given_from (nat_lt most_bytes (length block)) _ (given_by (lines block)) given e
+from_block block given e = given_from (is_too_long block) _ (given_by (lines block)) given e
 
 -- an event weighs no more than its block has bytes
 pub event_within : (block : Text) (given : EventValue) → block_gives block ≡ Ok given → event_weight given ≤ length block

@@ -1,11 +1,12 @@
 -- What is wrong with a line, given the lines above it, and with a block.
-use Rattle.std.specs.Prelude.{ℕ, ◌+◌, Bool, false, not, ◌&&◌, ◌||◌, List, [], ◌∷◌, ◌++◌, take, length, count_by, position, ◌==◌, nat_le, nat_lt, Option, Some, None, Result, Ok, Err, if◌then◌else◌, is_some, is_none}
+use Rattle.std.specs.Prelude.{ℕ, ◌+◌, Bool, false, not, ◌&&◌, ◌||◌, List, [], ◌∷◌, ◌++◌, length, position, ◌==◌, nat_le, Option, Some, None, Result, Ok, Err, if◌then◌else◌, is_some, is_none}
 use Rattle.std.specs.Option.{option_to_list}
-use Rattle.text_bytes.specs.Names.{nul, newline}
+use Rattle.text_bytes.specs.Names.{nul}
 use Rattle.text_words.specs.Texts.{is_empty}
 use Rattle.text_words.specs.Lines.{lines}
 use Rattle.text_tables.specs.Texts.{Text, is_among}
 use Rattle.text_tables.specs.Pairs.{Pair as NameAndValue, named}
+use Rattle.device_runs.specs.Blocks.{is_too_long, line_of_excess}
 use Rattle.device_core.specs.Lines.{Row, row_of, begins_answer}
 use Rattle.device_core.specs.Parts.{pair_of, number_of, answer_of, is_device_path, is_parent_path}
 use Rattle.device_core.specs.Values.{DeviceValue, EventValue, most_devices}
@@ -165,14 +166,6 @@ unfoldable pub given_by : List Text → Result EventValue BlockFault
 given_by [] = Err (record { line = 1; kind = NoAction })
 given_by (line ∷ below) = given_below [] (line ∷ below)
 
--- the most bytes that a block may have
-abbrev pub most_bytes : ℕ
-most_bytes = 65536
-
--- the line that holds the first byte too many
-unfoldable pub line_too_long : Text → ℕ
-line_too_long block = count_by (λ b. b == newline) (take most_bytes block) + 1
-
 -- what a block gives: its event, or the first fault
 unfoldable pub block_gives : Text → Result EventValue BlockFault
-block_gives block = if nat_lt most_bytes (length block) then Err (record { line = line_too_long block; kind = TooLong }) else given_by (lines block)
+block_gives block = if is_too_long block then Err (record { line = line_of_excess block; kind = TooLong }) else given_by (lines block)

@@ -3,7 +3,8 @@ ghost use Rattle.std.specs.Prelude.{◌≡◌, ◌≢◌, ◌∷◌, ◌+◌, �
 ghost use Rattle.text_words.specs.Lines.{lines};
 ghost use Rattle.device_core.specs.Values.{most_devices};
 ghost use Rattle.device_core.specs.Lines.{begins_answer};
-ghost use Rattle.device_core.specs.Faults.{block_gives, line_too_long, most_bytes};
+ghost use Rattle.device_runs.specs.Blocks.{line_of_excess, most_bytes};
+ghost use Rattle.device_core.specs.Faults.{block_gives};
 ghost use Rattle.device_core.specs.Steps.{Gives, GivesAt, sofar, start, first_step, line_step, steps, finished, read_lines};
 
 use crate::draft::{Draft, add_row, close_last, new_draft};
@@ -117,10 +118,10 @@ fn finish<'a>(action: &'a [u8], draft: Draft<'a>, count: usize) -> Result<Event<
 }
 
 /// The line that holds the first byte too many.
-#[tactic(auto, unfolding(crate::specs::Faults::line_too_long))]
-fn line_too_long(block: &[u8]) -> usize
+#[tactic(auto, unfolding(device_runs::specs::Blocks::line_of_excess))]
+fn line_of_excess(block: &[u8]) -> usize
     requires { most_bytes < length block.now }
-    ensures { result ≡ line_too_long block.now }
+    ensures { result ≡ line_of_excess block.now }
 {
     let (within, _) = block.split_at(MOST_BYTES);
     within.iter().filter(|b| **b == b'\n').count() + 1
@@ -163,7 +164,7 @@ pub fn read_block<'a>(alloc: Global, block: &'a [u8]) -> Result<Event<'a>, Block
 {
     if block.len() > MOST_BYTES {
         return Err(BlockFault {
-            line: line_too_long(block),
+            line: line_of_excess(block),
             kind: BlockFaultKind::TooLong,
         });
     }

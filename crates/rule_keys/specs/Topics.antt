@@ -1,6 +1,7 @@
 -- What may stand in the braces behind each key.
 use Rattle.std.specs.Prelude.{ℕ, Bool, ◌&&◌, List, [], ◌∷◌, length, Option, Some, None, option_map, nat_le, nat_eq, if◌then◌else◌}
 use Rattle.std.specs.List.{prefix_len}
+use Rattle.text_bytes.specs.Names.{digit_zero}
 use Rattle.rule_keys.specs.declared.keys.Key.{Key}
 use Rattle.rule_keys.specs.declared.keys.Key.TheVariants as key
 use Rattle.rule_keys.specs.declared.types.ImportType.{ImportType}
@@ -19,10 +20,6 @@ abbrev pub name_in : Option (List ℕ) → Option (List ℕ)
 name_in None = None
 name_in (Some []) = None
 name_in (Some (b ∷ text)) = Some (b ∷ text)
-
--- the byte `0`
-abbrev pub digit_zero : ℕ
-digit_zero = 48
 
 -- the byte `7`
 abbrev pub digit_seven : ℕ

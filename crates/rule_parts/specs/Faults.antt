@@ -1,9 +1,5 @@
 -- How a fault that was answered stands to what reading gives.
-use Rattle.std.specs.Prelude.{◌≡◌, ℕ, List, Result, Ok, Err}
-use Rattle.text_files.specs.declared.message.MessageKind.{MessageKind}
-use Rattle.text_core.specs.declared.glob_fault.GlobFault.{GlobFault}
-use Rattle.text_core.specs.declared.glob_fault.GlobFault.TheVariants as glob
-use Rattle.rule_parts.specs.Values.{choice_fault, finding}
+use Rattle.std.specs.Prelude.{◌≡◌, Result, Err}
 use Rattle.rule_parts.specs.declared.finding.Finding.{Finding}
 use Rattle.rule_parts.specs.declared.finding.PartFault.{PartFault}
 use Rattle.rule_parts.specs.declared.finding.PartFault.TheVariants.{Wrong, Memory}
@@ -12,19 +8,3 @@ use Rattle.rule_parts.specs.declared.finding.PartFault.TheVariants.{Wrong, Memor
 abbrev pub FaultOf : {A : Type 0} → PartFault → Result A Finding → Type 0
 FaultOf (Wrong found) read = read ≡ Err found
 FaultOf Memory read = Unit {0}
-
--- A finding is of this kind and tells this word; of want of memory nothing is said.
-abbrev pub Tells : MessageKind → List ℕ → PartFault → Type 0
-Tells kind word (Wrong found) = found ≡ finding kind word
-Tells kind word Memory = Unit {0}
-
--- A finding tells why a text spells no choice; want of memory stays that.
-abbrev pub TellsOf : GlobFault → List ℕ → PartFault → Type 0
-TellsOf (glob.Class at) text answered = Tells (choice_fault (glob.Class at)) text answered
-TellsOf glob.TooLong text answered = Tells (choice_fault glob.TooLong) text answered
-TellsOf glob.Memory text answered = answered ≡ Memory
-
--- What was answered is what reading gives, or a fault of it.
-abbrev pub Gives : {A : Type 0} → Result A PartFault → Result A Finding → Type 0
-Gives (Ok x) read = read ≡ Ok x
-Gives (Err fault) read = FaultOf fault read

@@ -1,8 +1,8 @@
 -- The options of OPTIONS.
-use Rattle.std.specs.Prelude.{ℕ, ◌^◌, ◌-◌, ℤ, pos, neg_ℤ, Bool, ◌&&◌, ◌||◌, if◌then◌else◌, List, [], ◌∷◌, length, take, drop, Option, Some, None, is_some, option_map, nat_eq, nat_le, nat_lt, codes}
+use Rattle.std.specs.Prelude.{ℕ, ◌+◌, ◌^◌, ℤ, pos, neg_ℤ, ◌||◌, Bool, if◌then◌else◌, List, [], ◌∷◌, length, take, drop, Option, Some, None, is_some, option_map, nat_eq, codes}
+use Rattle.std.specs.Option.{unwrap_or}
 use Rattle.std.specs.Cmp.Lexicographic.{pointwise}
-use Rattle.std.specs.Str.{all_ascii_digits}
-use Rattle.std.specs.Str.Parse.{digits_value, starts_with_minus, without_leading_sign}
+use Rattle.text_words.specs.Numbers.{decimal_below}
 use Rattle.rule_parts.specs.declared.options.RuleOption.{RuleOption}
 use Rattle.rule_parts.specs.declared.options.RuleOption.TheVariants.{LinkPriority, KeepEscapes, ReplaceEscapes, Watch, NoWatch, DbPersist, Ignored}
 
@@ -21,29 +21,26 @@ words =
     ∷ (codes "string_escape=replace", ReplaceEscapes)
     ∷ []
 
--- the greatest number that 32 signed bits hold on either side of zero, without its sign
-abbrev pub most : Bool → ℕ
-most below = if below then 2 ^ 31 else 2 ^ 31 - 1
-
--- a number of this size, below zero or not
-abbrev pub signed : Bool → ℕ → ℤ
-signed below size = if below then neg_ℤ (pos size) else pos size
-
--- whether digits are decimal, at least one, and write a number that fits into 32 signed bits
-abbrev pub is_size : Bool → List ℕ → Bool
-is_size below digits = nat_lt 0 (length digits) && (all_ascii_digits digits && nat_le (digits_value 10 digits) (most below))
-
--- the number that a sign and digits write, if they write one
-abbrev pub number_by : Bool → List ℕ → Option ℤ
-number_by below digits = if is_size below digits then Some (signed below (digits_value 10 digits)) else None
-
--- the number that a text writes within 32 signed bits: a minus, a plus or no sign, and behind it decimal digits
-unfoldable pub number_of : List ℕ → Option ℤ
-number_of text = number_by (starts_with_minus text) (without_leading_sign text)
-
 -- what stands behind a name that a text begins with
 abbrev pub behind : List ℕ → List ℕ → Option (List ℕ)
 behind name text = if pointwise nat_eq (take (length name) text) name then Some (drop (length name) text) else None
+
+-- the number below zero, or zero, that digits write behind a minus
+abbrev pub below_zero : List ℕ → Option ℤ
+below_zero digits = option_map (λ size. neg_ℤ (pos size)) (decimal_below (2 ^ 31 + 1) digits)
+
+-- the number that digits write
+abbrev pub from_zero : List ℕ → Option ℤ
+from_zero digits = option_map pos (decimal_below (2 ^ 31) digits)
+
+-- the number that a text writes, by what stands in it behind a minus
+abbrev pub number_by : List ℕ → Option (List ℕ) → Option ℤ
+number_by text (Some digits) = below_zero digits
+number_by text None = from_zero (unwrap_or (behind (codes "+") text) text)
+
+-- the number that a text writes within 32 signed bits: a minus, a plus or no sign, and behind it decimal digits
+unfoldable pub number_of : List ℕ → Option ℤ
+number_of text = number_by text (behind (codes "-") text)
 
 -- whether a text is an option that is taken and changes nothing, whatever it is set to
 abbrev pub is_ignored : List ℕ → Bool

@@ -1,7 +1,7 @@
 //! What is wrong with a part of a rule.
 ghost use Rattle.std.specs.Prelude.{◌≡◌, IfOk};
 ghost use Rattle.rule_parts.specs.Values.{finding};
-ghost use Rattle.rule_parts.specs.Faults.{Tells};
+ghost use Rattle.rule_parts.specs.Inner.{Tells};
 
 use std::alloc::{AllocError, AllocFailed, Global};
 use text_bytes::Bytes;

@@ -6,6 +6,7 @@
 #![tactic(auto)]
 
 mod finding;
+mod laws;
 mod options;
 mod part;
 mod reading;
@@ -15,6 +16,7 @@ mod values;
 mod written;
 
 pub use finding::{Finding, PartFault};
+pub use laws::the_first_fault_counts;
 pub use options::RuleOption;
 pub use part::{Act, Assignment, Change, Comparison, Deed, Import, Part, PlainMatch, UpMatch};
 pub use reading::{is_read_as_assign, read_part};

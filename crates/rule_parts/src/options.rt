@@ -1,6 +1,8 @@
 //! The options of OPTIONS.
 ghost use Rattle.std.specs.Prelude.{◌≡◌, map};
-ghost use Rattle.rule_parts.specs.Options.{is_ignored, named, number_of, option_of, other_option};
+ghost use Rattle.rule_parts.specs.Options.{below_zero, from_zero, is_ignored, named, number_of, option_of, other_option};
+
+use text_words::decimal_below;
 
 /// An option of a rule, as OPTIONS names it in udev(7).
 #[derive(Clone, Copy, Debug, PartialEq, Eq)]
@@ -20,6 +22,9 @@ pub enum RuleOption {
     /// `static_node=TEXT` or `log_level=TEXT`, which change nothing here.
     Ignored,
 }
+
+/// What the size of a number above zero is below; one below zero may have this size.
+const MAX_SIZE: u64 = 1 << 31;
 
 /// Each option that is one word, by its name.
 const WORDS: [(&[u8], RuleOption); 5] = [
@@ -42,15 +47,32 @@ fn named(rows: &[(&[u8], RuleOption)], text: &[u8]) -> Option<RuleOption>
     None
 }
 
-/// The number that a text writes in decimal digits, perhaps behind a sign, within 32 signed bits.
-#[tactic(auto, using(crate::proofs::Numbers::parsed, crate::proofs::Numbers::no_text))]
+/// The number that a text writes within 32 signed bits: a minus, a plus or no sign, and behind it
+/// decimal digits.
+#[tactic(auto, unfolding(crate::specs::Options::number_of))]
 fn number_of(text: &[u8]) -> Option<i32>
     ensures { result ≡ number_of text.now }
 {
-    match str::from_utf8(text) {
-        Ok(written) => written.parse::<i32>().ok(),
-        Err(_) => None,
+    match text.strip_prefix(b"-") {
+        Some(digits) => below_zero(digits),
+        None => from_zero(text.strip_prefix(b"+").unwrap_or(text)),
     }
+}
+
+/// The number below zero, or zero, that digits write behind a minus.
+fn below_zero(digits: &[u8]) -> Option<i32>
+    ensures { result ≡ below_zero digits.now }
+{
+    let size = decimal_below(MAX_SIZE + 1, digits)?;
+    Some((-(size as i64)) as i32)
+}
+
+/// The number that digits write.
+fn from_zero(digits: &[u8]) -> Option<i32>
+    ensures { result ≡ from_zero digits.now }
+{
+    let size = decimal_below(MAX_SIZE, digits)?;
+    Some(size as i32)
 }
 
 /// Whether a text is an option that changes nothing here, whatever it is set to.

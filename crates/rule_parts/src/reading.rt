@@ -2,7 +2,8 @@
 ghost use Rattle.std.specs.Prelude.{◌≡◌, Ok, IfOk, MatchResult, Some, option_map};
 ghost use Rattle.rule_keys.specs.Names.{key_of};
 ghost use Rattle.rule_keys.specs.Written.{attribute_of_role, key_of_role};
-ghost use Rattle.rule_parts.specs.Faults.{FaultOf, Gives};
+ghost use Rattle.rule_parts.specs.Faults.{FaultOf};
+ghost use Rattle.rule_parts.specs.Inner.{Gives};
 ghost use Rattle.rule_parts.specs.Written.{attribute_of_part, key_of_part, type_of};
 ghost use Rattle.rule_parts.specs.Parts.{comparison, ignores_case, import_by, is_match, is_read_as_assign, part_by, part_of, value_part};
 

@@ -1,7 +1,7 @@
 //! Reading the value of a token, once its escapes are read.
 ghost use Rattle.std.specs.Prelude.{◌≡◌};
 ghost use Rattle.text_core.specs.Choices.{choice, choice_blind};
-ghost use Rattle.rule_parts.specs.Faults.{Gives, TellsOf};
+ghost use Rattle.rule_parts.specs.Inner.{Gives, TellsOf};
 ghost use Rattle.rule_parts.specs.Values.{as_choice, read_choice, read_name, read_option, read_template};
 
 use crate::finding::wrong;

@@ -8,8 +8,9 @@ use Rattle.std.proofs.lemmas.List.Folds.{length-prefix_len}
 use Rattle.rule_tokens.specs.declared.kinds.Operator.{Operator}
 use Rattle.rule_tokens.specs.declared.kinds.Operator.TheVariants.{Equal, NotEqual, Add, Remove, AssignFinal, Assign}
 use Rattle.text_bytes.specs.Names.{is_blank, open_brace, close_brace, equals, bang, plus, minus, colon, space, tab}
+use Rattle.text_words.specs.Texts.{skip_while}
 use Rattle.rule_tokens.specs.Grammar.{AllAre, BeginsOther, Head, HeadStands, operator_text, attribute_text, attribute_bytes, is_key_byte, is_attribute_byte}
-use Rattle.rule_tokens.specs.Reading.{key_at, attribute_at, operator_at, head_at, skip}
+use Rattle.rule_tokens.specs.Reading.{key_at, attribute_at, operator_at, head_at}
 use Rattle.rule_tokens.proofs.RunLemmas.{Sound, bind_sound, cond_sound, run_again, run_all, apart, closed_again, closed_sound}
 
 pub key_again : (key rest : List ℕ) → 0 < length key → AllAre is_key_byte key → BeginsOther is_key_byte rest → key_at (key ++ rest) ≡ Ok (key, rest)
@@ -37,7 +38,7 @@ operator_again AssignFinal rest e = refl
 operator_again Assign [] e = refl
 operator_again Assign (b ∷ rest) e = rw e refl
 
-pub skip_again : (run rest : List ℕ) → AllAre is_blank run → BeginsOther is_blank rest → skip is_blank (run ++ rest) ≡ rest
+pub skip_again : (run rest : List ℕ) → AllAre is_blank run → BeginsOther is_blank rest → skip_while is_blank (run ++ rest) ≡ rest
 skip_again run rest a o = rw (run_again is_blank run rest a o) (drop_at run rest _ refl)
 
 -- a blank is a space or a tab
@@ -114,7 +115,7 @@ head_sound text =
     let P : Head × List ℕ → Type 0 = λ x. HeadStands text x.0 x.1 in
     bind_sound _ ⊥ P ⊥ (key_at text) _ (key_sound text) (λ q. q) (λ key h1.
     bind_sound _ ⊥ P ⊥ (attribute_at key.1) _ (attribute_sound key.1) (λ q. q) (λ attribute h2.
-    bind_sound _ ⊥ P ⊥ (operator_at (skip is_blank attribute.1)) _ (operator_sound (skip is_blank attribute.1)) (λ q. q) (λ operator h3.
+    bind_sound _ ⊥ P ⊥ (operator_at (skip_while is_blank attribute.1)) _ (operator_sound (skip_while is_blank attribute.1)) (λ q. q) (λ operator h3.
     let before = take (prefix_len is_blank attribute.1) attribute.1 in
     let behind = take (prefix_len is_blank operator.1) operator.1 in
     let e1 = take-append-drop (prefix_len is_blank attribute.1) attribute.1 in
@@ -122,7 +123,7 @@ head_sound text =
     record {
       before = before;
       behind = behind;
-      spelled = joined text key.0 key.1 (attribute_text attribute.0) attribute.1 before (skip is_blank attribute.1) (operator_text operator.0) operator.1 behind (skip is_blank operator.1) h1.0 h2.0 e1 h3 e2;
+      spelled = joined text key.0 key.1 (attribute_text attribute.0) attribute.1 before (skip_while is_blank attribute.1) (operator_text operator.0) operator.1 behind (skip_while is_blank operator.1) h1.0 h2.0 e1 h3 e2;
       some_key = h1.1;
       key = h1.2;
       attribute = h2.1;

@@ -12,3 +12,4 @@ pub mod EscapeLemmas
 pub mod Meanings
 pub mod PlaceLemmas
 pub mod Nuls
+pub mod Standing

@@ -1,11 +1,11 @@
 -- The tokens of a line lie in it, one behind the other.
-use Rattle.std.proofs.Common.{◌≡◌, ℕ, ◌+◌, ◌-◌, ◌<◌, ◌≤◌, List, [], ◌∷◌, ◌++◌, length, take, drop, Option, Some, None, Ok, Err, refl, ap, sym, ◌∙◌, inl, inr, arith, append_assoc, length-append}
-use Rattle.std.specs.Prelude.{All, ◌⊎◌}
+use Rattle.std.proofs.Common.{◌≡◌, ℕ, ◌+◌, ◌-◌, ◌<◌, ◌≤◌, List, [], ◌∷◌, ◌++◌, length, take, drop, Option, Some, None, Ok, Err, refl, ap, sym, ◌∙◌, arith, append_assoc, length-append}
+use Rattle.std.specs.Prelude.{All}
 use Rattle.std.proofs.lemmas.List.{take_at, drop_at}
 use Rattle.std.proofs.lemmas.List.Elements.{All-cons, All-nil}
 use Rattle.text_bytes.specs.Names.{double_quote}
 use Rattle.rule_tokens.specs.declared.kinds.TokenFault.{TokenFault}
-use Rattle.rule_tokens.specs.Grammar.{Parts, Placed, Item, TokenStands, TokenAt, Gap, LexesAt, answers, attribute_text, operator_text}
+use Rattle.rule_tokens.specs.Grammar.{Parts, Placed, Item, TokenStands, TokenAt, LexesAt, faulty, last, more, answers, attribute_text, operator_text}
 use Rattle.rule_tokens.specs.Places.{IsSlice, LiesIn, RisesFrom, AllLie, AllRise}
 use Rattle.rule_tokens.specs.Lines.{items_of}
 use Rattle.rule_tokens.proofs.Stands.{stands_shorter}
@@ -106,14 +106,10 @@ is_slice line before text at t rest e l h =
 
 -- the tokens of a text in a line lie in the line
 lie : (line before text : List ℕ) (at : ℕ) (tokens : List Placed) (end : Option TokenFault) → line ≡ before ++ text → length before ≡ at → LexesAt at text tokens end → All (LiesIn line) (answers tokens end)
-lie line before text at [] None e l h = absurd h
-lie line before text at [] (Some fault) e l h = let n : length line ≡ length before + length text = ap length e ∙ length-append before text in All-cons (LiesIn line) (Err fault) [] (omega (arith, h.0)) (All-nil (LiesIn line))
-lie line before text at (t ∷ tokens) end e l h =
-    let rest = h.0 in
-    let gap = h.1 in
-    let next = h.2 in
-    let here : TokenAt at text t rest = h.3 in
-    let between : Gap rest gap next = h.4 in
+lie line before text at [] None e l h = elim h [ ]
+lie line before text at [] (Some fault) e l (faulty here is) = let n : length line ≡ length before + length text = ap length e ∙ length-append before text in All-cons (LiesIn line) (Err fault) [] (omega (arith, here)) (All-nil (LiesIn line))
+lie line before text at (t ∷ []) None e l (last rest gap here between) = All-cons (LiesIn line) (Ok t) [] (is_slice line before text at t rest e l here) (All-nil (LiesIn line))
+lie line before text at (t ∷ tokens) end e l (more rest gap next here between some behind) =
     let o = own_of text t.parts rest here.stands in
     let own : length text ≡ length o.own + length rest = ap length o.spelled ∙ length-append o.own rest in
     let spelled : line ≡ (before ++ (o.own ++ gap)) ++ next =
@@ -121,13 +117,7 @@ lie line before text at (t ∷ tokens) end e l h =
     let n : length (before ++ (o.own ++ gap)) ≡ length before + (length o.own + length gap) = length-append before (o.own ++ gap) ∙ ap (λ n. length before + n) (length-append o.own gap) in
     let place : length (before ++ (o.own ++ gap)) ≡ t.span.end + length gap = omega (arith, here.end) in
     All-cons (LiesIn line) (Ok t) (answers tokens end) (is_slice line before text at t rest e l here)
-    (behind (t.span.end + length gap) next tokens end h.5 (λ m. lie line (before ++ (o.own ++ gap)) next (t.span.end + length gap) tokens end spelled place m))
-  where
-    behind : (to : ℕ) (next : List ℕ) (tokens : List Placed) (end : Option TokenFault)
-        → (((next ≡ []) × (tokens ≡ []) × (end ≡ None)) ⊎ ((0 < length next) × LexesAt to next tokens end))
-        → (LexesAt to next tokens end → All (LiesIn line) (answers tokens end)) → All (LiesIn line) (answers tokens end)
-    behind to next tokens end (inl d) f = rw d.1 (rw d.2 (All-nil (LiesIn line)))
-    behind to next tokens end (inr d) f = f d.1
+    (lie line (before ++ (o.own ++ gap)) next (t.span.end + length gap) tokens end spelled place behind)
 
 -- they rise
 later : (place at : ℕ) (items : List Item) → place ≤ at → RisesFrom at items → RisesFrom place items
@@ -136,17 +126,11 @@ later place at (Ok t ∷ items) l r = (omega (arith, r.0), r.1)
 later place at (Err fault ∷ items) l r = (omega (arith, r.0), r.1)
 
 rise : (at : ℕ) (text : List ℕ) (tokens : List Placed) (end : Option TokenFault) → LexesAt at text tokens end → RisesFrom at (answers tokens end)
-rise at text [] None h = absurd h
-rise at text [] (Some fault) h = (omega (arith, h.0), refl)
-rise at text (t ∷ tokens) end h =
-    let here : TokenAt at text t h.0 = h.3 in
-    (omega (arith, here.start), behind t.span.end (t.span.end + length h.1) h.2 tokens end (omega arith) h.5 (λ m. rise (t.span.end + length h.1) h.2 tokens end m))
-  where
-    behind : (from to : ℕ) (next : List ℕ) (tokens : List Placed) (end : Option TokenFault) → from ≤ to
-        → (((next ≡ []) × (tokens ≡ []) × (end ≡ None)) ⊎ ((0 < length next) × LexesAt to next tokens end))
-        → (LexesAt to next tokens end → RisesFrom to (answers tokens end)) → RisesFrom from (answers tokens end)
-    behind from to next tokens end l (inl d) f = rw d.1 (rw d.2 tt)
-    behind from to next tokens end l (inr d) f = later from to (answers tokens end) l (f d.1)
+rise at text [] None h = elim h [ ]
+rise at text [] (Some fault) (faulty here is) = (omega (arith, here), refl)
+rise at text (t ∷ []) None (last rest gap here between) = (omega (arith, here.start), tt)
+rise at text (t ∷ tokens) end (more rest gap next here between some behind) =
+    (omega (arith, here.start), later t.span.end (t.span.end + length gap) (answers tokens end) (omega arith) (rise (t.span.end + length gap) next tokens end behind))
 
 pub all_lie : AllLie
 all_lie line tokens end l = lie line [] line 0 tokens end refl refl l

@@ -1,9 +1,10 @@
 -- What one call of `next` leaves.
 use Rattle.std.proofs.Common.{◌≡◌, ℕ, ◌+◌, ◌-◌, ◌<◌, Bool, true, false, List, [], ◌∷◌, length, Ok, Err, cond, refl, ap, sym, ◌∙◌, arith, ◌==◌, add-one, length-drop}
 use Rattle.std.specs.List.{prefix_len}
+use Rattle.text_words.specs.Texts.{skip_while}
 use Rattle.rule_tokens.specs.declared.kinds.TokenFaultKind.{TokenFaultKind}
 use Rattle.rule_tokens.specs.Grammar.{Parts, is_gap_byte, Given, Only}
-use Rattle.rule_tokens.specs.Reading.{token_at, skip, IsWholeValue}
+use Rattle.rule_tokens.specs.Reading.{token_at, IsWholeValue}
 use Rattle.rule_tokens.specs.Lines.{items_after, items_within, items_left}
 use Rattle.rule_tokens.proofs.Meanings.{whole_value}
 use Rattle.rule_tokens.proofs.Stands.{token_stands, stands_shorter}
@@ -33,12 +34,12 @@ unfolding items_left
 rest_of true to n rest h = refl
 rest_of false to n rest h = within_enough n (length rest + 1) to rest h (omega arith)
 
-pub left_token : (at : ℕ) (text : List ℕ) (x : Parts × List ℕ) → token_at text ≡ Ok x → items_left false at text ≡ Ok (record { parts = x.0; span = record { start = at; end = at + (length text - length x.1) } }) ∷ items_left (length (skip is_gap_byte x.1) == 0) (at + (length text - length (skip is_gap_byte x.1))) (skip is_gap_byte x.1)
+pub left_token : (at : ℕ) (text : List ℕ) (x : Parts × List ℕ) → token_at text ≡ Ok x → items_left false at text ≡ Ok (record { parts = x.0; span = record { start = at; end = at + (length text - length x.1) } }) ∷ items_left (length (skip_while is_gap_byte x.1) == 0) (at + (length text - length (skip_while is_gap_byte x.1))) (skip_while is_gap_byte x.1)
 unfolding items_left items_within items_after
 left_token at text x e =
     let less : length x.1 < length text = token_left text x e in
     rw (add-one (length text)) (rw e (ap (λ items. Ok (record { parts = x.0; span = record { start = at; end = at + (length text - length x.1) } }) ∷ items)
-    (rest_of (length (skip is_gap_byte x.1) == 0) (at + (length text - length (skip is_gap_byte x.1))) (length text) (skip is_gap_byte x.1) (omega (arith, length-drop (prefix_len is_gap_byte x.1) x.1)))))
+    (rest_of (length (skip_while is_gap_byte x.1) == 0) (at + (length text - length (skip_while is_gap_byte x.1))) (length text) (skip_while is_gap_byte x.1) (omega (arith, length-drop (prefix_len is_gap_byte x.1) x.1)))))
 
 pub new_given : (line : List ℕ) → Given line (items_left false 0 line)
 unfolding items_left

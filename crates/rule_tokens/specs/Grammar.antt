@@ -1,5 +1,5 @@
 -- The tokens of a rule line, as a relation between a line, its tokens and its end.
-use Rattle.std.specs.Prelude.{◌≡◌, ℕ, ◌+◌, ◌<◌, Bool, true, false, ◌&&◌, ◌||◌, not, List, [], ◌∷◌, ◌++◌, length, Option, Some, None, ◌==◌, if◌then◌else◌, codes, ⊤, ◌⊎◌, Result, Ok, Err}
+use Rattle.std.specs.Prelude.{◌≡◌, ℕ, ◌+◌, ◌<◌, Bool, true, false, ◌&&◌, ◌||◌, not, List, [], ◌∷◌, ◌++◌, length, Option, Some, None, ◌==◌, if◌then◌else◌, codes, ⊤, Result, Ok, Err}
 use Rattle.std.specs.List.{list_all}
 use Rattle.std.specs.Char.{is_ascii_alphabetic, is_ascii_alphanumeric}
 use Rattle.text_bytes.specs.Names.{nul, comma, double_quote, underscore, open_brace, close_brace, is_blank}
@@ -74,14 +74,11 @@ pub record HeadStands (text : List ℕ) (h : Head) (rest : List ℕ) : Type 0 wh
   pub attribute : AllAre is_attribute_byte (attribute_bytes h.attribute)
   pub blanks : AllAre is_blank before × AllAre is_blank behind
 
--- Whether an operator compares.
+-- Whether an operator compares; the others change their key.
 abbrev pub compares : Operator → Bool
 compares Equal = true
 compares NotEqual = true
-compares Add = false
-compares Remove = false
-compares AssignFinal = false
-compares Assign = false
+compares _ = false
 
 -- What one letter before the quote asks for: e for escapes and, behind an operator that compares, i for a value that ignores case.
 abbrev pub one_letter : Operator → ℕ → Option Quote
@@ -157,13 +154,15 @@ pub record Gap (rest gap next : List ℕ) : Type 0 where
   pub all : AllAre is_gap_byte gap
   pub longest : BeginsOther is_gap_byte next
 
--- The text, which stands at a place of a line, is these tokens with gaps between them, up to its end or to the first part that is no token: with no token left, that part is here; else the text begins with the first token, and behind it and a gap the text either ends, and the tokens with it, or goes on with the others.
-abbrev pub LexesAt : ℕ → List ℕ → List Placed → Option TokenFault → Type 0
-LexesAt at text [] None = ⊥
-LexesAt at text [] (Some fault) = (fault.at ≡ at) × IsFault text fault.kind
-LexesAt at text (t ∷ tokens) end =
-    (rest : List ℕ) × (gap : List ℕ) × (next : List ℕ) × TokenAt at text t rest × Gap rest gap next
-    × (((next ≡ []) × (tokens ≡ []) × (end ≡ None)) ⊎ ((0 < length next) × LexesAt (t.span.end + length gap) next tokens end))
+-- The text, which stands at a place of a line, is these tokens with gaps between them, up to its end or to the first part that is no token.
+pub data LexesAt : ℕ → List ℕ → List Placed → Option TokenFault → Type 0 where
+  -- no token stands here
+  faulty : {at : ℕ} {text : List ℕ} {fault : TokenFault} → fault.at ≡ at → IsFault text fault.kind → LexesAt at text [] (Some fault)
+  -- a token, and with the gap behind it the text ends
+  last : {at : ℕ} {text : List ℕ} {t : Placed} (rest gap : List ℕ) → TokenAt at text t rest → Gap rest gap [] → LexesAt at text (t ∷ []) None
+  -- a token, and behind it and a gap others, or a fault
+  more : {at : ℕ} {text : List ℕ} {t : Placed} {tokens : List Placed} {end : Option TokenFault} (rest gap next : List ℕ) → TokenAt at text t rest → Gap rest gap next
+      → 0 < length next → LexesAt (t.span.end + length gap) next tokens end → LexesAt at text (t ∷ tokens) end
 
 -- A line, its tokens and its end: None where it is done, or the fault that ends it.
 abbrev pub Lexes : List ℕ → List Placed → Option TokenFault → Type 0

@@ -1,15 +1,18 @@
 -- Reading a line token by token, as a function of lists. That this is the language of Grammar is proved of Tokens::new.
-use Rattle.std.specs.Prelude.{ℕ, zero, suc, ◌+◌, ◌-◌, Bool, true, false, List, [], ◌∷◌, length, Result, Ok, Err, if◌then◌else◌, ◌==◌}
+use Rattle.std.specs.Prelude.{◌≡◌, ◌↔◌, ℕ, zero, suc, ◌+◌, ◌-◌, Bool, true, false, List, [], ◌∷◌, length, Option, Result, Ok, Err, All, if◌then◌else◌, ◌==◌}
+use Rattle.text_words.specs.Texts.{skip_while}
+use Rattle.rule_tokens.specs.declared.kinds.TokenFault.{TokenFault}
 use Rattle.rule_tokens.specs.declared.kinds.TokenFaultKind.{TokenFaultKind}
-use Rattle.rule_tokens.specs.Grammar.{Parts, Item, is_gap_byte}
-use Rattle.rule_tokens.specs.Reading.{skip, token_at}
+use Rattle.rule_tokens.specs.Values.{Means, has_escapes}
+use Rattle.rule_tokens.specs.Grammar.{Parts, Placed, Item, Lexes, answers, is_gap_byte}
+use Rattle.rule_tokens.specs.Reading.{token_at, unquoted}
 
 -- The items of a text of this length that begins with what was read, where more gives those that follow at a place.
 unfoldable pub items_after : (ℕ → List ℕ → List Item) → ℕ → ℕ → Result (Parts × List ℕ) TokenFaultKind → List Item
 items_after more at len (Err kind) = Err (record { at = at; kind = kind }) ∷ []
 items_after more at len (Ok x) =
     Ok (record { parts = x.0; span = record { start = at; end = at + (len - length x.1) } })
-    ∷ (if length (skip is_gap_byte x.1) == 0 then [] else more (at + (len - length (skip is_gap_byte x.1))) (skip is_gap_byte x.1))
+    ∷ (if length (skip_while is_gap_byte x.1) == 0 then [] else more (at + (len - length (skip_while is_gap_byte x.1))) (skip_while is_gap_byte x.1))
 
 -- The items of a text that stands at a place, at most n of them.
 unfoldable pub items_within : ℕ → ℕ → List ℕ → List Item
@@ -24,3 +27,15 @@ items_left false at text = items_within (length text + 1) at text
 -- The tokens of a line in turn and the fault that ends them, as a function of the line.
 abbrev pub items_of : List ℕ → List Item
 items_of line = items_left false 0 line
+
+-- The items of a line are just the tokens and the end that the grammar relates to it.
+abbrev pub ItemsAreLexed : Type 0
+ItemsAreLexed = (line : List ℕ) (tokens : List Placed) (end : Option TokenFault) → Lexes line tokens end ↔ (items_of line ≡ answers tokens end)
+
+-- A token's value means what is unquoted of it, and nothing else.
+abbrev pub MeansUnquoted : Placed → Type 0
+MeansUnquoted t = (bytes : List ℕ) → Means (has_escapes t.parts.quote) t.parts.value bytes ↔ (unquoted t.parts.quote t.parts.value ≡ bytes)
+
+-- So does the value of each token of a line.
+abbrev pub ValuesAreMeant : Type 0
+ValuesAreMeant = (line : List ℕ) (tokens : List Placed) (end : Option TokenFault) → Lexes line tokens end → All MeansUnquoted tokens

@@ -11,8 +11,9 @@ use Rattle.rule_tokens.specs.declared.kinds.Quote.{Quote}
 use Rattle.rule_tokens.specs.declared.kinds.TokenFaultKind.{TokenFaultKind}
 use Rattle.rule_tokens.specs.declared.kinds.TokenFaultKind.TheVariants.{Syntax, Prefix}
 use Rattle.text_bytes.specs.Names.{bang, double_quote, plus, minus, colon, equals, backslash, open_brace, close_brace, is_blank}
+use Rattle.text_words.specs.Texts.{ends_in, skip_while}
 use Rattle.rule_tokens.specs.Letters.{capital_u, letter_u, letter_x}
-use Rattle.rule_tokens.specs.Values.{Piece, byte, letter, octal, hex, short, long, spelling, meaning, letter_means, is_scalar, is_piece, has_escapes, ends_in}
+use Rattle.rule_tokens.specs.Values.{Piece, byte, letter, octal, hex, short, long, spelling, meaning, letter_means, is_scalar, is_piece, has_escapes}
 use Rattle.rule_tokens.specs.Grammar.{is_key_byte, is_letter, is_attribute_byte, Head, Parts, prefix_quote}
 
 -- Goes on with what was read, or stops at the first fault.
@@ -25,10 +26,6 @@ abbrev pub ◌>>=◌ : {A B : Type 0} → Result A TokenFaultKind → (A → Res
 abbrev pub Gives : {X Y : Type 0} → (X → Y) → Result X TokenFaultKind → Result Y TokenFaultKind → Type 0
 Gives view (Ok x) read = read ≡ Ok (view x)
 Gives view (Err e) read = read ≡ Err e
-
--- What follows the longest run of a class.
-abbrev pub skip : (ℕ → Bool) → List ℕ → List ℕ
-skip class text = drop (prefix_len class text) text
 
 -- The longest run of key bytes, not empty, and what follows it.
 unfoldable pub key_at : List ℕ → Result (List ℕ × List ℕ) TokenFaultKind
@@ -65,8 +62,8 @@ unfoldable pub head_at : List ℕ → Result (Head × List ℕ) TokenFaultKind
 head_at text = do
   key ← key_at text
   attribute ← attribute_at key.1
-  operator ← operator_at (skip is_blank attribute.1)
-  Ok (record { key = key.0; attribute = attribute.0; operator = operator.0 }, skip is_blank operator.1)
+  operator ← operator_at (skip_while is_blank attribute.1)
+  Ok (record { key = key.0; attribute = attribute.0; operator = operator.0 }, skip_while is_blank operator.1)
 
 -- The quoting that letters asked for, or the fault where they are no prefix.
 abbrev pub quoted_by : Option Quote → List ℕ → Result (Quote × List ℕ) TokenFaultKind

@@ -4,6 +4,7 @@ use Rattle.std.specs.List.{flat_map, list_all}
 use Rattle.std.specs.Char.{encode_utf8, digit_value}
 use Rattle.std.specs.Str.Parse.{digits_value}
 use Rattle.text_bytes.specs.Names.{nul, tab, newline, vertical_tab, form_feed, carriage_return, space, double_quote, single_quote, backslash}
+pub use Rattle.text_words.specs.Texts.{ends_in}
 use Rattle.rule_tokens.specs.Letters.{bell, backspace, capital_u, letter_a, letter_b, letter_f, letter_n, letter_r, letter_s, letter_t, letter_u, letter_v, letter_x}
 use Rattle.rule_tokens.specs.declared.kinds.Quote.{Quote}
 use Rattle.rule_tokens.specs.declared.kinds.Quote.TheVariants.{Plain, Escaped, Blind, BlindEscaped}
@@ -84,12 +85,6 @@ has_escapes Plain = false
 has_escapes Escaped = true
 has_escapes Blind = false
 has_escapes BlindEscaped = true
-
--- Whether the last byte is b.
-abbrev pub ends_in : ℕ → List ℕ → Bool
-ends_in b [] = false
-ends_in b (c ∷ []) = c == b
-ends_in b (c ∷ d ∷ rest) = ends_in b (d ∷ rest)
 
 -- The text between the quotes is these pieces. A plain value has no backslash at its end, since no backslash stands directly before the quote that ends it.
 pub record Spells (escaped : Bool) (pieces : List Piece) (text : List ℕ) : Type 0 where

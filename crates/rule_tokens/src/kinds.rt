@@ -18,6 +18,21 @@ pub enum Operator {
     Assign,
 }
 
+impl Operator {
+    ghost use Rattle.std.specs.Prelude.{◌≡◌};
+    ghost use Rattle.rule_tokens.specs.Grammar.{compares};
+
+    /// Whether the operator compares: `==` and `!=` do, and the others change the key.
+    pub fn compares(self) -> bool
+        ensures { result ≡ compares self }
+    {
+        match self {
+            Operator::Equal | Operator::NotEqual => true,
+            _ => false,
+        }
+    }
+}
+
 /// How a value is quoted: what the letters before its first `"` ask for.
 #[derive(Clone, Copy, Debug, PartialEq, Eq)]
 pub enum Quote {

@@ -3,6 +3,7 @@
 ghost use Rattle.rule_tokens.specs.Grammar.{SomeAnswer, OneAnswer};
 ghost use Rattle.rule_tokens.specs.Values.{OneMeaning, NoNul};
 ghost use Rattle.rule_tokens.specs.Places.{AllLie, AllRise};
+ghost use Rattle.rule_tokens.specs.Lines.{ItemsAreLexed, ValuesAreMeant};
 
 /// Each line has one list of tokens and one end.
 #[tactic(auto, using(crate::proofs::Lines::some_answer, crate::proofs::Lines::one_answer))]
@@ -27,4 +28,12 @@ pub fn value_has_no_nul()
 pub fn parts_lie_in_line()
     ensures within { AllLie }
     ensures rising { AllRise }
+{}
+
+/// Rules are defined by `items_of` and `unquoted`, and these stand on the grammar: the items of a
+/// line are its tokens and its end, and the value of each token means what is unquoted of it.
+#[tactic(auto, using(crate::proofs::Standing::items_are_lexed))]
+pub fn rules_stand_on_the_grammar()
+    ensures items { ItemsAreLexed }
+    ensures values { ValuesAreMeant }
 {}

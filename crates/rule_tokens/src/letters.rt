@@ -6,7 +6,8 @@ ghost use Rattle.rule_tokens.specs.Reading.{Gives};
 
 use crate::heads::{attribute_of, key_of, operator_of};
 use crate::kinds::TokenFaultKind;
-use crate::runs::{after_blanks, letter_length};
+use crate::runs::letter_length;
+use text_words::unindented;
 
 /// What stands behind the head that a text begins with, and behind its blanks.
 #[tactic(auto, unfolding(crate::specs::Reading::head_at, crate::specs::Prefixes::quoted_at))]
@@ -15,8 +16,8 @@ fn quoted_of(text: &[u8]) -> Result<&[u8], TokenFaultKind>
 {
     let (_, rest) = key_of(text)?;
     let (_, rest) = attribute_of(rest)?;
-    let (_, rest) = operator_of(after_blanks(rest))?;
-    Ok(after_blanks(rest))
+    let (_, rest) = operator_of(unindented(rest))?;
+    Ok(unindented(rest))
 }
 
 /// The letters directly before the quote of the token that a text begins with, as a wrong prefix is

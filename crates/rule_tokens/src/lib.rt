@@ -23,7 +23,10 @@ mod unquoting;
 mod values;
 
 pub use kinds::{Operator, Quote, Span, TokenFault, TokenFaultKind};
-pub use laws::{line_has_one_answer, parts_lie_in_line, value_has_no_nul, value_has_one_meaning};
+pub use laws::{
+    line_has_one_answer, parts_lie_in_line, rules_stand_on_the_grammar, value_has_no_nul,
+    value_has_one_meaning,
+};
 pub use letters::letters_before_quote;
 pub use parts::Token;
 pub use tokens::Tokens;

@@ -6,9 +6,10 @@ ghost use Rattle.rule_tokens.specs.Reading.{Gives, token_at, parts_of};
 use crate::heads::{attribute_of, key_of, operator_of};
 use crate::kinds::{Operator, Quote, Span, TokenFaultKind};
 use crate::prefixes::{has_escapes, quote_of};
-use crate::runs::{after_blanks, closed_of};
+use crate::runs::closed_of;
 use crate::values::value_length;
 use std::marker::Model;
+use text_words::unindented;
 
 /// The parts of a token, wherever it lies.
 #[derive(Clone, Copy, Debug)]
@@ -27,8 +28,8 @@ pub(crate) fn token_of(text: &[u8]) -> Result<(TokenParts<'_>, &[u8]), TokenFaul
 {
     let (key, rest) = key_of(text)?;
     let (attribute, rest) = attribute_of(rest)?;
-    let (operator, rest) = operator_of(after_blanks(rest))?;
-    let (quote, rest) = quote_of(operator, after_blanks(rest))?;
+    let (operator, rest) = operator_of(unindented(rest))?;
+    let (quote, rest) = quote_of(operator, unindented(rest))?;
     let n = value_length(has_escapes(quote), rest);
     let (value, rest) = closed_of(rest, n, b'"')?;
     Ok((

@@ -2,27 +2,18 @@
 
 ghost use Rattle.std.specs.Prelude.{◌≡◌};
 ghost use Rattle.rule_tokens.specs.Values.{has_escapes};
-ghost use Rattle.rule_tokens.specs.Grammar.{prefix_quote, compares};
+ghost use Rattle.rule_tokens.specs.Grammar.{prefix_quote};
 ghost use Rattle.rule_tokens.specs.Reading.{Gives, quote_at};
 
 use crate::kinds::{Operator, Quote, TokenFaultKind};
 use crate::runs::{closed_of, letter_length};
-
-fn compares(operator: Operator) -> bool
-    ensures { result ≡ compares operator }
-{
-    match operator {
-        Operator::Equal | Operator::NotEqual => true,
-        _ => false,
-    }
-}
 
 /// The quoting that letters ask for behind this operator, if they are a prefix.
 #[tactic(auto, unfolding(crate::specs::Grammar::prefix_quote))]
 fn prefix_quote(operator: Operator, letters: &[u8]) -> Option<Quote>
     ensures { result ≡ prefix_quote operator letters.now }
 {
-    let blind = compares(operator);
+    let blind = operator.compares();
     match letters {
         [] => Some(Quote::Plain),
         [b'e'] => Some(Quote::Escaped),

@@ -2,22 +2,17 @@
 
 ghost use Rattle.std.specs.Prelude.{◌≡◌, ◌≤◌, ◌<◌, length};
 ghost use Rattle.std.specs.List.{prefix_len};
-ghost use Rattle.text_bytes.specs.Names.{is_blank};
+ghost use Rattle.text_words.specs.Texts.{skip_while};
 ghost use Rattle.rule_tokens.specs.Grammar.{is_key_byte, is_gap_byte, is_letter, is_attribute_byte};
-ghost use Rattle.rule_tokens.specs.Reading.{Gives, skip, closed_at};
+ghost use Rattle.rule_tokens.specs.Reading.{Gives, closed_at};
 
 use crate::kinds::TokenFaultKind;
+use text_words::is_blank;
 
 fn is_key_byte(b: u8) -> bool
     ensures { result ≡ is_key_byte b }
 {
     b.is_ascii_alphanumeric() || b == b'_'
-}
-
-fn is_blank(b: u8) -> bool
-    ensures { result ≡ is_blank b }
-{
-    b == b' ' || b == b'\t'
 }
 
 fn is_gap_byte(b: u8) -> bool
@@ -38,13 +33,6 @@ pub(crate) fn key_length(text: &[u8]) -> usize
     ensures value { result ≡ prefix_len is_key_byte text.now }
 {
     text.iter().take_while(|b| is_key_byte(**b)).count()
-}
-
-fn blank_length(text: &[u8]) -> usize
-    ensures within { result ≤ length text.now }
-    ensures value { result ≡ prefix_len is_blank text.now }
-{
-    text.iter().take_while(|b| is_blank(**b)).count()
 }
 
 fn gap_length(text: &[u8]) -> usize
@@ -73,16 +61,9 @@ pub(crate) fn letter_length(text: &[u8]) -> usize
 /// What follows the blanks and commas at the front.
 pub(crate) fn after_gap(text: &[u8]) -> &[u8]
     ensures shorter { length result.now ≤ length text.now }
-    ensures value { result.now ≡ skip is_gap_byte text.now }
+    ensures value { result.now ≡ skip_while is_gap_byte text.now }
 {
     &text[gap_length(text)..]
-}
-
-/// What follows the blanks at the front.
-pub(crate) fn after_blanks(text: &[u8]) -> &[u8]
-    ensures { result.now ≡ skip is_blank text.now }
-{
-    &text[blank_length(text)..]
 }
 
 /// The first `n` bytes, where `close` stands directly behind them, and what follows it.

@@ -1,5 +1,5 @@
 -- Words for texts that several readers use.
-use Rattle.std.specs.Prelude.{ℕ, Bool, true, false, ◌==◌, List, [], ◌∷◌, drop}
+use Rattle.std.specs.Prelude.{ℕ, Bool, true, false, ◌==◌, List, [], ◌∷◌, length, take, drop, slice_index, position, Option, option_map, ◌+◌}
 use Rattle.std.specs.List.{prefix_len}
 use Rattle.text_bytes.specs.Names.{is_blank}
 
@@ -13,6 +13,11 @@ abbrev pub begins_with : ℕ → List ℕ → Bool
 begins_with byte [] = false
 begins_with byte (b ∷ text) = b == byte
 
+-- whether a text ends in this byte
+abbrev pub ends_in : ℕ → List ℕ → Bool
+ends_in byte [] = false
+ends_in byte (b ∷ text) = slice_index (b ∷ text) (length text) == byte
+
 -- what stands behind the elements at the front that pass a test
 abbrev pub skip_while : {X : Type 0} → (X → Bool) → List X → List X
 skip_while test xs = drop (prefix_len test xs) xs
@@ -20,3 +25,7 @@ skip_while test xs = drop (prefix_len test xs) xs
 -- a text without the spaces and tabs at its start
 abbrev pub unindented : List ℕ → List ℕ
 unindented text = skip_while is_blank text
+
+-- what stands before the first such byte of a text, and what behind it
+unfoldable pub split_once : ℕ → List ℕ → Option (List ℕ × List ℕ)
+split_once byte text = option_map (λ n. (take n text, drop (n + 1) text)) (position (λ b. b == byte) text)

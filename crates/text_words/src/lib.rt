@@ -12,4 +12,4 @@ mod texts;
 
 pub use lines::{Line, Lines, first_line};
 pub use numbers::{decimal_below, is_digit};
-pub use texts::{begins_with, is_blank, is_whitespace, unindented};
+pub use texts::{begins_with, ends_in, is_blank, is_whitespace, split_once, unindented};

@@ -33,6 +33,13 @@ fn numbers(rt: HostRuntime) -> Result<(), Fail> {
 fn texts(rt: HostRuntime) -> Result<(), Fail> {
     assert!(rt; begins_with(b'#', b"# text"));
     assert!(rt; !begins_with(b'#', b""));
+    assert!(rt; ends_in(b'\\', b"a \\"));
+    assert!(rt; !ends_in(b'\\', b"\\ "));
+    assert_eq!(rt;
+        split_once(b'=', b"a=b=c"),
+        Some((b"a".as_slice(), b"b=c".as_slice()))
+    );
+    assert_eq!(rt; split_once(b'=', b"a"), None);
     assert_eq!(rt; unindented(b" \t a "), b"a ".as_slice());
     assert!(rt; is_whitespace(b'\r') && !is_blank(b'\r'));
     Ok(())

@@ -1,8 +1,10 @@
-//! What a text begins with, and its blanks.
-ghost use Rattle.std.specs.Prelude.{◌≡◌, ◌≤◌, length};
+//! What a text begins with and ends in, and its blanks.
+ghost use Rattle.std.specs.Prelude.{◌≡◌, ◌≤◌, ◌<◌, ◌+◌, length, option_map, IfSome};
 ghost use Rattle.std.specs.List.{prefix_len};
 ghost use Rattle.text_bytes.specs.Names.{is_blank, is_whitespace};
-ghost use Rattle.text_words.specs.Texts.{begins_with, unindented};
+ghost use Rattle.text_words.specs.Texts.{begins_with, ends_in, split_once, unindented};
+
+use text_bytes::find;
 
 /// Whether a byte is a space or a tab.
 pub fn is_blank(byte: u8) -> bool
@@ -28,6 +30,16 @@ pub fn begins_with(byte: u8, text: &[u8]) -> bool
     }
 }
 
+/// Whether a text ends in a byte.
+pub fn ends_in(byte: u8, text: &[u8]) -> bool
+    ensures { result ≡ ends_in byte text.now }
+{
+    match text.last() {
+        None => false,
+        Some(last) => *last == byte,
+    }
+}
+
 /// A text without the spaces and tabs at its start.
 pub fn unindented(text: &[u8]) -> &[u8]
     ensures { result.now ≡ unindented text.now }
@@ -42,4 +54,16 @@ fn leading_blanks(text: &[u8]) -> usize
     ensures within { result ≤ length text.now }
 {
     text.iter().take_while(|byte| is_blank(**byte)).count()
+}
+
+/// What stands before the first such byte of a text, and what behind it.
+#[tactic(auto, unfolding(crate::specs::Texts::split_once))]
+pub fn split_once(byte: u8, text: &[u8]) -> Option<(&[u8], &[u8])>
+    ensures value { option_map (λ p. (p.0.now, p.1.now)) result ≡ split_once byte text.now }
+    ensures shorter { IfSome result (λ p. length p.0.now + length p.1.now < length text.now) }
+{
+    match find(byte, text) {
+        Some(at) => Some((&text[..at], &text[at + 1..])),
+        None => None,
+    }
 }

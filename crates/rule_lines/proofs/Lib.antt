@@ -1,2 +1,2 @@
-pub mod Finding
 pub mod Walking
+pub mod RunLaws

@@ -1,9 +1,9 @@
 -- Joining line by line gives the joined lines of the longest runs.
-use Rattle.std.proofs.Common.{◌≡◌, ℕ, ◌&&◌, Bool, true, false, cond, not, List, ◌∷◌, [], ◌++◌, map, Option, Some, None, refl, sym, ◌∙◌, ap, append_assoc, append-nil}
+use Rattle.std.proofs.Common.{◌≡◌, ℕ, Bool, true, false, cond, not, List, ◌∷◌, [], ◌++◌, map, Option, Some, None, refl, sym, ◌∙◌, ap, append_assoc, append-nil}
 use Rattle.std.specs.List.{onto_first}
-use Rattle.rule_lines.specs.Lines.{Joined, NumberedLine, Piece, is_comment, is_empty, is_open, joined, joined_as, joined_lines, kept, lines, lines_of_runs, numbered_from, open_of_runs, piece_of, run_number, run_text, runs, unindented}
 use Rattle.text_files.specs.Messages.{capped}
-use Rattle.rule_lines.specs.Steps.{SoFar, after, ended, line_of, onto, open_number, sofar}
+use Rattle.rule_lines.specs.Lines.{Joined, NumberedLine, Piece, is_comment, is_empty, is_open, joined, joined_as, joined_lines, kept, lines, lines_of_runs, numbered_from, open_of_runs, piece_of, run_text, runs, unindented}
+use Rattle.rule_lines.specs.Steps.{SoFar, after, ended, line_of, sofar}
 
 abbrev piece : ℕ → List ℕ → Bool → Piece
 piece n t c = record { number = n; text = t; continues = c }

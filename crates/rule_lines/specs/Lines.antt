@@ -1,36 +1,19 @@
 -- The joined lines of a rules file.
-use Rattle.std.specs.Prelude.{ℕ, ◌+◌, ◌-◌, Bool, true, false, not, ◌&&◌, ◌==◌, nat_eq, if◌then◌else◌, List, [], ◌∷◌, ◌++◌, length, take, drop, map, filter, Option, Some, None}
-use Rattle.std.specs.List.{onto_first, prefix_len, ends_with}
-use Rattle.text_bytes.specs.Names.{newline, hash, backslash, is_blank}
-use Rattle.text_files.specs.Messages.{capped}
-
--- a line: its number in its file, and its bytes
-pub record NumberedLine : Type 0 where
-  pub number : ℕ
-  pub text : List ℕ
-
--- the texts that newlines end, and what stands behind the last newline, if anything does
-abbrev pub lines : List ℕ → List (List ℕ)
-lines [] = []
-lines (b ∷ t) = if b == newline then [] ∷ lines t else onto_first b (lines t)
-
--- texts as lines, of which the first has this number
-abbrev pub numbered_from : ℕ → List (List ℕ) → List NumberedLine
-numbered_from n [] = []
-numbered_from n (t ∷ ts) = record { number = n; text = t } ∷ numbered_from (n + 1) ts
+use Rattle.std.specs.Prelude.{ℕ, ◌-◌, Bool, true, not, ◌&&◌, if◌then◌else◌, List, [], ◌∷◌, ◌++◌, length, take, map, filter, Option, Some, None}
+use Rattle.std.specs.List.{onto_first}
+use Rattle.text_bytes.specs.Names.{hash, backslash}
+use Rattle.text_words.specs.Texts.{begins_with, ends_in, unindented as text_unindented}
+pub use Rattle.text_files.specs.Messages.{capped}
+pub use Rattle.text_words.specs.Texts.{is_empty}
+pub use Rattle.text_words.specs.Lines.{NumberedLine, lines, numbered_from}
 
 -- a line without the blanks at its start
 abbrev pub unindented : NumberedLine → NumberedLine
-unindented l = record { number = l.number; text = drop (prefix_len is_blank l.text) l.text }
-
--- whether a text begins with `#`
-abbrev pub begins_with_hash : List ℕ → Bool
-begins_with_hash [] = false
-begins_with_hash (b ∷ t) = b == hash
+unindented l = record { number = l.number; text = text_unindented l.text }
 
 -- whether a line is a comment, where the blanks at its start are gone
 abbrev pub is_comment : NumberedLine → Bool
-is_comment l = begins_with_hash l.text
+is_comment l = begins_with hash l.text
 
 -- lines without the blanks at their starts, and without the comments
 abbrev pub kept : List NumberedLine → List NumberedLine
@@ -42,13 +25,9 @@ pub record Piece : Type 0 where
   pub text : List ℕ
   pub continues : Bool
 
--- whether a text ends in `\`
-abbrev pub ends_open : List ℕ → Bool
-ends_open t = ends_with nat_eq t (backslash ∷ [])
-
 -- a kept line as a piece
 abbrev pub piece_of : NumberedLine → Piece
-piece_of l = record { number = l.number; text = if ends_open l.text then take (length l.text - 1) l.text else l.text; continues = ends_open l.text }
+piece_of l = record { number = l.number; text = if ends_in backslash l.text then take (length l.text - 1) l.text else l.text; continues = ends_in backslash l.text }
 
 -- the longest runs of pieces of which all but the last continue
 abbrev pub runs : List Piece → List (List Piece)
@@ -69,11 +48,6 @@ run_text (p ∷ ps) = p.text ++ run_text ps
 abbrev pub run_number : List Piece → ℕ
 run_number [] = 0
 run_number (p ∷ ps) = p.number
-
--- whether a text has no byte
-abbrev pub is_empty : List ℕ → Bool
-is_empty [] = true
-is_empty (b ∷ t) = false
 
 -- the joined lines: of the runs that are not open, those that are not empty
 abbrev pub lines_of_runs : List (List Piece) → List NumberedLine

@@ -1,5 +1,5 @@
--- Joining line by line: what the lines so far have given, and what one more makes of it.
-use Rattle.std.specs.Prelude.{ℕ, Bool, if◌then◌else◌, List, [], ◌∷◌, ◌++◌, Option, Some, None}
+-- Serves the inner proofs only: joining line by line, what the lines so far have given and what one more makes of it.
+use Rattle.std.specs.Prelude.{ℕ, if◌then◌else◌, List, [], ◌∷◌, ◌++◌, Option, Some, None}
 use Rattle.rule_lines.specs.Lines.{NumberedLine, Piece, Joined, is_empty, joined_as}
 use Rattle.text_files.specs.Messages.{capped}
 

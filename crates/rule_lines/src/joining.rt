@@ -5,11 +5,12 @@ ghost use Rattle.rule_lines.specs.Lines.{joined_lines};
 ghost use Rattle.rule_lines.specs.Steps.{after, ended, sofar};
 
 use crate::joined::{JoinedLine, JoinedLines};
-use crate::lines::{Lines, Piece};
+use crate::pieces::{Piece, is_comment, piece_of, unindented_line};
 use crate::text::Text;
 use std::alloc::{AllocError, Global};
 use std::marker::Model;
 use text_files::capped;
+use text_words::Lines;
 
 /// A joined line of which all lines so far end in a backslash.
 #[derive(Debug, Drop)]
@@ -94,9 +95,9 @@ pub fn joined_lines<'a>(alloc: Global, bytes: &'a [u8]) -> Result<JoinedLines<'a
 {
     let mut joining = Joining::new(alloc);
     for line in Lines::new(bytes) {
-        let line = line.unindented();
-        if !line.is_comment() {
-            joining.take(alloc, &line.piece())?;
+        let line = unindented_line(&line);
+        if !is_comment(&line) {
+            joining.take(alloc, &piece_of(&line))?;
         }
     }
     Ok(joining.ended())

@@ -7,10 +7,12 @@
 
 mod joined;
 mod joining;
-mod lines;
+mod laws;
+mod pieces;
 #[cfg(test)]
 mod tests;
 mod text;
 
 pub use joined::{JoinedLine, JoinedLines};
 pub use joining::joined_lines;
+pub use laws::pieces_are_runs_in_one_way;

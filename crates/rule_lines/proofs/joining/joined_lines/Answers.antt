@@ -10,8 +10,8 @@ loop-line-init c =
 
 pub loop-line-preserved-in-Continue-1 : goal.loop-line-preserved-in-Continue-1
 loop-line-preserved-in-Continue-1 c =
-    at_line c.loop-line.joining c.take.new.self c.in-Some.line c.unindented-line.result c.piece.result c.loop-line.line-iterator c.next.new.self (joined_lines c.args.bytes.now)
-    c.loop-line.invariant c.in-Some.ensures.steps c.unindented-line.ensures (cc) c.piece.ensures c.in_ok-take.ensures
+    at_line c.loop-line.joining c.take.new.self c.in-Some.line c.unindented_line-line.result c.piece_of.result c.loop-line.line-iterator c.next.new.self (joined_lines c.args.bytes.now)
+    c.loop-line.invariant c.in-Some.ensures.steps c.unindented_line-line.ensures (cc) c.piece_of.ensures c.in_ok-take.ensures
 
 pub returns : goal.returns
 returns c =

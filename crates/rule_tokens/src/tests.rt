@@ -2,7 +2,8 @@
 
 use crate::{
     Operator, Quote, Span, TokenFault, TokenFaultKind, Tokens, letters_before_quote,
-    line_has_one_answer, parts_lie_in_line, unquote, value_has_no_nul, value_has_one_meaning,
+    line_has_one_answer, parts_lie_in_line, rules_stand_on_the_grammar, unquote, value_has_no_nul,
+    value_has_one_meaning,
 };
 use std::alloc::Global;
 use std::process::Abort;
@@ -93,6 +94,13 @@ fn each_operator(rt: HostRuntime) -> Result<(), Fail> {
     ];
     assert_eq!(rt; operators.as_slice(), want.as_slice());
     Ok(())
+}
+
+#[test]
+fn two_operators_compare(rt: HostRuntime) {
+    assert!(rt; Operator::Equal.compares());
+    assert!(rt; Operator::NotEqual.compares());
+    assert!(rt; !Operator::Assign.compares());
 }
 
 #[test]
@@ -205,5 +213,6 @@ fn laws_run() {
     line_has_one_answer();
     value_has_one_meaning();
     value_has_no_nul();
+    rules_stand_on_the_grammar();
     parts_lie_in_line();
 }

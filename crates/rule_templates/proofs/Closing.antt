@@ -1,14 +1,15 @@
 -- Texts in braces.
-use Rattle.std.proofs.Common.{◌≡◌, ◌≢◌, ℕ, zero, suc, ◌+◌, ◌<◌, ◌≤◌, nat_lt, Bool, true, false, cond, not, List, [], ◌∷◌, ◌++◌, length, take, drop, get_or, Option, Some, None, Result, Err, MatchResult, ◌==◌, position, refl, sym, ◌∙◌, ap, arith, append_assoc, add-one, drop-cons, length-take, eqb-true}
-use Rattle.std.proofs.lemmas.Bool.{true≢false}
-use Rattle.std.proofs.lemmas.List.{take-append-drop}
+use Rattle.std.proofs.Common.{◌≡◌, ◌≢◌, ℕ, zero, suc, ◌+◌, ◌<◌, ◌≤◌, nat_lt, ltb, Bool, true, false, cond, not, List, [], ◌∷◌, ◌++◌, length, take, drop, get_or, Option, Some, None, Result, Ok, Err, MatchOption, MatchResult, ◌==◌, position, option_map, refl, sym, ◌∙◌, ap, arith, append_assoc, add-one, drop-cons, length-take, length-append, eqb-true}
+use Rattle.std.proofs.lemmas.Bool.{true≢false, lt-ltb}
+use Rattle.std.proofs.lemmas.List.{take-append-drop, take_at}
 use Rattle.std.proofs.lemmas.List.Quantifiers.{position-Some}
 use Rattle.std.proofs.lemmas.Option.{none-some}
 use Rattle.std.proofs.lemmas.Bool.Decides.{nat_tests}
 use Rattle.std.specs.List.{position_or_len}
-use Rattle.std.proofs.lemmas.List.Sums.{fails_before_first}
+use Rattle.std.proofs.lemmas.List.Sums.{fails_before_first, position_or_len_is}
 use Rattle.std.proofs.lemmas.Grind.{common_steps}
 use Rattle.text_bytes.specs.Names.{open_brace, close_brace}
+use Rattle.text_words.specs.Texts.{is_empty, split_once}
 use Rattle.rule_templates.specs.Braces.{braced, closed}
 use Rattle.rule_templates.specs.Grammar.{HasNoClose, in_braces, LacksName}
 use Rattle.rule_templates.specs.declared.fault.TemplateFault.{TemplateFault}
@@ -46,14 +47,30 @@ never_closed t h =
     by_test true e q = absurd (none-some _ (sym q))
     by_test false e q = grind (arith, nat_tests)
 
--- a text that begins with a name in braces, as reading finds it
-pub record BeginsWithName (t n : List ℕ) : Type 0 where
+-- what is split at the first brace that closes
+abbrev pub SplitWell : List ℕ → Option (List ℕ × List ℕ) → Type 0
+SplitWell t o = MatchOption o (HasNoClose t) (λ x. HasNoClose x.0 × (t ≡ x.0 ++ close_brace ∷ x.1))
+
+split_by : (t : List ℕ) (o : Option ℕ) → position (λ b. b == close_brace) t ≡ o → SplitWell t (option_map (λ n. (take n t, drop (n + 1) t)) o)
+split_by t None e = never_closed t e
+split_by t (Some k) e = let cut = cut_at t k e in (cut.no_close, cut.parts)
+
+pub split_well : (t : List ℕ) → SplitWell t (split_once close_brace t)
+unfolding split_once
+split_well t = split_by t (position (λ b. b == close_brace) t) refl
+
+-- a text that begins with a name in braces
+pub record BeginsWithName (t n rest : List ℕ) : Type 0 where
   pub some : n ≢ []
   pub no_close : HasNoClose n
-  pub parts : t ≡ in_braces n ++ drop (length n + 2) t
+  pub parts : t ≡ in_braces n ++ rest
 
-abbrev pub BracedWell : List ℕ → Result (List ℕ) TemplateFault → Type 0
-BracedWell t r = MatchResult r (λ n. BeginsWithName t n) (λ e. (e ≡ fault.Brace) × LacksName t)
+abbrev pub BracedWell : List ℕ → Result (List ℕ × List ℕ) TemplateFault → Type 0
+BracedWell t r = MatchResult r (λ x. BeginsWithName t x.0 x.1) (λ e. (e ≡ fault.Brace) × LacksName t)
+
+-- a text in braces, and what follows
+pub braces_are : (n rest : List ℕ) → in_braces n ++ rest ≡ open_brace ∷ (n ++ close_brace ∷ rest)
+braces_are n rest = ap (λ (l : List ℕ). open_brace ∷ l) (append_assoc n (close_brace ∷ []) rest)
 
 -- no name in braces begins a text whose first byte is another
 no_brace : (b : ℕ) (t : List ℕ) → (b == open_brace) ≡ false → LacksName (b ∷ t)
@@ -85,31 +102,32 @@ begins_closed t (c ∷ n) rest first some no_close is =
     true≢false (sym closing)
 
 -- nor one whose braces are empty
-lacks_empty : (b : ℕ) (t : List ℕ) → IsCutAt t 0 → LacksName (b ∷ t)
-lacks_empty b t cut n rest some no_close is =
-    begins_closed t n rest (ap (λ (l : List ℕ). get_or l 0 0) cut.parts) some no_close (ap (λ (l : List ℕ). drop 1 l) is)
+lacks_empty : (b : ℕ) (t rest : List ℕ) → t ≡ close_brace ∷ rest → LacksName (b ∷ t)
+lacks_empty b t behind e n rest some no_close is =
+    begins_closed t n rest (ap (λ (l : List ℕ). get_or l 0 0) e) some no_close (ap (λ (l : List ℕ). drop 1 l) is)
 
-closed_well : (b : ℕ) (t : List ℕ) → b ≡ open_brace → (o : Option ℕ) → position (λ c. c == close_brace) t ≡ o → BracedWell (b ∷ t) (closed t o)
-closed_well b t e None h = (refl, lacks_open b t (never_closed t h))
-closed_well b t e (Some zero) h = (refl, lacks_empty b t (cut_at t 0 h))
-closed_well b t e (Some (suc k)) h =
-    let cut = cut_at t (suc k) h in
-    record {
-      some = λ none.
-          let within : suc k < length t = cut.within in
-          let short : length (take (suc k) t) ≡ 0 = ap (λ (l : List ℕ). length l) none in
-          omega (arith, length-take (suc k) t);
-      no_close = cut.no_close;
-      parts =
-          let within : suc k < length t = cut.within in
-          let long : length (take (suc k) t) ≡ suc k = omega (arith, length-take (suc k) t) in
-          let next : suc k + 2 ≡ suc (suc k + 1) = omega arith in
-          let tail : drop (length (take (suc k) t) + 2) (b ∷ t) ≡ drop (suc k + 1) t = rw long (rw next refl) in
-          rw tail (rw e (ap (λ (l : List ℕ). open_brace ∷ l) (cut.parts ∙ sym (append_assoc (take (suc k) t) (close_brace ∷ []) (drop (suc k + 1) t)))));
-    }
+empty : (t : List ℕ) → is_empty t ≡ true → t ≡ []
+empty [] e = refl
+empty (b ∷ t) e = absurd (true≢false (sym e))
 
-braced_by : (b : ℕ) (t : List ℕ) (v : Bool) → (b == open_brace) ≡ v → BracedWell (b ∷ t) (cond v (closed t (position (λ c. c == close_brace) t)) (Err fault.Brace))
-braced_by b t true e = closed_well b t (eqb-true b open_brace e) (position (λ c. c == close_brace) t) refl
+filled : (t : List ℕ) → is_empty t ≡ false → t ≢ []
+filled t e is = true≢false (sym (ap is_empty is) ∙ e)
+
+closed_by : (b : ℕ) (t : List ℕ) (x : List ℕ × List ℕ) → b ≡ open_brace → HasNoClose x.0 → t ≡ x.0 ++ close_brace ∷ x.1 → (v : Bool) → is_empty x.0 ≡ v
+    → BracedWell (b ∷ t) (cond v (Err fault.Brace) (Ok x))
+closed_by b t x e no_close parts true h = (refl, lacks_empty b t x.1 (parts ∙ ap (λ (l : List ℕ). l ++ close_brace ∷ x.1) (empty x.0 h)))
+closed_by b t x e no_close parts false h = record {
+  some = filled x.0 h;
+  no_close = no_close;
+  parts = ap (λ (c : ℕ). c ∷ t) e ∙ ap (λ (l : List ℕ). open_brace ∷ l) parts ∙ sym (braces_are x.0 x.1);
+}
+
+closed_well : (b : ℕ) (t : List ℕ) → b ≡ open_brace → (o : Option (List ℕ × List ℕ)) → SplitWell t o → BracedWell (b ∷ t) (closed o)
+closed_well b t e None h = (refl, lacks_open b t h)
+closed_well b t e (Some x) h = closed_by b t x e h.0 h.1 (is_empty x.0) refl
+
+braced_by : (b : ℕ) (t : List ℕ) (v : Bool) → (b == open_brace) ≡ v → BracedWell (b ∷ t) (cond v (closed (split_once close_brace t)) (Err fault.Brace))
+braced_by b t true e = closed_well b t (eqb-true b open_brace e) (split_once close_brace t) (split_well t)
 braced_by b t false e = (refl, no_brace b t e)
 
 nothing : LacksName []
@@ -119,3 +137,67 @@ pub braced_well : (t : List ℕ) → BracedWell t (braced t)
 unfolding braced
 braced_well [] = (refl, nothing)
 braced_well (b ∷ t) = braced_by b t (b == open_brace) refl
+
+-- ---- what is written is read again
+
+drop_seam : (n rest : List ℕ) → drop (suc (length n)) (n ++ close_brace ∷ rest) ≡ rest
+drop_seam [] rest = refl
+drop_seam (b ∷ n) rest = drop_seam n rest
+
+at_seam : (n rest : List ℕ) → get_or (n ++ close_brace ∷ rest) (length n) 0 ≡ close_brace
+at_seam [] rest = refl
+at_seam (b ∷ n) rest = at_seam n rest
+
+before_seam : (n rest : List ℕ) (k : ℕ) → k < length n → get_or (n ++ close_brace ∷ rest) k 0 ≡ get_or n k 0
+before_seam [] rest k h = absurd (omega arith)
+before_seam (b ∷ n) rest zero h = refl
+before_seam (b ∷ n) rest (suc k) h = before_seam n rest k (omega arith)
+
+not_true : (b : Bool) → not b ≡ true → b ≡ false
+not_true true h = sym h
+not_true false h = refl
+
+place_again : (n rest : List ℕ) → HasNoClose n → position (λ b. b == close_brace) (n ++ close_brace ∷ rest) ≡ Some (length n)
+place_again n rest none =
+    let hay = n ++ close_brace ∷ rest in
+    let long : length hay ≡ length n + suc (length rest) = length-append n (close_brace ∷ rest) in
+    let within : length n < length hay = omega arith in
+    let upto : length n ≤ length hay = omega arith in
+    let at : position_or_len (λ b. b == close_brace) hay ≡ length n =
+    position_or_len_is (λ b. b == close_brace) hay (length n) 0 upto
+    (λ k l. ap (λ (b : ℕ). b == close_brace) (before_seam n rest k l) ∙ not_true (get_or n k 0 == close_brace) (none k 0 l))
+    (λ l. ap (λ (b : ℕ). b == close_brace) (at_seam n rest)) in
+    ap (λ (k : ℕ). cond (ltb k (length hay)) (Some k) None) at ∙ ap (λ (b : Bool). cond b (Some (length n)) None) (lt-ltb (length n) (length hay) within)
+
+pub split_again : (n rest : List ℕ) → HasNoClose n → split_once close_brace (n ++ close_brace ∷ rest) ≡ Some (n, rest)
+unfolding split_once
+split_again n rest none =
+    let hay = n ++ close_brace ∷ rest in
+    let front : take (length n) hay ≡ n = take_at n (close_brace ∷ rest) (length n) refl in
+    let behind : drop (length n + 1) hay ≡ rest = ap (λ (k : ℕ). drop k hay) (add-one (length n)) ∙ drop_seam n rest in
+    ap (option_map (λ (k : ℕ). (take k hay, drop (k + 1) hay))) (place_again n rest none)
+    ∙ ap (λ (l : List ℕ). Some (l, drop (length n + 1) hay)) front
+    ∙ ap (λ (l : List ℕ). Some (n, l)) behind
+
+none_by : (t : List ℕ) → HasNoClose t → (o : Option (List ℕ × List ℕ)) → SplitWell t o → o ≡ None
+none_by t none None h = refl
+none_by t none (Some x) h = absurd (has_close t x.0 x.1 (h.1 ∙ sym (append_assoc x.0 (close_brace ∷ []) x.1)) none)
+
+pub none_again : (t : List ℕ) → HasNoClose t → split_once close_brace t ≡ None
+none_again t none = none_by t none (split_once close_brace t) (split_well t)
+
+filled_again : (n rest : List ℕ) → n ≢ [] → closed (Some (n, rest)) ≡ Ok (n, rest)
+filled_again [] rest some = absurd (some refl)
+filled_again (b ∷ n) rest some = refl
+
+pub braced_again : (n rest : List ℕ) → n ≢ [] → HasNoClose n → braced (in_braces n ++ rest) ≡ Ok (n, rest)
+unfolding braced
+braced_again n rest some none =
+    ap braced (braces_are n rest) ∙ ap closed (split_again n rest none) ∙ filled_again n rest some
+
+lacks_by : (t : List ℕ) → LacksName t → (r : Result (List ℕ × List ℕ) TemplateFault) → BracedWell t r → r ≡ Err fault.Brace
+lacks_by t lacks (Ok x) h = absurd (lacks x.0 x.1 h.some h.no_close h.parts)
+lacks_by t lacks (Err e) h = ap Err h.0
+
+pub lacks_again : (t : List ℕ) → LacksName t → braced t ≡ Err fault.Brace
+lacks_again t lacks = lacks_by t lacks (braced t) (braced_well t)

@@ -1,6 +1,7 @@
-mod Digits
-pub mod Pieces
 pub mod Signs
-pub mod Spelled
-pub mod Numbers
 pub mod Closing
+pub mod Numbers
+pub mod Spelled
+pub mod Again
+pub mod Pieces
+pub mod Law

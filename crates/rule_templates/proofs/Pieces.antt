@@ -1,14 +1,32 @@
 -- Reading a template, a piece at a time.
-use Rattle.std.proofs.Common.{◌≡◌, ℕ, zero, suc, ◌+◌, List, [], ◌∷◌, ◌++◌, length, take, drop, add-one, Result, Ok, Err, refl, ap, sym, ◌∙◌, append_assoc, append-nil, arith}
+use Rattle.std.proofs.Common.{◌≡◌, ℕ, zero, suc, ◌+◌, ◌≤◌, List, [], ◌∷◌, ◌++◌, length, take, drop, add-one, Result, Ok, Err, refl, ap, sym, ◌∙◌, append_assoc, append-nil, arith}
 use Rattle.rule_templates.specs.Faults.{Fails}
-use Rattle.rule_templates.specs.Reading.{pieces_behind, piece_at, with_front, with_piece}
+use Rattle.rule_templates.specs.Reading.{Front, pieces_of, pieces_within, front_at, with_front, with_piece}
 use Rattle.rule_templates.specs.declared.fault.TemplateFault.{TemplateFault}
 use Rattle.rule_templates.specs.declared.fault.TemplateFault.TheVariants.{Unknown, Brace, Number, Memory}
 use Rattle.rule_templates.specs.declared.piece.Piece.{Piece}
+use Rattle.rule_templates.proofs.Spelled.{left_shorter}
 
--- the front of a text whose first byte is known
+-- the front of a text whose first byte is known, and what is left behind it
 pub take_more : (len b : ℕ) (text after : List ℕ) → text ≡ b ∷ after → take (len + 1) text ≡ b ∷ take len after
 take_more len b text after is = rw (is, add-one len) refl
+
+pub drop_more : (len b : ℕ) (text after : List ℕ) → text ≡ b ∷ after → drop (len + 1) text ≡ drop len after
+drop_more len b text after is = rw (is, add-one len) refl
+
+-- room for more pieces than there can be changes nothing
+enough : (n m : ℕ) (t : List ℕ) → length t ≤ n → length t ≤ m → pieces_within n t ≡ pieces_within m t
+enough zero zero t h k = refl
+enough zero (suc m) [] h k = refl
+enough zero (suc m) (b ∷ t) h k = absurd (omega arith)
+enough (suc n) zero [] h k = refl
+enough (suc n) zero (b ∷ t) h k = absurd (omega arith)
+enough (suc n) (suc m) [] h k = refl
+enough (suc n) (suc m) (b ∷ t) h k = by_front (front_at b t) refl (λ l i j. enough n m l i j) where
+  by_front : (r : Front) → front_at b t ≡ r → ((l : List ℕ) → length l ≤ n → length l ≤ m → pieces_within n l ≡ pieces_within m l)
+      → with_front (pieces_within n) r ≡ with_front (pieces_within m) r
+  by_front (Err e) q same = refl
+  by_front (Ok x) q same = let less : length x.1 ≤ length t = left_shorter b t x q in ap (with_piece x.0) (same x.1 (omega arith) (omega arith))
 
 -- pieces, and behind them those that the rest gives
 abbrev pub with_pieces : List Piece → Result (List Piece) TemplateFault → Result (List Piece) TemplateFault
@@ -23,38 +41,35 @@ with_pieces-push : (pieces : List Piece) (p : Piece) (r : Result (List Piece) Te
 with_pieces-push pieces p (Ok more) = ap Ok (append_assoc pieces (p ∷ []) more)
 with_pieces-push pieces p (Err e) = refl
 
--- bytes passed over are dropped
-pub pieces_behind-drop : (t : List ℕ) (n : ℕ) → pieces_behind t n ≡ pieces_behind (drop n t) zero
-pieces_behind-drop t zero = refl
-pieces_behind-drop [] (suc n) = refl
-pieces_behind-drop (b ∷ t) (suc n) = pieces_behind-drop t n
+-- the pieces of a text are its first and those of what is left
+piece_first : (b : ℕ) (t rest : List ℕ) (p : Piece) (left : List ℕ) → rest ≡ b ∷ t → front_at b t ≡ Ok (p, left) → with_piece p (pieces_of left) ≡ pieces_of rest
+unfolding pieces_of
+piece_first b t rest p left e found =
+    let less : length left ≤ length t = left_shorter b t (p, left) found in
+    ap (with_piece p) (enough (length left) (length t) left (omega arith) less)
+    ∙ sym (ap (with_front (pieces_within (length t))) found)
+    ∙ sym (ap (λ (l : List ℕ). pieces_within (length l) l) e)
 
 -- one piece more has been read
-pub read_more : (pieces : List Piece) (p : Piece) (n b : ℕ) (t rest more : List ℕ)
-    → rest ≡ b ∷ t → piece_at b t ≡ Ok (p, n) → more ≡ drop n t
-    → with_pieces (pieces ++ p ∷ []) (pieces_behind more 0) ≡ with_pieces pieces (pieces_behind rest 0)
-read_more pieces p n b t rest more e found back =
-    with_pieces-push pieces p (pieces_behind more 0)
-    ∙ ap (with_pieces pieces) (
-    ap (λ (m : List ℕ). with_piece p (pieces_behind m 0)) back
-    ∙ ap (with_piece p) (sym (pieces_behind-drop t n))
-    ∙ sym (ap (λ r. with_front r (λ k. pieces_behind t k)) found)
-    ∙ ap (λ (r : List ℕ). pieces_behind r 0) (sym e))
+pub read_more : (pieces : List Piece) (p : Piece) (b : ℕ) (t rest left : List ℕ) → rest ≡ b ∷ t → front_at b t ≡ Ok (p, left)
+    → with_pieces (pieces ++ p ∷ []) (pieces_of left) ≡ with_pieces pieces (pieces_of rest)
+read_more pieces p b t rest left e found = with_pieces-push pieces p (pieces_of left) ∙ ap (with_pieces pieces) (piece_first b t rest p left e found)
 
-read_fault : (pieces : List Piece) (f : TemplateFault) (b : ℕ) (t rest : List ℕ)
-    → rest ≡ b ∷ t → piece_at b t ≡ Err f → with_pieces pieces (pieces_behind rest 0) ≡ Err f
+read_fault : (pieces : List Piece) (f : TemplateFault) (b : ℕ) (t rest : List ℕ) → rest ≡ b ∷ t → front_at b t ≡ Err f → with_pieces pieces (pieces_of rest) ≡ Err f
+unfolding pieces_of
 read_fault pieces f b t rest e found =
-    ap (with_pieces pieces) (ap (λ (r : List ℕ). pieces_behind r 0) e ∙ ap (λ r. with_front r (λ k. pieces_behind t k)) found)
+    ap (with_pieces pieces) (ap (λ (l : List ℕ). pieces_within (length l) l) e ∙ ap (with_front (pieces_within (length t))) found)
 
 -- a fault of the next piece is that of the whole
 pub fails_more : (pieces : List Piece) (f : TemplateFault) (b : ℕ) (t rest : List ℕ) (all : Result (List Piece) TemplateFault)
-    → rest ≡ b ∷ t → Fails f (piece_at b t) → with_pieces pieces (pieces_behind rest 0) ≡ all → Fails f all
+    → rest ≡ b ∷ t → Fails f (front_at b t) → with_pieces pieces (pieces_of rest) ≡ all → Fails f all
 fails_more pieces Memory b t rest all e found inv = tt
 fails_more pieces Unknown b t rest all e found inv = sym inv ∙ read_fault pieces Unknown b t rest e found
 fails_more pieces Brace b t rest all e found inv = sym inv ∙ read_fault pieces Brace b t rest e found
 fails_more pieces Number b t rest all e found inv = sym inv ∙ read_fault pieces Number b t rest e found
 
 -- nothing is left
-pub read_all : (pieces : List Piece) (rest : List ℕ) → length rest ≡ 0 → with_pieces pieces (pieces_behind rest 0) ≡ Ok pieces
+pub read_all : (pieces : List Piece) (rest : List ℕ) → length rest ≡ 0 → with_pieces pieces (pieces_of rest) ≡ Ok pieces
+unfolding pieces_of
 read_all pieces [] h = ap Ok (append-nil pieces)
 read_all pieces (b ∷ t) h = absurd (omega arith)

@@ -1,66 +1,117 @@
--- Names at the front of a text.
-use Rattle.std.proofs.Common.{◌≡◌, ◌≢◌, ℕ, ◌⊎◌, inl, inr, Bool, true, false, cond, List, [], ◌∷◌, ◌++◌, length, drop, Some, None, nat_eq, refl, sym, ◌∙◌, subst}
-use Rattle.std.specs.List.{starts_with}
-use Rattle.std.proofs.lemmas.Bool.{true≢false}
-use Rattle.std.proofs.lemmas.Bool.Decides.{Decides-eqb}
-use Rattle.std.proofs.lemmas.Option.{none-some, some_pair_parts}
+-- Names at the front of a text: the first row that fits is the longest name that does.
+use Rattle.std.proofs.Common.{◌≡◌, ◌≢◌, ℕ, ◌<◌, ◌≤◌, ◌⊎◌, inl, inr, Bool, true, false, cond, not, ◌&&◌, List, [], ◌∷◌, ◌++◌, length, drop, get_or, Option, Some, None, MatchOption, nat_eq, nat_le, refl, sym, ◌∙◌, ap, subst, arith}
+use Rattle.std.specs.List.{list_all, starts_with}
+use Rattle.std.proofs.lemmas.Bool.{true≢false, and_parts}
+use Rattle.std.proofs.lemmas.Bool.Decides.{Decides-eqb, nat_tests}
+use Rattle.std.proofs.lemmas.List.{drop_at}
 use Rattle.std.proofs.lemmas.Slice.Eq.{starts_is}
-use Rattle.rule_templates.specs.Grammar.{HasName}
+use Rattle.rule_templates.specs.Grammar.{HasName, IsName}
 use Rattle.rule_templates.specs.Names.{named}
 use Rattle.rule_templates.specs.declared.names.Substitution.{Substitution}
 
-some-none : {A : Type 0} (x : A) → Some x ≡ None → ⊥
-some-none x h = none-some x (sym h)
+abbrev pub Rows : Type 0
+Rows = List (List ℕ × Substitution)
 
 -- a name at the front of a text
-pub row_begins : (text n : List ℕ) → starts_with nat_eq text n ≡ true → text ≡ n ++ drop (length n) text
-row_begins text n h = (starts_is Decides-eqb text n _ refl).0 h
+begins : (text n : List ℕ) → starts_with nat_eq text n ≡ true → text ≡ n ++ drop (length n) text
+begins text n h = (starts_is Decides-eqb text n _ refl).0 h
 
-pub row_begins_not : (text n rest : List ℕ) → starts_with nat_eq text n ≡ false → text ≢ n ++ rest
-row_begins_not text n rest h e = true≢false (sym ((starts_is Decides-eqb text n _ refl).1 rest e) ∙ h)
+begins_true : (text n rest : List ℕ) → text ≡ n ++ rest → starts_with nat_eq text n ≡ true
+begins_true text n rest e = (starts_is Decides-eqb text n _ refl).1 rest e
 
--- a name that is found stands in the table and at the front of the text
-pub record FoundName (rows : List (List ℕ × Substitution)) (text : List ℕ) (s : Substitution) (k : ℕ) : Type 0 where
-  pub name : List ℕ
-  pub in_table : HasName rows name s
-  pub len : length name ≡ k
-  pub begins : text ≡ name ++ drop k text
+begins_not : (text n rest : List ℕ) → starts_with nat_eq text n ≡ false → text ≢ n ++ rest
+begins_not text n rest h e = true≢false (sym (begins_true text n rest e) ∙ h)
 
-found_here : (row : List ℕ × Substitution) (rows : List (List ℕ × Substitution)) (text : List ℕ) (s : Substitution) (k : ℕ)
-    → starts_with nat_eq text row.0 ≡ true → row.1 ≡ s → length row.0 ≡ k → FoundName (row ∷ rows) text s k
-found_here row rows text s k e same as_long =
-    record {
-      name = row.0;
-      in_table = inl (refl, same);
-      len = as_long;
-      begins = subst (λ (n : ℕ). text ≡ row.0 ++ drop n text) as_long (row_begins text row.0 e);
-    }
+-- of two names at the front of a text the shorter one begins the other
+shorter_begins : (n m rest behind : List ℕ) → n ++ rest ≡ m ++ behind → length m ≤ length n → n ≡ m ++ drop (length m) n
+shorter_begins n [] rest behind e h = refl
+shorter_begins [] (c ∷ m) rest behind e h = absurd (omega arith)
+shorter_begins (b ∷ n) (c ∷ m) rest behind e h =
+    let first : b ≡ c = ap (λ (l : List ℕ). get_or l 0 0) e in
+    let others : n ++ rest ≡ m ++ behind = ap (λ (l : List ℕ). drop 1 l) e in
+    ap (λ (d : ℕ). d ∷ n) first ∙ ap (λ (l : List ℕ). c ∷ l) (shorter_begins n m rest behind others (omega arith))
 
-found_later : (row : List ℕ × Substitution) (rows : List (List ℕ × Substitution)) (text : List ℕ) (s : Substitution) (k : ℕ)
-    → FoundName rows text s k → FoundName (row ∷ rows) text s k
-found_later row rows text s k f = record { name = f.name; in_table = inr f.in_table; len = f.len; begins = f.begins }
+-- a table in which no name begins a name below it
+abbrev pub is_ordered : Rows → Bool
+is_ordered [] = true
+is_ordered (row ∷ rows) = list_all (λ (below : List ℕ × Substitution). not (starts_with nat_eq below.0 row.0)) rows && is_ordered rows
 
-found_by : (row : List ℕ × Substitution) (rows : List (List ℕ × Substitution)) (text : List ℕ) (s : Substitution) (k : ℕ)
-    → (named rows text ≡ Some (s, k) → FoundName rows text s k) → (b : Bool) → starts_with nat_eq text row.0 ≡ b
-    → cond b (Some (row.1, length row.0)) (named rows text) ≡ Some (s, k) → FoundName (row ∷ rows) text s k
-found_by row rows text s k later true e q =
-    let parts = some_pair_parts row.1 s (length row.0) k q in
-    found_here row rows text s k e parts.0 parts.1
-found_by row rows text s k later false e q = found_later row rows text s k (later q)
+not_true : (b : Bool) → not b ≡ true → b ≡ false
+not_true true h = sym h
+not_true false h = refl
 
-pub named_found : (rows : List (List ℕ × Substitution)) (text : List ℕ) (s : Substitution) (k : ℕ) → named rows text ≡ Some (s, k) → FoundName rows text s k
-named_found [] text s k h = absurd (none-some (s, k) h)
-named_found (row ∷ rows) text s k h = found_by row rows text s k (named_found rows text s k) (starts_with nat_eq text row.0) refl h
+below_apart : (row : List ℕ × Substitution) (rows : Rows) (n : List ℕ) (s : Substitution) → list_all (λ (below : List ℕ × Substitution). not (starts_with nat_eq below.0 row.0)) rows ≡ true
+    → HasName rows n s → starts_with nat_eq n row.0 ≡ false
+below_apart row [] n s h has = absurd has
+below_apart row (other ∷ rows) n s h has = by_place has (and_parts (not (starts_with nat_eq other.0 row.0)) _ h) (λ rest there. below_apart row rows n s rest there) where
+  by_place : ((other.0 ≡ n) × (other.1 ≡ s)) ⊎ HasName rows n s
+      → (not (starts_with nat_eq other.0 row.0) ≡ true) × (list_all (λ (below : List ℕ × Substitution). not (starts_with nat_eq below.0 row.0)) rows ≡ true)
+      → (list_all (λ (below : List ℕ × Substitution). not (starts_with nat_eq below.0 row.0)) rows ≡ true → HasName rows n s → starts_with nat_eq n row.0 ≡ false) → starts_with nat_eq n row.0 ≡ false
+  by_place (inl here) parts later = subst (λ (m : List ℕ). starts_with nat_eq m row.0 ≡ false) here.0 (not_true (starts_with nat_eq other.0 row.0) parts.0)
+  by_place (inr there) parts later = later parts.1 there
 
--- where none is found, no name of the table begins the text
-not_by : (row : List ℕ × Substitution) (rows : List (List ℕ × Substitution)) (text n : List ℕ) (s : Substitution) (rest : List ℕ)
-    → (named rows text ≡ None → HasName rows n s → text ≢ n ++ rest) → (b : Bool) → starts_with nat_eq text row.0 ≡ b
-    → cond b (Some (row.1, length row.0)) (named rows text) ≡ None → ((row.0 ≡ n) × (row.1 ≡ s)) ⊎ HasName rows n s → text ≢ n ++ rest
-not_by row rows text n s rest later true e q has = absurd (some-none (row.1, length row.0) q)
-not_by row rows text n s rest later false e q (inl here) = subst (λ (m : List ℕ). text ≢ m ++ rest) here.0 (row_begins_not text row.0 rest e)
-not_by row rows text n s rest later false e q (inr there) = later q there
+-- so a name below that fits too is no longer
+below_no_longer : (row : List ℕ × Substitution) (n rest behind : List ℕ) → starts_with nat_eq n row.0 ≡ false → row.0 ++ behind ≡ n ++ rest → length n ≤ length row.0
+below_no_longer row n rest behind apart e = by_size (nat_le (length row.0) (length n)) refl where
+  by_size : (b : Bool) → nat_le (length row.0) (length n) ≡ b → length n ≤ length row.0
+  by_size true h =
+      let fits : length row.0 ≤ length n = grind (arith, nat_tests) in
+      absurd (begins_not n row.0 (drop (length row.0) n) apart (shorter_begins n row.0 rest behind (sym e) fits))
+  by_size false h = grind (arith, nat_tests)
 
-pub named_not : (rows : List (List ℕ × Substitution)) (text : List ℕ) → named rows text ≡ None → (n : List ℕ) (s : Substitution) (rest : List ℕ) → HasName rows n s → text ≢ n ++ rest
-named_not [] text h n s rest has = absurd has
-named_not (row ∷ rows) text h n s rest has =
-    not_by row rows text n s rest (λ q there. named_not rows text q n s rest there) (starts_with nat_eq text row.0) refl h has
+-- what is found: the longest name that fits, or that none does
+abbrev pub NameWell : Rows → List ℕ → Option (Substitution × List ℕ) → Type 0
+NameWell rows t o = MatchOption o
+    ((n : List ℕ) (s : Substitution) (rest : List ℕ) → HasName rows n s → t ≢ n ++ rest)
+    (λ x. (n : List ℕ) × (t ≡ n ++ x.1) × IsName rows n x.0 x.1)
+
+well_by : (row : List ℕ × Substitution) (rows : Rows) (t : List ℕ) → is_ordered (row ∷ rows) ≡ true → (o : Option (Substitution × List ℕ)) → NameWell rows t o
+    → (b : Bool) → starts_with nat_eq t row.0 ≡ b → NameWell (row ∷ rows) t (cond b (Some (row.1, drop (length row.0) t)) o)
+well_by row rows t order o h true e =
+    let parts = begins t row.0 e in (
+      row.0,
+      parts,
+      record {
+        in_table = inl (refl, refl);
+        longest = λ m behind other has is. by_place m behind other has is;
+      },
+    )
+  where
+    by_place : (m behind : List ℕ) (other : Substitution) → ((row.0 ≡ m) × (row.1 ≡ other)) ⊎ HasName rows m other → row.0 ++ drop (length row.0) t ≡ m ++ behind → length m ≤ length row.0
+    by_place m behind other (inl here) is = let same : length row.0 ≡ length m = ap (λ (l : List ℕ). length l) here.0 in omega arith
+    by_place m behind other (inr there) is = below_no_longer row m behind (drop (length row.0) t) (below_apart row rows m other (and_parts _ (is_ordered rows) order).0 there) is
+well_by row rows t order None h false e = λ n s rest has. by_place n s rest has where
+  by_place : (n : List ℕ) (s : Substitution) (rest : List ℕ) → ((row.0 ≡ n) × (row.1 ≡ s)) ⊎ HasName rows n s → t ≢ n ++ rest
+  by_place n s rest (inl here) = subst (λ (m : List ℕ). t ≢ m ++ rest) here.0 (begins_not t row.0 rest e)
+  by_place n s rest (inr there) = h n s rest there
+well_by row rows t order (Some x) h false e = (h.0, h.1, record { in_table = inr h.2.in_table; longest = λ m behind other has is. by_place m behind other has is }) where
+  by_place : (m behind : List ℕ) (other : Substitution) → ((row.0 ≡ m) × (row.1 ≡ other)) ⊎ HasName rows m other → h.0 ++ x.1 ≡ m ++ behind → length m ≤ length h.0
+  by_place m behind other (inl here) is = absurd (subst (λ (k : List ℕ). t ≢ k ++ behind) here.0 (begins_not t row.0 behind e) (h.1 ∙ is))
+  by_place m behind other (inr there) is = h.2.longest m behind other there is
+
+pub named_well : (rows : Rows) (t : List ℕ) → is_ordered rows ≡ true → NameWell rows t (named rows t)
+named_well [] t order = λ n s rest has. absurd has
+named_well (row ∷ rows) t order =
+    well_by row rows t order (named rows t) (named_well rows t (and_parts _ (is_ordered rows) order).1) (starts_with nat_eq t row.0) refl
+
+-- the longest name that fits is found again
+again_by : (row : List ℕ × Substitution) (rows : Rows) (n : List ℕ) (s : Substitution) (rest : List ℕ) → is_ordered (row ∷ rows) ≡ true → IsName (row ∷ rows) n s rest
+    → (IsName rows n s rest → named rows (n ++ rest) ≡ Some (s, rest)) → (b : Bool) → starts_with nat_eq (n ++ rest) row.0 ≡ b
+    → ((row.0 ≡ n) × (row.1 ≡ s)) ⊎ HasName rows n s → cond b (Some (row.1, drop (length row.0) (n ++ rest))) (named rows (n ++ rest)) ≡ Some (s, rest)
+again_by row rows n s rest order is later true e (inl here) =
+    let left : drop (length row.0) (n ++ rest) ≡ rest = drop_at n rest (length row.0) (sym (ap (λ (l : List ℕ). length l) here.0)) in
+    rw left (ap (λ (k : Substitution). Some (k, rest)) here.1)
+again_by row rows n s rest order is later true e (inr there) =
+    let parts = begins (n ++ rest) row.0 e in
+    let less : length row.0 ≤ length n = is.longest row.0 (drop (length row.0) (n ++ rest)) row.1 (inl (refl, refl)) parts in
+    let whole : n ≡ row.0 ++ drop (length row.0) n = shorter_begins n row.0 rest (drop (length row.0) (n ++ rest)) parts less in
+    absurd (begins_not n row.0 (drop (length row.0) n) (below_apart row rows n s (and_parts _ (is_ordered rows) order).0 there) whole)
+again_by row rows n s rest order is later false e (inl here) =
+    absurd (subst (λ (k : List ℕ). n ++ rest ≢ k ++ rest) here.0 (begins_not (n ++ rest) row.0 rest e) refl)
+again_by row rows n s rest order is later false e (inr there) =
+    later (record { in_table = there; longest = λ m behind other has same. is.longest m behind other (inr has) same })
+
+pub named_again : (rows : Rows) (n : List ℕ) (s : Substitution) (rest : List ℕ) → is_ordered rows ≡ true → IsName rows n s rest → named rows (n ++ rest) ≡ Some (s, rest)
+named_again [] n s rest order is = absurd is.in_table
+named_again (row ∷ rows) n s rest order is =
+    again_by row rows n s rest order is (named_again rows n s rest (and_parts _ (is_ordered rows) order).1) (starts_with nat_eq (n ++ rest) row.0) refl is.in_table

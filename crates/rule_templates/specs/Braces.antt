@@ -1,16 +1,16 @@
 -- Names in braces.
-use Rattle.std.specs.Prelude.{ℕ, zero, suc, ◌==◌, List, [], ◌∷◌, take, position, Option, Some, None, Result, Ok, Err, if◌then◌else◌}
+use Rattle.std.specs.Prelude.{ℕ, ◌==◌, List, [], ◌∷◌, Option, Some, None, Result, Ok, Err, if◌then◌else◌}
 use Rattle.text_bytes.specs.Names.{open_brace, close_brace}
+use Rattle.text_words.specs.Texts.{is_empty, split_once}
 use Rattle.rule_templates.specs.declared.fault.TemplateFault.{TemplateFault}
 use Rattle.rule_templates.specs.declared.fault.TemplateFault.TheVariants.{Brace}
 
--- the bytes before the place at which braces are closed, of which there has to be one
-abbrev pub closed : List ℕ → Option ℕ → Result (List ℕ) TemplateFault
-closed t None = Err Brace
-closed t (Some zero) = Err Brace
-closed t (Some (suc k)) = Ok (take (suc k) t)
+-- what stands before a closing brace, which there has to be and which is not empty, and what is left behind the brace
+abbrev pub closed : Option (List ℕ × List ℕ) → Result (List ℕ × List ℕ) TemplateFault
+closed None = Err Brace
+closed (Some x) = if is_empty x.0 then Err Brace else Ok x
 
--- the name in the braces that a text begins with: not empty, and up to the first closing brace
-unfoldable pub braced : List ℕ → Result (List ℕ) TemplateFault
+-- the name in the braces that a text begins with, up to the first closing brace, and what is left behind them
+unfoldable pub braced : List ℕ → Result (List ℕ × List ℕ) TemplateFault
 braced [] = Err Brace
-braced (b ∷ t) = if b == open_brace then closed t (position (λ c. c == close_brace) t) else Err Brace
+braced (b ∷ t) = if b == open_brace then closed (split_once close_brace t) else Err Brace

@@ -1,10 +1,11 @@
--- How pieces are written, and what is no piece: said of texts, without a reader.
-use Rattle.std.specs.Prelude.{◌≡◌, ◌≢◌, ℕ, ◌<◌, ◌⊎◌, not, ◌==◌, List, [], ◌∷◌, ◌++◌}
+-- How pieces are written, and what is no piece: said of texts and of what follows them, without a reader.
+use Rattle.std.specs.Prelude.{◌≡◌, ◌≢◌, ◌↔◌, ℕ, ◌<◌, ◌≤◌, ◌⊎◌, false, not, ◌==◌, List, [], ◌∷◌, ◌++◌, length, Option, Some, None, Ok, Err}
 use Rattle.std.specs.List.{AllPass}
 use Rattle.text_bytes.specs.Names.{dollar, percent, plus, open_brace, close_brace}
+use Rattle.text_words.specs.Texts.{begins_with}
+use Rattle.text_words.specs.Numbers.{is_digit, decimal}
 use Rattle.rule_templates.specs.Names.{long_names, short_names}
-use Rattle.rule_templates.specs.Number.{is_digit, value_of}
-use Rattle.rule_templates.specs.Reading.{is_plain}
+use Rattle.rule_templates.specs.Reading.{is_plain, pieces_of}
 use Rattle.rule_templates.specs.declared.fault.TemplateFault.{TemplateFault}
 use Rattle.rule_templates.specs.declared.fault.TemplateFault.TheVariants.{Unknown, Brace, Number, Memory}
 use Rattle.rule_templates.specs.declared.names.Substitution.{Substitution}
@@ -17,11 +18,16 @@ abbrev pub HasName : List (List ℕ × Substitution) → List ℕ → Substituti
 HasName [] n s = ⊥
 HasName (row ∷ rows) n s = ((row.0 ≡ n) × (row.1 ≡ s)) ⊎ HasName rows n s
 
--- a `$` with a name that asks for s, or a `%` with a letter that does
-abbrev pub IsSign : Substitution → List ℕ → Type 0
-IsSign s text =
-    ((n : List ℕ) × HasName long_names n s × (text ≡ dollar ∷ n))
-    ⊎ ((n : List ℕ) × HasName short_names n s × (text ≡ percent ∷ n))
+-- n is a name of the table that asks for s, and where rest follows it, no longer name of the table stands there
+pub record IsName (names : List (List ℕ × Substitution)) (n : List ℕ) (s : Substitution) (rest : List ℕ) : Type 0 where
+  pub in_table : HasName names n s
+  pub longest : (m behind : List ℕ) (other : Substitution) → HasName names m other → n ++ rest ≡ m ++ behind → length m ≤ length n
+
+-- a `$` with a name that asks for s, or a `%` with a letter that does, where rest follows
+abbrev pub IsSign : Substitution → List ℕ → List ℕ → Type 0
+IsSign s sign rest =
+    ((n : List ℕ) × (sign ≡ dollar ∷ n) × IsName long_names n s rest)
+    ⊎ ((n : List ℕ) × (sign ≡ percent ∷ n) × IsName short_names n s rest)
 
 -- a text in braces
 abbrev pub in_braces : List ℕ → List ℕ
@@ -31,69 +37,61 @@ in_braces t = open_brace ∷ (t ++ close_brace ∷ [])
 abbrev pub HasNoClose : List ℕ → Type 0
 HasNoClose t = AllPass (λ b. not (b == close_brace)) t
 
--- a sign with a name in braces, which is not empty
-pub record IsSignWithName (s : Substitution) (n text : List ℕ) : Type 0 where
+-- a sign that asks for s with this content in braces, where rest follows
+pub record IsSignWith (s : Substitution) (content text rest : List ℕ) : Type 0 where
   pub sign : List ℕ
-  pub is_sign : IsSign s sign
-  pub some : n ≢ []
-  pub no_close : HasNoClose n
-  pub spelled : text ≡ sign ++ in_braces n
+  pub is_sign : IsSign s sign (in_braces content ++ rest)
+  pub no_close : HasNoClose content
+  pub spelled : text ≡ sign ++ in_braces content
 
 -- decimal digits that write n, which is from 1 to 65535
 pub record WritesNumber (n : ℕ) (digits : List ℕ) : Type 0 where
   pub all_digits : AllPass is_digit digits
-  pub value : value_of digits ≡ n
+  pub value : decimal digits ≡ n
   pub not_zero : 0 < n
   pub below : n < 65536
 
--- the sign of a result with a number in braces, and these bytes behind the number
-pub record IsResultOf (n : ℕ) (behind text : List ℕ) : Type 0 where
-  pub sign : List ℕ
-  pub is_sign : IsSign name.Result sign
-  pub digits : List ℕ
-  pub number : WritesNumber n digits
-  pub spelled : text ≡ sign ++ in_braces (digits ++ behind)
+-- a text that does not begin with a byte that stands for itself
+abbrev pub BeginsNotPlain : List ℕ → Type 0
+BeginsNotPlain [] = Unit {0}
+BeginsNotPlain (b ∷ t) = is_plain b ≡ false
 
--- bytes that stand for themselves
-pub record IsPlainRun (bytes text : List ℕ) : Type 0 where
+-- bytes that stand for themselves, as many as do where rest follows
+pub record IsPlainRun (bytes text rest : List ℕ) : Type 0 where
   pub same : text ≡ bytes
   pub some : bytes ≢ []
   pub plain : AllPass is_plain bytes
+  pub longest : BeginsNotPlain rest
 
--- the text is a spelling of the piece
-abbrev pub Spells : Piece → List ℕ → Type 0
-Spells (piece.Plain bytes) text =
-    IsPlainRun bytes text
-    ⊎ (((bytes ≡ dollar ∷ []) × IsSign name.Dollar text) ⊎ ((bytes ≡ percent ∷ []) × IsSign name.Percent text))
-Spells piece.Kernel text = IsSign name.Kernel text
-Spells piece.Number text = IsSign name.Number text
-Spells piece.Devpath text = IsSign name.Devpath text
-Spells piece.Id text = IsSign name.Id text
-Spells piece.Driver text = IsSign name.Driver text
-Spells (piece.Attr n) text = IsSignWithName name.Attr n text
-Spells (piece.Env n) text = IsSignWithName name.Env n text
-Spells piece.Major text = IsSign name.Major text
-Spells piece.Minor text = IsSign name.Minor text
-Spells piece.Result text = IsSign name.Result text
-Spells (piece.Word n) text = IsResultOf n [] text
-Spells (piece.From n) text = IsResultOf n (plus ∷ []) text
-Spells piece.Parent text = IsSign name.Parent text
-Spells piece.Name text = IsSign name.Name text
-Spells piece.Links text = IsSign name.Links text
-Spells piece.Root text = IsSign name.Root text
-Spells piece.Sys text = IsSign name.Sys text
-Spells piece.Devnode text = IsSign name.Devnode text
+-- the text is a spelling of the piece, where rest follows it
+abbrev pub Spells : Piece → List ℕ → List ℕ → Type 0
+Spells (piece.Plain bytes) text rest =
+    IsPlainRun bytes text rest
+    ⊎ (((bytes ≡ dollar ∷ []) × IsSign name.Dollar text rest) ⊎ ((bytes ≡ percent ∷ []) × IsSign name.Percent text rest))
+Spells piece.Kernel text rest = IsSign name.Kernel text rest
+Spells piece.Number text rest = IsSign name.Number text rest
+Spells piece.Devpath text rest = IsSign name.Devpath text rest
+Spells piece.Id text rest = IsSign name.Id text rest
+Spells piece.Driver text rest = IsSign name.Driver text rest
+Spells (piece.Attr n) text rest = (n ≢ []) × IsSignWith name.Attr n text rest
+Spells (piece.Env n) text rest = (n ≢ []) × IsSignWith name.Env n text rest
+Spells piece.Major text rest = IsSign name.Major text rest
+Spells piece.Minor text rest = IsSign name.Minor text rest
+Spells piece.Result text rest = IsSign name.Result text rest × (begins_with open_brace rest ≡ false)
+Spells (piece.Word n) text rest = (digits : List ℕ) × WritesNumber n digits × IsSignWith name.Result digits text rest
+Spells (piece.From n) text rest = (digits : List ℕ) × WritesNumber n digits × IsSignWith name.Result (digits ++ plus ∷ []) text rest
+Spells piece.Parent text rest = IsSign name.Parent text rest
+Spells piece.Name text rest = IsSign name.Name text rest
+Spells piece.Links text rest = IsSign name.Links text rest
+Spells piece.Root text rest = IsSign name.Root text rest
+Spells piece.Sys text rest = IsSign name.Sys text rest
+Spells piece.Devnode text rest = IsSign name.Devnode text rest
 
--- the text is a spelling of each piece, one behind another
-abbrev pub SpellsAll : List Piece → List ℕ → Type 0
-SpellsAll [] text = text ≡ []
-SpellsAll (p ∷ ps) text = (front : List ℕ) × (rest : List ℕ) × (text ≡ front ++ rest) × Spells p front × SpellsAll ps rest
-
--- no name of the table begins the text, or one that is refused does
+-- no name of the table begins the text, or the longest that does is refused
 abbrev pub NamesNothing : List (List ℕ × Substitution) → List ℕ → Type 0
 NamesNothing names t =
     ((n : List ℕ) (s : Substitution) (rest : List ℕ) → HasName names n s → t ≢ n ++ rest)
-    ⊎ ((n : List ℕ) × (rest : List ℕ) × HasName names n name.Refused × (t ≡ n ++ rest))
+    ⊎ ((n : List ℕ) × (rest : List ℕ) × (t ≡ n ++ rest) × IsName names n name.Refused rest)
 
 -- the text begins with no name in braces
 abbrev pub LacksName : List ℕ → Type 0
@@ -114,17 +112,27 @@ IsFaulty Unknown text =
     ⊎ ((t : List ℕ) × (text ≡ percent ∷ t) × NamesNothing short_names t)
 IsFaulty Brace text =
     (sign : List ℕ) × (rest : List ℕ) × (text ≡ sign ++ rest)
-    × (((IsSign name.Attr sign ⊎ IsSign name.Env sign) × LacksName rest) ⊎ (IsSign name.Result sign × IsNotClosed rest))
+    × (((IsSign name.Attr sign rest ⊎ IsSign name.Env sign rest) × LacksName rest) ⊎ (IsSign name.Result sign rest × IsNotClosed rest))
 IsFaulty Number text =
-    (sign : List ℕ) × (content : List ℕ) × (rest : List ℕ) × (text ≡ sign ++ (in_braces content ++ rest))
-    × IsSign name.Result sign × HasNoClose content × IsNoNumber content
+    (front : List ℕ) × (content : List ℕ) × (rest : List ℕ) × (text ≡ front ++ rest)
+    × IsSignWith name.Result content front rest × IsNoNumber content
 IsFaulty Memory text = ⊥
 
--- pieces are spelled up to a place, and there the text is faulty
-pub record FaultsFirst (text : List ℕ) (fault : TemplateFault) : Type 0 where
-  pub pieces : List Piece
-  pub front : List ℕ
-  pub rest : List ℕ
-  pub parts : text ≡ front ++ rest
-  pub spelled : SpellsAll pieces front
-  pub faulty : IsFaulty fault rest
+-- The text is these pieces, up to its end or to the first fault.
+pub data Reads : List ℕ → List Piece → Option TemplateFault → Type 0 where
+  -- nothing is left
+  done : Reads [] [] None
+  -- the text is faulty here
+  faulty : {text : List ℕ} {fault : TemplateFault} → IsFaulty fault text → Reads text [] (Some fault)
+  -- a piece, and behind it others, or a fault
+  more : {text : List ℕ} {p : Piece} {pieces : List Piece} {end : Option TemplateFault} (front rest : List ℕ)
+      → text ≡ front ++ rest → Spells p front rest → Reads rest pieces end → Reads text (p ∷ pieces) end
+
+-- What is read of a text is just what it is: its pieces, or else the fault that comes first from the left.
+pub record IsRead (text : List ℕ) : Type 0 where
+  pub pieces : (pieces : List Piece) → (pieces_of text ≡ Ok pieces) ↔ Reads text pieces None
+  pub fault : (fault : TemplateFault) → (pieces_of text ≡ Err fault) ↔ ((pieces : List Piece) × Reads text pieces (Some fault))
+
+-- No text is two things: its pieces are the same, and where it is faulty, those before the fault, too.
+abbrev pub OneAnswer : Type 0
+OneAnswer = (text : List ℕ) (some other : List Piece) (end stop : Option TemplateFault) → Reads text some end → Reads text other stop → (some ≡ other) × (end ≡ stop)

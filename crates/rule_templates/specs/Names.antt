@@ -1,5 +1,5 @@
 -- The names of substitutions.
-use Rattle.std.specs.Prelude.{ℕ, List, [], ◌∷◌, Option, Some, None, length, nat_eq, if◌then◌else◌, codes}
+use Rattle.std.specs.Prelude.{ℕ, List, [], ◌∷◌, Option, Some, None, length, drop, nat_eq, if◌then◌else◌, codes}
 use Rattle.std.specs.List.{starts_with}
 use Rattle.rule_templates.specs.declared.names.Substitution.{Substitution}
 use Rattle.rule_templates.specs.declared.names.Substitution.TheVariants as name
@@ -47,7 +47,7 @@ short_names =
     ∷ (codes "%", name.Percent)
     ∷ []
 
--- what the first name at the front of a text asks for, and the length of that name
-abbrev pub named : List (List ℕ × Substitution) → List ℕ → Option (Substitution × ℕ)
+-- what the first name at the front of a text asks for, and what is left behind that name
+abbrev pub named : List (List ℕ × Substitution) → List ℕ → Option (Substitution × List ℕ)
 named [] text = None
-named (row ∷ rows) text = if starts_with nat_eq text row.0 then Some (row.1, length row.0) else named rows text
+named (row ∷ rows) text = if starts_with nat_eq text row.0 then Some (row.1, drop (length row.0) text) else named rows text

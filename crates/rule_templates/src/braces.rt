@@ -1,26 +1,26 @@
 //! The name in braces that some substitutions need.
-ghost use Rattle.std.specs.Prelude.{◌≡◌, ◌+◌, ◌≤◌, IfOk, length};
+ghost use Rattle.std.specs.Prelude.{◌≤◌, IfOk, length};
 ghost use Rattle.rule_templates.specs.Faults.{Gives};
 ghost use Rattle.rule_templates.specs.Braces.{braced};
 
 use crate::TemplateFault;
-use text_bytes::find;
+use text_words::split_once;
 
-/// The name in the braces that a text begins with.
+/// The name in the braces that a text begins with, and what is left behind them.
 #[tactic(auto, unfolding(crate::specs::Braces::braced))]
-pub fn braced(text: &[u8]) -> Result<&[u8], TemplateFault>
-    ensures value { Gives (λ name. name.now) result (braced text.now) }
-    ensures within { IfOk result (λ name. length name.now + 2 ≤ length text.now) }
+pub fn braced(text: &[u8]) -> Result<(&[u8], &[u8]), TemplateFault>
+    ensures value { Gives (λ x. (x.0.now, x.1.now)) result (braced text.now) }
+    ensures shorter { IfOk result (λ x. length x.1.now ≤ length text.now) }
 {
     let Some((b'{', rest)) = text.split_first() else {
         return Err(TemplateFault::Brace);
     };
-    match find(b'}', rest) {
-        Some(end) => {
-            if end > 0 {
-                Ok(&rest[..end])
-            } else {
+    match split_once(b'}', rest) {
+        Some((name, left)) => {
+            if name.is_empty() {
                 Err(TemplateFault::Brace)
+            } else {
+                Ok((name, left))
             }
         }
         None => Err(TemplateFault::Brace),

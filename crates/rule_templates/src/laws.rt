@@ -1,18 +1,16 @@
 //! What is true of reading a template, said of texts and pieces alone.
 //!
 //! Each function here is empty: its contract is the law.
-ghost use Rattle.std.specs.Prelude.{◌≡◌, ℕ, List, Ok, Err};
-ghost use Rattle.rule_templates.specs.Grammar.{FaultsFirst, SpellsAll};
-ghost use Rattle.rule_templates.specs.Reading.{pieces_of};
-ghost use Rattle.rule_templates.specs.declared.fault.TemplateFault.{TemplateFault};
-ghost use Rattle.rule_templates.specs.declared.piece.Piece.{Piece};
+ghost use Rattle.std.specs.Prelude.{ℕ, List};
+ghost use Rattle.rule_templates.specs.Grammar.{IsRead, OneAnswer};
 
-/// The pieces of a text spell it again, each by one of its spellings.
-pub fn the_pieces_spell_the_text()
-    ensures { (text : List ℕ) (pieces : List Piece) → pieces_of text ≡ Ok pieces → SpellsAll pieces text }
+/// The pieces that are read of a text are those that spell it, and a fault is the first from the
+/// left: just these, and no others.
+pub fn what_is_read_is_what_is_spelled()
+    ensures { (text : List ℕ) → IsRead text }
 {}
 
-/// A fault is the first from the left: what stands before it spells pieces.
-pub fn a_fault_is_the_first_from_the_left()
-    ensures { (text : List ℕ) (fault : TemplateFault) → pieces_of text ≡ Err fault → FaultsFirst text fault }
+/// A text has one answer: its pieces, or its first fault and the pieces before that.
+pub fn a_text_has_one_answer()
+    ensures { OneAnswer }
 {}

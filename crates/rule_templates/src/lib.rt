@@ -15,6 +15,6 @@ mod reading;
 mod template;
 
 pub use fault::TemplateFault;
-pub use laws::{a_fault_is_the_first_from_the_left, the_pieces_spell_the_text};
+pub use laws::{a_text_has_one_answer, what_is_read_is_what_is_spelled};
 pub use piece::Piece;
 pub use template::Template;

@@ -2,7 +2,7 @@
 //!
 //! A name is recognized by its letters alone: in `$kernelx` it is `kernel`, and the `x` stands for
 //! itself. So the rows are tried as prefixes of what follows the sign.
-ghost use Rattle.std.specs.Prelude.{◌≡◌, ◌≤◌, IfSome, length, map};
+ghost use Rattle.std.specs.Prelude.{◌≡◌, ◌≤◌, IfSome, length, map, option_map};
 ghost use Rattle.rule_templates.specs.Names.{long_names, named, short_names};
 
 /// What a name behind a `$` or `%` asks for.
@@ -72,31 +72,32 @@ const SHORT_NAMES: [(&[u8], Substitution); 14] = [
     (b"%", Substitution::Percent),
 ];
 
-/// What the first row whose name begins the text asks for, and the length of that name.
-fn named(rows: &[(&[u8], Substitution)], text: &[u8]) -> Option<(Substitution, usize)>
-    ensures value { result ≡ named (map (λ row. (row.0.now, row.1)) rows.now) text.now }
-    ensures within { IfSome result (λ found. found.1 ≤ length text.now) }
+/// What the first row whose name begins the text asks for, and what is left behind that name.
+fn named<'a>(rows: &[(&[u8], Substitution)], text: &'a [u8]) -> Option<(Substitution, &'a [u8])>
+    ensures value { option_map (λ x. (x.0, x.1.now)) result ≡ named (map (λ row. (row.0.now, row.1)) rows.now) text.now }
+    ensures shorter { IfSome result (λ x. length x.1.now ≤ length text.now) }
 {
     for row in rows {
         if text.starts_with(row.0) {
-            return Some((row.1, row.0.len()));
+            let (_, rest) = text.split_at(row.0.len());
+            return Some((row.1, rest));
         }
     }
     None
 }
 
-/// What the name behind a `$` asks for, and the name's length.
-pub fn long_name(text: &[u8]) -> Option<(Substitution, usize)>
-    ensures value { result ≡ named long_names text.now }
-    ensures within { IfSome result (λ found. found.1 ≤ length text.now) }
+/// What the name behind a `$` asks for, and what is left behind the name.
+pub fn long_name(text: &[u8]) -> Option<(Substitution, &[u8])>
+    ensures value { option_map (λ x. (x.0, x.1.now)) result ≡ named long_names text.now }
+    ensures shorter { IfSome result (λ x. length x.1.now ≤ length text.now) }
 {
     named(&LONG_NAMES, text)
 }
 
-/// What the letter behind a `%` asks for, and the length of that name.
-pub fn short_name(text: &[u8]) -> Option<(Substitution, usize)>
-    ensures value { result ≡ named short_names text.now }
-    ensures within { IfSome result (λ found. found.1 ≤ length text.now) }
+/// What the letter behind a `%` asks for, and what is left behind the letter.
+pub fn short_name(text: &[u8]) -> Option<(Substitution, &[u8])>
+    ensures value { option_map (λ x. (x.0, x.1.now)) result ≡ named short_names text.now }
+    ensures shorter { IfSome result (λ x. length x.1.now ≤ length text.now) }
 {
     named(&SHORT_NAMES, text)
 }

@@ -5,7 +5,7 @@ ghost use Rattle.rule_templates.specs.Reading.{pieces_of};
 ghost use Rattle.rule_templates.specs.Template.{IsReadFrom};
 ghost use Rattle.rule_templates.specs.declared.fault.TemplateFault.TheVariants.{Memory};
 
-use crate::reading::piece_at;
+use crate::reading::front_of;
 use crate::{Piece, TemplateFault};
 use std::alloc::Global;
 use std::marker::Model;
@@ -33,9 +33,9 @@ fn pieces_of(alloc: Global, text: &[u8]) -> Result<Vec<Piece>, TemplateFault>
     let mut pieces = Vec::new(alloc);
     let mut rest = text;
     while let Some((byte, after)) = rest.split_first() {
-        let (piece, len) = piece_at(alloc, rest, *byte, after)?;
+        let (piece, left) = front_of(alloc, rest, *byte, after)?;
         pieces.push(piece)?;
-        (_, rest) = after.split_at(len);
+        rest = left;
     }
     Ok(pieces)
 }

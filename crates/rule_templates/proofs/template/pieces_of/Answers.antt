@@ -5,7 +5,6 @@ use Rattle.rule_templates.proofs.Pieces.{read_more, fails_more, read_all}
 use Rattle.rule_templates.proofs.template.pieces_of.Goals as goal
 
 pub returns-in_err-piece : goal.returns-in_err-piece
-unfolding pieces_of
 returns-in_err-piece c =
     let p = err_from_is_err_and c.from_residual.result c.from_residual.ensures.1 in
     rw (p.1, p.2) (fails_more c.loop-byte.pieces.items c.in_err-piece.field-0.0 c.in-Some.byte.now c.in-Some.after.now c.loop-byte.rest.now (pieces_of c.args.text.now) c.in-Some.ensures.cases.0 c.in_err-piece.ensures.value c.loop-byte.invariant)
@@ -13,10 +12,9 @@ returns-in_err-piece c =
 pub loop-byte-preserved : goal.loop-byte-preserved
 loop-byte-preserved c =
     rw c.in_ok-push.ensures.items (
-    read_more c.loop-byte.pieces.items c.in_ok-piece.piece c.in_ok-piece.len c.in-Some.byte.now c.in-Some.after.now c.loop-byte.rest.now c.split_at.result.1.now
-    c.in-Some.ensures.cases.0 c.in_ok-piece.ensures.value c.split_at.ensures.back
+    read_more c.loop-byte.pieces.items c.in_ok-piece.piece c.in-Some.byte.now c.in-Some.after.now c.loop-byte.rest.now c.in_ok-piece.left.now
+    c.in-Some.ensures.cases.0 c.in_ok-piece.ensures.value
     ∙ c.loop-byte.invariant)
 
 pub returns : goal.returns
-unfolding pieces_of
 returns c = sym c.loop-byte.invariant ∙ read_all c.loop-byte.pieces.items c.loop-byte.rest.now c.in_default.ensures.cases

@@ -1,8 +1,15 @@
 //! What a command line of `devdry` asks for, whoever read it.
 //!
-//! These types stand below the crate that reads the words and below the one that does the work, so
-//! that neither needs the other.
+//! These types stand below the crate that reads the words and below those that do the work, so that
+//! none of them needs another. Which files a line speaks of is said here too, so that the crate that
+//! reads files and the one that answers from them can't differ.
 #![tactic(auto)]
+
+mod kinds;
+#[cfg(test)]
+mod tests;
+
+pub use kinds::same_kind;
 
 /// The subcommand.
 #[derive(Clone, Copy, Debug, PartialEq, Eq)]

@@ -1,0 +1,50 @@
+//! The kinds of files that a line speaks of.
+//!
+//! A subcommand may read files of several kinds. The files that its line names are of one of them,
+//! and they stand in place of the folders of that kind alone.
+ghost use Rattle.std.specs.Prelude.{◌≡◌};
+ghost use Rattle.engine_line.specs.Kinds.{kind_named, kinds_read, names_files_of, same_kind};
+
+use crate::{Line, Verb};
+use text_files::FileKind;
+
+impl Verb {
+    /// The kind of the files that a line of this subcommand names.
+    pub fn kind_named(self) -> FileKind
+        ensures { result ≡ kind_named self }
+    {
+        match self {
+            Verb::Update | Verb::Query => FileKind::Hwdb,
+            Verb::Verify => FileKind::Rules,
+        }
+    }
+
+    /// The kinds of files that this subcommand reads, each once.
+    pub fn kinds_read(self) -> &'static [FileKind]
+        ensures { result.now ≡ kinds_read self }
+    {
+        match self {
+            Verb::Update | Verb::Query => &[FileKind::Hwdb],
+            Verb::Verify => &[FileKind::Rules],
+        }
+    }
+}
+
+impl Line<'_> {
+    /// Whether the line names the files of a kind: it names files, and they are of that kind.
+    ///
+    /// Where it doesn't, a subcommand that reads files of the kind has them from the folders.
+    pub fn names_files_of(&self, kind: FileKind) -> bool
+        ensures { result ≡ names_files_of self.now kind }
+    {
+        let is_named = same_kind(kind, self.verb.kind_named());
+        is_named & !self.files.is_empty()
+    }
+}
+
+/// Whether two kinds are the same.
+pub fn same_kind(one: FileKind, other: FileKind) -> bool
+    ensures { result ≡ same_kind one other }
+{
+    one == other
+}

@@ -1,0 +1,32 @@
+//! Which files a line speaks of.
+
+use crate::{Line, Verb, same_kind};
+use std::test::Fail;
+use text_files::FileKind;
+
+#[test]
+fn tells_the_files_of_a_line(rt: HostRuntime) -> Result<(), Fail> {
+    for (verb, kind, other) in [
+        (Verb::Update, FileKind::Hwdb, FileKind::Rules),
+        (Verb::Query, FileKind::Hwdb, FileKind::Rules),
+        (Verb::Verify, FileKind::Rules, FileKind::Hwdb),
+    ] {
+        let mut line = Line {
+            verb,
+            root: "",
+            files: Vec::new(rt.alloc()),
+            strict: false,
+            sources: false,
+            modalias: "",
+            summary: true,
+            style: true,
+        };
+        assert_eq!(rt; verb.kind_named(), kind);
+        assert_eq!(rt; verb.kinds_read(), [kind].as_slice());
+        assert!(rt; same_kind(kind, kind) && !same_kind(kind, other));
+        assert!(rt; !line.names_files_of(kind));
+        line.files.push("a")?;
+        assert!(rt; line.names_files_of(kind) && !line.names_files_of(other));
+    }
+    Ok(())
+}

@@ -4,7 +4,7 @@
 //! What is decided here is the way from one to the next, and the status of what fails between them.
 #![tactic(auto)]
 
-use devdry_files::{ReadFault, read_all, wanted};
+use devdry_files::{ReadFault, RealDisk, read_all, wanted};
 use devdry_words::parse_line;
 use engine_core::{Line, LineFault, Sink, SinkOver, Source, SourceOver, serve, write_all};
 use std::alloc::Global;
@@ -59,7 +59,7 @@ fn read_wanted<R: Files + AllocGlobal + Clone + Drop>(
     line: &Line<'_>,
 ) -> Result<Vec<SourceFile>, ReadFault> {
     let wanted = wanted(rt.alloc(), line)?;
-    read_all(rt, &wanted)
+    read_all(rt.alloc(), &RealDisk::new(rt), &wanted)
 }
 
 // Runs a line that was understood.

@@ -1,33 +1,52 @@
 -- What the fault of a reading speaks of.
-use Rattle.std.specs.Prelude.{◌≡◌, ◌++◌, ◌⊎◌, ◌∷◌, ⊤, ℕ, List, Contains, map, string_bytes}
-use Rattle.text_bytes.specs.Names.{slash}
+use Rattle.std.specs.Prelude.{◌≡◌, ◌⊎◌, ⊤, ℕ, List, String, Contains, map, string_bytes}
+use Rattle.std.specs.declared.alloc.Global.{Global}
+use Rattle.devdry_files.specs.Answers.{Answer}
+use Rattle.devdry_files.specs.Answers.Answer.{NoContent, NoListing}
+use Rattle.devdry_files.specs.Found.{path_in}
+use Rattle.devdry_files.specs.declared.disk.DiskFault.{DiskFault}
+use Rattle.devdry_files.specs.declared.disk.DiskFault.TheVariants.{Absent, Unreadable, OutOfMemory}
 use Rattle.devdry_files.specs.declared.fault.ReadFault.{ReadFault}
 use Rattle.devdry_files.specs.declared.fault.ReadFault.TheVariants.{Path, Memory}
 use Rattle.devdry_files.specs.declared.places.Folder.{Folder}
 use Rattle.devdry_files.specs.declared.places.Wanted.{Wanted}
+
+-- the fault of a disk at a path
+abbrev pub fault_of : String Global → DiskFault → ReadFault
+fault_of path Absent = Path path
+fault_of path Unreadable = Path path
+fault_of path OutOfMemory = Memory
 
 -- the fault has a path of which this holds, or memory ran out
 abbrev pub HasPath : (List ℕ → Type 0) → ReadFault → Type 0
 HasPath P (Path path) = P (string_bytes path)
 HasPath P Memory = ⊤
 
--- the fault has this path
-abbrev pub IsAbout : List ℕ → ReadFault → Type 0
-IsAbout path = HasPath (λ p. p ≡ path)
+-- the disk may say that it can't list the folder at the path
+abbrev pub IsUnlisted : (Answer → Type 0) → List ℕ → Type 0
+IsUnlisted may path = may (NoListing path Unreadable)
 
--- the path is that of the folder, or of a name in it
-abbrev pub IsAtFolder : Folder → List ℕ → Type 0
-IsAtFolder folder p = (p ≡ string_bytes folder.path)
-    ⊎ ((name : List ℕ) × (p ≡ string_bytes folder.path ++ slash ∷ name))
+-- the disk may say that nothing is at the path, or that it can't read what is there
+abbrev pub IsUnread : (Answer → Type 0) → List ℕ → Type 0
+IsUnread may path = may (NoContent path Absent) ⊎ may (NoContent path Unreadable)
 
--- the path is at one of the folders
-abbrev pub IsAtFolders : List Folder → List ℕ → Type 0
-IsAtFolders folders p = (folder : Folder) × Contains folders folder × IsAtFolder folder p
+-- the path is one of these, and the disk may say that it can't read the file there
+pub record IsFaultyNamed (may : Answer → Type 0) (paths : List (List ℕ)) (path : List ℕ) : Type 0 where
+  pub named : Contains paths path
+  pub unread : IsUnread may path
 
--- the path is that of a named file, of a folder, or of a name in one
-abbrev pub IsAtWanted : Wanted → List ℕ → Type 0
-IsAtWanted w p = Contains (map (λ f. f.now) w.files.now) p ⊎ IsAtFolders w.folders.items p
+-- the path is the folder's, which the disk may say it can't list, or that of a name in it which it may say it can't read
+abbrev pub IsFaultyIn : (Answer → Type 0) → Folder → List ℕ → Type 0
+IsFaultyIn may folder path = ((path ≡ string_bytes folder.path) × IsUnlisted may path)
+    ⊎ ((name : List ℕ) × (path ≡ path_in folder name) × IsUnread may path)
 
--- the fault has the path of something that was asked for
-abbrev pub IsAboutWanted : Wanted → ReadFault → Type 0
-IsAboutWanted w = HasPath (IsAtWanted w)
+-- so it is of one of the folders
+pub record IsFaultyInOneOf (may : Answer → Type 0) (folders : List Folder) (path : List ℕ) : Type 0 where
+  pub folder : Folder
+  pub one : Contains folders folder
+  pub faulty : IsFaultyIn may folder path
+
+-- the path is that of a named file, of a folder, or of a name in one, and the disk may say that it can't tell what is there
+abbrev pub IsFaultyWanted : (Answer → Type 0) → Wanted → List ℕ → Type 0
+IsFaultyWanted may w path = IsFaultyNamed may (map (λ f. f.now) w.files.now) path
+    ⊎ IsFaultyInOneOf may w.folders.items path

@@ -1,58 +1,81 @@
--- The files that were read, by what they are; no definition can say what stands in them.
-use Rattle.std.specs.Prelude.{◌≡◌, ◌++◌, ℕ, All, IsSorted, List, [], ◌∷◌, String, codes, map}
+-- The files that were read, as they come from the answers that a disk may give.
+use Rattle.std.specs.Prelude.{◌≡◌, ◌++◌, ◌∷◌, ◌⊎◌, ◌&&◌, ℕ, Bool, All, IsPermutation, IsSorted, List, [], String, filter, map, nat_eq, not}
 use Rattle.std.specs.Prelude.{string_bytes}
+use Rattle.std.specs.List.{ends_with}
 use Rattle.std.specs.String.{string_cmp}
 use Rattle.std.specs.declared.alloc.Global.{Global}
+use Rattle.text_files.specs.Kinds.{suffix_of}
+use Rattle.text_bytes.specs.Names.{slash}
 use Rattle.text_files.specs.declared.source_file.FileKind.{FileKind}
-use Rattle.text_files.specs.declared.source_file.FileKind.TheVariants.{Hwdb, Rules}
 use Rattle.text_files.specs.declared.source_file.SourceFile.{SourceFile}
+use Rattle.devdry_files.specs.Answers.{Answer}
+use Rattle.devdry_files.specs.Answers.Answer.{Content, Listing, NoListing}
+use Rattle.devdry_files.specs.declared.disk.DiskFault.TheVariants.{Absent}
+use Rattle.devdry_files.specs.declared.disk.Entry.{Entry}
 use Rattle.devdry_files.specs.declared.places.Folder.{Folder}
 use Rattle.devdry_files.specs.declared.places.Wanted.{Wanted}
 
--- how the names of a kind's files end, in a folder
-abbrev pub suffix_of : FileKind → List ℕ
-suffix_of Hwdb = codes ".hwdb"
-suffix_of Rules = codes ".rules"
+-- whether an entry of a folder is a file of the kind: its name ends so, and it is no folder
+abbrev pub counts : FileKind → Entry → Bool
+counts kind e = ends_with nat_eq (string_bytes e.name) (suffix_of kind) && not e.is_folder
 
--- the text ends so
-abbrev pub EndsWith : List ℕ → List ℕ → Type 0
-EndsWith suffix text = (front : List ℕ) × (text ≡ front ++ suffix)
+-- the path of a name in a folder
+abbrev pub path_in : Folder → List ℕ → List ℕ
+path_in folder name = string_bytes folder.path ++ slash ∷ name
 
--- names of files of the kind, which do not fall, byte by byte
-pub record AreNames (kind : FileKind) (names : List (String Global)) : Type 0 where
-  pub end : All (EndsWith (suffix_of kind)) (map string_bytes names)
+-- the entries at the path are these as the disk may list them, or none where it may say that nothing is there
+abbrev pub IsListing : (Answer → Type 0) → List ℕ → List Entry → Type 0
+IsListing may path entries = may (Listing path entries) ⊎ (may (NoListing path Absent) × (entries ≡ []))
+
+-- the names of a folder's files of its kind: of one listing all entries that count, each once, by name
+pub record AreNamesIn (may : Answer → Type 0) (folder : Folder) (names : List (String Global)) : Type 0 where
+  pub entries : List Entry
+  pub listed : IsListing may (string_bytes folder.path) entries
+  pub once : IsPermutation (map (λ e. e.name) (filter (counts folder.kind) entries)) names
   pub rise : IsSorted string_cmp names
 
--- a file without what stands in it: its kind, its rank and its name
-abbrev pub Label : Type 0
-Label = FileKind × ℕ × List ℕ
+-- a file of this kind and rank, with the bytes that the disk may say are at the path
+pub record IsFileAt (may : Answer → Type 0) (kind : FileKind) (rank : ℕ) (path : List ℕ) (file : SourceFile) : Type 0 where
+  pub kind_is : file.kind ≡ kind
+  pub rank_is : file.rank ≡ rank
+  pub read : may (Content path file.bytes)
 
--- what a file is, without what stands in it
-abbrev pub label_of : SourceFile → Label
-label_of f = (f.kind, f.rank, f.name)
+-- the names of files
+abbrev pub names : List SourceFile → List (List ℕ)
+names files = map (λ file. file.name) files
 
--- files of one kind and rank, by their names
-abbrev pub labelled : FileKind → ℕ → List (List ℕ) → List Label
-labelled kind rank = map (λ name. (kind, rank, name))
+-- files of these names, of one kind and rank, each with the bytes at the path of its name
+pub record AreFilesAt (may : Answer → Type 0) (kind : FileKind) (rank : ℕ) (path_of : List ℕ → List ℕ) (given : List (List ℕ)) (files : List SourceFile) : Type 0 where
+  pub named_so : names files ≡ given
+  pub each : All (λ file. IsFileAt may kind rank (path_of file.name) file) files
 
--- the files are those of the folders, one folder after the other
-abbrev pub AreFrom : List Folder → List Label → Type 0
-AreFrom [] found = found ≡ []
-AreFrom (folder ∷ rest) found = (names : List (String Global)) × (back : List Label)
-    × (found ≡ labelled folder.kind folder.rank (map string_bytes names) ++ back)
-    × AreNames folder.kind names × AreFrom rest back
+-- the files of a folder: one for each of its names, in their order, with the bytes at that name in it
+pub record AreInFolder (may : Answer → Type 0) (folder : Folder) (files : List SourceFile) : Type 0 where
+  pub listed_names : List (String Global)
+  pub are_names : AreNamesIn may folder listed_names
+  pub are_files : AreFilesAt may folder.kind folder.rank (path_in folder) (map string_bytes listed_names) files
 
--- the named files in their order with rank 0, then those of the folders
-abbrev pub AreWanted : Wanted → List SourceFile → Type 0
-AreWanted w files = (found : List Label) × AreFrom w.folders.items found
-    × (map label_of files ≡ labelled w.kind 0 (map (λ f. f.now) w.files.now) ++ found)
+-- the files of a folder, and behind them others
+pub record AreInFolderAnd (may : Answer → Type 0) (folder : Folder) (Others : List SourceFile → Type 0) (files : List SourceFile) : Type 0 where
+  pub own : List SourceFile
+  pub behind : List SourceFile
+  pub cut : files ≡ own ++ behind
+  pub in_folder : AreInFolder may folder own
+  pub others : Others behind
 
--- the files of the folder stand behind the old ones
-abbrev pub AddsFolder : Folder → List SourceFile → List SourceFile → Type 0
-AddsFolder folder old new = (names : List (String Global)) × AreNames folder.kind names
-    × (map label_of new ≡ map label_of old ++ labelled folder.kind folder.rank (map string_bytes names))
+-- the files of the folders, one folder after the other
+abbrev pub AreInFolders : (Answer → Type 0) → List Folder → List SourceFile → Type 0
+AreInFolders may [] files = files ≡ []
+AreInFolders may (folder ∷ rest) files = AreInFolderAnd may folder (AreInFolders may rest) files
 
--- the files of the folders stand behind the old ones
-abbrev pub AddsFolders : List Folder → List SourceFile → List SourceFile → Type 0
-AddsFolders folders old new = (found : List Label) × AreFrom folders found
-    × (map label_of new ≡ map label_of old ++ found)
+-- the files that are named, in their order: of rank 0, with the bytes at the path that is the name
+abbrev pub AreNamed : (Answer → Type 0) → FileKind → List (List ℕ) → List SourceFile → Type 0
+AreNamed may kind paths files = AreFilesAt may kind 0 (λ path. path) paths files
+
+-- the files that are wanted: those that are named, and then those of the folders
+pub record AreWanted (may : Answer → Type 0) (w : Wanted) (files : List SourceFile) : Type 0 where
+  pub named : List SourceFile
+  pub found : List SourceFile
+  pub cut : files ≡ named ++ found
+  pub are_named : AreNamed may w.kind (map (λ f. f.now) w.files.now) named
+  pub are_found : AreInFolders may w.folders.items found

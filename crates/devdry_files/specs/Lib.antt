@@ -1,3 +1,6 @@
-pub mod Places
+pub mod Answers
+pub mod Errors
 pub mod Faults
 pub mod Found
+pub mod Memory
+pub mod Places

@@ -1,20 +1,11 @@
 //! The files and folders that a line asks for.
-ghost use Rattle.std.specs.Prelude.{◌≡◌, ◌++◌, IfOk};
-ghost use Rattle.devdry_files.specs.Places.{Wants, folders_for, folders_of, kind_of, place_of, places_of};
+ghost use Rattle.std.specs.Prelude.{◌≡◌, IfOk};
+ghost use Rattle.devdry_files.specs.Places.{Wants, folders_for, folders_of, place, place_of, places_of};
 
 use crate::places::{Folder, Wanted};
-use engine_line::{Line, Verb};
+use engine_line::Line;
 use std::alloc::{AllocError, Global};
 use text_files::FileKind;
-
-fn named_kind(verb: Verb) -> FileKind
-    ensures { result ≡ kind_of verb }
-{
-    match verb {
-        Verb::Update | Verb::Query => FileKind::Hwdb,
-        Verb::Verify => FileKind::Rules,
-    }
-}
 
 fn folder(
     alloc: Global,
@@ -23,7 +14,7 @@ fn folder(
     root: &str,
     path: &str,
 ) -> Result<Folder, AllocError>
-    ensures { IfOk result (λ f. place_of f ≡ (kind, rank, root.now ++ path.now)) }
+    ensures { IfOk result (λ f. place_of f ≡ place kind rank root.now path.now) }
 {
     let mut whole = String::from_str(alloc, root)?;
     whole.push_str(path)?;
@@ -66,29 +57,32 @@ fn folders_of_kind(alloc: Global, kind: FileKind, root: &str) -> Result<Vec<Fold
     }
 }
 
+// The folders of the kinds that the line reads and names no files of.
 fn asked_folders(alloc: Global, line: &Line<'_>) -> Result<Vec<Folder>, AllocError>
     ensures { IfOk result (λ folders. places_of folders.items ≡ folders_for line.now) }
 {
-    if line.files.is_empty() {
-        folders_of_kind(alloc, named_kind(line.verb), line.root)
-    } else {
-        Ok(Vec::new(alloc))
+    let mut folders = Vec::new(alloc);
+    for kind in line.verb.kinds_read() {
+        if !line.names_files_of(*kind) {
+            folders.append(&mut folders_of_kind(alloc, *kind, line.root)?)?;
+        }
     }
+    Ok(folders)
 }
 
 /// The files and folders that a line asks for.
 ///
-/// Named files stand in place of the folders, as with `udevadm verify`. `update` and `query` ask for
-/// files of the database, and their folders are those of hwdb(7): `/etc/udev/hwdb.d` with rank 0 and
-/// `/usr/lib/udev/hwdb.d` with rank 1. `verify` asks for files of rules, and its folders are those of
-/// udev(7): `/etc/udev/rules.d` with rank 0, `/run/udev/rules.d` with 1,
-/// `/usr/local/lib/udev/rules.d` with 2 and `/usr/lib/udev/rules.d` with 3. Each stands behind the
-/// line's root, which is put before it as it is. `Err` is want of memory.
+/// Named files stand in place of the folders of their kind, as with `udevadm verify`. `update` and
+/// `query` ask for files of the database, and their folders are those of hwdb(7):
+/// `/etc/udev/hwdb.d` with rank 0 and `/usr/lib/udev/hwdb.d` with rank 1. `verify` asks for files of
+/// rules, and its folders are those of udev(7): `/etc/udev/rules.d` with rank 0,
+/// `/run/udev/rules.d` with 1, `/usr/local/lib/udev/rules.d` with 2 and `/usr/lib/udev/rules.d` with
+/// 3. Each stands behind the line's root, which is put before it as it is. `Err` is want of memory.
 pub fn wanted<'b, 'a>(alloc: Global, line: &'b Line<'a>) -> Result<Wanted<'b, 'a>, AllocError>
     ensures { IfOk result (Wants line.now) }
 {
     Ok(Wanted {
-        kind: named_kind(line.verb),
+        kind: line.verb.kind_named(),
         files: line.files.as_slice(),
         folders: asked_folders(alloc, line)?,
     })

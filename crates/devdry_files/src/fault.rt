@@ -1,17 +1,17 @@
 //! Why files could not be read.
 ghost use Rattle.std.specs.Prelude.{◌≡◌};
-ghost use Rattle.devdry_files.specs.Faults.{IsAbout};
+ghost use Rattle.devdry_files.specs.Faults.{fault_of};
 ghost use Rattle.devdry_files.specs.declared.fault.ReadFault.TheVariants.{Memory};
 
-use std::alloc::{AllocError, AllocFailed, Global};
-use std::io;
+use crate::disk::DiskFault;
+use std::alloc::{AllocError, AllocFailed};
 
 /// Why files could not be read.
 #[derive(Debug, Drop)]
 pub enum ReadFault {
-    /// 1: this file or folder could not be read: the path that was opened.
+    /// 1: this file or folder could not be read: its path, with what the line puts before it.
     Path(String),
-    /// 2: want of memory.
+    /// 2: memory was refused.
     Memory,
 }
 
@@ -31,15 +31,12 @@ impl<T: Drop> From<AllocFailed<T>> for ReadFault {
     }
 }
 
-/// The fault of an error at a path.
-pub(crate) fn fault_at(alloc: Global, path: &str, error: &io::Error) -> ReadFault
-    ensures { IsAbout path.now result }
+/// The fault of a disk at a path. It takes the path over, so that telling of it needs no memory.
+pub(crate) fn fault_at(path: String, fault: DiskFault) -> ReadFault
+    ensures { result ≡ fault_of path fault }
 {
-    if error.kind() == io::ErrorKind::OutOfMemory {
-        return ReadFault::Memory;
-    }
-    match String::from_str(alloc, path) {
-        Ok(path) => ReadFault::Path(path),
-        Err(_) => ReadFault::Memory,
+    match fault {
+        DiskFault::Absent | DiskFault::Unreadable => ReadFault::Path(path),
+        DiskFault::OutOfMemory => ReadFault::Memory,
     }
 }

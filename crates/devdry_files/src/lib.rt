@@ -6,15 +6,20 @@
 #![tactic(auto)]
 
 mod asking;
-mod bounded;
+mod disk;
 mod fault;
 mod listing;
+mod memory_disk;
 mod places;
 mod reading;
+mod real_disk;
 #[cfg(test)]
 mod tests;
 
 pub use asking::wanted;
+pub use disk::{Disk, DiskFault, Entry};
 pub use fault::ReadFault;
+pub use memory_disk::{MemoryDisk, MemoryEntry, MemoryPlace, Stands};
 pub use places::{Folder, Wanted};
 pub use reading::read_all;
+pub use real_disk::RealDisk;

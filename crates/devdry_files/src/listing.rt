@@ -1,95 +1,63 @@
 //! The names in a folder that count.
-ghost use Rattle.std.specs.Prelude.{◌≡◌, ◌++◌, ◌∷◌, [], All, IfErr, IfOk, IsTrue, OnOk, map};
-ghost use Rattle.std.specs.Prelude.{string_bytes};
-ghost use Rattle.devdry_files.specs.Faults.{IsAbout};
-ghost use Rattle.devdry_files.specs.Found.{AreNames, EndsWith, suffix_of};
+ghost use Rattle.std.specs.Prelude.{◌≡◌, IfErr, IfOk, filter, map, string_bytes};
+ghost use Rattle.devdry_files.specs.Answers.Answer.{NoListing};
+ghost use Rattle.devdry_files.specs.Faults.{HasPath, IsUnlisted};
+ghost use Rattle.devdry_files.specs.Found.{AreNamesIn, IsListing, counts};
 
+use crate::disk::{Disk, DiskFault, Entry};
 use crate::fault::{ReadFault, fault_at};
 use crate::places::Folder;
 use std::alloc::{AllocError, Global};
-use std::path::Path;
-use std::rt::Files;
-use std::{fs, io};
 use text_files::FileKind;
 
-fn suffix(kind: FileKind) -> &'static str
-    ensures { result.now ≡ suffix_of kind }
+// Whether an entry is a file of the kind.
+fn counts(kind: FileKind, entry: &Entry) -> bool
+    ensures { result ≡ counts kind entry.now }
 {
-    match kind {
-        FileKind::Hwdb => ".hwdb",
-        FileKind::Rules => ".rules",
+    let is_named_so = entry.name.as_bytes().ends_with(kind.suffix().as_bytes());
+    is_named_so & !entry.is_folder
+}
+
+// The entries of the folder at a path. An absent folder is empty.
+fn entries_at<D: Disk>(alloc: Global, disk: &D, path: String) -> Result<Vec<Entry>, ReadFault>
+    ensures entries { IfOk result (λ entries.
+        IsListing (D.may_answer disk.now) (string_bytes path) entries.items) }
+    ensures fault { IfErr result (HasPath (λ p. (p ≡ string_bytes path)
+        × IsUnlisted (D.may_answer disk.now) p)) }
+    ensures memory { IfErr result (λ fault. fault ≡ ReadFault.Memory
+        → D.may_answer disk.now (NoListing (string_bytes path) DiskFault.OutOfMemory)) }
+{
+    match disk.list(alloc, path.as_str()) {
+        Ok(entries) => Ok(entries),
+        Err(DiskFault::Absent) => Ok(Vec::new(alloc)),
+        Err(fault) => Err(fault_at(path, fault)),
     }
 }
 
-// Whether a folder is at the path, a symlink to one among it. What can't be looked at is none, so
-// that reading it says why.
-fn is_folder<R: Files>(rt: &R, path: Path<'_>) -> bool {
-    match fs::metadata(rt, path) {
-        Ok(metadata) => metadata.is_dir(),
-        Err(_) => false,
-    }
-}
-
-// Whether an entry of a folder is a file of the kind.
-fn counts<R: Files>(rt: &R, kind: FileKind, name: &str, path: Path<'_>) -> bool
-    ensures { IsTrue result → EndsWith (suffix_of kind) name.now }
+// The names of the entries that are files of the kind.
+fn names_of(alloc: Global, kind: FileKind, entries: Vec<Entry>) -> Result<Vec<String>, AllocError>
+    ensures { IfOk result (λ names.
+        names.items ≡ map (λ e. e.name) (filter (counts kind) entries.items)) }
 {
-    if name.ends_with(suffix(kind)) {
-        !is_folder(rt, path)
-    } else {
-        false
-    }
+    entries
+        .into_iter()
+        .filter(|entry| counts(kind, entry))
+        .map(|entry| entry.name)
+        .collect(alloc)
 }
 
-fn add_name(alloc: Global, name: &str, names: &mut Vec<String>) -> Result<(), AllocError>
-    ensures { OnOk result (map string_bytes names.new.items
-        ≡ map string_bytes names.old.items ++ name.now ∷ []) }
-{
-    names.push(String::from_str(alloc, name)?)?;
-    Ok(())
-}
-
-// The names of a folder's files of its kind, in the order of the listing.
-fn listed<R: Files + AllocGlobal + Clone + Drop>(
-    rt: &R,
-    folder: &Folder,
-) -> Result<Vec<String>, ReadFault>
-    ensures names { IfOk result (λ names.
-        All (EndsWith (suffix_of folder.now.kind)) (map string_bytes names.items)) }
-    ensures fault { IfErr result (IsAbout (string_bytes folder.now.path)) }
-{
-    let path = folder.path.as_str();
-    let mut names = Vec::new(rt.alloc());
-    let listing = match fs::read_dir(rt, path) {
-        Ok(listing) => listing,
-        Err(error) if error.kind() == io::ErrorKind::NotFound => return Ok(names),
-        Err(error) => return Err(fault_at(rt.alloc(), path, &error)),
-    };
-    for entry in listing {
-        let entry = match entry {
-            Ok(entry) => entry,
-            Err(error) => return Err(fault_at(rt.alloc(), path, &error)),
-        };
-        let name = entry.file_name();
-        if counts(rt, folder.kind, name, entry.path()) {
-            add_name(rt.alloc(), name, &mut names)?;
-        }
-    }
-    Ok(names)
-}
-
-/// The names of a folder's files of its kind, sorted byte by byte so that runs are alike: folders
-/// in it are passed over, and an absent folder is empty.
+/// The names of a folder's files of its kind, sorted byte by byte.
 ///
-/// A fault has the folder's path: the listing failed, or a name in it is not UTF-8.
-pub fn names_in<R: Files + AllocGlobal + Clone + Drop>(
-    rt: &R,
-    folder: &Folder,
-) -> Result<Vec<String>, ReadFault>
-    ensures names { IfOk result (λ names. AreNames folder.now.kind names.items) }
-    ensures fault { IfErr result (IsAbout (string_bytes folder.now.path)) }
+/// Folders in it are passed over, and an absent folder is empty. A fault has the folder's path.
+pub fn names_in<D: Disk>(alloc: Global, disk: &D, folder: &Folder) -> Result<Vec<String>, ReadFault>
+    ensures names { IfOk result (λ names.
+        AreNamesIn (D.may_answer disk.now) folder.now names.items) }
+    ensures fault { IfErr result (HasPath (λ p. (p ≡ string_bytes folder.now.path)
+        × IsUnlisted (D.may_answer disk.now) p)) }
 {
-    let mut names = listed(rt, folder)?;
+    let path = String::from_str(alloc, folder.path.as_str())?;
+    let entries = entries_at(alloc, disk, path)?;
+    let mut names = names_of(alloc, folder.kind, entries)?;
     names.sort_unstable();
     Ok(names)
 }

@@ -1,55 +1,48 @@
 //! Reads what a line asks for.
-ghost use Rattle.std.specs.Prelude.{◌≡◌, ◌++◌, ◌∷◌, Contains, IfErr, IfOk, OnOk, map};
-ghost use Rattle.std.specs.Prelude.{string_bytes};
+ghost use Rattle.std.specs.Prelude.{◌≡◌, ◌++◌, ◌∷◌, IfErr, IfOk, map, string_bytes};
 ghost use Rattle.text_bytes.specs.Names.{slash};
-ghost use Rattle.devdry_files.specs.Faults.{HasPath, IsAbout, IsAboutWanted, IsAtFolder, IsAtFolders};
-ghost use Rattle.devdry_files.specs.Found.{AddsFolder, AddsFolders, AreWanted, label_of, labelled};
+ghost use Rattle.devdry_files.specs.Answers.Answer.{NoContent};
+ghost use Rattle.devdry_files.specs.Faults.{HasPath, IsFaultyIn, IsFaultyInOneOf, IsFaultyNamed, IsFaultyWanted, IsUnread};
+ghost use Rattle.devdry_files.specs.Found.{AreInFolder, AreInFolders, AreNamed, AreWanted, IsFileAt, path_in};
 
-use crate::bounded::{MOST_READS, read_whole};
+use crate::disk::{Disk, DiskFault};
 use crate::fault::{ReadFault, fault_at};
 use crate::listing::names_in;
 use crate::places::{Folder, Wanted};
 use std::alloc::{AllocError, Global};
-use std::fs::{File, OpenFile};
-use std::io;
-use std::rt::Files;
 use text_bytes::Bytes;
 use text_files::{FileKind, SourceFile};
 
-// All that stands in a file. A folder can be opened, but not read.
-fn bytes_at<R: Files + AllocGlobal>(rt: &R, path: &str) -> io::Result<Vec<u8>> {
-    let file = File::open(rt, path)?;
-    let length = usize::try_from(file.metadata()?.len()).unwrap_or(0);
-    read_whole(rt.alloc(), file, length, MOST_READS)
-}
-
 // The file at a path, told of by a name.
-fn file_at<R: Files + AllocGlobal>(
-    rt: &R,
-    path: &str,
+fn file_at<D: Disk>(
+    alloc: Global,
+    disk: &D,
+    path: String,
     kind: FileKind,
     rank: u8,
-    name: &[u8],
+    name: Bytes,
 ) -> Result<SourceFile, ReadFault>
-    ensures file { IfOk result (λ f. label_of f ≡ (kind, rank, name.now)) }
-    ensures fault { IfErr result (IsAbout path.now) }
+    ensures name { IfOk result (λ file. file.name ≡ name) }
+    ensures file { IfOk result (IsFileAt (D.may_answer disk.now) kind rank (string_bytes path)) }
+    ensures fault { IfErr result (HasPath (λ p. (p ≡ string_bytes path)
+        × IsUnread (D.may_answer disk.now) p)) }
+    ensures memory { IfErr result (λ fault. fault ≡ ReadFault.Memory
+        → D.may_answer disk.now (NoContent (string_bytes path) DiskFault.OutOfMemory)) }
 {
-    let name = Bytes::copy_of(rt.alloc(), name)?;
-    match bytes_at(rt, path) {
+    match disk.read(alloc, path.as_str()) {
         Ok(bytes) => Ok(SourceFile {
             kind,
             rank,
             name,
-            bytes: Bytes::new(bytes),
+            bytes,
         }),
-        Err(error) => Err(fault_at(rt.alloc(), path, &error)),
+        Err(fault) => Err(fault_at(path, fault)),
     }
 }
 
 // The path of a name in a folder.
 fn path_in(alloc: Global, folder: &Folder, name: &str) -> Result<String, AllocError>
-    ensures { IfOk result (λ path. string_bytes path
-        ≡ string_bytes folder.now.path ++ slash ∷ name.now) }
+    ensures { IfOk result (λ path. string_bytes path ≡ path_in folder.now name.now) }
 {
     let mut path = String::from_str(alloc, folder.path.as_str())?;
     path.push_str("/")?;
@@ -57,60 +50,87 @@ fn path_in(alloc: Global, folder: &Folder, name: &str) -> Result<String, AllocEr
     Ok(path)
 }
 
-fn file_in<R: Files + AllocGlobal>(
-    rt: &R,
+// The file of a name in a folder.
+fn file_in<D: Disk>(
+    alloc: Global,
+    disk: &D,
     folder: &Folder,
     name: &str,
 ) -> Result<SourceFile, ReadFault>
-    ensures file { IfOk result (λ f. label_of f ≡ (folder.now.kind, folder.now.rank, name.now)) }
-    ensures fault { IfErr result (HasPath (IsAtFolder folder.now)) }
+    ensures name { IfOk result (λ file. file.name ≡ name.now) }
+    ensures file { IfOk result (IsFileAt (D.may_answer disk.now) folder.now.kind folder.now.rank
+        (path_in folder.now name.now)) }
+    ensures fault { IfErr result (HasPath (λ p. (p ≡ path_in folder.now name.now)
+        × IsUnread (D.may_answer disk.now) p)) }
 {
-    let path = path_in(rt.alloc(), folder, name)?;
-    file_at(rt, path.as_str(), folder.kind, folder.rank, name.as_bytes())
+    let path = path_in(alloc, folder, name)?;
+    let name = Bytes::copy_of(alloc, name.as_bytes())?;
+    file_at(alloc, disk, path, folder.kind, folder.rank, name)
 }
 
-// Adds the files of a folder.
-fn add_folder<R: Files + AllocGlobal + Clone + Drop>(
-    rt: &R,
-    folder: &Folder,
-    files: &mut Vec<SourceFile>,
-) -> Result<(), ReadFault>
-    ensures files { OnOk result (AddsFolder folder.now files.old.items files.new.items) }
-    ensures fault { IfErr result (HasPath (IsAtFolder folder.now)) }
+// The files of a folder.
+fn files_in<D: Disk>(alloc: Global, disk: &D, folder: &Folder) -> Result<Vec<SourceFile>, ReadFault>
+    ensures files { IfOk result (λ files.
+        AreInFolder (D.may_answer disk.now) folder.now files.items) }
+    ensures fault { IfErr result (HasPath (IsFaultyIn (D.may_answer disk.now) folder.now)) }
 {
-    let names = names_in(rt, folder)?;
+    let names = names_in(alloc, disk, folder)?;
+    let mut files = Vec::new(alloc);
     for name in &names {
-        files.push(file_in(rt, folder, name.as_str())?)?;
+        files.push(file_in(alloc, disk, folder, name.as_str())?)?;
     }
-    Ok(())
+    Ok(files)
 }
 
-fn add_folders<R: Files + AllocGlobal + Clone + Drop>(
-    rt: &R,
+// The files of the folders, one folder after the other.
+fn files_of_folders<D: Disk>(
+    alloc: Global,
+    disk: &D,
     folders: &[Folder],
-    files: &mut Vec<SourceFile>,
-) -> Result<(), ReadFault>
-    ensures files { OnOk result (AddsFolders folders.now files.old.items files.new.items) }
-    ensures fault { IfErr result (HasPath (IsAtFolders folders.now)) }
+) -> Result<Vec<SourceFile>, ReadFault>
+    ensures files { IfOk result (λ files.
+        AreInFolders (D.may_answer disk.now) folders.now files.items) }
+    ensures fault { IfErr result (HasPath (IsFaultyInOneOf (D.may_answer disk.now) folders.now)) }
 {
+    let mut files = Vec::new(alloc);
     for folder in folders {
-        add_folder(rt, folder, files)?;
+        files.append(&mut files_in(alloc, disk, folder)?)?;
     }
-    Ok(())
+    Ok(files)
 }
 
-// The named files, in their order.
-fn named_files<R: Files + AllocGlobal>(
-    rt: &R,
-    wanted: &Wanted<'_, '_>,
-) -> Result<Vec<SourceFile>, ReadFault>
-    ensures files { IfOk result (λ files. map label_of files.items
-        ≡ labelled wanted.now.kind 0 (map (λ f. f.now) wanted.now.files.now)) }
-    ensures fault { IfErr result (HasPath (Contains (map (λ f. f.now) wanted.now.files.now))) }
+// A file that is named.
+fn named_file<D: Disk>(
+    alloc: Global,
+    disk: &D,
+    kind: FileKind,
+    path: &str,
+) -> Result<SourceFile, ReadFault>
+    ensures name { IfOk result (λ file. file.name ≡ path.now) }
+    ensures file { IfOk result (IsFileAt (D.may_answer disk.now) kind 0 path.now) }
+    ensures fault { IfErr result (HasPath (λ p. (p ≡ path.now)
+        × IsUnread (D.may_answer disk.now) p)) }
 {
-    let mut files = Vec::new(rt.alloc());
-    for name in wanted.files {
-        files.push(file_at(rt, name, wanted.kind, 0, name.as_bytes())?)?;
+    let name = Bytes::copy_of(alloc, path.as_bytes())?;
+    let path = String::from_str(alloc, path)?;
+    file_at(alloc, disk, path, kind, 0, name)
+}
+
+// The files that are named, in their order.
+fn named_files<D: Disk>(
+    alloc: Global,
+    disk: &D,
+    kind: FileKind,
+    paths: &[&str],
+) -> Result<Vec<SourceFile>, ReadFault>
+    ensures files { IfOk result (λ files.
+        AreNamed (D.may_answer disk.now) kind (map (λ p. p.now) paths.now) files.items) }
+    ensures fault { IfErr result (HasPath
+        (IsFaultyNamed (D.may_answer disk.now) (map (λ p. p.now) paths.now))) }
+{
+    let mut files = Vec::new(alloc);
+    for path in paths {
+        files.push(named_file(alloc, disk, kind, path)?)?;
     }
     Ok(files)
 }
@@ -121,21 +141,22 @@ fn named_files<R: Files + AllocGlobal>(
 /// Named files are read whatever their suffix, and have rank 0 and their names as given. In a
 /// folder only files whose names end in the suffix of their kind are opened, `.hwdb` as hwdb(7) says
 /// or `.rules` as udev(7) does, each under its name without the folder; folders in it are passed
-/// over, a symlink is followed, and an absent folder is empty. A file that has not ended after 2^48
-/// reads counts as one that failed.
+/// over, a symlink is followed, and an absent folder is empty.
 ///
 /// `ReadFault::Path` comes at the first file that can't be read, with its path; a folder given as
 /// a file is one, and so is a symlink to nothing in a folder, as `systemd-hwdb update --strict`
 /// has it. Where a folder can't be listed, or a name in it is not UTF-8, it has the folder's path.
 /// `ReadFault::Memory` comes where an allocation was refused.
-pub fn read_all<R: Files + AllocGlobal + Clone + Drop>(
-    rt: &R,
+pub fn read_all<D: Disk>(
+    alloc: Global,
+    disk: &D,
     wanted: &Wanted<'_, '_>,
 ) -> Result<Vec<SourceFile>, ReadFault>
-    ensures files { IfOk result (λ files. AreWanted wanted.now files.items) }
-    ensures fault { IfErr result (IsAboutWanted wanted.now) }
+    ensures files { IfOk result (λ files.
+        AreWanted (D.may_answer disk.now) wanted.now files.items) }
+    ensures fault { IfErr result (HasPath (IsFaultyWanted (D.may_answer disk.now) wanted.now)) }
 {
-    let mut files = named_files(rt, wanted)?;
-    add_folders(rt, wanted.folders.as_slice(), &mut files)?;
+    let mut files = named_files(alloc, disk, wanted.kind, wanted.files)?;
+    files.append(&mut files_of_folders(alloc, disk, wanted.folders.as_slice())?)?;
     Ok(files)
 }

@@ -1,0 +1,93 @@
+//! A disk over memory, which says just what it answers.
+//!
+//! It shows that the contract of `Disk` can be met, and serves tests that need odd folders.
+ghost use Rattle.std.specs.Prelude.{◌≡◌, IfOk, map};
+ghost use Rattle.devdry_files.specs.Memory.{MayAnswer, seen, seen_in_memory, stands_at};
+
+use crate::disk::{Disk, DiskFault, Entry};
+use std::alloc::{AllocError, Global};
+use text_bytes::Bytes;
+
+/// An entry of a folder in memory.
+#[derive(Clone, Copy, Debug)]
+pub struct MemoryEntry<'a> {
+    /// Its name.
+    pub name: &'a str,
+    /// Whether it is said to be a folder.
+    pub is_folder: bool,
+}
+
+/// What stands at a path.
+#[derive(Clone, Copy, Debug)]
+pub enum Stands<'a> {
+    /// A folder with these entries.
+    Folder(&'a [MemoryEntry<'a>]),
+    /// A file of these bytes.
+    File(&'a [u8]),
+    /// Something that can't be read.
+    Unreadable,
+}
+
+/// A path, and what stands there.
+#[derive(Clone, Copy, Debug)]
+pub struct MemoryPlace<'a> {
+    /// The path, which has to be asked for byte by byte.
+    pub path: &'a str,
+    /// What stands there.
+    pub stands: Stands<'a>,
+}
+
+/// A disk over memory. Of places with one path the first counts; at any other path is nothing.
+#[derive(Clone, Copy, Debug)]
+pub struct MemoryDisk<'a> {
+    /// All places.
+    pub places: &'a [MemoryPlace<'a>],
+}
+
+// What stands at a path.
+fn stands_at<'a>(disk: &MemoryDisk<'a>, path: &str) -> Option<Stands<'a>>
+    ensures { result ≡ stands_at disk.now path.now }
+{
+    let place = disk.places.iter().find(|place| place.path == path)?;
+    Some(place.stands)
+}
+
+fn copy_of(alloc: Global, entry: &MemoryEntry<'_>) -> Result<Entry, AllocError>
+    ensures { IfOk result (λ copy. seen copy ≡ seen_in_memory entry.now) }
+{
+    Ok(Entry {
+        name: String::from_str(alloc, entry.name)?,
+        is_folder: entry.is_folder,
+    })
+}
+
+// The entries, copied.
+fn copies_of(alloc: Global, entries: &[MemoryEntry<'_>]) -> Result<Vec<Entry>, AllocError>
+    ensures { IfOk result (λ copies. map seen copies.items ≡ map seen_in_memory entries.now) }
+{
+    let mut copies = Vec::new(alloc);
+    for entry in entries {
+        copies.push(copy_of(alloc, entry)?)?;
+    }
+    Ok(copies)
+}
+
+impl Disk for MemoryDisk<'_> {
+    ghost may_answer = { MayAnswer };
+
+    fn list(&self, alloc: Global, path: &str) -> Result<Vec<Entry>, DiskFault> {
+        match stands_at(self, path) {
+            Some(Stands::Folder(entries)) => Ok(copies_of(alloc, entries)?),
+            Some(_) => Err(DiskFault::Unreadable),
+            None => Err(DiskFault::Absent),
+        }
+    }
+
+    fn read(&self, alloc: Global, path: &str) -> Result<Bytes, DiskFault> {
+        match stands_at(self, path) {
+            Some(Stands::File(bytes)) => Ok(Bytes::copy_of(alloc, bytes)?),
+            Some(_) => Err(DiskFault::Unreadable),
+            None => Err(DiskFault::Absent),
+        }
+    }
+}

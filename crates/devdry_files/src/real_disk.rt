@@ -1,0 +1,91 @@
+//! The disk of the system.
+//!
+//! This is the one place where files are opened. Its `may_answer` allows each answer, since no
+//! contract can say what the system gives; that the answers are those of the disk is shown by tests.
+//! So it is kept thin: what is made of a listing and of an open file is said by clauses of their own.
+ghost use Rattle.std.specs.Fs.{dir_entry_name};
+ghost use Rattle.std.specs.Iterator.{Drains, IsFinite};
+ghost use Rattle.std.specs.declared.alloc.Global.{Global};
+ghost use Rattle.std.specs.declared.fs.DirEntry.{DirEntry};
+ghost use Rattle.std.specs.Prelude.{◌≡◌, ⊤, IfOk, IfSome, List, Ok, map, string_bytes};
+
+use crate::disk::{Disk, DiskFault, Entry};
+use std::alloc::Global;
+use std::fs;
+use std::fs::{DirEntry, File};
+use std::io::{self, Read};
+use std::path::Path;
+use std::rt::Files;
+use text_bytes::Bytes;
+
+/// The disk that the runtime reaches.
+#[derive(Drop)]
+pub struct RealDisk<'r, R> {
+    rt: &'r R,
+}
+
+impl<'r, R> RealDisk<'r, R> {
+    /// The disk that a runtime reaches.
+    pub fn new(rt: &'r R) -> RealDisk<'r, R> {
+        RealDisk { rt }
+    }
+}
+
+// Whether a folder is at the path, or a symlink to one. What can't be looked at is none, so that
+// reading it says why.
+fn is_folder<R: Files>(rt: &R, path: Path<'_>) -> bool {
+    match fs::metadata(rt, path) {
+        Ok(metadata) => metadata.is_dir(),
+        Err(_) => false,
+    }
+}
+
+// An entry of a listing, looked at.
+fn entry_of<R: Files>(alloc: Global, rt: &R, found: &DirEntry<R>) -> Result<Entry, DiskFault>
+    ensures { IfOk result (λ e. string_bytes e.name ≡ dir_entry_name found.now) }
+{
+    Ok(Entry {
+        name: String::from_str(alloc, found.file_name())?,
+        is_folder: is_folder(rt, found.path()),
+    })
+}
+
+// All entries of a listing, in its order, none of which failed.
+fn entries_of<R: Files + Drop, I: Iterator<Item = io::Result<DirEntry<R>>> + Drop>(
+    alloc: Global,
+    rt: &R,
+    listing: I,
+) -> Result<Vec<Entry>, DiskFault>
+    requires can { I.can_next listing }
+    requires ends { IsFinite (I.remaining listing) }
+    ensures { IfOk result (λ entries. (found : List (DirEntry R Global R.File R.Dir))
+        × Drains I.next_gives listing (map Ok found)
+        × (map (λ e. string_bytes e.name) entries.items ≡ map dir_entry_name found)) }
+{
+    let mut entries = Vec::new(alloc);
+    for found in listing {
+        entries.push(entry_of(alloc, rt, &found?)?)?;
+    }
+    Ok(entries)
+}
+
+// All that a reader has left.
+pub(crate) fn bytes_of<F: Read + Drop>(alloc: Global, mut file: F) -> io::Result<Bytes>
+    ensures { IfOk result (λ read. IfSome (F.remaining file) (λ bytes. read ≡ bytes)) }
+{
+    let mut bytes = Vec::new(alloc);
+    file.read_to_end(&mut bytes)?;
+    Ok(Bytes::new(bytes))
+}
+
+impl<R: Files + AllocGlobal + Clone + Drop> Disk for RealDisk<'_, R> {
+    ghost may_answer = { λ _ _. ⊤ };
+
+    fn list(&self, alloc: Global, path: &str) -> Result<Vec<Entry>, DiskFault> {
+        entries_of(alloc, self.rt, fs::read_dir(self.rt, path)?)
+    }
+
+    fn read(&self, alloc: Global, path: &str) -> Result<Bytes, DiskFault> {
+        Ok(bytes_of(alloc, File::open(self.rt, path)?)?)
+    }
+}

@@ -1,3 +1,4 @@
 pub mod Sequences
 pub mod Places
 pub mod Staying
+pub mod Joining

@@ -1,2 +1,4 @@
 pub mod Safe
 pub mod Laws
+pub mod Words
+pub mod Steps

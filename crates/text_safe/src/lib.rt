@@ -10,6 +10,8 @@ mod laws;
 mod safe;
 #[cfg(test)]
 mod tests;
+mod words;
 
 pub use laws::{safe_bytes_stay, safe_texts_are_safe};
 pub use safe::{attribute_safe, link_safe};
+pub use words::underscored;

@@ -1,5 +1,5 @@
 //! Each public function at values that a person wrote down.
-use crate::{attribute_safe, link_safe};
+use crate::{attribute_safe, link_safe, underscored};
 use std::test::Fail;
 
 #[test]
@@ -23,5 +23,13 @@ fn links_keep_utf_8(rt: HostRuntime) -> Result<(), Fail> {
 fn attributes_keep_more(rt: HostRuntime) -> Result<(), Fail> {
     let made = attribute_safe(rt.alloc(), b"x;y?,$%\n")?;
     assert!(rt; made.as_slice() == b"x_y?,$% ".as_slice());
+    Ok(())
+}
+
+#[test]
+fn words_are_joined(rt: HostRuntime) -> Result<(), Fail> {
+    let made = underscored(rt.alloc(), b" \t a  b c\n")?;
+    assert!(rt; made.as_slice() == b"a_b_c".as_slice());
+    assert!(rt; underscored(rt.alloc(), b"  ")?.is_empty());
     Ok(())
 }

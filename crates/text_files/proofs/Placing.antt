@@ -13,13 +13,18 @@ use Rattle.std.proofs.lemmas.List.Elements.{filter-append}
 use Rattle.std.proofs.lemmas.List.Sums.{fold-append}
 use Rattle.std.proofs.lemmas.List.Sorted.{searchable_from_sorted}
 use Rattle.std.proofs.lemmas.Map.Lookups.{exact_bytes}
-use Rattle.text_files.specs.FileOrder.{winner, placed, put, with_suffix, ordered}
+use Rattle.text_files.specs.Insertion.{by_order}
+use Rattle.text_files.specs.FileOrder.{winner, put, with_suffix, ordered}
 use Rattle.text_files.specs.Places.{names, NamesRise, IsPlaceOf}
 use Rattle.text_files.specs.declared.source_file.SourceFile.{SourceFile}
 
 -- how two names compare
 abbrev pub order : List ℕ → List ℕ → Ordering
 order = slice_cmp nat_cmp
+
+-- a file behind x, against x or before it, as a comparison of their names comes out
+abbrev pub placed : Ordering → SourceFile → SourceFile → List SourceFile → List SourceFile → List SourceFile
+placed o e x xs behind = by_order o (x ∷ behind) (winner x e ∷ xs) (e ∷ x ∷ xs)
 
 -- every name is above this one
 abbrev pub Above : List ℕ → List SourceFile → Type 0

@@ -9,11 +9,11 @@ use Rattle.std.proofs.lemmas.Grind.{common_steps}
 use Rattle.std.proofs.lemmas.List.{append-nil}
 use Rattle.std.proofs.lemmas.List.Elements.{All-nil, All-cons, All-append}
 use Rattle.std.proofs.lemmas.Map.Lookups.{exact_bytes}
-use Rattle.text_files.specs.FileOrder.{placed, put}
+use Rattle.text_files.specs.FileOrder.{put}
 use Rattle.text_files.specs.OrderLaws.{IsFirstOfLeastRank}
 use Rattle.text_files.specs.Places.{NamesRise}
 use Rattle.text_files.specs.declared.source_file.SourceFile.{SourceFile}
-use Rattle.text_files.proofs.Placing.{order, Above, rises_behind, put-rises, winner-name, above_further}
+use Rattle.text_files.proofs.Placing.{order, placed, Above, rises_behind, put-rises, winner-name, above_further}
 
 -- a file of this name is there
 abbrev pub HasName : List ℕ → List SourceFile → Type 0

@@ -1,26 +1,16 @@
 -- Which of the files handed in are read, and in which order.
-use Rattle.std.specs.Prelude.{ℕ, nat_eq, nat_lt, if◌then◌else◌, List, ◌∷◌, [], filter, fold}
+use Rattle.std.specs.Prelude.{ℕ, nat_eq, nat_lt, if◌then◌else◌, List, [], filter, fold}
 use Rattle.std.specs.List.{ends_with}
-use Rattle.std.specs.Ordering.{nat_cmp}
-use Rattle.std.specs.declared.cmp.Ordering.{Ordering}
-use Rattle.std.specs.declared.cmp.Ordering.TheVariants.{Less, Equal, Greater}
-use Rattle.std.specs.Cmp.Lexicographic.{slice_cmp}
+use Rattle.text_files.specs.Insertion.{put_by}
 use Rattle.text_files.specs.declared.source_file.SourceFile.{SourceFile}
 
 -- of two files of one name, the one of the lesser rank, and of equal ranks the one handed in earlier
 abbrev pub winner : SourceFile → SourceFile → SourceFile
 winner earlier later = if nat_lt later.rank earlier.rank then later else earlier
 
--- a file behind x, against x or before it, as x's name is below the file's, the same or above it
-abbrev pub placed : Ordering → SourceFile → SourceFile → List SourceFile → List SourceFile → List SourceFile
-placed Less file x xs behind = x ∷ behind
-placed Equal file x xs behind = winner x file ∷ xs
-placed Greater file x xs behind = file ∷ x ∷ xs
-
 -- a file, handed in later, in its place among others that are sorted by name, byte by byte
 abbrev pub put : List SourceFile → SourceFile → List SourceFile
-put [] file = file ∷ []
-put (x ∷ xs) file = placed (slice_cmp nat_cmp x.name file.name) file x xs (put xs file)
+put files later = put_by (λ file. file.name) winner files later
 
 -- those of the files whose name ends in the suffix
 abbrev pub with_suffix : List ℕ → List SourceFile → List SourceFile

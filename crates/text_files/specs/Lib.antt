@@ -1,4 +1,5 @@
 pub mod Kinds
+pub mod Insertion
 pub mod FileOrder
 pub mod OrderLaws
 pub mod Messages

@@ -1,4 +1,4 @@
--- Where a file belongs among others that are sorted by name.
+-- Serves inner proofs, but for `NamesRise`: where a file belongs among others that are sorted by name.
 use Rattle.std.specs.Prelude.{◌≡◌, ℕ, ◌<◌, ◌≤◌, List, length, map, slice_index_or, MatchResult, Result}
 use Rattle.std.specs.List.Sorted.{IsPartitionPoint, IsStrictlySortedBy}
 use Rattle.std.specs.Ordering.{nat_cmp}

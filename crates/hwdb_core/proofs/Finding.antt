@@ -1,8 +1,8 @@
 -- Cutting a text at a byte.
-use Rattle.std.proofs.Common.{◌≡◌, ℕ, suc, ◌+◌, ◌-◌, ◌<◌, ◌≤◌, Bool, true, false, cond, not, ◌==◌, List, ◌∷◌, [], length, take, drop, Some, None, ltb, refl, sym, ◌∙◌, ap, arith}
-use Rattle.std.specs.List.{onto_first, position, position_or_len, take_while}
+use Rattle.std.proofs.Common.{◌≡◌, ℕ, ◌-◌, ◌<◌, ◌≤◌, Bool, true, false, cond, not, List, length, take, Some, None, ltb, refl, sym, ap, arith}
+use Rattle.std.specs.List.{position, position_or_len, take_while}
 use Rattle.std.proofs.lemmas.Bool.{ltb-true, ltb-false}
-use Rattle.std.proofs.lemmas.List.{take_all, length-drop}
+use Rattle.std.proofs.lemmas.List.{take_all}
 
 pub position_some : {X : Type 0} (p : X → Bool) (xs : List X) (k : ℕ) → position p xs ≡ Some k → (position_or_len p xs ≡ k) × (k < length xs)
 position_some {X} p xs k h = by_test (ltb (position_or_len p xs) (length xs)) refl h where

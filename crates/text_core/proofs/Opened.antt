@@ -1,5 +1,5 @@
 -- What a `[` begins, by what its end and its members are.
-use Rattle.std.proofs.Common.{◌≡◌, ℕ, ◌+◌, List, Bool, take, drop, Option, Some, None, Ok, Err, sym, ◌∙◌, ap}
+use Rattle.std.proofs.Common.{◌≡◌, ℕ, ◌+◌, List, take, drop, Option, Some, None, Ok, Err, sym, ◌∙◌, ap}
 use Rattle.std.specs.Option.{option_map}
 use Rattle.text_core.specs.declared.reading.Reading.{Reading}
 use Rattle.text_bytes.specs.Names.{open_bracket}

@@ -15,7 +15,8 @@ use Rattle.std.proofs.lemmas.List.Sorted.{searchable_from_sorted}
 use Rattle.std.proofs.lemmas.Map.Lookups.{exact_bytes}
 use Rattle.text_files.specs.Insertion.{by_order}
 use Rattle.text_files.specs.FileOrder.{winner, put, with_suffix, ordered}
-use Rattle.text_files.specs.Places.{names, NamesRise, IsPlaceOf}
+use Rattle.text_files.specs.OrderLaws.{names, NamesRise}
+use Rattle.text_files.specs.Places.{IsPlaceOf}
 use Rattle.text_files.specs.declared.source_file.SourceFile.{SourceFile}
 
 -- how two names compare

@@ -10,8 +10,7 @@ use Rattle.std.proofs.lemmas.List.{append-nil}
 use Rattle.std.proofs.lemmas.List.Elements.{All-nil, All-cons, All-append}
 use Rattle.std.proofs.lemmas.Map.Lookups.{exact_bytes}
 use Rattle.text_files.specs.FileOrder.{put}
-use Rattle.text_files.specs.OrderLaws.{IsFirstOfLeastRank}
-use Rattle.text_files.specs.Places.{NamesRise}
+use Rattle.text_files.specs.OrderLaws.{IsFirstOfLeastRank, NamesRise}
 use Rattle.text_files.specs.declared.source_file.SourceFile.{SourceFile}
 use Rattle.text_files.proofs.Placing.{order, placed, Above, rises_behind, put-rises, winner-name, above_further}
 

@@ -7,7 +7,8 @@ ghost use Rattle.std.specs.Prelude.{◌≡◌, IfOk, OnOk};
 ghost use Rattle.std.specs.Cmp.Lexicographic.{slice_cmp};
 ghost use Rattle.std.specs.Ordering.{nat_cmp};
 ghost use Rattle.text_files.specs.FileOrder.{ordered, put};
-ghost use Rattle.text_files.specs.Places.{NamesRise, IsPlaceOf};
+ghost use Rattle.text_files.specs.OrderLaws.{NamesRise};
+ghost use Rattle.text_files.specs.Places.{IsPlaceOf};
 
 use crate::SourceFile;
 use std::alloc::{AllocError, Global};

@@ -4,8 +4,7 @@
 ghost use Rattle.std.specs.Prelude.{◌≡◌, ◌<◌, List, ℕ, All, Any};
 ghost use Rattle.text_files.specs.Escapes.{escape_text, unescaped};
 ghost use Rattle.text_files.specs.FileOrder.{ordered, with_suffix};
-ghost use Rattle.text_files.specs.OrderLaws.{IsFirstOfLeastRank};
-ghost use Rattle.text_files.specs.Places.{NamesRise};
+ghost use Rattle.text_files.specs.OrderLaws.{IsFirstOfLeastRank, NamesRise};
 ghost use Rattle.text_files.specs.declared.source_file.SourceFile.{SourceFile};
 
 /// In the order of files the names rise, each file is the first of least rank of its name among

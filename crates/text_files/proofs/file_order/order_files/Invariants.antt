@@ -1,6 +1,6 @@
 use Rattle.std.proofs.Common.{◌≡◌, [], fold}
 use Rattle.text_files.specs.FileOrder.{put, with_suffix}
-use Rattle.text_files.specs.Places.{NamesRise}
+use Rattle.text_files.specs.OrderLaws.{NamesRise}
 use Rattle.text_files.proofs.file_order.order_files.Given as goal
 
 abbrev pub invariant-loop-file : goal.invariant-loop-file

@@ -1,11 +1,10 @@
 -- What is spelled is read again, and what is faulty is refused for that fault.
-use Rattle.std.proofs.Common.{◌≡◌, ◌≢◌, ℕ, zero, suc, ◌+◌, inl, inr, Bool, true, false, cond, not, ◌&&◌, ◌==◌, List, [], ◌∷◌, ◌++◌, length, take, drop, Option, Some, None, Result, Ok, Err, refl, sym, ◌∙◌, ap, arith, append_assoc}
+use Rattle.std.proofs.Common.{◌≡◌, ◌≢◌, ℕ, suc, ◌+◌, inl, inr, Bool, true, false, cond, not, ◌==◌, List, [], ◌∷◌, ◌++◌, length, take, drop, Option, Some, None, Ok, Err, refl, sym, ◌∙◌, ap, arith, append_assoc}
 use Rattle.std.specs.List.{AllPass, prefix_len, take_while}
 use Rattle.std.proofs.lemmas.List.{drop_at, take_at}
-use Rattle.std.proofs.lemmas.Bool.{and_parts, true≢false}
+use Rattle.std.proofs.lemmas.Bool.{and_parts}
 use Rattle.text_bytes.specs.Names.{dollar, percent, plus, open_brace, close_brace}
 use Rattle.text_words.specs.Texts.{begins_with, skip_while, split_once}
-use Rattle.rule_templates.specs.Braces.{braced}
 use Rattle.rule_templates.specs.Grammar.{BeginsNotPlain, HasNoClose, IsFaulty, IsName, IsSign, IsSignWith, NamesNothing, Spells, in_braces}
 use Rattle.rule_templates.specs.Names.{long_names, named, short_names}
 use Rattle.rule_templates.specs.Number.{word_of}

@@ -1,6 +1,6 @@
 -- What is read of a text is just what it is.
-use Rattle.std.proofs.Common.{◌≡◌, ℕ, zero, suc, ◌+◌, ◌≤◌, List, [], ◌∷◌, ◌++◌, length, Option, Some, None, Result, Ok, Err, refl, ap, sym, subst, ◌∙◌, arith, length-append}
-use Rattle.rule_templates.specs.Grammar.{IsFaulty, IsRead, OneAnswer, Reads, Spells, done, faulty, more}
+use Rattle.std.proofs.Common.{◌≡◌, ℕ, zero, suc, ◌+◌, ◌≤◌, List, [], ◌∷◌, length, Option, Some, None, Result, Ok, Err, refl, ap, sym, subst, ◌∙◌, arith, length-append}
+use Rattle.rule_templates.specs.Grammar.{IsFaulty, IsRead, OneAnswer, Reads, done, faulty, more}
 use Rattle.rule_templates.specs.Reading.{Front, front_at, pieces_of, pieces_within, with_front, with_piece}
 use Rattle.rule_templates.specs.declared.fault.TemplateFault.{TemplateFault}
 use Rattle.rule_templates.specs.declared.fault.TemplateFault.TheVariants as fault

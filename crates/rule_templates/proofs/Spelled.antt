@@ -1,5 +1,5 @@
 -- What is read is spelled so, and what is refused is faulty.
-use Rattle.std.proofs.Common.{◌≡◌, ℕ, zero, suc, ◌+◌, ◌<◌, ◌≤◌, inl, inr, Bool, true, false, cond, ◌==◌, List, [], ◌∷◌, ◌++◌, length, take, drop, Option, Some, None, Result, Ok, Err, MatchOption, MatchResult, refl, sym, ◌∙◌, ap, subst, arith, append_assoc, append-nil, eqb-true, length-append, length-take}
+use Rattle.std.proofs.Common.{◌≡◌, ℕ, zero, suc, ◌+◌, ◌<◌, ◌≤◌, inl, inr, Bool, true, false, cond, ◌==◌, List, [], ◌∷◌, ◌++◌, length, drop, Option, Some, None, Result, Ok, Err, MatchOption, MatchResult, refl, sym, ◌∙◌, ap, subst, arith, append_assoc, append-nil, eqb-true, length-append, length-take}
 use Rattle.std.specs.List.{AllPass, prefix_len, take_while}
 use Rattle.std.proofs.lemmas.List.{get_or-take, take-append-drop}
 use Rattle.std.proofs.lemmas.List.Sums.{prefix_len_passes}

@@ -7,9 +7,9 @@ use Rattle.rule_parts.specs.declared.options.RuleOption.{RuleOption}
 use Rattle.rule_parts.specs.declared.options.RuleOption.TheVariants.{LinkPriority, KeepEscapes, ReplaceEscapes, Watch, NoWatch, DbPersist, Ignored}
 
 -- what stands beside a name in a table
-abbrev pub named : {X : Type 0} → List (List ℕ × X) → List ℕ → Option X
-named [] text = None
-named (row ∷ rows) text = if pointwise nat_eq row.0 text then Some row.1 else named rows text
+abbrev pub beside : {X : Type 0} → List (List ℕ × X) → List ℕ → Option X
+beside [] text = None
+beside (row ∷ rows) text = if pointwise nat_eq row.0 text then Some row.1 else beside rows text
 
 -- the options that are one word
 abbrev pub words : List (List ℕ × RuleOption)
@@ -48,7 +48,7 @@ is_ignored text = is_some (behind (codes "static_node=") text) || is_some (behin
 
 -- the option of a text that is no priority
 abbrev pub other_option : List ℕ → Option RuleOption
-other_option text = if is_ignored text then Some Ignored else named words text
+other_option text = if is_ignored text then Some Ignored else beside words text
 
 -- the option of a text, by what stands in it behind `link_priority=`
 abbrev pub option_by : List ℕ → Option (List ℕ) → Option RuleOption

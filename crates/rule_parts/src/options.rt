@@ -1,6 +1,6 @@
 //! The options of OPTIONS.
 ghost use Rattle.std.specs.Prelude.{◌≡◌, map};
-ghost use Rattle.rule_parts.specs.Options.{below_zero, from_zero, is_ignored, named, number_of, option_of, other_option};
+ghost use Rattle.rule_parts.specs.Options.{below_zero, beside, from_zero, is_ignored, number_of, option_of, other_option};
 
 use text_words::decimal_below;
 
@@ -36,8 +36,8 @@ const WORDS: [(&[u8], RuleOption); 5] = [
 ];
 
 /// The option beside a name.
-fn named(rows: &[(&[u8], RuleOption)], text: &[u8]) -> Option<RuleOption>
-    ensures { result ≡ named (map (λ row. (row.0.now, row.1)) rows.now) text.now }
+fn beside(rows: &[(&[u8], RuleOption)], text: &[u8]) -> Option<RuleOption>
+    ensures { result ≡ beside (map (λ row. (row.0.now, row.1)) rows.now) text.now }
 {
     for row in rows {
         if row.0 == text {
@@ -89,7 +89,7 @@ fn other_option(text: &[u8]) -> Option<RuleOption>
     if is_ignored(text) {
         Some(RuleOption::Ignored)
     } else {
-        named(&WORDS, text)
+        beside(&WORDS, text)
     }
 }
 

@@ -1,5 +1,6 @@
 -- The messages about a file stand in order.
 use Rattle.std.proofs.Common.{◌≡◌, ℕ, ◌≤◌, ◌==◌, Bool, true, false, cond, nat_lt, List, [], ◌∷◌, ◌++◌, length, map, drop, Option, Some, None, Result, Ok, Err, refl, sym, subst, arith, append_assoc}
+use Rattle.std.specs.List.{filter_map}
 use Rattle.text_bytes.specs.Names.{comma}
 use Rattle.text_files.specs.declared.message.Message.{Message}
 use Rattle.text_files.specs.declared.message.MessageKind.TheVariants.{BlankExpected, CommaExpected, LabelUnused, LineTooLong, NoLaterLabel, ReadAsAssign}
@@ -13,7 +14,7 @@ use Rattle.rule_parts.specs.Values.{finding}
 use Rattle.rule_parts.specs.declared.part.Part.{Part}
 use Rattle.rule_parts.specs.declared.part.Part.TheVariants as part
 use Rattle.rule_parts.specs.declared.finding.Finding.{Finding}
-use Rattle.rule_drafts.specs.Drafts.{Draft, Named, again, draft, draft_of, draft_with, name_by, named_behind, named_by, parts_of}
+use Rattle.rule_drafts.specs.Drafts.{Draft, again_in, draft, draft_of, draft_with, given_again, given_again_behind, goto_in, label_in, parts_of}
 use Rattle.rule_drafts.specs.Style.{between, commas, gap_findings, operator_findings, style_behind, style_findings}
 use Rattle.rule_jumps.specs.Jumps.{Names, landings}
 use Rattle.rule_jumps.specs.declared.jumps.Landing.{Landing}
@@ -48,23 +49,24 @@ unless : (n : ℕ) (f : Finding) (b : Bool) → rank f.kind ≡ n → Within n n
 unless n f true e = omega arith
 unless n f false e = (omega arith, omega arith)
 
--- names that are given a second time
-again_within : (name : Option (List ℕ)) (later : List ℕ) → Within 8 8 (again name later)
-again_within None later = omega arith
-again_within (Some name) later = (omega arith, omega arith)
+-- names that are given again
+again_within : (names : List (List ℕ)) (name : List ℕ) → Within 8 8 (given_again names name)
+again_within [] name = omega arith
+again_within (other ∷ names) name = (omega arith, omega arith)
 
-one_named : (n : Named) (p : Part) → Within 8 8 n.findings → Within 8 8 (name_by n p).findings
-one_named n (part.Label name) w = within_both 8 8 8 n.findings (again n.label name) w (again_within n.label name)
-one_named n (part.Goto name) w = within_both 8 8 8 n.findings (again n.goto name) w (again_within n.goto name)
-one_named n (part.Plain m) w = w
-one_named n (part.Up m) w = w
-one_named n (part.Act a) w = w
-one_named n (part.Result c) w = w
-one_named n (part.Set a) w = w
+part_within : (before : List Part) (p : Part) → Within 8 8 (again_in before p)
+part_within before (part.Label name) = again_within (filter_map label_in before) name
+part_within before (part.Goto name) = again_within (filter_map goto_in before) name
+part_within before (part.Plain m) = omega arith
+part_within before (part.Up m) = omega arith
+part_within before (part.Act a) = omega arith
+part_within before (part.Result c) = omega arith
+part_within before (part.Set a) = omega arith
 
-named_within : (n : Named) (parts : List Part) → Within 8 8 n.findings → Within 8 8 (named_behind n parts).findings
-named_within n [] w = w
-named_within n (p ∷ parts) w = named_within (name_by n p) parts (one_named n p w)
+given_within : (before parts : List Part) → Within 8 8 (given_again_behind before parts)
+given_within before [] = omega arith
+given_within before (p ∷ parts) =
+    within_both 8 8 8 (again_in before p) (given_again_behind (before ++ p ∷ []) parts) (part_within before p) (given_within (before ++ p ∷ []) parts)
 
 -- how a line is written
 gap_within : (gap key : List ℕ) → Within 13 13 (gap_findings gap key)
@@ -86,8 +88,7 @@ line_within line (t ∷ tokens) =
 -- what is to be said of a draft
 draft_within : (line : List ℕ) (parts : List Part) → Within 8 13 (draft line parts).findings
 draft_within line parts =
-    within_both 8 8 13 (named_by parts).findings _ (named_within (record { label = None; goto = None; findings = [] }) parts (omega arith))
-    (within_less 8 13 13 _ (omega arith) (line_within line _))
+    within_both 8 8 13 (given_again_behind [] parts) _ (given_within [] parts) (within_less 8 13 13 _ (omega arith) (line_within line _))
 
 abbrev as_read : Draft → Result Draft Finding
 as_read d = Ok d

@@ -5,7 +5,11 @@ use Rattle.text_files.specs.declared.message.MessageKind.TheVariants.{NoLaterLab
 use Rattle.text_files.specs.declared.source_file.SourceFile.{SourceFile}
 use Rattle.rule_lines.specs.Lines.{NumberedLine, joined_lines}
 use Rattle.rule_parts.specs.Values.{finding}
-use Rattle.rule_parts.specs.declared.part.Part.{Part}
+use Rattle.rule_parts.specs.declared.part.Act.{Act}
+use Rattle.rule_parts.specs.declared.part.Assignment.{Assignment}
+use Rattle.rule_parts.specs.declared.part.Comparison.{Comparison}
+use Rattle.rule_parts.specs.declared.part.PlainMatch.{PlainMatch}
+use Rattle.rule_parts.specs.declared.part.UpMatch.{UpMatch}
 use Rattle.rule_parts.specs.declared.finding.Finding.{Finding}
 use Rattle.rule_drafts.specs.Drafts.{Draft, draft_of}
 use Rattle.rule_jumps.specs.Jumps.{Names, landings}
@@ -17,11 +21,11 @@ pub record Rule : Type 0 where
   pub line : ℕ
   pub label : Option (List ℕ)
   pub goto : Option (List ℕ)
-  pub plain : List Part
-  pub up : List Part
-  pub acts : List Part
-  pub results : List Part
-  pub sets : List Part
+  pub plain : List PlainMatch
+  pub up : List UpMatch
+  pub acts : List Act
+  pub results : List Comparison
+  pub sets : List Assignment
 
 -- the rules of files, and the messages about them
 pub record RuleSet : Type 0 where

@@ -22,7 +22,7 @@ pub use rule_keys::{
     AssignOperator, ImportType, Key, MatchOperator, PlainKey, RunType, Target, UpKey,
 };
 pub use rule_parts::{
-    Act, Assignment, Change, Comparison, Deed, Import, Part, PlainMatch, RuleOption, UpMatch,
+    Act, Assignment, Change, Comparison, Deed, Import, PlainMatch, RuleOption, UpMatch,
 };
 pub use rule_set::RuleSet;
 pub use rule_templates::{Piece, Template, TemplateFault};

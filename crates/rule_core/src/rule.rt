@@ -1,7 +1,7 @@
 //! Rules as they are meant.
 ghost use Rattle.std.specs.Prelude.{◌≡◌, option_map};
 
-use rule_parts::Part;
+use rule_parts::{Act, Assignment, Comparison, PlainMatch, UpMatch};
 use std::marker::Model;
 use text_bytes::Bytes;
 
@@ -13,11 +13,11 @@ pub struct Rule {
     pub(crate) line: u32,
     pub(crate) label: Option<Bytes>,
     pub(crate) goto: Option<Bytes>,
-    pub(crate) plain: Vec<Part>,
-    pub(crate) up: Vec<Part>,
-    pub(crate) acts: Vec<Part>,
-    pub(crate) results: Vec<Part>,
-    pub(crate) sets: Vec<Part>,
+    pub(crate) plain: Vec<PlainMatch>,
+    pub(crate) up: Vec<UpMatch>,
+    pub(crate) acts: Vec<Act>,
+    pub(crate) results: Vec<Comparison>,
+    pub(crate) sets: Vec<Assignment>,
 }
 
 impl Model for Rule {
@@ -74,35 +74,35 @@ impl Rule {
     }
 
     /// Lends the matches of the event device, in written order.
-    pub fn plain(&self) -> &[Part]
+    pub fn plain(&self) -> &[PlainMatch]
         ensures { result.now ≡ self.now.plain }
     {
         &self.plain
     }
 
     /// Lends the matches of one device of the chain, in written order.
-    pub fn up(&self) -> &[Part]
+    pub fn up(&self) -> &[UpMatch]
         ensures { result.now ≡ self.now.up }
     {
         &self.up
     }
 
     /// Lends the parts that act: TEST, then PROGRAM, then IMPORT by its type, those of one kind in written order.
-    pub fn acts(&self) -> &[Part]
+    pub fn acts(&self) -> &[Act]
         ensures { result.now ≡ self.now.acts }
     {
         &self.acts
     }
 
     /// Lends the matches of RESULT, in written order.
-    pub fn results(&self) -> &[Part]
+    pub fn results(&self) -> &[Comparison]
         ensures { result.now ≡ self.now.results }
     {
         &self.results
     }
 
     /// Lends the assignments, by their kind, those of one kind in written order.
-    pub fn sets(&self) -> &[Part]
+    pub fn sets(&self) -> &[Assignment]
         ensures { result.now ≡ self.now.sets }
     {
         &self.sets

@@ -1,4 +1,4 @@
--- A draft of names, sorted parts and findings, and parts read one by one.
+-- A draft of parts and findings, and parts read one by one.
 use Rattle.std.proofs.Common.{◌≡◌, ℕ, ◌<◌, ◌≤◌, true, false, nat_lt, List, [], ◌∷◌, ◌++◌, length, Result, Ok, Err, refl, ap, sym, ◌∙◌, append_assoc, append-nil}
 use Rattle.std.proofs.lemmas.Bool.{lt-ltb, le-ltb}
 use Rattle.text_files.specs.declared.message.MessageKind.TheVariants.{LineTooLong}
@@ -10,42 +10,22 @@ use Rattle.rule_parts.specs.declared.part.Part.{Part}
 use Rattle.rule_parts.specs.declared.finding.PartFault.{PartFault}
 use Rattle.rule_parts.specs.declared.finding.PartFault.TheVariants.{Wrong, Memory}
 use Rattle.rule_parts.specs.declared.finding.Finding.{Finding}
-use Rattle.rule_drafts.specs.declared.turns.Turn.TheVariants as turn
-use Rattle.rule_drafts.specs.Drafts.{Draft, Named, draft, draft_of, draft_with, named_by, part_of_item, parts_of, tokens_of, with_part}
+use Rattle.rule_parts.specs.declared.part.Act.{Act}
+use Rattle.rule_parts.specs.declared.part.Assignment.{Assignment}
+use Rattle.rule_drafts.specs.Drafts.{Draft, draft, draft_of, draft_with, part_of_item, parts_of, tokens_of, with_part}
 use Rattle.rule_drafts.specs.Style.{style_findings}
-use Rattle.rule_drafts.specs.Turns.{act_turns, parts_by, parts_in, set_turns}
-use Rattle.rule_drafts.specs.Sorting.{Sorted, by_turn, joined, no_parts, put_all}
-use Rattle.rule_drafts.proofs.Putting.{sorted_by_turn}
+use Rattle.rule_drafts.specs.Taking.{written}
+use Rattle.rule_drafts.specs.Turns.{acts_by_turn, assignments_by_turn}
 
-abbrev styles_of : List ℕ → List Finding
-styles_of line = style_findings line (tokens_of (items_of line))
-
--- a draft of lists
-abbrev listed : Named → List Finding → List Part → List Part → List Part → List Part → List Part → Draft
-listed n said plain up acts results sets = record { label = n.label; goto = n.goto; plain = plain; up = up; acts = acts; results = results; sets = sets; findings = said }
-
-abbrev of_sorted : List ℕ → Named → Sorted → Draft
-of_sorted line n s = listed n (n.findings ++ styles_of line) s.plain s.up (joined s.acts) s.results (joined s.sets)
-
-in_turns : (line : List ℕ) (parts : List Part) → of_sorted line (named_by parts) (by_turn (parts_in parts)) ≡ draft line parts
-in_turns line parts =
-    let n : Named = named_by parts in
-    let said : List Finding = n.findings ++ styles_of line in
-    ap (λ (x : List Part). listed n said x (parts_in parts turn.Up) (parts_by act_turns parts) (parts_in parts turn.Result) (parts_by set_turns parts)) (sym (append-nil (parts_in parts turn.Plain)))
-    ∙ ap (λ (x : List Part). listed n said (parts_in parts turn.Plain ++ []) x (parts_by act_turns parts) (parts_in parts turn.Result) (parts_by set_turns parts)) (sym (append-nil (parts_in parts turn.Up)))
-    ∙ ap (λ (x : List Part). listed n said (parts_in parts turn.Plain ++ []) (parts_in parts turn.Up ++ []) (parts_by act_turns parts) x (parts_by set_turns parts)) (sym (append-nil (parts_in parts turn.Result)))
-
--- what is made of names, sorted parts and findings is the draft
-pub draft_made : (line : List ℕ) (parts : List Part) (n : Named) (s : Sorted) (said : List Finding) (acts sets : List Part)
-    → n ≡ named_by parts → s ≡ put_all no_parts parts → said ≡ n.findings ++ style_findings line (tokens_of (items_of line)) → acts ≡ joined s.acts → sets ≡ joined s.sets
-    → record { label = n.label; goto = n.goto; plain = s.plain; up = s.up; acts = acts; results = s.results; sets = sets; findings = said } ≡ draft line parts
-draft_made line parts n s said acts sets names sorted style a b =
-    ap (λ (x : List Finding). listed n x s.plain s.up acts s.results sets) style
-    ∙ ap (λ (x : List Part). listed n (n.findings ++ styles_of line) s.plain s.up x s.results sets) a
-    ∙ ap (λ (x : List Part). listed n (n.findings ++ styles_of line) s.plain s.up (joined s.acts) s.results x) b
-    ∙ ap (λ (x : Named). of_sorted line x s) names
-    ∙ ap (of_sorted line (named_by parts)) (sorted ∙ sorted_by_turn parts)
-    ∙ in_turns line parts
+-- parts by what they are for, once they are sorted and it is said how the line is written
+pub draft_made : (line : List ℕ) (parts : List Part) (d : Draft) (acts : List Act) (sets : List Assignment) (said : List Finding)
+    → d ≡ written parts → acts ≡ acts_by_turn d.acts → sets ≡ assignments_by_turn d.sets → said ≡ d.findings ++ style_findings line (tokens_of (items_of line))
+    → record { label = d.label; goto = d.goto; plain = d.plain; up = d.up; acts = acts; results = d.results; sets = sets; findings = said } ≡ draft line parts
+draft_made line parts d acts sets said e a s f =
+    let by_acts : acts ≡ acts_by_turn (written parts).acts = a ∙ ap (λ (x : Draft). acts_by_turn x.acts) e in
+    let by_sets : sets ≡ assignments_by_turn (written parts).sets = s ∙ ap (λ (x : Draft). assignments_by_turn x.sets) e in
+    let all_said : said ≡ (written parts).findings ++ style_findings line (tokens_of (items_of line)) = f ∙ ap (λ (x : Draft). x.findings ++ style_findings line (tokens_of (items_of line))) e in
+    λ i. record { label = (e i).label; goto = (e i).goto; plain = (e i).plain; up = (e i).up; acts = by_acts i; results = (e i).results; sets = by_sets i; findings = all_said i }
 
 -- parts in front of those that follow
 abbrev pub in_front_of : List Part → Result (List Part) Finding → Result (List Part) Finding

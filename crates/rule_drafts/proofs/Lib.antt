@@ -1,5 +1,7 @@
-pub mod Ends
-pub mod Rowing
-pub mod Putting
-pub mod Drafting
-pub mod Keeping
+mod Ends
+mod Drafting
+mod Taking
+mod Sorting
+mod Bounds
+mod Counting
+mod Gaps

@@ -1,5 +1,5 @@
 -- A joined line read as a rule, before its jumps are followed.
-use Rattle.std.specs.Prelude.{ℕ, nat_lt, if◌then◌else◌, List, [], ◌∷◌, ◌++◌, drop, length, Option, Some, None, Result, Ok, Err}
+use Rattle.std.specs.Prelude.{ℕ, nat_lt, if◌then◌else◌, List, [], ◌∷◌, ◌++◌, drop, filter_map, length, Option, Some, None, Result, Ok, Err}
 use Rattle.text_files.specs.declared.message.MessageKind.TheVariants.{BadSyntax, BadPrefix, LineTooLong, GivenTwice}
 use Rattle.rule_tokens.specs.Grammar.{Item, Placed}
 use Rattle.rule_tokens.specs.Lines.{items_of}
@@ -8,22 +8,26 @@ use Rattle.rule_tokens.specs.declared.kinds.TokenFaultKind.{TokenFaultKind}
 use Rattle.rule_tokens.specs.declared.kinds.TokenFaultKind.TheVariants.{Syntax, Prefix}
 use Rattle.rule_parts.specs.Parts.{part_of}
 use Rattle.rule_parts.specs.Values.{finding}
+use Rattle.rule_parts.specs.declared.part.Act.{Act}
+use Rattle.rule_parts.specs.declared.part.Assignment.{Assignment}
+use Rattle.rule_parts.specs.declared.part.Comparison.{Comparison}
 use Rattle.rule_parts.specs.declared.part.Part.{Part}
+use Rattle.rule_parts.specs.declared.part.PlainMatch.{PlainMatch}
+use Rattle.rule_parts.specs.declared.part.UpMatch.{UpMatch}
 use Rattle.rule_parts.specs.declared.finding.Finding.{Finding}
 use Rattle.rule_parts.specs.declared.part.Part.TheVariants as part
 use Rattle.rule_drafts.specs.Style.{style_findings}
-use Rattle.rule_drafts.specs.Turns.{act_turns, parts_by, set_turns}
-use Rattle.rule_drafts.specs.declared.turns.Turn.TheVariants as turn
+use Rattle.rule_drafts.specs.Turns.{acts_by_turn, assignments_by_turn}
 
 -- a rule as its line alone tells it: its names for jumps, its parts in the order of evaluation, and what is to be said of it all the same
 pub record Draft : Type 0 where
   pub label : Option (List ℕ)
   pub goto : Option (List ℕ)
-  pub plain : List Part
-  pub up : List Part
-  pub acts : List Part
-  pub results : List Part
-  pub sets : List Part
+  pub plain : List PlainMatch
+  pub up : List UpMatch
+  pub acts : List Act
+  pub results : List Comparison
+  pub sets : List Assignment
   pub findings : List Finding
 
 -- a part of a line, from its first byte on, that is no token
@@ -53,48 +57,67 @@ tokens_of [] = []
 tokens_of (Ok t ∷ items) = t ∷ tokens_of items
 tokens_of (Err fault ∷ items) = tokens_of items
 
--- a name, or the one that was given before it
-abbrev pub first_given : Option (List ℕ) → List ℕ → Option (List ℕ)
-first_given (Some name) later = Some name
-first_given None name = Some name
+-- what a part is, if it is that
+abbrev pub plain_in : Part → Option PlainMatch
+plain_in (part.Plain m) = Some m
+plain_in _ = None
 
--- a name that was given before
-abbrev pub again : Option (List ℕ) → List ℕ → List Finding
-again None name = []
-again (Some name) later = finding GivenTwice later ∷ []
+abbrev pub up_in : Part → Option UpMatch
+up_in (part.Up m) = Some m
+up_in _ = None
 
--- the names for jumps of a rule, and those that are given a second time
-pub record Named : Type 0 where
-  pub label : Option (List ℕ)
-  pub goto : Option (List ℕ)
-  pub findings : List Finding
+abbrev pub act_in : Part → Option Act
+act_in (part.Act a) = Some a
+act_in _ = None
 
--- one part more: a label or a jump gives its name
-abbrev pub name_by : Named → Part → Named
-name_by n (part.Label name) = record { label = first_given n.label name; goto = n.goto; findings = n.findings ++ again n.label name }
-name_by n (part.Goto name) = record { label = n.label; goto = first_given n.goto name; findings = n.findings ++ again n.goto name }
-name_by n _ = n
+abbrev pub result_in : Part → Option Comparison
+result_in (part.Result c) = Some c
+result_in _ = None
 
--- the names for jumps that parts give behind others
-abbrev pub named_behind : Named → List Part → Named
-named_behind n [] = n
-named_behind n (p ∷ parts) = named_behind (name_by n p) parts
+abbrev pub assignment_in : Part → Option Assignment
+assignment_in (part.Set a) = Some a
+assignment_in _ = None
 
--- the names for jumps that parts give: of several labels the first counts, and so of several jumps
-abbrev pub named_by : List Part → Named
-named_by parts = named_behind (record { label = None; goto = None; findings = [] }) parts
+abbrev pub label_in : Part → Option (List ℕ)
+label_in (part.Label name) = Some name
+label_in _ = None
 
--- the draft of the parts and the tokens of a line
+abbrev pub goto_in : Part → Option (List ℕ)
+goto_in (part.Goto name) = Some name
+goto_in _ = None
+
+-- the first of these, if there is one
+abbrev pub first : {X : Type 0} → List X → Option X
+first [] = None
+first (x ∷ xs) = Some x
+
+-- a name, behind those that were given before it
+abbrev pub given_again : List (List ℕ) → List ℕ → List Finding
+given_again [] name = []
+given_again (other ∷ names) name = finding GivenTwice name ∷ []
+
+-- a part behind others: a second label is one too many, and so is a second jump
+abbrev pub again_in : List Part → Part → List Finding
+again_in before (part.Label name) = given_again (filter_map label_in before) name
+again_in before (part.Goto name) = given_again (filter_map goto_in before) name
+again_in before _ = []
+
+-- the names that are given again among parts behind others, in written order
+abbrev pub given_again_behind : List Part → List Part → List Finding
+given_again_behind before [] = []
+given_again_behind before (p ∷ parts) = again_in before p ++ given_again_behind (before ++ p ∷ []) parts
+
+-- the draft of the parts and the tokens of a line: of several labels the first counts, and so of several jumps
 abbrev pub draft : List ℕ → List Part → Draft
 draft line parts = record {
-  label = (named_by parts).label;
-  goto = (named_by parts).goto;
-  plain = parts_by (turn.Plain ∷ []) parts;
-  up = parts_by (turn.Up ∷ []) parts;
-  acts = parts_by act_turns parts;
-  results = parts_by (turn.Result ∷ []) parts;
-  sets = parts_by set_turns parts;
-  findings = (named_by parts).findings ++ style_findings line (tokens_of (items_of line));
+  label = first (filter_map label_in parts);
+  goto = first (filter_map goto_in parts);
+  plain = filter_map plain_in parts;
+  up = filter_map up_in parts;
+  acts = acts_by_turn (filter_map act_in parts);
+  results = filter_map result_in parts;
+  sets = assignments_by_turn (filter_map assignment_in parts);
+  findings = given_again_behind [] parts ++ style_findings line (tokens_of (items_of line));
 }
 
 -- the draft of parts that were read, or what is wrong with them

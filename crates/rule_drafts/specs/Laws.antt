@@ -1,24 +1,58 @@
--- What sorting the parts of a rule keeps, and in which order they then stand.
-use Rattle.std.specs.Prelude.{◌≡◌, ℕ, ◌+◌, ◌≤◌, Bool, List, [], ◌∷◌, ◌++◌, ⊤}
-use Rattle.std.specs.List.{count_by}
+-- What sorting the parts of a rule keeps, in which order they then stand, and how a line is written of which nothing is to be said.
+use Rattle.std.specs.Prelude.{◌≡◌, ℕ, ◌+◌, ◌<◌, ◌≤◌, false, List, [], ◌∷◌, ◌++◌, ⊤, drop, filter_map, length}
+use Rattle.text_bytes.specs.Names.{comma, is_blank}
+use Rattle.rule_tokens.specs.Grammar.{AllAre, Placed, is_gap_byte}
+use Rattle.rule_parts.specs.Parts.{is_read_as_assign}
 use Rattle.rule_parts.specs.declared.part.Part.{Part}
-use Rattle.rule_drafts.specs.declared.turns.Turn.TheVariants as turn
-use Rattle.rule_drafts.specs.Drafts.{Draft, draft}
-use Rattle.rule_drafts.specs.Turns.{parts_in, rank, turn_of}
+use Rattle.rule_drafts.specs.Drafts.{act_in, assignment_in, draft, goto_in, label_in, plain_in, result_in, up_in}
+use Rattle.rule_drafts.specs.Style.{between}
+use Rattle.rule_drafts.specs.Turns.{of_turn, turn_of_act, turn_of_assignment}
 
--- the parts of a draft in the order in which they are evaluated
-abbrev pub evaluated : Draft → List Part
-evaluated d = d.plain ++ (d.up ++ (d.acts ++ (d.results ++ d.sets)))
+-- none has its turn before this one, nor before the one that it follows
+abbrev pub RisesFrom : {X : Type 0} → (X → ℕ) → ℕ → List X → Type 0
+RisesFrom turn t [] = ⊤
+RisesFrom turn t (x ∷ xs) = (t ≤ turn x) × RisesFrom turn (turn x) xs
 
--- whatever is asked of parts, it is true of as many that are evaluated or are labels and jumps as of those that are written
-abbrev pub NothingLost : Type 0
-NothingLost = (line : List ℕ) (parts : List Part) (test : Part → Bool) → count_by test (evaluated (draft line parts)) + count_by test (parts_in parts turn.Jump) ≡ count_by test parts
+-- Sorted are those that were written: those of each turn in written order, and turn by turn.
+pub record IsInOrder {X : Type 0} (turn : X → ℕ) (written sorted : List X) : Type 0 where
+  pub each : (t : ℕ) → of_turn turn sorted t ≡ of_turn turn written t
+  pub rises : RisesFrom turn 0 sorted
 
--- no part has its turn before this one, nor before the part that it follows
-abbrev pub RisesFrom : ℕ → List Part → Type 0
-RisesFrom n [] = ⊤
-RisesFrom n (p ∷ parts) = (n ≤ rank (turn_of p)) × RisesFrom (rank (turn_of p)) parts
+-- the acts and the assignments of each draft stand in the order of evaluation
+pub record AreInOrder (line : List ℕ) (parts : List Part) : Type 0 where
+  pub acts : IsInOrder turn_of_act (filter_map act_in parts) (draft line parts).acts
+  pub sets : IsInOrder turn_of_assignment (filter_map assignment_in parts) (draft line parts).sets
 
--- the parts of a draft follow one another in the order of their turns
-abbrev pub TurnsRise : Type 0
-TurnsRise = (line : List ℕ) (parts : List Part) → RisesFrom 0 (evaluated (draft line parts))
+-- each part is in one of five lists, or gives a label or a jump
+abbrev pub NoneIsLost : List Part → Type 0
+NoneIsLost parts =
+    length (filter_map plain_in parts) + (length (filter_map up_in parts) + (length (filter_map act_in parts) + (length (filter_map result_in parts)
+    + (length (filter_map assignment_in parts) + (length (filter_map label_in parts) + length (filter_map goto_in parts)))))) ≡ length parts
+
+-- blanks, one comma, and blanks, of which there is at least one
+pub record IsPlainGap (gap : List ℕ) : Type 0 where
+  pub before : List ℕ
+  pub behind : List ℕ
+  pub spelled : gap ≡ before ++ comma ∷ behind
+  pub blank_before : AllAre is_blank before
+  pub blank_behind : AllAre is_blank behind
+  pub some_behind : 0 < length behind
+
+-- behind a place where a token ends, gaps are blanks and commas, as in the grammar of lines
+abbrev pub AreGapsBehind : List ℕ → ℕ → List Placed → Type 0
+AreGapsBehind line place [] = AllAre is_gap_byte (drop place line)
+AreGapsBehind line place (t ∷ tokens) = AllAre is_gap_byte (between place t.span.start line) × AreGapsBehind line t.span.end tokens
+
+abbrev pub AreGaps : List ℕ → List Placed → Type 0
+AreGaps line [] = ⊤
+AreGaps line (t ∷ tokens) = AreGapsBehind line t.span.end tokens
+
+-- behind a place where a token ends, each gap is plain, no operator is read as `=`, and only blanks stand at the end
+abbrev pub IsPlainBehind : List ℕ → ℕ → List Placed → Type 0
+IsPlainBehind line place [] = AllAre is_blank (drop place line)
+IsPlainBehind line place (t ∷ tokens) = IsPlainGap (between place t.span.start line) × (is_read_as_assign t ≡ false) × IsPlainBehind line t.span.end tokens
+
+-- a line is written as it is meant to be
+abbrev pub IsPlain : List ℕ → List Placed → Type 0
+IsPlain line [] = ⊤
+IsPlain line (t ∷ tokens) = (is_read_as_assign t ≡ false) × IsPlainBehind line t.span.end tokens

@@ -1,6 +1,6 @@
 pub mod Turns
 pub mod Style
 pub mod Drafts
-pub mod Places
-pub mod Sorting
 pub mod Laws
+pub mod Places
+pub mod Taking

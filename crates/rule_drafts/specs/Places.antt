@@ -1,4 +1,4 @@
--- What is to be said where a token ends before, and where none does.
+-- Serves the proofs of this crate alone: what is to be said where a token ends before, and where none does.
 use Rattle.std.specs.Prelude.{ℕ, List, [], drop, Option, Some, None}
 use Rattle.rule_tokens.specs.Grammar.{Placed}
 use Rattle.rule_parts.specs.declared.finding.Finding.{Finding}

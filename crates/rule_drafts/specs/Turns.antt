@@ -1,101 +1,71 @@
--- When each part of a rule has its turn as the rule is evaluated.
-use Rattle.std.specs.Prelude.{ℕ, ◌==◌, List, [], ◌∷◌, filter, flat_map}
+-- In which order the parts of a rule are evaluated that act, and those that assign.
+use Rattle.std.specs.Prelude.{ℕ, zero, suc, ◌+◌, ◌==◌, List, [], ◌∷◌, filter, flat_map}
 use Rattle.rule_keys.specs.declared.roles.Target.{Target}
 use Rattle.rule_keys.specs.declared.roles.Target.TheVariants as target
-use Rattle.rule_parts.specs.declared.part.Part.{Part}
-use Rattle.rule_parts.specs.declared.part.Part.TheVariants as part
+use Rattle.rule_parts.specs.declared.part.Act.{Act}
+use Rattle.rule_parts.specs.declared.part.Assignment.{Assignment}
+use Rattle.rule_parts.specs.declared.part.Change.{Change}
+use Rattle.rule_parts.specs.declared.part.Change.TheVariants as change
 use Rattle.rule_parts.specs.declared.part.Deed.{Deed}
 use Rattle.rule_parts.specs.declared.part.Deed.TheVariants as deed
 use Rattle.rule_parts.specs.declared.part.Import.{Import}
 use Rattle.rule_parts.specs.declared.part.Import.TheVariants as import
-use Rattle.rule_parts.specs.declared.part.Change.{Change}
-use Rattle.rule_parts.specs.declared.part.Change.TheVariants as change
-use Rattle.rule_drafts.specs.declared.turns.Turn.{Turn}
-use Rattle.rule_drafts.specs.declared.turns.Turn.TheVariants as turn
 
--- the turn of each IMPORT
-abbrev pub turn_of_import : Import → Turn
-turn_of_import (import.File t) = turn.ImportFile
-turn_of_import (import.Program t) = turn.ImportProgram
-turn_of_import (import.Builtin t) = turn.ImportBuiltin
-turn_of_import (import.Db name) = turn.ImportDb
-turn_of_import (import.Cmdline name) = turn.ImportCmdline
-turn_of_import (import.Parent names) = turn.ImportParent
+-- the turn of what an act does: TEST, then PROGRAM, then IMPORT by its type
+abbrev pub turn_of_import : Import → ℕ
+turn_of_import (import.File text) = 2
+turn_of_import (import.Program text) = 3
+turn_of_import (import.Builtin text) = 4
+turn_of_import (import.Db name) = 5
+turn_of_import (import.Cmdline name) = 6
+turn_of_import (import.Parent names) = 7
 
--- the turn of what an act does
-abbrev pub turn_of_deed : Deed → Turn
-turn_of_deed (deed.Test mask t) = turn.Test
-turn_of_deed (deed.Program t) = turn.Program
+abbrev pub turn_of_deed : Deed → ℕ
+turn_of_deed (deed.Test mask path) = 0
+turn_of_deed (deed.Program text) = 1
 turn_of_deed (deed.Import i) = turn_of_import i
 
--- the turn of an assignment of a text
-abbrev pub turn_of_target : Target → Turn
-turn_of_target target.Owner = turn.Owner
-turn_of_target target.Group = turn.Group
-turn_of_target target.Mode = turn.Mode
-turn_of_target target.Tag = turn.Tag
-turn_of_target (target.Seclabel name) = turn.Seclabel
-turn_of_target (target.Env name) = turn.Env
-turn_of_target target.Name = turn.Name
-turn_of_target target.Symlink = turn.Symlink
-turn_of_target (target.Attr name) = turn.Attr
-turn_of_target (target.Sysctl name) = turn.Sysctl
+abbrev pub turn_of_act : Act → ℕ
+turn_of_act a = turn_of_deed a.deed
 
--- the turn of what an assignment changes
-abbrev pub turn_of_change : Change → Turn
-turn_of_change (change.Option known) = turn.Options
-turn_of_change (change.Text t text) = turn_of_target t
-turn_of_change (change.Run type text) = turn.Run
+-- the turn of what an assignment changes: OPTIONS, then the texts by their keys, then RUN
+abbrev pub turn_of_target : Target → ℕ
+turn_of_target target.Owner = 1
+turn_of_target target.Group = 2
+turn_of_target target.Mode = 3
+turn_of_target target.Tag = 4
+turn_of_target (target.Seclabel name) = 5
+turn_of_target (target.Env name) = 6
+turn_of_target target.Name = 7
+turn_of_target target.Symlink = 8
+turn_of_target (target.Attr name) = 9
+turn_of_target (target.Sysctl name) = 10
 
--- the turn of a part
-abbrev pub turn_of : Part → Turn
-turn_of (part.Plain m) = turn.Plain
-turn_of (part.Up m) = turn.Up
-turn_of (part.Act a) = turn_of_deed a.deed
-turn_of (part.Result c) = turn.Result
-turn_of (part.Set a) = turn_of_change a.change
-turn_of (part.Label name) = turn.Jump
-turn_of (part.Goto name) = turn.Jump
+abbrev pub turn_of_change : Change → ℕ
+turn_of_change (change.Option known) = 0
+turn_of_change (change.Text to text) = turn_of_target to
+turn_of_change (change.Run type text) = 11
 
--- the number of a turn among all, in the order of evaluation
-abbrev pub rank : Turn → ℕ
-rank turn.Jump = 0
-rank turn.Plain = 1
-rank turn.Up = 2
-rank turn.Test = 3
-rank turn.Program = 4
-rank turn.ImportFile = 5
-rank turn.ImportProgram = 6
-rank turn.ImportBuiltin = 7
-rank turn.ImportDb = 8
-rank turn.ImportCmdline = 9
-rank turn.ImportParent = 10
-rank turn.Result = 11
-rank turn.Options = 12
-rank turn.Owner = 13
-rank turn.Group = 14
-rank turn.Mode = 15
-rank turn.Tag = 16
-rank turn.Seclabel = 17
-rank turn.Env = 18
-rank turn.Name = 19
-rank turn.Symlink = 20
-rank turn.Attr = 21
-rank turn.Sysctl = 22
-rank turn.Run = 23
+abbrev pub turn_of_assignment : Assignment → ℕ
+turn_of_assignment a = turn_of_change a.change
 
--- the parts that have a turn, in the order in which they are written
-abbrev pub parts_in : List Part → Turn → List Part
-parts_in parts t = filter (λ p. rank (turn_of p) == rank t) parts
+-- those that have a turn, in written order
+abbrev pub of_turn : {X : Type 0} → (X → ℕ) → List X → ℕ → List X
+of_turn turn xs t = filter (λ x. turn x == t) xs
 
--- the parts that have one of these turns, turn by turn
-abbrev pub parts_by : List Turn → List Part → List Part
-parts_by turns parts = flat_map (parts_in parts) turns
+-- so many turns, from this one on
+abbrev pub turns_from : ℕ → ℕ → List ℕ
+turns_from t zero = []
+turns_from t (suc n) = t ∷ turns_from (t + 1) n
 
--- the turns between the search for a device and RESULT: TEST, PROGRAM, and IMPORT by its type
-abbrev pub act_turns : List Turn
-act_turns = turn.Test ∷ turn.Program ∷ turn.ImportFile ∷ turn.ImportProgram ∷ turn.ImportBuiltin ∷ turn.ImportDb ∷ turn.ImportCmdline ∷ turn.ImportParent ∷ []
+-- parts turn by turn, of which there are so many
+abbrev pub by_turn : {X : Type 0} → (X → ℕ) → ℕ → List X → List X
+by_turn turn n xs = flat_map (of_turn turn xs) (turns_from 0 n)
 
--- the turns of assignments
-abbrev pub set_turns : List Turn
-set_turns = turn.Options ∷ turn.Owner ∷ turn.Group ∷ turn.Mode ∷ turn.Tag ∷ turn.Seclabel ∷ turn.Env ∷ turn.Name ∷ turn.Symlink ∷ turn.Attr ∷ turn.Sysctl ∷ turn.Run ∷ []
+-- acts in the order of evaluation
+abbrev pub acts_by_turn : List Act → List Act
+acts_by_turn acts = by_turn turn_of_act 8 acts
+
+-- assignments in the order of evaluation
+abbrev pub assignments_by_turn : List Assignment → List Assignment
+assignments_by_turn assignments = by_turn turn_of_assignment 12 assignments

@@ -6,11 +6,8 @@
 
 mod draft;
 mod laws;
-mod names;
 mod places;
 mod reading;
-mod rows;
-mod sorting;
 mod style;
 mod telling;
 #[cfg(test)]
@@ -18,6 +15,5 @@ mod tests;
 mod turns;
 
 pub use draft::Draft;
-pub use laws::parts_are_kept_in_order;
+pub use laws::{no_part_is_lost, parts_are_kept_in_order, plain_lines_are_passed};
 pub use reading::read_draft;
-pub use turns::Turn;

@@ -5,10 +5,9 @@ ghost use Rattle.rule_tokens.specs.Lines.{items_of};
 ghost use Rattle.rule_drafts.specs.Drafts.{draft, draft_of, parts_of, token_finding};
 
 use crate::Draft;
-use crate::names::Names;
 use crate::places::behind;
-use crate::sorting::Sorted;
 use crate::style::add_style;
+use crate::turns::{sort_acts, sort_assignments};
 use rule_parts::{Finding, Part, PartFault, read_part};
 use rule_tokens::{TokenFaultKind, Tokens, letters_before_quote};
 use std::alloc::{AllocError, Global};
@@ -68,21 +67,9 @@ fn token_finding(alloc: Global, kind: TokenFaultKind, text: &[u8]) -> Result<Fin
 fn draft(alloc: Global, line: &[u8], parts: Vec<Part>) -> Result<Draft, AllocError>
     ensures { IfOk result (λ d. d ≡ draft line.now parts.items) }
 {
-    let Names {
-        label,
-        goto,
-        mut findings,
-    } = Names::of(alloc, &parts)?;
-    add_style(alloc, &mut findings, line)?;
-    let sorted = Sorted::of(alloc, parts)?;
-    Ok(Draft {
-        label,
-        goto,
-        plain: sorted.plain,
-        up: sorted.up,
-        acts: sorted.acts.joined(alloc)?,
-        results: sorted.results,
-        sets: sorted.sets.joined(alloc)?,
-        findings,
-    })
+    let mut draft = Draft::of(alloc, parts)?;
+    sort_acts(&mut draft.acts)?;
+    sort_assignments(&mut draft.sets)?;
+    add_style(alloc, &mut draft.findings, line)?;
+    Ok(draft)
 }

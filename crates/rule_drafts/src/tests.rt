@@ -1,9 +1,9 @@
 //! Lines of rules with what udev(7) makes of them.
 
 use crate::style::add_style;
-use crate::{Draft, parts_are_kept_in_order, read_draft};
+use crate::{Draft, no_part_is_lost, parts_are_kept_in_order, read_draft};
 use rule_keys::Key;
-use rule_parts::{Finding, Part, PartFault};
+use rule_parts::{Act, Assignment, Finding, PartFault};
 use std::alloc::{AllocError, Global};
 use std::test::Fail;
 use text_files::MessageKind;
@@ -36,19 +36,19 @@ fn tells(findings: &[Finding], at: usize, kind: MessageKind, word: &[u8]) -> boo
     }
 }
 
-/// Whether the part at a place does this.
-fn does(parts: &[Part], at: usize, deed: Key) -> bool {
-    match parts.get(at) {
-        Some(Part::Act(act)) => act.deed.key() == deed,
-        _ => false,
+/// Whether the act at a place does this.
+fn does(acts: &[Act], at: usize, key: Key) -> bool {
+    match acts.get(at) {
+        None => false,
+        Some(act) => act.deed.key() == key,
     }
 }
 
-/// Whether the part at a place changes this.
-fn sets(parts: &[Part], at: usize, key: Key) -> bool {
-    match parts.get(at) {
-        Some(Part::Set(assignment)) => assignment.change.key() == key,
-        _ => false,
+/// Whether the assignment at a place changes this.
+fn changes(assignments: &[Assignment], at: usize, key: Key) -> bool {
+    match assignments.get(at) {
+        None => false,
+        Some(assignment) => assignment.change.key() == key,
     }
 }
 
@@ -132,18 +132,16 @@ fn the_order_of_evaluation(rt: HostRuntime) -> Result<(), Fail> {
     let read = draft(rt.alloc(), line)?;
     assert_eq!(rt; read.findings.len(), 0);
     assert_eq!(rt; read.plain.len(), 1);
-    assert!(rt; matches!(read.plain.first(), Some(Part::Plain(_))));
     assert_eq!(rt; read.up.len(), 1);
-    assert!(rt; matches!(read.up.first(), Some(Part::Up(_))));
     assert_eq!(rt; read.acts.len(), 3);
     assert!(rt; does(&read.acts, 0, Key::Test));
     assert!(rt; does(&read.acts, 1, Key::Program));
     assert!(rt; does(&read.acts, 2, Key::Import));
     assert_eq!(rt; read.results.len(), 1);
-    assert!(rt; matches!(read.results.first(), Some(Part::Result(_))));
     assert_eq!(rt; read.sets.len(), 2);
-    assert!(rt; sets(&read.sets, 0, Key::Env));
-    assert!(rt; sets(&read.sets, 1, Key::Run));
+    assert!(rt; changes(&read.sets, 0, Key::Env));
+    assert!(rt; changes(&read.sets, 1, Key::Run));
     parts_are_kept_in_order();
+    no_part_is_lost();
     Ok(())
 }

@@ -1,8 +1,12 @@
-use Rattle.rule_drafts.proofs.Keeping.{nothing_lost, turns_rise}
+use Rattle.std.specs.List.{filter_map}
+use Rattle.rule_drafts.specs.Drafts.{act_in, assignment_in}
+use Rattle.rule_drafts.specs.Turns.{turn_of_act, turn_of_assignment}
+use Rattle.rule_drafts.proofs.Sorting.{are_in_order}
+use Rattle.rule_drafts.proofs.Bounds.{act_below, assignment_below}
 use Rattle.rule_drafts.proofs.laws.parts_are_kept_in_order.Goals as goal
 
-pub returns-clause-kept : goal.returns-clause-kept
-returns-clause-kept c = nothing_lost
-
-pub returns-clause-order : goal.returns-clause-order
-returns-clause-order c = turns_rise
+pub returns : goal.returns
+returns c = λ line parts. record {
+  acts = are_in_order turn_of_act 8 act_below (filter_map act_in parts);
+  sets = are_in_order turn_of_assignment 12 assignment_below (filter_map assignment_in parts);
+}

@@ -1,0 +1,5 @@
+use Rattle.rule_drafts.proofs.Gaps.{plain_is_passed}
+use Rattle.rule_drafts.proofs.laws.plain_lines_are_passed.Goals as goal
+
+pub returns : goal.returns
+returns c = plain_is_passed

@@ -6,13 +6,13 @@ use Rattle.std.proofs.lemmas.List.Quantifiers.{position-Some}
 use Rattle.std.specs.Option.{option_and_then}
 use Rattle.std.specs.List.{sum_by, filter_map, cons_option, zip, position, onto_first}
 use Rattle.text_bytes.specs.Names.{newline, colon, space, equals}
-use Rattle.text_words.specs.Texts.{is_empty}
+use Rattle.text_words.specs.Texts.{is_empty, split_once}
 use Rattle.text_words.specs.Lines.{lines}
 use Rattle.text_tables.specs.Texts.{Text}
 use Rattle.text_tables.specs.Pairs.{Pair}
 use Rattle.device_core.specs.Values.{NumberValue, DeviceValue, AnswerValue, EventValue, chain}
 use Rattle.device_core.specs.Lines.{Row, form, kind_of, row_from, row_of}
-use Rattle.device_core.specs.Parts.{cut, with_name, pair_of, is_part, with_parts, number_of, number_below, answer_parts, with_status, answer_of}
+use Rattle.device_core.specs.Parts.{with_name, pair_of, is_part, with_parts, number_of, number_below, answer_parts, with_status, answer_of}
 use Rattle.device_core.specs.Blocks.{is_kind, text_in, texts, pairs, numbers, answers, first, before_device, groups, device, devices, programs, event}
 use Rattle.device_runs.specs.Blocks.{is_too_long}
 use Rattle.device_core.specs.Faults.{given_by, block_gives}
@@ -47,42 +47,42 @@ cut_at byte text (Some n) p found e =
     let b = length-drop (n + 1) text in
     rw (front, back, a, b) (grind arith)
 
-cut_long : (byte : ℕ) (text : Text) (p : Pair) → cut byte text ≡ Some p → length p.0 + length p.1 + 1 ≡ length text
-unfolding cut
+cut_long : (byte : ℕ) (text : Text) (p : Pair) → split_once byte text ≡ Some p → length p.0 + length p.1 + 1 ≡ length text
+unfolding split_once
 cut_long byte text p e = cut_at byte text (position (λ b. b == byte) text) p refl e
 
-pair_by : (rest : Text) (o : Option Pair) → cut equals rest ≡ o → option_weight pair_weight (option_and_then with_name o) ≤ length rest + 3
+pair_by : (rest : Text) (o : Option Pair) → split_once equals rest ≡ o → option_weight pair_weight (option_and_then with_name o) ≤ length rest + 3
 pair_by rest None e = omega arith
 pair_by rest (Some ([], v)) e = omega arith
 pair_by rest (Some (b ∷ n, v)) e = let long = cut_long equals rest (b ∷ n, v) e in omega (arith, long)
 
 pair_light : (rest : Text) → option_weight pair_weight (pair_of rest) ≤ length rest + 3
 unfolding pair_of
-pair_light rest = pair_by rest (cut equals rest) refl
+pair_light rest = pair_by rest (split_once equals rest) refl
 
 number_both : (p : Pair) (m : ℕ) → length p.0 + length p.1 + 1 ≡ m → (t : Bool) → option_weight number_own (if t then Some (record { major = p.0; minor = p.1 }) else None) ≤ m + 3
 number_both p m long true = omega (arith, long)
 number_both p m long false = omega arith
 
-number_by : (rest : Text) (o : Option Pair) → cut colon rest ≡ o → option_weight number_own (option_and_then with_parts o) ≤ length rest + 3
+number_by : (rest : Text) (o : Option Pair) → split_once colon rest ≡ o → option_weight number_own (option_and_then with_parts o) ≤ length rest + 3
 number_by rest None e = omega arith
 number_by rest (Some p) e = number_both p (length rest) (cut_long colon rest p e) (is_part p.0 && is_part p.1)
 
 number_light : (rest : Text) → option_weight number_own (number_of rest) ≤ length rest + 3
 unfolding number_of
-number_light rest = number_by rest (cut colon rest) refl
+number_light rest = number_by rest (split_once colon rest) refl
 
 answer_with : (text : Text) (m : ℕ) → length text ≤ m → (o : Option ℕ) → option_weight answer_own (option_map (λ status. record { status = status; text = text }) o) ≤ m + 3
 answer_with text m short None = omega arith
 answer_with text m short (Some status) = omega (arith, short)
 
-answer_by : (rest : Text) (o : Option Pair) → cut space rest ≡ o → option_weight answer_own (with_status (answer_parts rest o)) ≤ length rest + 3
+answer_by : (rest : Text) (o : Option Pair) → split_once space rest ≡ o → option_weight answer_own (with_status (answer_parts rest o)) ≤ length rest + 3
 answer_by rest None e = answer_with [] (length rest) (omega arith) (number_below 3 256 rest)
 answer_by rest (Some p) e = let long = cut_long space rest p e in answer_with p.1 (length rest) (omega (arith, long)) (number_below 3 256 p.0)
 
 answer_light : (rest : Text) → option_weight answer_own (answer_of rest) ≤ length rest + 3
 unfolding answer_of
-answer_light rest = answer_by rest (cut space rest) refl
+answer_light rest = answer_by rest (split_once space rest) refl
 
 -- ---- the weights of what rows say
 

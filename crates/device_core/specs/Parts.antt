@@ -1,17 +1,13 @@
 -- What the rest of a line says: two parts, numbers, answers and paths.
-use Rattle.std.specs.Prelude.{ℕ, ◌+◌, ◌^◌, Bool, true, false, not, ◌&&◌, List, [], ◌∷◌, ◌++◌, take, drop, length, position, ◌==◌, nat_le, Option, Some, None, option_map, if◌then◌else◌, nat_eq, is_some}
+use Rattle.std.specs.Prelude.{ℕ, ◌^◌, Bool, true, false, not, ◌&&◌, List, [], ◌∷◌, ◌++◌, length, ◌==◌, nat_le, Option, Some, None, option_map, if◌then◌else◌, nat_eq, is_some}
 use Rattle.std.specs.Option.{option_and_then}
 use Rattle.std.specs.List.{starts_with}
 use Rattle.text_bytes.specs.Names.{slash, colon, equals, space}
-use Rattle.text_words.specs.Texts.{is_empty}
+use Rattle.text_words.specs.Texts.{is_empty, split_once}
 use Rattle.text_words.specs.Numbers.{decimal_below}
 use Rattle.text_tables.specs.Texts.{Text}
 use Rattle.text_tables.specs.Pairs.{Pair}
 use Rattle.device_core.specs.Values.{NumberValue, AnswerValue}
-
--- what stands before the first such byte, and what behind it
-unfoldable pub cut : ℕ → Text → Option Pair
-cut byte text = option_map (λ n. (take n text, drop (n + 1) text)) (position (λ b. b == byte) text)
 
 -- a pair whose name is not empty
 abbrev pub with_name : Pair → Option Pair
@@ -19,7 +15,7 @@ with_name p = if is_empty p.0 then None else Some p
 
 -- a name and its value: what stands before the first `=` and is not empty, and what behind it
 unfoldable pub pair_of : Text → Option Pair
-pair_of rest = option_and_then with_name (cut equals rest)
+pair_of rest = option_and_then with_name (split_once equals rest)
 
 -- the number that 1 to `most` digits write, if it is below the bound
 unfoldable pub number_below : ℕ → ℕ → Text → Option ℕ
@@ -35,7 +31,7 @@ with_parts p = if is_part p.0 && is_part p.1 then Some (record { major = p.0; mi
 
 -- a device number: two numbers of 1 to 10 digits below 2^32, and a colon in between; as written
 unfoldable pub number_of : Text → Option NumberValue
-number_of rest = option_and_then with_parts (cut colon rest)
+number_of rest = option_and_then with_parts (split_once colon rest)
 
 -- the status and the text of an answer: what stands before the first space and behind it
 abbrev pub answer_parts : Text → Option Pair → Pair
@@ -48,7 +44,7 @@ with_status p = option_map (λ status. record { status = status; text = p.1 }) (
 
 -- an answer: a status of 1 to 3 digits, at most 255, and then nothing or a space and a text
 unfoldable pub answer_of : Text → Option AnswerValue
-answer_of rest = with_status (answer_parts rest (cut space rest))
+answer_of rest = with_status (answer_parts rest (split_once space rest))
 
 -- whether each slash is followed by a byte that is none; the first argument says that one stands right before the text
 abbrev pub names_follow : Bool → Text → Bool

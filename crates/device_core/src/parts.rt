@@ -1,29 +1,17 @@
 //! What the rest of a line says: two parts, numbers, answers and paths.
 ghost use Rattle.std.specs.Prelude.{◌≡◌, ◌+◌, ◌^◌, ◌<◌, ◌≤◌, length, option_map, is_some, IfSome, true};
-ghost use Rattle.device_core.specs.Parts.{cut, pair_of, number_of, answer_of, number_below, is_part, names_follow, is_device_path, is_parent_path};
+ghost use Rattle.device_core.specs.Parts.{pair_of, number_of, answer_of, number_below, is_part, names_follow, is_device_path, is_parent_path};
 
 use crate::devices::DeviceNumber;
 use crate::programs::ProgramAnswer;
-use text_bytes::find;
-use text_words::{begins_with, decimal_below};
-
-/// What stands before the first such byte, and what behind it.
-#[tactic(auto, unfolding(crate::specs::Parts::cut))]
-pub(crate) fn cut(byte: u8, text: &[u8]) -> Option<(&[u8], &[u8])>
-    ensures { option_map (λ p. (p.0.now, p.1.now)) result ≡ cut byte text.now }
-{
-    match find(byte, text) {
-        Some(n) => Some((&text[..n], &text[n + 1..])),
-        None => None,
-    }
-}
+use text_words::{begins_with, decimal_below, split_once};
 
 /// A name that is not empty, and its value.
 #[tactic(auto, unfolding(crate::specs::Parts::pair_of))]
 pub(crate) fn pair_of(rest: &[u8]) -> Option<(&[u8], &[u8])>
     ensures { option_map (λ p. (p.0.now, p.1.now)) result ≡ pair_of rest.now }
 {
-    let (name, value) = cut(b'=', rest)?;
+    let (name, value) = split_once(b'=', rest)?;
     if name.is_empty() {
         return None;
     }
@@ -55,7 +43,7 @@ fn is_part(text: &[u8]) -> bool
 pub(crate) fn number_of(rest: &[u8]) -> Option<DeviceNumber<'_>>
     ensures { result ≡ number_of rest.now }
 {
-    let (major, minor) = cut(b':', rest)?;
+    let (major, minor) = split_once(b':', rest)?;
     if !is_part(major) {
         return None;
     }
@@ -70,7 +58,7 @@ pub(crate) fn number_of(rest: &[u8]) -> Option<DeviceNumber<'_>>
 pub(crate) fn answer_of(rest: &[u8]) -> Option<ProgramAnswer<'_>>
     ensures { result ≡ answer_of rest.now }
 {
-    let (status, text) = match cut(b' ', rest) {
+    let (status, text) = match split_once(b' ', rest) {
         Some(parts) => parts,
         None => (rest, &rest[rest.len()..]),
     };

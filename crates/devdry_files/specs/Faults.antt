@@ -3,7 +3,7 @@ use Rattle.std.specs.Prelude.{◌≡◌, ◌⊎◌, ⊤, ℕ, List, String, Cont
 use Rattle.std.specs.declared.alloc.Global.{Global}
 use Rattle.devdry_files.specs.Answers.{Answer}
 use Rattle.devdry_files.specs.Answers.Answer.{NoContent, NoListing}
-use Rattle.devdry_files.specs.Found.{path_in}
+use Rattle.devdry_files.specs.Found.{AreNamesIn, path_in}
 use Rattle.devdry_files.specs.declared.disk.DiskFault.{DiskFault}
 use Rattle.devdry_files.specs.declared.disk.DiskFault.TheVariants.{Absent, Unreadable, OutOfMemory}
 use Rattle.devdry_files.specs.declared.fault.ReadFault.{ReadFault}
@@ -35,10 +35,19 @@ pub record IsFaultyNamed (may : Answer → Type 0) (paths : List (List ℕ)) (pa
   pub named : Contains paths path
   pub unread : IsUnread may path
 
--- the path is the folder's, which the disk may say it can't list, or that of a name in it which it may say it can't read
+-- the path is that of one of the folder's files, which the disk may say that it can't read
+pub record IsFaultyFileIn (may : Answer → Type 0) (folder : Folder) (path : List ℕ) : Type 0 where
+  pub names : List (String Global)
+  pub are_names : AreNamesIn may folder names
+  pub name : String Global
+  pub listed : Contains names name
+  pub path_is : path ≡ path_in folder (string_bytes name)
+  pub unread : IsUnread may path
+
+-- the path is that of the folder, which the disk may say that it can't list, or of one of its files, which it may say that
+-- it can't read
 abbrev pub IsFaultyIn : (Answer → Type 0) → Folder → List ℕ → Type 0
-IsFaultyIn may folder path = ((path ≡ string_bytes folder.path) × IsUnlisted may path)
-    ⊎ ((name : List ℕ) × (path ≡ path_in folder name) × IsUnread may path)
+IsFaultyIn may folder path = ((path ≡ string_bytes folder.path) × IsUnlisted may path) ⊎ IsFaultyFileIn may folder path
 
 -- so it is of one of the folders
 pub record IsFaultyInOneOf (may : Answer → Type 0) (folders : List Folder) (path : List ℕ) : Type 0 where

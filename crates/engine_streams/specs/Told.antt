@@ -1,5 +1,5 @@
 -- What a device tells of the items that went through it: `None` where it tells nothing.
-use Rattle.std.specs.Prelude.{◌≡◌, ℕ, ◌≤◌, Option, Some, None, List, [], ◌++◌, length, take}
+use Rattle.std.specs.Prelude.{◌≡◌, ℕ, Option, Some, None, List, [], ◌++◌}
 
 -- what is told once more items have followed
 abbrev pub followed_by : {A : Type 0} → Option (List A) → List A → Option (List A)
@@ -15,7 +15,3 @@ led_by first (Some rest) = Some (first ++ rest)
 abbrev pub NoneLeft : Option (List ℕ) → Type 0
 NoneLeft None = Unit {0}
 NoneLeft (Some rest) = rest ≡ []
-
--- a first part of the text followed, perhaps none or all of it
-abbrev pub IsFollowedByPart : Option (List ℕ) → List ℕ → Option (List ℕ) → Type 0
-IsFollowedByPart before text now = (n : ℕ) × (n ≤ length text) × (now ≡ followed_by before (take n text))

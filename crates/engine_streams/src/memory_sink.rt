@@ -3,6 +3,7 @@
 //! Its room is taken once, by its constructor, so that its calls need no memory. It can be made to
 //! fail at a chosen byte, to take little in a call, or to refuse to flush.
 ghost use Rattle.std.specs.Prelude.{◌≡◌, ◌≤◌, Some, [], take, vec_len, vec_capacity, IfOk};
+ghost use Rattle.engine_streams.specs.Sinks.{SinkState};
 
 use crate::{DeviceFault, Sink};
 use std::alloc::{AllocError, Global};
@@ -27,9 +28,8 @@ impl MemorySink {
     ///
     /// `AllocError` comes where the room could not be had.
     pub fn new(alloc: Global, room: usize, each: usize) -> Result<MemorySink, AllocError>
-        ensures taken { IfOk result (λ s. ⟦<MemorySink as Sink>⟧.taken s ≡ Some []) }
-        ensures flushed { IfOk result (λ s. ⟦<MemorySink as Sink>⟧.flushed s ≡ Some []) }
-        ensures faults { IfOk result (λ s. ⟦<MemorySink as Sink>⟧.faults s ≡ 0) }
+        ensures { IfOk result (λ s. ⟦<MemorySink as Sink>⟧.shown s
+            ≡ record { taken = Some []; flushed = Some []; faults = 0 }) }
     {
         let bytes = Vec::with_capacity(alloc, room)?;
         Ok(MemorySink {
@@ -44,41 +44,39 @@ impl MemorySink {
 
     /// Makes every later flush fail, or well again.
     pub fn set_flushes_fail(&mut self, fail: bool)
-        ensures taken { ⟦<MemorySink as Sink>⟧.taken self.new ≡ ⟦<MemorySink as Sink>⟧.taken self.old }
-        ensures flushed { ⟦<MemorySink as Sink>⟧.flushed self.new ≡ ⟦<MemorySink as Sink>⟧.flushed self.old }
-        ensures faults { ⟦<MemorySink as Sink>⟧.faults self.new ≡ ⟦<MemorySink as Sink>⟧.faults self.old }
+        ensures { ⟦<MemorySink as Sink>⟧.shown self.new ≡ ⟦<MemorySink as Sink>⟧.shown self.old }
     {
         self.flushes_fail = fail;
     }
 
     /// Lends the bytes taken so far.
     pub fn bytes_taken(&self) -> &[u8]
-        ensures { ⟦<MemorySink as Sink>⟧.taken self.now ≡ Some result.now }
+        ensures { (⟦<MemorySink as Sink>⟧.shown self.now).taken ≡ Some result.now }
     {
         self.bytes.as_slice()
     }
 
     /// Lends the bytes flushed so far, which are the first of those taken.
     pub fn bytes_flushed(&self) -> &[u8]
-        ensures { ⟦<MemorySink as Sink>⟧.flushed self.now ≡ Some result.now }
+        ensures { (⟦<MemorySink as Sink>⟧.shown self.now).flushed ≡ Some result.now }
     {
         &self.bytes[..self.flushed]
     }
 
     /// How many calls failed; at 2^64 - 1 it stays.
     pub fn faults(&self) -> u64
-        ensures { ⟦<MemorySink as Sink>⟧.faults self.now ≡ result }
+        ensures { (⟦<MemorySink as Sink>⟧.shown self.now).faults ≡ result }
     {
         self.faults
     }
 }
 
 impl Sink for MemorySink {
-    ghost faults = { λ s. s.faults };
-
-    ghost taken = { λ s. Some s.bytes.items };
-
-    ghost flushed = { λ s. Some (take s.flushed s.bytes.items) };
+    ghost shown = { λ s. record {
+      taken = Some s.bytes.items;
+      flushed = Some (take s.flushed s.bytes.items);
+      faults = s.faults;
+    } };
 
     fn write(&mut self, text: &[u8]) -> Result<usize, DeviceFault> {
         let left = self.room - self.bytes.len();

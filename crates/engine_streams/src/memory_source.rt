@@ -4,6 +4,7 @@
 //! fail at a chosen byte, or to give little in a call.
 ghost use Rattle.std.specs.Prelude.{◌≡◌, ◌≤◌, Some, [], drop, sum, vec_len, IfOk};
 ghost use Rattle.engine_streams.specs.Cuts.{cuts};
+ghost use Rattle.engine_streams.specs.Sources.{SourceState};
 
 use crate::{DeviceFault, Source};
 use std::alloc::{AllocError, Global};
@@ -35,9 +36,8 @@ impl MemorySource {
         each: usize,
         fails_at: usize,
     ) -> Result<MemorySource, AllocError>
-        ensures pieces { IfOk result (λ s. ⟦<MemorySource as Source>⟧.pieces s ≡ Some []) }
-        ensures left { IfOk result (λ s. ⟦<MemorySource as Source>⟧.left s ≡ Some bytes.items) }
-        ensures faults { IfOk result (λ s. ⟦<MemorySource as Source>⟧.faults s ≡ 0) }
+        ensures { IfOk result (λ s. ⟦<MemorySource as Source>⟧.shown s
+            ≡ record { pieces = Some []; left = Some bytes.items; faults = 0 }) }
     {
         let sizes = Vec::with_capacity(alloc, reads)?;
         Ok(MemorySource {
@@ -52,11 +52,11 @@ impl MemorySource {
 }
 
 impl Source for MemorySource {
-    ghost faults = { λ s. s.faults };
-
-    ghost pieces = { λ s. Some (cuts s.bytes.items s.sizes.items) };
-
-    ghost left = { λ s. Some (drop s.at s.bytes.items) };
+    ghost shown = { λ s. record {
+      pieces = Some (cuts s.bytes.items s.sizes.items);
+      left = Some (drop s.at s.bytes.items);
+      faults = s.faults;
+    } };
 
     fn read(&mut self, into: &mut [u8]) -> Result<usize, DeviceFault> {
         let left = self.bytes.len() - self.at;

@@ -1,8 +1,13 @@
 //! Devices over std's readers and writers.
 //!
 //! No contract can say which bytes a file, a pipe or a terminal holds, so these tell none. What
-//! they keep is the count of failed calls, by which a status can be shown to rest on a failure.
-ghost use Rattle.std.specs.Prelude.{◌≡◌, None};
+//! they keep is the count of failed calls, by which a status can be shown to rest on a failure. Where
+//! a reader or writer of std does say what a call gave or took, so does the call here.
+ghost use Rattle.std.specs.Prelude.{◌≡◌, ◌<◌, ◌≤◌, length, take, IfOk, OnOk, OnErr};
+ghost use Rattle.std.specs.Io.KnownBytes.{ReadConsumes, WriteAppends};
+ghost use Rattle.engine_streams.specs.Told.{NoneLeft};
+ghost use Rattle.engine_streams.specs.Sinks.{SinkState, SinkFails, Takes, untold_sink};
+ghost use Rattle.engine_streams.specs.Sources.{SourceState, Gives, SourceFails, untold_source};
 
 use crate::{DeviceFault, Sink, Source};
 use std::io::{Read, Write};
@@ -17,20 +22,22 @@ pub struct SourceOver<R> {
 impl<R: Read> SourceOver<R> {
     /// A source over a reader, none of whose calls has failed.
     pub fn new(reader: R) -> SourceOver<R>
-        ensures { ⟦<SourceOver<R> as Source>⟧.faults result ≡ 0 }
+        ensures { ⟦<SourceOver<R> as Source>⟧.shown result ≡ untold_source 0 }
     {
         SourceOver { reader, faults: 0 }
     }
 }
 
 impl<R: Read> Source for SourceOver<R> {
-    ghost faults = { λ s. s.faults };
+    ghost shown = { λ s. untold_source s.faults };
 
-    ghost pieces = { λ _. None };
-
-    ghost left = { λ _. None };
-
-    fn read(&mut self, into: &mut [u8]) -> Result<usize, DeviceFault> {
+    fn read(&mut self, into: &mut [u8]) -> Result<usize, DeviceFault>
+        ensures within { IfOk result (λ n. n ≤ length into.old) }
+        ensures gives { IfOk result (λ n. Gives (untold_source self.old.faults) (take n into.new) (untold_source self.new.faults)) }
+        ensures end { IfOk result (λ n. n ≡ 0 → NoneLeft (untold_source self.old.faults).left) }
+        ensures fails { OnErr result (SourceFails (untold_source self.old.faults) (untold_source self.new.faults)) }
+        ensures bytes { ReadConsumes (R.remaining self.old.reader) (R.remaining self.new.reader) result into.new }
+    {
         match self.reader.read(into) {
             Ok(n) => Ok(n),
             Err(_) => {
@@ -51,20 +58,23 @@ pub struct SinkOver<W> {
 impl<W: Write> SinkOver<W> {
     /// A sink over a writer, none of whose calls has failed.
     pub fn new(writer: W) -> SinkOver<W>
-        ensures { ⟦<SinkOver<W> as Sink>⟧.faults result ≡ 0 }
+        ensures { ⟦<SinkOver<W> as Sink>⟧.shown result ≡ untold_sink 0 }
     {
         SinkOver { writer, faults: 0 }
     }
 }
 
 impl<W: Write> Sink for SinkOver<W> {
-    ghost faults = { λ s. s.faults };
+    ghost shown = { λ s. untold_sink s.faults };
 
-    ghost taken = { λ _. None };
-
-    ghost flushed = { λ _. None };
-
-    fn write(&mut self, text: &[u8]) -> Result<usize, DeviceFault> {
+    fn write(&mut self, text: &[u8]) -> Result<usize, DeviceFault>
+        ensures within { IfOk result (λ n. n ≤ length text.now) }
+        ensures takes { IfOk result (λ n. 0 < n → Takes (untold_sink self.old.faults) (take n text.now) (untold_sink self.new.faults)) }
+        ensures empty { OnOk result (length text.now ≡ 0 → Takes (untold_sink self.old.faults) text.now (untold_sink self.new.faults)) }
+        ensures refuses { IfOk result (λ n. n ≡ 0 → 0 < length text.now → SinkFails (untold_sink self.old.faults) (untold_sink self.new.faults)) }
+        ensures fails { OnErr result (SinkFails (untold_sink self.old.faults) (untold_sink self.new.faults)) }
+        ensures bytes { WriteAppends (W.contents self.old.writer) (W.contents self.new.writer) result text.now }
+    {
         match self.writer.write(text) {
             Ok(n) => {
                 if n == 0 && !text.is_empty() {

@@ -6,7 +6,7 @@ use std::alloc::Global;
 use std::io::{self, ErrorKind, Read, Write};
 use std::test::Fail;
 
-/// A stream that works for a number of calls, a byte in each, and then fails.
+/// A stream that works for a number of calls, flushes included, with a byte in each, and then fails.
 #[derive(Drop)]
 struct Failing {
     calls: u8,
@@ -128,8 +128,13 @@ fn failures_of_std_streams_are_faults(rt: HostRuntime) -> Result<(), Fail> {
     assert!(rt; !at_end);
     let mut sink = SinkOver::new(Failing { calls: 2 });
     assert!(rt; write_all(&mut sink, b"abc").is_err());
-    let mut sink = SinkOver::new(Failing { calls: 3 });
-    assert!(rt; write_all(&mut sink, b"abc").is_ok());
-    assert!(rt; sink.flush().is_err());
     Ok(())
+}
+
+#[test]
+fn a_flush_reaches_the_writer(rt: HostRuntime) {
+    let mut sink = SinkOver::new(Failing { calls: 4 });
+    assert!(rt; write_all(&mut sink, b"abc").is_ok());
+    assert!(rt; sink.flush().is_ok());
+    assert!(rt; sink.flush().is_err());
 }

@@ -1,7 +1,6 @@
-//! Writing a whole text to a sink that may take it in parts.
-ghost use Rattle.std.specs.Prelude.{◌≡◌, ◌≤◌, OnOk, OnErr};
-ghost use Rattle.engine_streams.specs.Told.{followed_by, IsFollowedByPart};
-ghost use Rattle.engine_streams.specs.Faults.{HasFailed};
+//! Writing whole texts to a sink that may take them in parts.
+ghost use Rattle.std.specs.Prelude.{flat_map, OnOk, OnErr};
+ghost use Rattle.engine_streams.specs.Sinks.{BreaksOff, HandsOn, Takes};
 
 use crate::{DeviceFault, Sink};
 
@@ -10,12 +9,8 @@ use crate::{DeviceFault, Sink};
 /// A `DeviceFault` says that a write failed or took nothing; a first part of the text may then have
 /// been taken.
 pub fn write_all<W: Sink>(sink: &mut W, text: &[u8]) -> Result<(), DeviceFault>
-    ensures whole { OnOk result (W.taken sink.new ≡ followed_by (W.taken sink.old) text.now) }
-    ensures part { OnErr result (IsFollowedByPart (W.taken sink.old) text.now (W.taken sink.new)) }
-    ensures flushed { W.flushed sink.new ≡ W.flushed sink.old }
-    ensures well { OnOk result (W.faults sink.new ≡ W.faults sink.old) }
-    ensures failed { OnErr result (HasFailed (W.faults sink.old) (W.faults sink.new)) }
-    ensures counts { W.faults sink.old ≤ W.faults sink.new }
+    ensures whole { OnOk result (Takes (W.shown sink.old) text.now (W.shown sink.new)) }
+    ensures part { OnErr result (BreaksOff (W.shown sink.old) text.now (W.shown sink.new)) }
 {
     let mut done = 0;
     while done < text.len() {
@@ -26,4 +21,30 @@ pub fn write_all<W: Sink>(sink: &mut W, text: &[u8]) -> Result<(), DeviceFault>
         done += n;
     }
     Ok(())
+}
+
+/// Writes whole texts one behind another, and flushes nothing.
+///
+/// A `DeviceFault` says that a write failed or took nothing; a first part of the texts may then have
+/// been taken.
+pub fn write_each<W: Sink>(sink: &mut W, texts: &[&[u8]]) -> Result<(), DeviceFault>
+    ensures whole { OnOk result (Takes (W.shown sink.old) (flat_map (λ t. t.now) texts.now) (W.shown sink.new)) }
+    ensures part { OnErr result (BreaksOff (W.shown sink.old) (flat_map (λ t. t.now) texts.now) (W.shown sink.new)) }
+{
+    for text in texts {
+        write_all(sink, text)?;
+    }
+    Ok(())
+}
+
+/// Writes whole texts one behind another, and flushes them.
+///
+/// A `DeviceFault` says that a call failed or took nothing; a first part of the texts, perhaps all of
+/// them, may then have been taken, and none of it was flushed.
+pub fn hand_on<W: Sink>(sink: &mut W, texts: &[&[u8]]) -> Result<(), DeviceFault>
+    ensures whole { OnOk result (HandsOn (W.shown sink.old) (flat_map (λ t. t.now) texts.now) (W.shown sink.new)) }
+    ensures part { OnErr result (BreaksOff (W.shown sink.old) (flat_map (λ t. t.now) texts.now) (W.shown sink.new)) }
+{
+    write_each(sink, texts)?;
+    sink.flush()
 }

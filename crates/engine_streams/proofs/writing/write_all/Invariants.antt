@@ -1,13 +1,11 @@
-use Rattle.std.proofs.Common.{length, ◌-◌, ◌≡◌, ◌≤◌, take}
-use Rattle.engine_streams.specs.Told.{followed_by}
+use Rattle.std.proofs.Common.{length, ◌-◌, ◌≤◌, take}
+use Rattle.engine_streams.specs.Sinks.{Takes}
 use Rattle.engine_streams.proofs.writing.write_all.Given as goal
 
 abbrev pub invariant-loop-done : goal.invariant-loop-done
 invariant-loop-done g l = record {
   within : l.done ≤ length l.text;
-  bytes : g.W.Sink.taken l.sink ≡ followed_by (g.W.Sink.taken l.initial.sink) (take l.done l.text);
-  flushed : g.W.Sink.flushed l.sink ≡ g.W.Sink.flushed l.initial.sink;
-  well : g.W.Sink.faults l.sink ≡ g.W.Sink.faults l.initial.sink;
+  so_far : Takes (g.W.Sink.shown l.initial.sink) (take l.done l.text) (g.W.Sink.shown l.sink);
 }
 
 abbrev pub decreases-loop-done : goal.decreases-loop-done

@@ -1,5 +1,5 @@
 -- Names in a set, as a list of names.
-use Rattle.std.proofs.Common.{◌≡◌, ℕ, Bool, true, false, List, [], ◌∷◌, ◌++◌, ◌||◌, map, cond, refl, ap, sym, ◌∙◌, nat_eq, Bor}
+use Rattle.std.proofs.Common.{◌≡◌, ℕ, Bool, true, false, List, [], ◌∷◌, ◌++◌, ◌||◌, map, cond, refl, ap, sym, nat_eq, Bor}
 use Rattle.std.proofs.lemmas.List.{map-append}
 use Rattle.std.proofs.lemmas.List.Folds.{list_any-append}
 use Rattle.std.specs.Cmp.Lexicographic.{pointwise, same_text}

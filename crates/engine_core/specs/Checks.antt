@@ -1,39 +1,21 @@
 -- What `verify` says of rules files.
-use Rattle.std.specs.Prelude.{ℕ, ◌-◌, Bool, true, false, ◌==◌, not, nat_eq, if◌then◌else◌, List, [], ◌∷◌, ◌++◌, length, codes, decimal, filter}
+use Rattle.std.specs.Prelude.{ℕ, ◌-◌, Bool, true, false, ◌==◌, not, nat_eq, if◌then◌else◌, List, [], ◌++◌, length, codes, decimal, filter}
 use Rattle.std.specs.List.{count_by, list_any}
 use Rattle.std.specs.Cmp.Lexicographic.{pointwise}
-use Rattle.text_bytes.specs.Names.{newline}
 use Rattle.text_files.specs.declared.source_file.SourceFile.{SourceFile}
 use Rattle.text_files.specs.declared.message.Message.{Message}
 use Rattle.text_files.specs.declared.message.MessageKind.{MessageKind}
-use Rattle.text_files.specs.declared.message.MessageKind.TheVariants.{PropertyWithoutMatch, MatchWithoutProperty, UnindentedLine, NoEquals, EmptyKey, PatternNotSupported, BadSyntax, UnknownKey, OperatorNotAllowed, WrongAttribute, BadValue, BadSubstitution, NoLaterLabel, GivenTwice, LineTooLong, BadPrefix, SetNotSupported, OpenAtEnd, CommaExpected, BlankExpected, ReadAsAssign, LabelUnused}
+use Rattle.text_files.specs.declared.message.MessageKind.TheVariants.{CommaExpected, BlankExpected, ReadAsAssign, LabelUnused}
 use Rattle.engine_core.specs.Delivery.{Outcome}
 use Rattle.engine_core.specs.Messages.{message_lines}
 
 -- whether a kind of message is about style: the S messages
 abbrev pub is_style : MessageKind → Bool
-is_style PropertyWithoutMatch = false
-is_style MatchWithoutProperty = false
-is_style UnindentedLine = false
-is_style NoEquals = false
-is_style EmptyKey = false
-is_style PatternNotSupported = false
-is_style BadSyntax = false
-is_style UnknownKey = false
-is_style OperatorNotAllowed = false
-is_style WrongAttribute = false
-is_style BadValue = false
-is_style BadSubstitution = false
-is_style NoLaterLabel = false
-is_style GivenTwice = false
-is_style LineTooLong = false
-is_style BadPrefix = false
-is_style SetNotSupported = false
-is_style OpenAtEnd = false
 is_style CommaExpected = true
 is_style BlankExpected = true
 is_style ReadAsAssign = true
 is_style LabelUnused = true
+is_style _ = false
 
 -- the messages that are given: all, or without style those that are not about it
 unfoldable pub told : Bool → List Message → List Message

@@ -1,3 +1,4 @@
+-- Serves the contracts inside this crate alone; no reader of `serve` has to believe it.
 -- Names, each once.
 use Rattle.std.specs.Prelude.{ℕ, Bool, nat_eq, List}
 use Rattle.std.specs.List.{list_any}

@@ -1,6 +1,7 @@
 -- What a run says: its outcome, as a function of the command line and of the files handed in.
 use Rattle.std.specs.Prelude.{ℕ, ◌-◌, ◌^◌, Bool, ◌==◌, ◌&&◌, nat_le, not, if◌then◌else◌, List, [], length, sum_by, codes}
 use Rattle.text_files.specs.declared.source_file.SourceFile.{SourceFile}
+use Rattle.text_files.specs.declared.source_file.FileKind.TheVariants.{Hwdb, Rules}
 use Rattle.text_files.specs.declared.message.Message.{Message}
 use Rattle.hwdb_lookup.specs.declared.entry.Entry.{Entry}
 use Rattle.hwdb_core.specs.Sources.{entries_of, match_bytes_of, messages_of, properties_of, text_len}
@@ -60,12 +61,12 @@ rules_outcome line files =
     if nat_le (tokens_in (set_of files).rules) (2 ^ 24) then said_of line.summary files (told line.style (set_of files).messages)
     else too_many_rules
 
--- the outcome of a command over the files that are read
+-- the outcome of a command over the files handed in
 abbrev pub outcome_by : Verb → Line → List SourceFile → Outcome
-outcome_by Query line files = database_outcome (query_outcome line) files
-outcome_by Update line files = database_outcome (update_outcome line) files
-outcome_by Verify line files = rules_outcome line files
+outcome_by Query line files = database_outcome (query_outcome line) (files_read Hwdb line files)
+outcome_by Update line files = database_outcome (update_outcome line) (files_read Hwdb line files)
+outcome_by Verify line files = rules_outcome line (files_read Rules line files)
 
 -- the outcome of a run
 abbrev pub outcome : Line → List SourceFile → Outcome
-outcome line files = outcome_by line.verb line (files_read line files)
+outcome line files = outcome_by line.verb line files

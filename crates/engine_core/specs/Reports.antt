@@ -1,3 +1,4 @@
+-- Serves the contracts inside this crate alone; no reader of `serve` has to believe it.
 -- What a report holds, as an outcome, and what is said where there is none.
 use Rattle.std.specs.Prelude.{◌≡◌}
 use Rattle.hwdb_core.specs.declared.fault.HwdbFault as hwdb

@@ -1,12 +1,12 @@
 //! Writing what a run says, and the status that comes of it.
 //!
 //! The messages go out before the answer, each as one text. A status under 3 says that all of both
-//! was written and flushed; 3 says that a device failed; 4 that memory was refused. The lines on
-//! failures are constants, so that telling of them needs no memory.
-ghost use Rattle.std.specs.Prelude.{◌≡◌, ◌<◌, ◌⊎◌, MatchResult};
-ghost use Rattle.engine_core.specs.Delivery.{Outcome, SinkState, HandsOn, BreaksOff, Delivers, out_of_memory};
+//! was written and flushed; 3 says that a device failed; 4 that memory was refused. A line on a
+//! failure is made of texts that are there already, so that telling of it needs no memory.
+ghost use Rattle.std.specs.Prelude.{◌≡◌, ◌<◌, flat_map};
+ghost use Rattle.engine_core.specs.Delivery.{Delivers, Tells, out_of_memory};
 
-use engine_streams::{DeviceFault, Sink, write_all};
+use engine_streams::{DeviceFault, Sink, hand_on, hand_on_each};
 
 const WRITE_FAILED: &[u8] = b"devdry: write failed\n";
 
@@ -14,7 +14,10 @@ const OUT_OF_MEMORY: &[u8] = b"devdry: out of memory\n";
 
 /// Writes the messages and the answer, and gives the status that was asked for, or 3 where a device
 /// failed.
-pub(crate) fn deliver<W: Sink, E: Sink>(
+///
+/// Messages go to `error`, and the answer then to `output`. Where `output` fails, `error` is told
+/// `devdry: write failed`. The status asked for is under 3.
+pub fn deliver<W: Sink, E: Sink>(
     messages: &[u8],
     answer: &[u8],
     status: u8,
@@ -22,12 +25,8 @@ pub(crate) fn deliver<W: Sink, E: Sink>(
     error: &mut E,
 ) -> u8
     requires { status < 3 }
-    ensures { let outcome : Outcome = record { output = answer.now; messages = messages.now; status = status } in
-        let out : SinkState = record { taken = W.taken output.old; flushed = W.flushed output.old; faults = W.faults output.old } in
-        let out_now : SinkState = record { taken = W.taken output.new; flushed = W.flushed output.new; faults = W.faults output.new } in
-        let err : SinkState = record { taken = E.taken error.old; flushed = E.flushed error.old; faults = E.faults error.old } in
-        let err_now : SinkState = record { taken = E.taken error.new; flushed = E.flushed error.new; faults = E.faults error.new } in
-        Delivers outcome result out out_now err err_now }
+    ensures { Delivers (record { output = answer.now; messages = messages.now; status = status }) result
+        (W.shown output.old) (W.shown output.new) (E.shown error.old) (E.shown error.new) }
 {
     if hand_on(error, messages).is_err() {
         return 3;
@@ -38,20 +37,16 @@ pub(crate) fn deliver<W: Sink, E: Sink>(
     status
 }
 
-/// Says that memory was refused, and gives the status for it, or 3 where the error output failed.
-pub(crate) fn tell_out_of_memory<E: Sink>(error: &mut E) -> u8
-    ensures { let err : SinkState = record { taken = E.taken error.old; flushed = E.flushed error.old; faults = E.faults error.old } in
-        let err_now : SinkState = record { taken = E.taken error.new; flushed = E.flushed error.new; faults = E.faults error.new } in
-        ((result ≡ 4) × HandsOn err out_of_memory err_now) ⊎ ((result ≡ 3) × BreaksOff err out_of_memory err_now) }
+/// Says that memory was refused, and gives the status for it, 4, or 3 where the error output failed.
+pub fn tell_out_of_memory<E: Sink>(error: &mut E) -> u8
+    ensures { Tells out_of_memory 4 result (E.shown error.old) (E.shown error.new) }
 {
     tell(error, OUT_OF_MEMORY, 4)
 }
 
 /// Writes a line on a failure, and gives its status, or 3 where the error output failed.
-fn tell<E: Sink>(error: &mut E, line: &[u8], status: u8) -> u8
-    ensures { let err : SinkState = record { taken = E.taken error.old; flushed = E.flushed error.old; faults = E.faults error.old } in
-        let err_now : SinkState = record { taken = E.taken error.new; flushed = E.flushed error.new; faults = E.faults error.new } in
-        ((result ≡ status) × HandsOn err line.now err_now) ⊎ ((result ≡ 3) × BreaksOff err line.now err_now) }
+pub fn tell<E: Sink>(error: &mut E, line: &[u8], status: u8) -> u8
+    ensures { Tells line.now status result (E.shown error.old) (E.shown error.new) }
 {
     match hand_on(error, line) {
         Ok(()) => status,
@@ -59,12 +54,13 @@ fn tell<E: Sink>(error: &mut E, line: &[u8], status: u8) -> u8
     }
 }
 
-/// Writes a whole text and flushes it.
-fn hand_on<W: Sink>(sink: &mut W, text: &[u8]) -> Result<(), DeviceFault>
-    ensures { let before : SinkState = record { taken = W.taken sink.old; flushed = W.flushed sink.old; faults = W.faults sink.old } in
-        let now : SinkState = record { taken = W.taken sink.new; flushed = W.flushed sink.new; faults = W.faults sink.new } in
-        MatchResult result (λ _. HandsOn before text.now now) (λ _. BreaksOff before text.now now) }
+/// Writes a line on a failure that is made of several texts, and gives its status, or 3 where the
+/// error output failed.
+pub fn tell_in_pieces<E: Sink>(error: &mut E, line: &[&[u8]], status: u8) -> u8
+    ensures { Tells (flat_map (λ t. t.now) line.now) status result (E.shown error.old) (E.shown error.new) }
 {
-    write_all(sink, text)?;
-    sink.flush()
+    match hand_on_each(error, line) {
+        Ok(()) => status,
+        Err(DeviceFault) => 3,
+    }
 }

@@ -1,33 +1,40 @@
 //! Which of the files handed in are read.
 ghost use Rattle.std.specs.Prelude.{◌≡◌, IfOk};
-ghost use Rattle.engine_core.specs.FilesRead.{files_read, kind_read, of_kind, same_kind, suffix_of};
+ghost use Rattle.engine_core.specs.FilesRead.{files_read, kind_named, names_files, of_kind, same_kind, suffix_of};
 
 use engine_line::{Line, Verb};
 use std::alloc::{AllocError, Global};
 use text_files::{FileKind, SourceFile, order_files};
 
-/// The files of the command's kind: those handed in where the line names files, and else those of
-/// the folders, by suffix, rank and name.
+/// The files of a kind that a run reads: those handed in where the line names files of that kind,
+/// and else those of the folders, by suffix, rank and name.
 #[tactic(auto, unfolding(crate::specs::FilesRead::files_read))]
 pub(crate) fn files_read(
     alloc: Global,
+    kind: FileKind,
     line: &Line<'_>,
     files: Vec<SourceFile>,
 ) -> Result<Vec<SourceFile>, AllocError>
-    ensures { IfOk result (λ read. read.items ≡ files_read line.now files.items) }
+    ensures { IfOk result (λ read. read.items ≡ files_read kind line.now files.items) }
 {
-    let kind = kind_read(line.verb);
     let files = of_kind(kind, files);
-    if line.files.is_empty() {
-        order_files(alloc, files, suffix_of(kind))
-    } else {
+    if names_files(line, kind) {
         Ok(files)
+    } else {
+        order_files(alloc, files, suffix_of(kind))
     }
 }
 
-/// The kind of the files that a command reads.
-fn kind_read(verb: Verb) -> FileKind
-    ensures { result ≡ kind_read verb }
+/// Whether a line names files of a kind.
+fn names_files(line: &Line<'_>, kind: FileKind) -> bool
+    ensures { result ≡ names_files line.now kind }
+{
+    same_kind(kind_named(line.verb), kind) && !line.files.is_empty()
+}
+
+/// The kind of the files that a line of the subcommand may name.
+fn kind_named(verb: Verb) -> FileKind
+    ensures { result ≡ kind_named verb }
 {
     match verb {
         Verb::Update | Verb::Query => FileKind::Hwdb,

@@ -9,7 +9,7 @@ use crate::files_read::files_read;
 use crate::refusal::Refusal;
 use engine_line::{Line, Verb};
 use std::alloc::Global;
-use text_files::SourceFile;
+use text_files::{FileKind, SourceFile};
 
 /// What a run writes to its two outputs, and the status that it answers.
 #[derive(Debug, Drop)]
@@ -29,10 +29,18 @@ pub(crate) fn report_on_files(
     ensures status { IfOk result (λ r. r.status < 3) }
     ensures refused { IfErr result (λ e. IsSaid e (outcome line.now files.items)) }
 {
-    let files = files_read(alloc, line, files)?;
     match line.verb {
-        Verb::Query => report_on_query(alloc, line, &files),
-        Verb::Update => report_on_update(alloc, line, &files),
-        Verb::Verify => report_on_rules(alloc, line, &files),
+        Verb::Query => {
+            let files = files_read(alloc, FileKind::Hwdb, line, files)?;
+            report_on_query(alloc, line, &files)
+        }
+        Verb::Update => {
+            let files = files_read(alloc, FileKind::Hwdb, line, files)?;
+            report_on_update(alloc, line, &files)
+        }
+        Verb::Verify => {
+            let files = files_read(alloc, FileKind::Rules, line, files)?;
+            report_on_rules(alloc, line, &files)
+        }
     }
 }

@@ -1,6 +1,6 @@
 //! The whole run.
 ghost use Rattle.std.specs.Prelude.{◌≡◌};
-ghost use Rattle.engine_core.specs.Delivery.{SinkState, Delivers};
+ghost use Rattle.engine_core.specs.Delivery.{Delivers, TellsFaults};
 ghost use Rattle.engine_core.specs.Outcomes.{outcome};
 
 use crate::delivery::{deliver, tell_out_of_memory};
@@ -21,13 +21,13 @@ const TOO_MANY_RULES: &[u8] = b"devdry: rules: too many\n";
 ///
 /// Messages about the files go to `error`; the answer to `output`: for `query` the lines of the
 /// properties as systemd-hwdb(8) gives them, for `verify`, as in udevadm(8), how many files are bad.
-/// Where `line` names files, those handed in are read in their order, and else those whose names end
-/// in `.hwdb` or, for `verify`, in `.rules`, of each name the one of least rank, sorted by name. The
-/// index and the input are not looked at.
+/// Where `line` names files of the kind that the command reads, those handed in are read in their
+/// order, and else those whose names end in `.hwdb` or, for `verify`, in `.rules`, of each name the
+/// one of least rank, sorted by name. The index and the input are not looked at.
 ///
 /// The status is 0; 1 where `update` is strict and there is a message, where `verify` finds a bad
-/// file, or where the files hold more than they may; 3 where a device failed; 4 where memory was
-/// refused. Under 3 all was written and flushed.
+/// file, or where the files hold more than they may; 3 where an output failed, and only there; 4
+/// where memory was refused. Under 3 all was written and flushed.
 pub fn serve<R: Source, W: Sink, E: Sink>(
     alloc: Global,
     line: &Line<'_>,
@@ -38,11 +38,10 @@ pub fn serve<R: Source, W: Sink, E: Sink>(
     error: &mut E,
 ) -> u8
     ensures untouched { input.new ≡ input.old }
-    ensures delivers { let out : SinkState = record { taken = W.taken output.old; flushed = W.flushed output.old; faults = W.faults output.old } in
-        let out_now : SinkState = record { taken = W.taken output.new; flushed = W.flushed output.new; faults = W.faults output.new } in
-        let err : SinkState = record { taken = E.taken error.old; flushed = E.flushed error.old; faults = E.faults error.old } in
-        let err_now : SinkState = record { taken = E.taken error.new; flushed = E.flushed error.new; faults = E.faults error.new } in
-        Delivers (outcome line.now files.items) result out out_now err err_now }
+    ensures delivers { Delivers (outcome line.now files.items) result
+        (W.shown output.old) (W.shown output.new) (E.shown error.old) (E.shown error.new) }
+    ensures faults { TellsFaults result
+        (W.shown output.old) (W.shown output.new) (E.shown error.old) (E.shown error.new) }
 {
     match report_on_files(alloc, line, files) {
         Ok(

@@ -18,4 +18,4 @@ pub use device::{DeviceFault, Sink, Source};
 pub use memory_sink::MemorySink;
 pub use memory_source::MemorySource;
 pub use std_streams::{SinkOver, SourceOver};
-pub use writing::{hand_on, write_all, write_each};
+pub use writing::{hand_on, hand_on_each, write_all};

@@ -1,7 +1,10 @@
 //! Each device at a concrete type, through its trait: whole runs, and one failure of each kind.
 ghost use Rattle.std.specs.Prelude.{◌≤◌, IfOk};
 
-use crate::{DeviceFault, MemorySink, MemorySource, Sink, SinkOver, Source, SourceOver, write_all};
+use crate::{
+    DeviceFault, MemorySink, MemorySource, Sink, SinkOver, Source, SourceOver, hand_on,
+    hand_on_each, write_all,
+};
 use std::alloc::Global;
 use std::io::{self, ErrorKind, Read, Write};
 use std::test::Fail;
@@ -107,6 +110,19 @@ fn whole_texts_go_out(rt: HostRuntime) -> Result<(), Fail> {
     let mut over = SinkOver::new(Vec::new(alloc));
     assert!(rt; write_all(&mut over, text).is_ok());
     assert!(rt; over.flush().is_ok());
+    Ok(())
+}
+
+#[test]
+fn texts_are_flushed_one_behind_another(rt: HostRuntime) -> Result<(), Fail> {
+    let mut sink = MemorySink::new(rt.alloc(), 9, 2)?;
+    assert!(rt; hand_on(&mut sink, b"abc").is_ok());
+    assert_eq!(rt; sink.bytes_flushed(), b"abc".as_slice());
+    assert!(rt; hand_on_each(&mut sink, &[b"de", b"", b"f"]).is_ok());
+    assert_eq!(rt; sink.bytes_flushed(), b"abcdef".as_slice());
+    assert!(rt; hand_on_each(&mut sink, &[b"g", b"hij"]).is_err());
+    assert_eq!(rt; sink.bytes_taken(), b"abcdefghi".as_slice());
+    assert_eq!(rt; sink.bytes_flushed(), b"abcdef".as_slice());
     Ok(())
 }
 

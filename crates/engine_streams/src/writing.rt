@@ -23,25 +23,31 @@ pub fn write_all<W: Sink>(sink: &mut W, text: &[u8]) -> Result<(), DeviceFault>
     Ok(())
 }
 
-/// Writes whole texts one behind another, and flushes nothing.
-///
-/// A `DeviceFault` says that a write failed or took nothing; a first part of the texts may then have
-/// been taken.
-pub fn write_each<W: Sink>(sink: &mut W, texts: &[&[u8]]) -> Result<(), DeviceFault>
+/// Writes whole texts one behind another, as `write_all` does one text.
+fn write_each<W: Sink>(sink: &mut W, texts: &[&[u8]]) -> Result<(), DeviceFault>
     ensures whole { OnOk result (Takes (W.shown sink.old) (flat_map (λ t. t.now) texts.now) (W.shown sink.new)) }
     ensures part { OnErr result (BreaksOff (W.shown sink.old) (flat_map (λ t. t.now) texts.now) (W.shown sink.new)) }
 {
-    for text in texts {
-        write_all(sink, text)?;
+    for next in texts {
+        write_all(sink, next)?;
     }
     Ok(())
 }
 
-/// Writes whole texts one behind another, and flushes them.
+/// Writes a whole text and flushes it.
 ///
-/// A `DeviceFault` says that a call failed or took nothing; a first part of the texts, perhaps all of
-/// them, may then have been taken, and none of it was flushed.
-pub fn hand_on<W: Sink>(sink: &mut W, texts: &[&[u8]]) -> Result<(), DeviceFault>
+/// A `DeviceFault` says that a call failed or took nothing; a first part of the text, perhaps all of
+/// it, may then have been taken, and none of it was flushed.
+pub fn hand_on<W: Sink>(sink: &mut W, text: &[u8]) -> Result<(), DeviceFault>
+    ensures whole { OnOk result (HandsOn (W.shown sink.old) text.now (W.shown sink.new)) }
+    ensures part { OnErr result (BreaksOff (W.shown sink.old) text.now (W.shown sink.new)) }
+{
+    write_all(sink, text)?;
+    sink.flush()
+}
+
+/// Writes whole texts one behind another and flushes them, as `hand_on` does for one text.
+pub fn hand_on_each<W: Sink>(sink: &mut W, texts: &[&[u8]]) -> Result<(), DeviceFault>
     ensures whole { OnOk result (HandsOn (W.shown sink.old) (flat_map (λ t. t.now) texts.now) (W.shown sink.new)) }
     ensures part { OnErr result (BreaksOff (W.shown sink.old) (flat_map (λ t. t.now) texts.now) (W.shown sink.new)) }
 {

@@ -1,2 +1,1 @@
 mod Bounds
-pub mod NameLemmas

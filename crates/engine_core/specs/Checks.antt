@@ -1,11 +1,11 @@
 -- What `verify` says of rules files.
-use Rattle.std.specs.Prelude.{ℕ, ◌-◌, Bool, true, false, ◌==◌, not, nat_eq, if◌then◌else◌, List, [], ◌++◌, length, codes, decimal, filter}
+use Rattle.std.specs.Prelude.{ℕ, ◌-◌, Bool, true, false, ◌==◌, not, if◌then◌else◌, List, [], ◌++◌, length, codes, decimal, filter}
 use Rattle.std.specs.List.{count_by, list_any}
-use Rattle.std.specs.Cmp.Lexicographic.{pointwise}
 use Rattle.text_files.specs.declared.source_file.SourceFile.{SourceFile}
 use Rattle.text_files.specs.declared.message.Message.{Message}
 use Rattle.text_files.specs.declared.message.MessageKind.{MessageKind}
 use Rattle.text_files.specs.declared.message.MessageKind.TheVariants.{CommaExpected, BlankExpected, ReadAsAssign, LabelUnused}
+use Rattle.text_tables.specs.Texts.{same_text}
 use Rattle.engine_core.specs.Delivery.{Outcome}
 use Rattle.engine_core.specs.Messages.{message_lines}
 
@@ -23,7 +23,7 @@ told style messages = if style then messages else filter (λ m. not (is_style m.
 
 -- whether one of the messages bears a name
 abbrev pub is_named_in : List Message → List ℕ → Bool
-is_named_in messages name = list_any (λ m. pointwise nat_eq name m.file) messages
+is_named_in messages name = list_any (λ m. same_text name m.file) messages
 
 -- how many of the files are bad, that is, how many have a message that bears their name
 abbrev pub bad_count : List SourceFile → List Message → ℕ

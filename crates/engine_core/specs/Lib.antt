@@ -4,5 +4,4 @@ pub mod Delivery
 pub mod FilesRead
 pub mod Checks
 pub mod Outcomes
-pub mod Names
 pub mod Reports

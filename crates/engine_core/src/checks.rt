@@ -2,12 +2,11 @@
 ghost use Rattle.std.specs.Prelude.{◌≡◌, [], if◌then◌else◌, ◌<◌, ◌≤◌, ◌++◌, List, ℕ, length, not, nat_eq, IfOk, IfErr, OnOk, decimal};
 ghost use Rattle.std.specs.List.{count_by};
 ghost use Rattle.engine_core.specs.Checks.{bad_count, is_named_in, is_style, said_of, summary_line, told, verify_status};
-ghost use Rattle.engine_core.specs.Names.{is_among};
 ghost use Rattle.engine_core.specs.Outcomes.{rules_outcome};
 ghost use Rattle.engine_core.specs.Reports.{IsSaid, said};
+ghost use Rattle.text_tables.specs.Texts.{is_among};
 
 use crate::messages::message_lines;
-use crate::names::Names;
 use crate::refusal::Refusal;
 use crate::report::Report;
 use engine_line::Line;
@@ -15,6 +14,7 @@ use itoa::Buffer;
 use rule_core::{RuleSet, read_rules};
 use std::alloc::{AllocError, Global};
 use text_files::{Message, MessageKind, SourceFile};
+use text_tables::Texts;
 
 /// The messages about rules files, and how many of the files are bad.
 pub(crate) fn report_on_rules(
@@ -101,10 +101,10 @@ fn bad_count(alloc: Global, files: &[SourceFile], messages: &[Message]) -> Resul
 }
 
 /// The names that messages bear.
-fn names_in<'a>(alloc: Global, messages: &'a [Message]) -> Result<Names<'a>, AllocError>
+fn names_in<'a>(alloc: Global, messages: &'a [Message]) -> Result<Texts<'a>, AllocError>
     ensures { IfOk result (λ names. (name : List ℕ) → is_among names name ≡ is_named_in messages.now name) }
 {
-    let mut names = Names::new(alloc);
+    let mut names = Texts::new(alloc);
     for message in messages {
         names.add(message.file.as_slice())?;
     }

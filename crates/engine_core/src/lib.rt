@@ -12,7 +12,6 @@ mod database;
 mod delivery;
 mod files_read;
 mod messages;
-mod names;
 mod refusal;
 mod report;
 mod serving;
@@ -20,7 +19,7 @@ mod serving;
 pub use delivery::{deliver, tell, tell_in_pieces, tell_out_of_memory};
 pub use engine_line::{Line, LineFault, Verb};
 pub use engine_streams::{
-    DeviceFault, MemorySink, MemorySource, Sink, SinkOver, Source, SourceOver, hand_on, hand_on_each,
-    write_all,
+    DeviceFault, MemorySink, MemorySource, Sink, SinkOver, Source, SourceOver, hand_on,
+    hand_on_each, write_all,
 };
 pub use serving::serve;

@@ -1,6 +1,6 @@
 use Rattle.std.proofs.Common.{◌≡◌, List, ℕ, take}
 use Rattle.engine_core.specs.Checks.{is_named_in}
-use Rattle.engine_core.specs.Names.{is_among}
+use Rattle.text_tables.specs.Texts.{is_among}
 use Rattle.engine_core.proofs.checks.names_in.Given as goal
 
 abbrev pub invariant-loop-message : goal.invariant-loop-message

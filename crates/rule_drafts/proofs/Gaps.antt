@@ -10,7 +10,8 @@ use Rattle.rule_tokens.specs.Values.{ends_in}
 use Rattle.rule_parts.specs.Parts.{is_read_as_assign}
 use Rattle.rule_parts.specs.Values.{finding}
 use Rattle.rule_parts.specs.declared.finding.Finding.{Finding}
-use Rattle.rule_drafts.specs.Laws.{AreGaps, AreGapsBehind, IsPlain, IsPlainBehind, IsPlainGap}
+use Rattle.rule_drafts.specs.Laws.{IsPlain, IsPlainBehind, IsPlainGap}
+use Rattle.rule_drafts.specs.Places.{AreGaps, AreGapsBehind}
 use Rattle.rule_drafts.specs.Style.{between, commas, gap_findings, operator_findings, style_behind, style_findings}
 
 -- ---- bytes

@@ -5,3 +5,4 @@ mod Sorting
 mod Bounds
 mod Counting
 mod Gaps
+mod GapPlaces

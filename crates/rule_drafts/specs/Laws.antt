@@ -1,7 +1,7 @@
 -- What sorting the parts of a rule keeps, in which order they then stand, and how a line is written of which nothing is to be said.
 use Rattle.std.specs.Prelude.{◌≡◌, ℕ, ◌+◌, ◌<◌, ◌≤◌, false, List, [], ◌∷◌, ◌++◌, ⊤, drop, filter_map, length}
 use Rattle.text_bytes.specs.Names.{comma, is_blank}
-use Rattle.rule_tokens.specs.Grammar.{AllAre, Placed, is_gap_byte}
+use Rattle.rule_tokens.specs.Grammar.{AllAre, Placed}
 use Rattle.rule_parts.specs.Parts.{is_read_as_assign}
 use Rattle.rule_parts.specs.declared.part.Part.{Part}
 use Rattle.rule_drafts.specs.Drafts.{act_in, assignment_in, draft, goto_in, label_in, plain_in, result_in, up_in}
@@ -37,15 +37,6 @@ pub record IsPlainGap (gap : List ℕ) : Type 0 where
   pub blank_before : AllAre is_blank before
   pub blank_behind : AllAre is_blank behind
   pub some_behind : 0 < length behind
-
--- behind a place where a token ends, gaps are blanks and commas, as in the grammar of lines
-abbrev pub AreGapsBehind : List ℕ → ℕ → List Placed → Type 0
-AreGapsBehind line place [] = AllAre is_gap_byte (drop place line)
-AreGapsBehind line place (t ∷ tokens) = AllAre is_gap_byte (between place t.span.start line) × AreGapsBehind line t.span.end tokens
-
-abbrev pub AreGaps : List ℕ → List Placed → Type 0
-AreGaps line [] = ⊤
-AreGaps line (t ∷ tokens) = AreGapsBehind line t.span.end tokens
 
 -- behind a place where a token ends, each gap is plain, no operator is read as `=`, and only blanks stand at the end
 abbrev pub IsPlainBehind : List ℕ → ℕ → List Placed → Type 0

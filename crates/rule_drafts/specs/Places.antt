@@ -1,6 +1,6 @@
 -- Serves the proofs of this crate alone: what is to be said where a token ends before, and where none does.
-use Rattle.std.specs.Prelude.{ℕ, List, [], drop, Option, Some, None}
-use Rattle.rule_tokens.specs.Grammar.{Placed}
+use Rattle.std.specs.Prelude.{ℕ, List, [], ◌∷◌, ⊤, drop, Option, Some, None}
+use Rattle.rule_tokens.specs.Grammar.{AllAre, Placed, is_gap_byte}
 use Rattle.rule_parts.specs.declared.finding.Finding.{Finding}
 use Rattle.rule_drafts.specs.Style.{between, end_findings, gap_findings, style_behind, style_findings}
 
@@ -18,3 +18,12 @@ findings_at_end line (Some place) = end_findings (drop place line)
 abbrev pub findings_from : List ℕ → Option ℕ → List Placed → List Finding
 findings_from line None tokens = style_findings line tokens
 findings_from line (Some place) tokens = style_behind line place tokens
+
+-- behind a place where a token ends, gaps are blanks and commas, as in the grammar of lines
+abbrev pub AreGapsBehind : List ℕ → ℕ → List Placed → Type 0
+AreGapsBehind line place [] = AllAre is_gap_byte (drop place line)
+AreGapsBehind line place (t ∷ tokens) = AllAre is_gap_byte (between place t.span.start line) × AreGapsBehind line t.span.end tokens
+
+abbrev pub AreGaps : List ℕ → List Placed → Type 0
+AreGaps line [] = ⊤
+AreGaps line (t ∷ tokens) = AreGapsBehind line t.span.end tokens

@@ -1,8 +1,9 @@
 //! Laws of drafts, each the contract of a function that does nothing.
-ghost use Rattle.std.specs.Prelude.{◌≡◌, ◌↔◌, [], List, ℕ};
+ghost use Rattle.std.specs.Prelude.{◌≡◌, ◌↔◌, [], None, List, ℕ};
 ghost use Rattle.rule_parts.specs.declared.part.Part.{Part};
-ghost use Rattle.rule_tokens.specs.Grammar.{Placed};
-ghost use Rattle.rule_drafts.specs.Laws.{AreGaps, AreInOrder, IsPlain, NoneIsLost};
+ghost use Rattle.rule_tokens.specs.Grammar.{Placed, answers};
+ghost use Rattle.rule_tokens.specs.Lines.{items_of};
+ghost use Rattle.rule_drafts.specs.Laws.{AreInOrder, IsPlain, NoneIsLost};
 ghost use Rattle.rule_drafts.specs.Style.{style_findings};
 
 /// The acts and the assignments of a line stand in its draft in the order of their turns, those of
@@ -16,9 +17,9 @@ pub fn no_part_is_lost()
     ensures { (parts : List Part) → NoneIsLost parts }
 {}
 
-/// Nothing is to be said of how a line is written exactly where each gap between its tokens is blanks,
-/// one comma and blanks, at least one of them, where no comma stands at its end, and where no operator
-/// is read as `=`.
+/// Of a line that is tokens to its end, nothing is to be said of how it is written exactly where each
+/// gap between tokens is blanks, one comma and blanks, at least one of them, where only blanks stand
+/// at the end, and where no operator is read as `=`.
 pub fn plain_lines_are_passed()
-    ensures { (line : List ℕ) (tokens : List Placed) → AreGaps line tokens → (style_findings line tokens ≡ []) ↔ IsPlain line tokens }
+    ensures { (line : List ℕ) (tokens : List Placed) → items_of line ≡ answers tokens None → (style_findings line tokens ≡ []) ↔ IsPlain line tokens }
 {}

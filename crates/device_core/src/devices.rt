@@ -5,7 +5,7 @@ use std::marker::Model;
 use text_tables::{Pairs, Texts};
 
 /// A device number, its two parts as written: 1 to 10 digits each, below 2^32.
-#[derive(Debug, Drop)]
+#[derive(Drop)]
 pub struct DeviceNumber<'a> {
     pub(crate) major: &'a [u8],
     pub(crate) minor: &'a [u8],

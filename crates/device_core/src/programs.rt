@@ -4,7 +4,7 @@ ghost use Rattle.std.specs.Prelude.{◌≡◌};
 use std::marker::Model;
 
 /// The answer of a program, as the block gives it in the place of a run.
-#[derive(Debug, Drop)]
+#[derive(Drop)]
 pub struct ProgramAnswer<'a> {
     pub(crate) status: u8,
     pub(crate) text: &'a [u8],

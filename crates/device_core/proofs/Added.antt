@@ -1,11 +1,11 @@
 -- A name that a table took as new.
-use Rattle.std.proofs.Common.{◌≡◌, ℕ, Bool, true, false, not, List, [], ◌∷◌, ◌++◌, Option, Some, None, Result, Ok, Err, refl, ap, sym, ◌∙◌, if◌then◌else◌}
+use Rattle.std.proofs.Common.{◌≡◌, Bool, true, false, not, List, [], ◌∷◌, ◌++◌, Some, Ok, refl, ap, sym, ◌∙◌}
 use Rattle.text_tables.specs.Texts.{Text}
 use Rattle.text_tables.specs.Pairs.{Pair, named, with_value}
 use Rattle.text_tables.proofs.Found.{set_behind}
 use Rattle.device_core.specs.Values.{AnswerValue}
 use Rattle.device_core.specs.Parts.{pair_of, answer_of}
-use Rattle.device_core.specs.Steps.{pair_step, with_pair, answer_step, with_answer}
+use Rattle.device_core.specs.Steps.{pair_step, answer_step}
 
 new_is : (new known : Bool) → new ≡ not known → new ≡ true → known ≡ false
 new_is new true h e = cc

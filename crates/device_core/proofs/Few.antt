@@ -1,18 +1,17 @@
 -- No line makes more devices than an event may have.
-use Rattle.std.proofs.Common.{◌≡◌, ℕ, ◌+◌, ◌<◌, Bool, true, false, not, ◌||◌, List, [], ◌∷◌, ◌++◌, length, Option, Some, None, Result, Ok, Err, IfOk, nat_le, refl, ap, sym, subst, if◌then◌else◌, arith}
+use Rattle.std.proofs.Common.{◌≡◌, ◌<◌, Bool, true, false, [], ◌∷◌, ◌++◌, length, Option, Some, None, Result, Ok, Err, IfOk, nat_le, refl, subst, if◌then◌else◌, arith}
 use Rattle.std.proofs.lemmas.List.{length-append}
 use Rattle.std.specs.Option.{option_to_list}
 use Rattle.text_tables.specs.Texts.{Text}
 use Rattle.device_core.specs.Values.{DeviceValue, most_devices}
-use Rattle.device_core.specs.Lines.{Row, row_of}
+use Rattle.device_core.specs.Lines.{Row}
 use Rattle.device_core.specs.Parts.{is_parent_path, is_device_path}
 use Rattle.text_words.specs.Texts.{is_empty}
-use Rattle.device_core.specs.Faults.{has_nul}
-use Rattle.device_core.specs.Steps.{Sofar, if_ok, begun, unasked, path_step, device_step, above_step, pair_step, command_step, answer_step, row_step, plain_row, known_row, then_row, line_step}
+use Rattle.device_core.specs.Steps.{Sofar, if_ok, begun, unasked, path_step, device_step, above_step, pair_step, command_step, answer_step, row_step, plain_row, then_row, line_step}
 use Rattle.device_core.specs.declared.lines.LineKind.{LineKind}
 use Rattle.device_core.specs.declared.lines.LineKind.TheVariants.{Action, Device, Field, Constant, Command, Answer}
 use Rattle.device_core.specs.declared.faults.BlockFaultKind.{BlockFaultKind}
-use Rattle.device_core.specs.declared.faults.BlockFaultKind.TheVariants.{Twice, Path, Pair, Nul, TooDeep}
+use Rattle.device_core.specs.declared.faults.BlockFaultKind.TheVariants.{Twice, Path, Pair, TooDeep}
 
 abbrev pub IsFew : Sofar → Type 0
 IsFew t = length t.closed < most_devices

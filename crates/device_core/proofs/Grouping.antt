@@ -1,7 +1,6 @@
 -- Lines are those above each `P:`, and then the groups.
-use Rattle.std.proofs.Common.{◌≡◌, Bool, true, false, ◌||◌, List, [], ◌∷◌, ◌++◌, refl, ap, sym, ◌∙◌, if◌then◌else◌}
-use Rattle.std.proofs.lemmas.List.{append_assoc}
-use Rattle.std.specs.List.{flat_map, list_any, AllByRecursion}
+use Rattle.std.proofs.Common.{◌≡◌, Bool, true, false, ◌||◌, List, [], ◌∷◌, ◌++◌, refl, ap, ◌∙◌, if◌then◌else◌}
+use Rattle.std.specs.List.{flat_map, AllByRecursion}
 use Rattle.device_core.specs.Lines.{Row}
 use Rattle.device_core.specs.Blocks.{is_kind, before_device, groups}
 use Rattle.device_core.specs.Laws.{has_device, IsGroup, AreGrouped}

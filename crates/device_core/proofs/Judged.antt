@@ -18,7 +18,7 @@ use Rattle.device_core.specs.declared.lines.LineKind.{LineKind}
 use Rattle.device_core.specs.declared.lines.LineKind.TheVariants.{Action, Device, Field, Constant, Command, Answer}
 use Rattle.device_core.specs.declared.faults.BlockFaultKind.{BlockFaultKind}
 use Rattle.device_core.specs.declared.faults.BlockFaultKind.TheVariants.{NoAction, NoDevice, Twice, Path, Number, Pair, Nul, TooDeep}
-use Rattle.device_core.proofs.Rows.{added, kept, with_row, change_last, devices_more, devices_begins, change_end, some_more}
+use Rattle.device_core.proofs.Rows.{added, kept, with_row, change_last, devices_more, devices_begins, change_end}
 use Rattle.device_core.proofs.Holding.{above_is, IsFresh, IsNext, Holds, Agrees, IsQuiet, named_zip, still, constant_on, command_on, answer_on}
 
 -- ---- a line about the device above

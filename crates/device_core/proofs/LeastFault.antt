@@ -1,15 +1,15 @@
 -- What lines give, by which of them are faulty.
-use Rattle.std.proofs.Common.{◌≡◌, ℕ, ◌+◌, ◌≤◌, Bool, true, false, not, ◌||◌, List, [], ◌∷◌, ◌++◌, length, map, Option, Some, None, Result, Ok, Err, IsOk, refl, ap, sym, ◌∙◌, subst, if◌then◌else◌, arith}
+use Rattle.std.proofs.Common.{◌≡◌, ℕ, ◌+◌, Bool, true, false, not, ◌||◌, List, [], ◌∷◌, ◌++◌, length, map, Option, Some, None, Result, Ok, Err, IsOk, refl, ap, sym, ◌∙◌, subst, if◌then◌else◌, arith}
 use Rattle.std.proofs.lemmas.List.{append-nil, append_assoc, length-append}
 use Rattle.std.specs.Option.{option_to_list}
-use Rattle.std.specs.List.{filter_map, cons_option, list_any}
+use Rattle.std.specs.List.{cons_option}
 use Rattle.text_words.specs.Texts.{is_empty}
 use Rattle.text_tables.specs.Texts.{Text}
 use Rattle.device_core.specs.Values.{DeviceValue, EventValue, chain}
 use Rattle.device_core.specs.Lines.{Row, row_of}
 use Rattle.device_core.specs.Blocks.{is_kind, before_device, groups, device, devices, event}
 use Rattle.device_core.specs.Faults.{line_fault, unless_faulty, given_with, given_below, given_by}
-use Rattle.device_core.specs.Laws.{rows_of, IsFaulty, AreFaultless, IsLeastFault, has_device}
+use Rattle.device_core.specs.Laws.{rows_of, AreFaultless, IsLeastFault, has_device}
 use Rattle.device_core.specs.declared.lines.LineKind.TheVariants.{Device}
 use Rattle.device_core.specs.declared.faults.BlockFault.{BlockFault}
 use Rattle.device_core.specs.declared.faults.BlockFaultKind.{BlockFaultKind}

@@ -1,5 +1,5 @@
 -- The texts of an event are parts of its lines, and those of its block.
-use Rattle.std.proofs.Common.{◌≡◌, ℕ, ◌+◌, ◌≤◌, Bool, true, false, ◌&&◌, ◌||◌, ◌==◌, List, [], ◌∷◌, ◌++◌, length, take, drop, map, Option, Some, None, Result, Ok, Err, IsOk, unwrap_or, refl, ap, sym, ◌∙◌, subst, if◌then◌else◌, cond, option_map, arith}
+use Rattle.std.proofs.Common.{◌≡◌, ℕ, ◌+◌, ◌≤◌, Bool, true, false, ◌&&◌, ◌||◌, ◌==◌, List, [], ◌∷◌, length, take, drop, map, Option, Some, None, Result, Ok, Err, unwrap_or, refl, ap, sym, ◌∙◌, if◌then◌else◌, option_map, arith}
 use Rattle.std.proofs.lemmas.List.{length-take, length-drop}
 use Rattle.std.proofs.lemmas.List.Sums.{sum_by-cons}
 use Rattle.std.proofs.lemmas.List.Quantifiers.{position-Some}
@@ -10,13 +10,13 @@ use Rattle.text_words.specs.Texts.{is_empty, split_once}
 use Rattle.text_words.specs.Lines.{lines}
 use Rattle.text_tables.specs.Texts.{Text}
 use Rattle.text_tables.specs.Pairs.{Pair}
-use Rattle.device_core.specs.Values.{NumberValue, DeviceValue, AnswerValue, EventValue, chain}
-use Rattle.device_core.specs.Lines.{Row, form, kind_of, row_from, row_of}
+use Rattle.device_core.specs.Values.{NumberValue, DeviceValue, AnswerValue, EventValue}
+use Rattle.device_core.specs.Lines.{Row, kind_of, row_from, row_of}
 use Rattle.device_core.specs.Parts.{with_name, pair_of, is_part, with_parts, number_of, number_below, answer_parts, with_status, answer_of}
 use Rattle.device_core.specs.Blocks.{is_kind, text_in, texts, pairs, numbers, answers, first, before_device, groups, device, devices, programs, event}
 use Rattle.device_runs.specs.Blocks.{is_too_long}
 use Rattle.device_core.specs.Faults.{given_by, block_gives}
-use Rattle.device_core.specs.Weights.{text_weight, given_weight, texts_weight, pair_weight, pairs_weight, number_weight, device_weight, devices_weight, answer_weight, event_weight}
+use Rattle.device_core.specs.Weights.{text_weight, given_weight, pair_weight, number_weight, device_weight, devices_weight, answer_weight, event_weight}
 use Rattle.device_core.specs.Laws.{rows_of, has_device}
 use Rattle.device_core.specs.declared.lines.DeviceField.TheVariants.{Subsystem, Driver, Node, Devnum, Attribute, Property, Tag, Link}
 use Rattle.device_core.specs.declared.lines.LineKind.{LineKind}

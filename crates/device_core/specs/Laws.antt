@@ -1,5 +1,5 @@
 -- What a block gives and what its groups are, said of its lines and not of how they are read.
-use Rattle.std.specs.Prelude.{◌≡◌, ℕ, ◌+◌, ◌≤◌, Bool, true, false, List, [], ◌∷◌, ◌++◌, length, Some}
+use Rattle.std.specs.Prelude.{◌≡◌, ℕ, ◌+◌, ◌≤◌, Bool, true, false, List, ◌∷◌, ◌++◌, length, Some}
 use Rattle.std.specs.List.{filter_map, flat_map, list_any, AllByRecursion}
 use Rattle.text_tables.specs.Texts.{Text}
 use Rattle.device_core.specs.Lines.{Row, row_of}

@@ -144,6 +144,7 @@ fn gives_the_help_that_was_asked_for(rt: HostRuntime) -> Result<(), Fail> {
     ] {
         match fault_at(rt.alloc(), text)? {
             Some(LineFault::Help(answer)) => assert_eq!(rt; answer.as_str(), help, "{text}"),
+            Some(LineFault::Usage(answer)) => assert!(rt; false, "{text}: {answer}"),
             _ => assert!(rt; false, "{text}"),
         }
     }
@@ -177,6 +178,7 @@ fn says_how_it_is_used(rt: HostRuntime) -> Result<(), Fail> {
         ),
     ] {
         match fault_at(rt.alloc(), text)? {
+            Some(LineFault::Help(answer)) => assert!(rt; false, "{text}: {answer}"),
             Some(LineFault::Usage(answer)) => assert!(rt;
                 answer.contains(said),
                 "{text}: {answer}"

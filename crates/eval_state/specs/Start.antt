@@ -1,0 +1,40 @@
+-- What is known of an event before any rule has run.
+use Rattle.std.specs.Prelude.{List, [], ◌∷◌, ◌++◌, Option, Some, None, option_map, codes}
+use Rattle.text_tables.specs.Texts.{Text, with_texts}
+use Rattle.text_tables.specs.Pairs.{Pair, with_values}
+use Rattle.device_core.specs.Values.{EventValue}
+use Rattle.eval_state.specs.declared.state.State.{State}
+
+-- a property, where it has a value
+abbrev pub given : Text → Option Text → List Pair
+given name None = []
+given name (Some value) = (name, value) ∷ []
+
+-- the path of a node below `/dev`
+abbrev pub node_path : Text → Text
+node_path node = codes "/dev/" ++ node
+
+-- what the event itself says of its device
+abbrev pub told_by : EventValue → List Pair
+told_by event =
+    (codes "ACTION", event.action) ∷ (codes "DEVPATH", event.device.path)
+    ∷ (given (codes "SUBSYSTEM") event.device.subsystem
+    ++ given (codes "DEVNAME") (option_map node_path event.device.node)
+    ++ given (codes "MAJOR") (option_map (λ number. number.major) event.device.number)
+    ++ given (codes "MINOR") (option_map (λ number. number.minor) event.device.number))
+
+-- the properties that an event begins with: those of its device, and what the event says set over them
+unfoldable pub start_env : EventValue → List Pair
+start_env event = with_values (with_values [] event.device.env) (told_by event)
+
+-- what is known of an event before any rule has run
+abbrev pub start : EventValue → State
+start event = record {
+  event = event;
+  selected = None;
+  result = [];
+  name = None;
+  env = start_env event;
+  links = with_texts [] event.device.links;
+  tags = with_texts [] event.device.tags;
+}

@@ -1,0 +1,96 @@
+//! What is known of an event before any rule has run.
+ghost use Rattle.std.specs.Prelude.{◌≡◌, OnOk, IfOk, option_map, codes};
+ghost use Rattle.text_tables.specs.Pairs.{with_values};
+ghost use Rattle.eval_state.specs.Start.{given, node_path, start, start_env};
+
+use crate::{Chain, State};
+use device_core::Event;
+use std::alloc::{AllocError, Global};
+use text_bytes::Bytes;
+use text_tables::{OwnedPairs, OwnedTexts};
+
+/// Sets a property where it has a value.
+fn set_given(
+    alloc: Global,
+    env: &mut OwnedPairs,
+    name: &[u8],
+    value: Option<&[u8]>,
+) -> Result<(), AllocError>
+    ensures { OnOk result (env.new ≡ with_values env.old (given name.now (option_map (λ v. v.now) value.entry))) }
+{
+    match value {
+        Some(value) => env.set(alloc, name, value),
+        None => Ok(()),
+    }
+}
+
+/// The path of a node.
+fn node_path(alloc: Global, node: &[u8]) -> Result<Bytes, AllocError>
+    ensures { IfOk result (λ path. path ≡ node_path node.now) }
+{
+    let mut path = Vec::from_slice(alloc, b"/dev/")?;
+    path.extend_from_slice(node)?;
+    Ok(Bytes::new(path))
+}
+
+/// Sets the path of the node, where there is one.
+fn set_node(alloc: Global, env: &mut OwnedPairs, node: Option<&[u8]>) -> Result<(), AllocError>
+    ensures { OnOk result (env.new ≡ with_values env.old (given (codes "DEVNAME") (option_map (λ n. node_path n.now) node.entry))) }
+{
+    match node {
+        Some(node) => env.put(alloc, b"DEVNAME", node_path(alloc, node)?),
+        None => Ok(()),
+    }
+}
+
+/// The properties that an event begins with.
+#[tactic(auto, unfolding(crate::specs::Start::start_env))]
+fn start_env(alloc: Global, event: &Event<'_>) -> Result<OwnedPairs, AllocError>
+    ensures { IfOk result (λ env. env ≡ start_env event.now) }
+{
+    let device = event.device();
+    let mut env = OwnedPairs::new(alloc);
+    env.set_all(alloc, device.env())?;
+    env.set(alloc, b"ACTION", event.action())?;
+    env.set(alloc, b"DEVPATH", device.path())?;
+    set_given(alloc, &mut env, b"SUBSYSTEM", device.subsystem())?;
+    set_node(alloc, &mut env, device.node())?;
+    set_given(
+        alloc,
+        &mut env,
+        b"MAJOR",
+        device.number().map(|number| number.major()),
+    )?;
+    set_given(
+        alloc,
+        &mut env,
+        b"MINOR",
+        device.number().map(|number| number.minor()),
+    )?;
+    Ok(env)
+}
+
+impl<'a> State<'a> {
+    /// What is known of an event before any rule has run, as udev(7) has it: the properties of its
+    /// device with ACTION, DEVPATH and, where given, SUBSYSTEM, DEVNAME (`/dev/` and the node), MAJOR
+    /// and MINOR set over them; its links and its tags; no result, no name and no selected device.
+    ///
+    /// The error comes where memory is refused.
+    pub fn new(alloc: Global, event: &'a Event<'a>) -> Result<State<'a>, AllocError>
+        ensures { IfOk result (λ state. state ≡ start event.now) }
+    {
+        let mut links = OwnedTexts::new(alloc);
+        links.add_all(alloc, event.device().links())?;
+        let mut tags = OwnedTexts::new(alloc);
+        tags.add_all(alloc, event.device().tags())?;
+        Ok(State {
+            event: Chain::new(alloc, event)?,
+            selected: None,
+            result: Bytes::new(Vec::new(alloc)),
+            name: None,
+            env: start_env(alloc, event)?,
+            links,
+            tags,
+        })
+    }
+}

@@ -12,4 +12,5 @@ mod state;
 mod tests;
 
 pub use chain::Chain;
+pub use start::node_path;
 pub use state::State;

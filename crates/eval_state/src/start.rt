@@ -24,8 +24,8 @@ fn set_given(
     }
 }
 
-/// The path of a node.
-fn node_path(alloc: Global, node: &[u8]) -> Result<Bytes, AllocError>
+/// The path of a node below `/dev`. The error comes where memory is refused.
+pub fn node_path(alloc: Global, node: &[u8]) -> Result<Bytes, AllocError>
     ensures { IfOk result (λ path. path ≡ node_path node.now) }
 {
     let mut path = Vec::from_slice(alloc, b"/dev/")?;

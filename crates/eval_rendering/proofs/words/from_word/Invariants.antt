@@ -1,0 +1,6 @@
+use Rattle.std.proofs.Common.{◌≡◌}
+use Rattle.eval_rendering.specs.Words.{from_word}
+use Rattle.eval_rendering.proofs.words.from_word.Given as goal
+
+abbrev pub invariant-loop-passed : goal.invariant-loop-passed
+invariant-loop-passed l = l.rest ≡ from_word l._passed l.fn.text

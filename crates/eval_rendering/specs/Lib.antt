@@ -1,0 +1,5 @@
+pub mod Bounds
+pub mod Words
+pub mod Pieces
+pub mod Rendering
+pub mod Shown

@@ -1,0 +1,46 @@
+-- A template with its substitutions made.
+use Rattle.std.specs.Prelude.{Bool, true, false, not, if◌then◌else◌, flat_map, Option, Some, None}
+use Rattle.text_tables.specs.Texts.{Text}
+use Rattle.text_safe.specs.Safe.{link_marks, safe}
+use Rattle.text_safe.specs.Words.{underscored}
+use Rattle.rule_templates.specs.Template.{Parts as Template}
+use Rattle.rule_templates.specs.declared.piece.Piece.{Piece}
+use Rattle.rule_templates.specs.declared.piece.Piece.TheVariants as piece
+use Rattle.eval_state.specs.declared.state.State.{State}
+use Rattle.eval_rendering.specs.Bounds.{bounded}
+use Rattle.eval_rendering.specs.Pieces.{piece_text}
+use Rattle.eval_rendering.specs.declared.rendered.Mode.{Mode}
+use Rattle.eval_rendering.specs.declared.rendered.Mode.TheVariants.{Plain, Link}
+use Rattle.eval_rendering.specs.declared.rendered.Rendered.{Rendered}
+use Rattle.eval_rendering.specs.declared.rendered.Rendered.TheVariants as rendered
+
+-- whether a piece stands in a link as it is: what is written in the template, and the result of a program
+abbrev pub is_raw : Piece → Bool
+is_raw (piece.Plain text) = true
+is_raw piece.Result = true
+is_raw (piece.Word number) = true
+is_raw (piece.From number) = true
+is_raw other = false
+
+-- whether a piece is put in as one word: in a link, unless it is raw
+abbrev pub is_word : Mode → Piece → Bool
+is_word Plain p = false
+is_word Link p = not (is_raw p)
+
+-- what stands in place of a piece
+abbrev pub text_in : Mode → State → Piece → Text
+text_in mode state p = if is_word mode p then underscored (piece_text state p) else piece_text state p
+
+-- a whole text: in a link it is made safe
+abbrev pub finished : Mode → Text → Text
+finished Plain text = text
+finished Link text = safe link_marks text
+
+-- a text as it is answered
+abbrev pub answer : Mode → Option Text → Rendered
+answer mode None = rendered.TooLong
+answer mode (Some text) = rendered.Text (finished mode text)
+
+-- a template with each substitution made, unless that is too long
+unfoldable pub render : Template → State → Mode → Rendered
+render template state mode = answer mode (bounded (flat_map (text_in mode state) template.pieces))

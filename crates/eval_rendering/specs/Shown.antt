@@ -1,0 +1,9 @@
+-- For proofs only, no reader has to believe it: the text of a piece, lent or made.
+use Rattle.text_tables.specs.Texts.{Text}
+use Rattle.eval_rendering.specs.declared.pieces.PieceText.{PieceText}
+use Rattle.eval_rendering.specs.declared.pieces.PieceText.TheVariants.{Lent, Made}
+
+-- the text that a piece has
+abbrev pub shown : PieceText → Text
+shown (Lent text) = text.now
+shown (Made text) = text.items

@@ -1,0 +1,210 @@
+//! What stands in a text in place of each substitution.
+//!
+//! Most of it is lent by the event or its state; what has to be put together or changed is made.
+ghost use Rattle.std.specs.Prelude.{◌≡◌, ◌∷◌, ◌++◌, OnOk, IfOk, flat_map, map, option_copied, option_map, unwrap_or, codes};
+ghost use Rattle.std.specs.Option.{option_and_then};
+ghost use Rattle.text_bytes.specs.Names.{space};
+ghost use Rattle.text_tables.specs.Pairs.{value_of};
+ghost use Rattle.eval_state.specs.Chains.{kernel_of};
+ghost use Rattle.eval_state.specs.Start.{node_path};
+ghost use Rattle.eval_rendering.specs.Pieces.{attribute, or_empty, parent_node, piece_text, selected_device};
+ghost use Rattle.eval_rendering.specs.Shown.{shown};
+ghost use Rattle.eval_rendering.specs.Words.{spaced};
+
+use crate::words::{from_word, last_digits, trimmed, word_at};
+use device_core::Device;
+use eval_state::{State, node_path};
+use rule_templates::Piece;
+use std::alloc::{AllocError, Global};
+use text_safe::attribute_safe;
+
+/// The text of a piece: one that is lent, or one that was made for it.
+#[derive(Debug, Drop)]
+pub(crate) enum PieceText<'s> {
+    Lent(&'s [u8]),
+    Made(Vec<u8>),
+}
+
+impl<'s> PieceText<'s> {
+    /// Lends the text.
+    pub(crate) fn as_slice(&self) -> &[u8]
+        ensures { result.now ≡ shown self.now }
+    {
+        match self {
+            PieceText::Lent(text) => text,
+            PieceText::Made(text) => text,
+        }
+    }
+}
+
+/// The device that is selected.
+fn selected_device<'a>(state: &State<'a>) -> Option<&'a Device<'a>>
+    ensures { option_copied result ≡ selected_device state.now }
+{
+    match state.selected {
+        Some(place) => state.event.device_at(place),
+        None => None,
+    }
+}
+
+/// The kernel's name of the selected device, empty where there is none.
+fn selected_kernel<'s>(state: &'s State<'_>) -> &'s [u8]
+    ensures { result.now ≡ or_empty (option_map kernel_of (selected_device state.now)) }
+{
+    match state.selected {
+        Some(place) => state.event.kernel_at(place).unwrap_or(b""),
+        None => b"",
+    }
+}
+
+/// The driver of the selected device, empty where there is none.
+fn selected_driver<'a>(state: &State<'a>) -> &'a [u8]
+    ensures { result.now ≡ or_empty (option_and_then (λ device. device.driver) (selected_device state.now)) }
+{
+    match selected_device(state) {
+        Some(device) => device.driver().unwrap_or(b""),
+        None => b"",
+    }
+}
+
+/// An attribute of the selected device.
+fn selected_attribute<'a>(state: &State<'a>, name: &[u8]) -> Option<&'a [u8]>
+    ensures { option_map (λ value. value.now) result ≡ option_and_then (λ device. value_of device.attrs name.now) (selected_device state.now) }
+{
+    match selected_device(state) {
+        Some(device) => device.attrs().get(name),
+        None => None,
+    }
+}
+
+/// An attribute, of the event device or else of the selected one.
+fn attribute<'a>(state: &State<'a>, name: &[u8]) -> Option<&'a [u8]>
+    ensures { option_map (λ value. value.now) result ≡ attribute name.now state.now }
+{
+    match state.event.device().attrs().get(name) {
+        Some(value) => Some(value),
+        None => selected_attribute(state, name),
+    }
+}
+
+/// A property, empty where there is none.
+fn property<'s>(state: &'s State<'_>, name: &[u8]) -> &'s [u8]
+    ensures { result.now ≡ or_empty (value_of state.now.env name.now) }
+{
+    match state.env.get(name) {
+        Some(value) => value.as_slice(),
+        None => b"",
+    }
+}
+
+/// The first part of the device number, or 0.
+fn major<'a>(state: &State<'a>) -> &'a [u8]
+    ensures { result.now ≡ unwrap_or (option_map (λ number. number.major) state.now.event.device.number) (codes "0") }
+{
+    match state.event.device().number() {
+        Some(number) => number.major(),
+        None => b"0",
+    }
+}
+
+/// The second part of the device number, or 0.
+fn minor<'a>(state: &State<'a>) -> &'a [u8]
+    ensures { result.now ≡ unwrap_or (option_map (λ number. number.minor) state.now.event.device.number) (codes "0") }
+{
+    match state.event.device().number() {
+        Some(number) => number.minor(),
+        None => b"0",
+    }
+}
+
+/// The node of the second device of the chain, empty where there is none.
+fn parent_node<'a>(state: &State<'a>) -> &'a [u8]
+    ensures { result.now ≡ or_empty (parent_node state.now) }
+{
+    match state.event.device_at(1) {
+        Some(parent) => parent.node().unwrap_or(b""),
+        None => b"",
+    }
+}
+
+/// The assigned name, else the kernel's.
+fn name<'s>(state: &'s State<'_>) -> &'s [u8]
+    ensures { result.now ≡ unwrap_or state.now.name (kernel_of state.now.event.device) }
+{
+    match &state.name {
+        Some(name) => name.as_slice(),
+        None => state.event.kernel(),
+    }
+}
+
+/// Texts with a space between each two.
+fn spaced(alloc: Global, texts: &[Vec<u8>]) -> Result<Vec<u8>, AllocError>
+    ensures { IfOk result (λ text. text.items ≡ spaced (map (λ t. t.items) texts.now)) }
+{
+    match texts.split_first() {
+        Some((first, others)) => {
+            let mut text = Vec::from_slice(alloc, first)?;
+            push_others(&mut text, others)?;
+            Ok(text)
+        }
+        None => Ok(Vec::new(alloc)),
+    }
+}
+
+/// Puts texts, each with a space before it, behind a text.
+fn push_others(text: &mut Vec<u8>, others: &[Vec<u8>]) -> Result<(), AllocError>
+    ensures { OnOk result (text.new.items ≡ text.old.items ++ flat_map (λ other. space ∷ other.items) others.now) }
+{
+    for other in others {
+        text.push(b' ')?;
+        text.extend_from_slice(other)?;
+    }
+    Ok(())
+}
+
+/// The path of the event device's node, empty where there is none.
+fn devnode(alloc: Global, node: Option<&[u8]>) -> Result<Vec<u8>, AllocError>
+    ensures { IfOk result (λ path. path.items ≡ or_empty (option_map (λ n. node_path n.now) node.entry)) }
+{
+    match node {
+        Some(node) => Ok(node_path(alloc, node)?.into_vec()),
+        None => Ok(Vec::new(alloc)),
+    }
+}
+
+/// What stands in place of a piece.
+pub(crate) fn piece_text<'s>(
+    alloc: Global,
+    state: &'s State<'_>,
+    piece: &'s Piece,
+) -> Result<PieceText<'s>, AllocError>
+    ensures { IfOk result (λ text. shown text ≡ piece_text state.now piece.now) }
+{
+    let lent = match piece {
+        Piece::Plain(text) => text.as_slice(),
+        Piece::Kernel => state.event.kernel(),
+        Piece::Number => last_digits(state.event.kernel()),
+        Piece::Devpath => state.event.device().path(),
+        Piece::Id => selected_kernel(state),
+        Piece::Driver => selected_driver(state),
+        Piece::Attr(name) => {
+            let value = attribute(state, name.as_slice()).unwrap_or(b"");
+            return Ok(PieceText::Made(attribute_safe(alloc, trimmed(value))?));
+        }
+        Piece::Env(name) => property(state, name.as_slice()),
+        Piece::Major => major(state),
+        Piece::Minor => minor(state),
+        Piece::Result => state.result.as_slice(),
+        Piece::Word(number) => word_at(number.saturating_sub(1), state.result.as_slice()),
+        Piece::From(number) => from_word(number.saturating_sub(1), state.result.as_slice()),
+        Piece::Parent => parent_node(state),
+        Piece::Name => name(state),
+        Piece::Links => return Ok(PieceText::Made(spaced(alloc, state.links.as_slice())?)),
+        Piece::Root => b"/dev",
+        Piece::Sys => b"/sys",
+        Piece::Devnode => {
+            return Ok(PieceText::Made(devnode(alloc, state.event.device().node())?));
+        }
+    };
+    Ok(PieceText::Lent(lent))
+}

@@ -1,0 +1,97 @@
+//! A template, rendered.
+ghost use Rattle.std.specs.Prelude.{◌≡◌, IfOk, OnOk, option_map};
+ghost use Rattle.eval_rendering.specs.Bounds.{joined};
+ghost use Rattle.eval_rendering.specs.Rendering.{answer, finished, is_raw, is_word, render, text_in};
+
+use crate::bounded_text::BoundedText;
+use crate::pieces::piece_text;
+use crate::{Mode, Rendered};
+use eval_state::State;
+use rule_templates::{Piece, Template};
+use std::alloc::{AllocError, Global};
+use text_bytes::Bytes;
+use text_safe::{link_safe, underscored};
+
+/// Whether a piece stands in a link as it is.
+fn is_raw(piece: &Piece) -> bool
+    ensures { result ≡ is_raw piece.now }
+{
+    match piece {
+        Piece::Plain(_) => true,
+        Piece::Result => true,
+        Piece::Word(_) => true,
+        Piece::From(_) => true,
+        _ => false,
+    }
+}
+
+/// Whether a piece is put in as one word.
+fn is_word(mode: Mode, piece: &Piece) -> bool
+    ensures { result ≡ is_word mode piece.now }
+{
+    match mode {
+        Mode::Plain => false,
+        Mode::Link => !is_raw(piece),
+    }
+}
+
+/// Puts what stands in place of a piece behind a text.
+fn push_piece(
+    alloc: Global,
+    text: &mut BoundedText,
+    state: &State<'_>,
+    piece: &Piece,
+    mode: Mode,
+) -> Result<(), AllocError>
+    ensures { OnOk result (text.new ≡ joined text.old (text_in mode state.now piece.now)) }
+{
+    let found = piece_text(alloc, state, piece)?;
+    if is_word(mode, piece) {
+        let word = underscored(alloc, found.as_slice())?;
+        text.push(&word)
+    } else {
+        text.push(found.as_slice())
+    }
+}
+
+/// A whole text: in a link it is made safe.
+fn finished(alloc: Global, text: Vec<u8>, mode: Mode) -> Result<Vec<u8>, AllocError>
+    ensures { IfOk result (λ whole. whole.items ≡ finished mode text.items) }
+{
+    match mode {
+        Mode::Plain => Ok(text),
+        Mode::Link => link_safe(alloc, &text),
+    }
+}
+
+/// A text as it is answered.
+fn answer(alloc: Global, text: Option<Vec<u8>>, mode: Mode) -> Result<Rendered, AllocError>
+    ensures { IfOk result (λ rendered. rendered ≡ answer mode (option_map (λ t. t.items) text)) }
+{
+    match text {
+        Some(text) => Ok(Rendered::Text(Bytes::new(finished(alloc, text, mode)?))),
+        None => Ok(Rendered::TooLong),
+    }
+}
+
+/// A template with each substitution made over what is known of an event, as udev(7) has them. Over
+/// 16,384 bytes it is [`TooLong`](Rendered::TooLong), and no more is built than that.
+///
+/// In [`Link`](Mode::Link) each substitution but that of `$result` loses the whitespace at its ends, and
+/// each run of it inside becomes one `_`; the whole is then made safe for a path. The error comes where
+/// memory is refused.
+#[tactic(auto, using(crate::proofs::Joining::joined_bounded), unfolding(crate::specs::Rendering::render))]
+pub fn render(
+    alloc: Global,
+    template: &Template,
+    state: &State<'_>,
+    mode: Mode,
+) -> Result<Rendered, AllocError>
+    ensures { IfOk result (λ rendered. rendered ≡ render template.now state.now mode) }
+{
+    let mut text = BoundedText::new(alloc);
+    for piece in template.pieces() {
+        push_piece(alloc, &mut text, state, piece, mode)?;
+    }
+    answer(alloc, text.into_text(), mode)
+}

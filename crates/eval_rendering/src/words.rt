@@ -1,0 +1,98 @@
+//! Parts of texts that substitutions ask for.
+ghost use Rattle.std.specs.Prelude.{◌≡◌, ◌≤◌, not, length, drop};
+ghost use Rattle.std.specs.List.{prefix_len, suffix_len};
+ghost use Rattle.text_bytes.specs.Names.{is_whitespace};
+ghost use Rattle.text_words.specs.Numbers.{is_digit};
+ghost use Rattle.text_words.specs.Texts.{skip_while};
+ghost use Rattle.eval_state.specs.Chains.{longest_end};
+ghost use Rattle.eval_rendering.specs.Pieces.{trimmed};
+ghost use Rattle.eval_rendering.specs.Words.{from_word, word_at, word_len};
+
+use text_words::{is_digit, is_whitespace};
+
+/// How many bytes the word has that a text begins with.
+fn word_len(text: &[u8]) -> usize
+    ensures value { result ≡ word_len text.now }
+    ensures within { result ≤ length text.now }
+{
+    text.iter()
+        .take_while(|byte| !is_whitespace(**byte))
+        .count()
+}
+
+/// How many bytes of whitespace a text begins with.
+fn leading_whitespace(text: &[u8]) -> usize
+    ensures value { result ≡ prefix_len is_whitespace text.now }
+    ensures within { result ≤ length text.now }
+{
+    text.iter().take_while(|byte| is_whitespace(**byte)).count()
+}
+
+/// A text without the whitespace at its start.
+fn from_first_word(text: &[u8]) -> &[u8]
+    ensures { result.now ≡ skip_while is_whitespace text.now }
+{
+    text.split_at(leading_whitespace(text)).1
+}
+
+/// A text without its first word and the whitespace behind that.
+fn from_next_word(text: &[u8]) -> &[u8]
+    ensures { result.now ≡ skip_while is_whitespace (drop (word_len text.now) text.now) }
+{
+    from_first_word(text.split_at(word_len(text)).1)
+}
+
+/// A text from its word with a number on; the first word has the number 0.
+pub(crate) fn from_word(number: u16, text: &[u8]) -> &[u8]
+    ensures { result.now ≡ from_word number text.now }
+{
+    let mut rest = from_first_word(text);
+    for _passed in 0..number {
+        rest = from_next_word(rest);
+    }
+    rest
+}
+
+/// The word with a number.
+pub(crate) fn word_at(number: u16, text: &[u8]) -> &[u8]
+    ensures { result.now ≡ word_at number text.now }
+{
+    let rest = from_word(number, text);
+    rest.split_at(word_len(rest)).0
+}
+
+/// How many digits a text ends in.
+fn trailing_digits(text: &[u8]) -> usize
+    ensures value { result ≡ suffix_len is_digit text.now }
+    ensures within { result ≤ length text.now }
+{
+    text.iter()
+        .rev()
+        .take_while(|byte| is_digit(**byte))
+        .count()
+}
+
+/// The digits that a text ends in.
+pub(crate) fn last_digits(text: &[u8]) -> &[u8]
+    ensures { result.now ≡ longest_end is_digit text.now }
+{
+    text.split_at(text.len() - trailing_digits(text)).1
+}
+
+/// How many bytes of whitespace a text ends in.
+fn trailing_whitespace(text: &[u8]) -> usize
+    ensures value { result ≡ suffix_len is_whitespace text.now }
+    ensures within { result ≤ length text.now }
+{
+    text.iter()
+        .rev()
+        .take_while(|byte| is_whitespace(**byte))
+        .count()
+}
+
+/// A text without the whitespace at its end.
+pub(crate) fn trimmed(text: &[u8]) -> &[u8]
+    ensures { result.now ≡ trimmed text.now }
+{
+    text.split_at(text.len() - trailing_whitespace(text)).0
+}

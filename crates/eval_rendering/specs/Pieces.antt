@@ -1,8 +1,6 @@
 -- What stands in a text in place of each substitution.
-use Rattle.std.specs.Prelude.{ℕ, ◌-◌, List, [], ◌++◌, length, take, Option, Some, None, option_map, unwrap_or, codes}
-use Rattle.std.specs.List.{suffix_len}
+use Rattle.std.specs.Prelude.{◌-◌, Option, Some, None, option_map, unwrap_or, codes}
 use Rattle.std.specs.Option.{option_and_then}
-use Rattle.text_bytes.specs.Names.{is_whitespace}
 use Rattle.text_words.specs.Numbers.{is_digit}
 use Rattle.text_tables.specs.Texts.{Text}
 use Rattle.text_tables.specs.Pairs.{value_of}
@@ -10,14 +8,11 @@ use Rattle.text_safe.specs.Safe.{attribute_marks, safe}
 use Rattle.device_core.specs.Values.{DeviceValue}
 use Rattle.rule_templates.specs.declared.piece.Piece.{Piece}
 use Rattle.rule_templates.specs.declared.piece.Piece.TheVariants as piece
-use Rattle.eval_state.specs.Chains.{device_at, kernel_of, longest_end}
+use Rattle.eval_state.specs.Texts.{longest_end, or_empty, trimmed}
+use Rattle.eval_state.specs.Chains.{device_at, kernel_of}
 use Rattle.eval_state.specs.Start.{node_path}
 use Rattle.eval_state.specs.declared.state.State.{State}
 use Rattle.eval_rendering.specs.Words.{from_word, spaced, word_at}
-
--- a text, empty where there is none
-abbrev pub or_empty : Option Text → Text
-or_empty text = unwrap_or text []
 
 -- a text, or another where there is none
 abbrev pub or_else : Option Text → Option Text → Option Text
@@ -31,10 +26,6 @@ selected_device state = option_and_then (device_at state.event) state.selected
 -- an attribute, of the event device or else of the selected one
 abbrev pub attribute : Text → State → Option Text
 attribute name state = or_else (value_of state.event.device.attrs name) (option_and_then (λ device. value_of device.attrs name) (selected_device state))
-
--- a text without the whitespace at its end
-abbrev pub trimmed : Text → Text
-trimmed text = take (length text - suffix_len is_whitespace text) text
 
 -- the node of the second device of the chain
 abbrev pub parent_node : State → Option Text

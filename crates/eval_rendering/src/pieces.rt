@@ -7,13 +7,14 @@ ghost use Rattle.text_bytes.specs.Names.{space};
 ghost use Rattle.text_tables.specs.Pairs.{value_of};
 ghost use Rattle.eval_state.specs.Chains.{kernel_of};
 ghost use Rattle.eval_state.specs.Start.{node_path};
-ghost use Rattle.eval_rendering.specs.Pieces.{attribute, or_empty, parent_node, piece_text, selected_device};
+ghost use Rattle.eval_state.specs.Texts.{or_empty};
+ghost use Rattle.eval_rendering.specs.Pieces.{attribute, parent_node, piece_text, selected_device};
 ghost use Rattle.eval_rendering.specs.Shown.{shown};
 ghost use Rattle.eval_rendering.specs.Words.{spaced};
 
-use crate::words::{from_word, last_digits, trimmed, word_at};
+use crate::words::{from_word, last_digits, word_at};
 use device_core::Device;
-use eval_state::{State, node_path};
+use eval_state::{State, node_path, trimmed};
 use rule_templates::Piece;
 use std::alloc::{AllocError, Global};
 use text_safe::attribute_safe;

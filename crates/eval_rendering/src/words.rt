@@ -4,8 +4,7 @@ ghost use Rattle.std.specs.List.{prefix_len, suffix_len};
 ghost use Rattle.text_bytes.specs.Names.{is_whitespace};
 ghost use Rattle.text_words.specs.Numbers.{is_digit};
 ghost use Rattle.text_words.specs.Texts.{skip_while};
-ghost use Rattle.eval_state.specs.Chains.{longest_end};
-ghost use Rattle.eval_rendering.specs.Pieces.{trimmed};
+ghost use Rattle.eval_state.specs.Texts.{longest_end};
 ghost use Rattle.eval_rendering.specs.Words.{from_word, word_at, word_len};
 
 use text_words::{is_digit, is_whitespace};
@@ -77,22 +76,4 @@ pub(crate) fn last_digits(text: &[u8]) -> &[u8]
     ensures { result.now ≡ longest_end is_digit text.now }
 {
     text.split_at(text.len() - trailing_digits(text)).1
-}
-
-/// How many bytes of whitespace a text ends in.
-fn trailing_whitespace(text: &[u8]) -> usize
-    ensures value { result ≡ suffix_len is_whitespace text.now }
-    ensures within { result ≤ length text.now }
-{
-    text.iter()
-        .rev()
-        .take_while(|byte| is_whitespace(**byte))
-        .count()
-}
-
-/// A text without the whitespace at its end.
-pub(crate) fn trimmed(text: &[u8]) -> &[u8]
-    ensures { result.now ≡ trimmed text.now }
-{
-    text.split_at(text.len() - trailing_whitespace(text)).0
 }

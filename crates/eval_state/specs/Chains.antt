@@ -1,13 +1,9 @@
 -- The devices of an event by their places, and the names that the kernel gives them.
-use Rattle.std.specs.Prelude.{ℕ, ◌-◌, ◌==◌, Bool, not, if◌then◌else◌, List, length, drop, map, Option, slice_get}
-use Rattle.std.specs.List.{suffix_len}
+use Rattle.std.specs.Prelude.{ℕ, ◌==◌, not, if◌then◌else◌, map, Option, slice_get}
 use Rattle.text_bytes.specs.Names.{bang, slash}
 use Rattle.text_tables.specs.Texts.{Text}
+use Rattle.eval_state.specs.Texts.{longest_end}
 use Rattle.device_core.specs.Values.{DeviceValue, EventValue, chain}
-
--- the longest end of a text whose bytes all pass a test
-abbrev pub longest_end : (ℕ → Bool) → Text → Text
-longest_end test text = drop (length text - suffix_len test text) text
 
 -- what stands behind the last slash of a path
 abbrev pub last_component : Text → Text

@@ -78,7 +78,7 @@ fn kernel_names(alloc: Global, devices: &[Device<'_>]) -> Result<Vec<Bytes>, All
 
 impl<'a> Chain<'a> {
     /// The chain of an event. The error comes where memory is refused.
-    pub fn new(alloc: Global, event: &'a Event<'a>) -> Result<Chain<'a>, AllocError>
+    pub fn new(alloc: Global, event: &'a Event<'_>) -> Result<Chain<'a>, AllocError>
         ensures { IfOk result (λ chain. chain ≡ event.now) }
     {
         Ok(Chain {

@@ -10,7 +10,9 @@ mod start;
 mod state;
 #[cfg(test)]
 mod tests;
+mod texts;
 
 pub use chain::Chain;
 pub use start::node_path;
 pub use state::State;
+pub use texts::trimmed;

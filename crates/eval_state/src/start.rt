@@ -76,7 +76,7 @@ impl<'a> State<'a> {
     /// and MINOR set over them; its links and its tags; no result, no name and no selected device.
     ///
     /// The error comes where memory is refused.
-    pub fn new(alloc: Global, event: &'a Event<'a>) -> Result<State<'a>, AllocError>
+    pub fn new(alloc: Global, event: &'a Event<'_>) -> Result<State<'a>, AllocError>
         ensures { IfOk result (λ state. state ≡ start event.now) }
     {
         let mut links = OwnedTexts::new(alloc);

@@ -1,0 +1,56 @@
+-- How a comparison holds, by what it looks at.
+use Rattle.std.specs.Prelude.{◌-◌, Bool, true, false, not, if◌then◌else◌, List, [], ◌∷◌, length, slice_get, Option, Some, None}
+use Rattle.std.specs.List.{list_any}
+use Rattle.text_bytes.specs.Names.{is_whitespace}
+use Rattle.text_tables.specs.Texts.{Text}
+use Rattle.text_core.specs.Choices.{choice_fits}
+use Rattle.text_core.specs.declared.item.Item.{Item}
+use Rattle.text_core.specs.declared.item.Item.TheVariants as item
+use Rattle.rule_keys.specs.declared.roles.MatchOperator.{MatchOperator}
+use Rattle.rule_keys.specs.declared.roles.MatchOperator.TheVariants.{Equal, NotEqual}
+use Rattle.rule_parts.specs.declared.part.Comparison.{Comparison}
+use Rattle.eval_state.specs.Texts.{trimmed}
+
+-- what a match looks at: one text; an attribute, which may be absent; texts, of which some member may fit; what no match
+-- holds of; what is not read in a dry run
+pub data Subject : Type 0 where
+  one : Text → Subject
+  attribute : Option Text → Subject
+  members : List Text → Subject
+  never unread : Subject
+
+-- `!=` turns the answer round
+abbrev pub agrees : MatchOperator → Bool → Bool
+agrees Equal fits = fits
+agrees NotEqual fits = not fits
+
+-- whether there is an element, and it passes
+abbrev pub passes : {A : Type 0} → (A → Bool) → Option A → Bool
+passes test None = false
+passes test (Some x) = test x
+
+-- whether a list has a last element, and that passes
+abbrev pub last_is : {A : Type 0} → (A → Bool) → List A → Bool
+last_is test xs = passes test (slice_get xs (length xs - 1))
+
+-- whether an item of a pattern is a byte of whitespace
+abbrev pub is_whitespace_item : Item → Bool
+is_whitespace_item (item.Byte b) = is_whitespace b
+is_whitespace_item _ = false
+
+-- whether the last part of a choice ends in a byte of whitespace
+abbrev pub ends_in_whitespace : List (List Item) → Bool
+ends_in_whitespace choice = last_is (last_is is_whitespace_item) choice
+
+-- an attribute as it is compared: the whitespace at its end counts only where the choice has some there
+abbrev pub as_compared : List (List Item) → Text → Text
+as_compared choice text = if ends_in_whitespace choice then text else trimmed text
+
+-- whether a comparison holds; what is absent or not read fails `==` and meets `!=`
+unfoldable pub holds : Subject → Comparison → Bool
+holds (one text) wanted = agrees wanted.operator (choice_fits wanted.choice text)
+holds (attribute None) wanted = agrees wanted.operator false
+holds (attribute (Some text)) wanted = agrees wanted.operator (choice_fits wanted.choice (as_compared wanted.choice text))
+holds (members texts) wanted = agrees wanted.operator (list_any (choice_fits wanted.choice) texts)
+holds never wanted = false
+holds unread wanted = agrees wanted.operator false

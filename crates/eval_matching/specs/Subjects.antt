@@ -1,0 +1,60 @@
+-- What each match looks at.
+use Rattle.std.specs.Prelude.{ℕ, zero, suc, Bool, ◌||◌, if◌then◌else◌, List, [], length, Option, Some, None, option_map, unwrap_or, position, codes}
+use Rattle.std.specs.List.{list_all, range_with_len}
+use Rattle.std.specs.Option.{option_and_then}
+use Rattle.text_tables.specs.Texts.{Text, same_text}
+use Rattle.text_tables.specs.Pairs.{value_of}
+use Rattle.device_core.specs.Values.{DeviceValue, chain}
+use Rattle.rule_keys.specs.declared.roles.PlainKey.{PlainKey}
+use Rattle.rule_keys.specs.declared.roles.PlainKey.TheVariants as plain
+use Rattle.rule_keys.specs.declared.roles.UpKey.{UpKey}
+use Rattle.rule_keys.specs.declared.roles.UpKey.TheVariants as up
+use Rattle.rule_parts.specs.declared.part.UpMatch.{UpMatch}
+use Rattle.eval_state.specs.Chains.{device_at, kernel_of}
+use Rattle.eval_state.specs.declared.state.State.{State}
+use Rattle.eval_state.specs.Texts.{or_empty}
+use Rattle.eval_matching.specs.Holding.{Subject, one, attribute, members, never, unread, holds}
+
+-- whether a constant is one that CONST knows
+abbrev pub is_known : Text → Bool
+is_known name = same_text name (codes "arch") || same_text name (codes "virt") || same_text name (codes "cvm")
+
+-- what CONST looks at
+abbrev pub constant : Text → State → Subject
+constant name state = if is_known name then attribute (value_of state.event.constants name) else never
+
+-- what each match of the event looks at
+abbrev pub plain_subject : PlainKey → State → Subject
+plain_subject plain.Action state = one state.event.action
+plain_subject plain.Devpath state = one state.event.device.path
+plain_subject plain.Kernel state = one (kernel_of state.event.device)
+plain_subject plain.Subsystem state = one (or_empty state.event.device.subsystem)
+plain_subject plain.Driver state = one (or_empty state.event.device.driver)
+plain_subject plain.Name state = one (or_empty state.name)
+plain_subject plain.Symlink state = members state.links
+plain_subject plain.Tag state = members state.tags
+plain_subject (plain.Attr name) state = attribute (value_of state.event.device.attrs name)
+plain_subject (plain.Sysctl name) state = unread
+plain_subject (plain.Env name) state = one (or_empty (value_of state.env name))
+plain_subject (plain.Const name) state = constant name state
+
+-- the tags of the device at a place of the chain; those of the event device are the current ones
+abbrev pub tags_at : State → ℕ → List Text
+tags_at state zero = state.tags
+tags_at state (suc above) = unwrap_or (option_map (λ device. device.tags) (device_at state.event (suc above))) []
+
+-- what each match of one device looks at, at a place of the chain
+abbrev pub up_subject : UpKey → State → ℕ → Subject
+up_subject up.Kernels state place = one (or_empty (option_map kernel_of (device_at state.event place)))
+up_subject up.Subsystems state place = one (or_empty (option_and_then (λ device. device.subsystem) (device_at state.event place)))
+up_subject up.Drivers state place = one (or_empty (option_and_then (λ device. device.driver) (device_at state.event place)))
+up_subject up.Tags state place = members (tags_at state place)
+up_subject (up.Attrs name) state place = attribute (option_and_then (λ device. value_of device.attrs name) (device_at state.event place))
+
+-- whether a match of one device holds at a place of the chain
+unfoldable pub holds_at : State → ℕ → UpMatch → Bool
+holds_at state place part = holds (up_subject part.key state place) part.wanted
+
+-- the first place of the chain at whose device all of these matches hold
+unfoldable pub found_place : List UpMatch → State → Option ℕ
+found_place parts state = position (λ place. list_all (holds_at state place) parts) (range_with_len 0 (length (chain state.event)))

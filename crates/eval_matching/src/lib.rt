@@ -1,0 +1,15 @@
+//! Matches: whether a part of a rule holds, and the search for a device along the chain.
+//!
+//! Each key is told by what it looks at, in one line; how a comparison then holds is told once, by the
+//! kind of that. The search is for one device at which all matches hold together, so that no match can
+//! be met at another. Nothing here takes memory.
+#![tactic(auto)]
+
+mod holding;
+mod laws;
+mod plain;
+mod upward;
+
+pub use laws::{a_list_differs_where_no_member_fits, one_device_meets_all_matches};
+pub use plain::{plain_holds, result_holds};
+pub use upward::found_place;

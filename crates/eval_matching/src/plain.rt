@@ -1,0 +1,81 @@
+//! The matches of the event and its device.
+ghost use Rattle.std.specs.Prelude.{◌≡◌};
+ghost use Rattle.text_tables.specs.Pairs.{value_of};
+ghost use Rattle.eval_state.specs.Texts.{or_empty};
+ghost use Rattle.eval_matching.specs.Holding.{holds, one};
+ghost use Rattle.eval_matching.specs.Subjects.{constant, is_known, plain_subject};
+
+use crate::holding::{attribute_holds, members_hold, text_holds, unread_holds};
+use eval_state::State;
+use rule_keys::PlainKey;
+use rule_parts::{Comparison, PlainMatch};
+
+/// The assigned name, empty where there is none.
+fn name<'s>(state: &'s State<'_>) -> &'s [u8]
+    ensures { result.now ≡ or_empty state.now.name }
+{
+    match &state.name {
+        Some(name) => name.as_slice(),
+        None => b"",
+    }
+}
+
+/// A property, empty where there is none.
+fn property<'s>(state: &'s State<'_>, name: &[u8]) -> &'s [u8]
+    ensures { result.now ≡ or_empty (value_of state.now.env name.now) }
+{
+    match state.env.get(name) {
+        Some(value) => value.as_slice(),
+        None => b"",
+    }
+}
+
+/// Whether a constant is one that CONST knows.
+fn is_known(name: &[u8]) -> bool
+    ensures { result ≡ is_known name.now }
+{
+    name == b"arch".as_slice() || name == b"virt".as_slice() || name == b"cvm".as_slice()
+}
+
+/// Whether a comparison holds of a constant of the event.
+#[tactic(auto, unfolding(crate::specs::Holding::holds))]
+fn constant_holds(wanted: &Comparison, name: &[u8], state: &State<'_>) -> bool
+    ensures { result ≡ holds (constant name.now state.now) wanted.now }
+{
+    if is_known(name) {
+        attribute_holds(wanted, state.event.event().constants().get(name))
+    } else {
+        false
+    }
+}
+
+/// Whether a match of the event holds, as udev(7) has it: for each key what it looks at is compared
+/// with the choice. Of SYMLINK and TAG, `!=` holds where no member fits; an absent attribute or constant
+/// fails `==` and meets `!=`; SYSCTL is not read, and counts as absent.
+pub fn plain_holds(part: &PlainMatch, state: &State<'_>) -> bool
+    ensures { result ≡ holds (plain_subject part.now.key state.now) part.now.wanted }
+{
+    let device = state.event.device();
+    let wanted = &part.wanted;
+    match &part.key {
+        PlainKey::Action => text_holds(wanted, state.event.event().action()),
+        PlainKey::Devpath => text_holds(wanted, device.path()),
+        PlainKey::Kernel => text_holds(wanted, state.event.kernel()),
+        PlainKey::Subsystem => text_holds(wanted, device.subsystem().unwrap_or(b"")),
+        PlainKey::Driver => text_holds(wanted, device.driver().unwrap_or(b"")),
+        PlainKey::Name => text_holds(wanted, name(state)),
+        PlainKey::Symlink => members_hold(wanted, state.links.as_slice()),
+        PlainKey::Tag => members_hold(wanted, state.tags.as_slice()),
+        PlainKey::Attr(name) => attribute_holds(wanted, device.attrs().get(name.as_slice())),
+        PlainKey::Sysctl(_) => unread_holds(wanted),
+        PlainKey::Env(name) => text_holds(wanted, property(state, name.as_slice())),
+        PlainKey::Const(name) => constant_holds(wanted, name.as_slice(), state),
+    }
+}
+
+/// Whether a match of the result of the last program holds.
+pub fn result_holds(part: &Comparison, state: &State<'_>) -> bool
+    ensures { result ≡ holds (one state.now.result) part.now }
+{
+    text_holds(part, state.result.as_slice())
+}

@@ -1,0 +1,4 @@
+pub mod Finals
+pub mod Notes
+pub mod Runs
+pub mod Scenes

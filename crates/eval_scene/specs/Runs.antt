@@ -1,0 +1,38 @@
+-- What is kept of each RUN until all rules have run.
+use Rattle.std.specs.Prelude.{ℕ, Bool, true, false, ◌&&◌, ◌||◌, if◌then◌else◌, List, [], ◌∷◌, ◌++◌, Option}
+use Rattle.std.specs.List.{list_any}
+use Rattle.text_words.specs.Texts.{is_empty}
+use Rattle.text_tables.specs.Texts.{same_text}
+use Rattle.rule_keys.specs.declared.roles.AssignOperator.{AssignOperator}
+use Rattle.rule_keys.specs.declared.roles.AssignOperator.TheVariants.{Add}
+use Rattle.rule_keys.specs.declared.types.RunType.{RunType}
+use Rattle.rule_keys.specs.declared.types.RunType.TheVariants.{Program, Builtin}
+use Rattle.rule_templates.specs.Template.{Parts as Template}
+use Rattle.rule_core.specs.Rules.{Rule}
+
+-- a RUN as it is written: its rule, its type, its command, and the place of the device that was selected, if one was
+pub record RunValue : Type 0 where
+  pub rule : Rule
+  pub kind : RunType
+  pub template : Template
+  pub selected : Option ℕ
+
+-- whether two types are the same
+abbrev pub same_kind : RunType → RunType → Bool
+same_kind Program Program = true
+same_kind Program Builtin = false
+same_kind Builtin Program = false
+same_kind Builtin Builtin = true
+
+-- whether two RUNs have one type and one written text
+abbrev pub same_run : RunValue → RunValue → Bool
+same_run a b = same_kind a.kind b.kind && same_text a.template.written b.template.written
+
+-- a RUN at the end, unless it is there or its written text is empty
+abbrev pub with_run : List RunValue → RunValue → List RunValue
+with_run runs run = if is_empty run.template.written || list_any (same_run run) runs then runs else runs ++ run ∷ []
+
+-- what is to be run, as an operator changes it: `+=` adds, any other begins anew
+abbrev pub runs_after : AssignOperator → List RunValue → RunValue → List RunValue
+runs_after Add runs run = with_run runs run
+runs_after _ runs run = with_run [] run

@@ -1,0 +1,32 @@
+-- What an event has come to: before any rule has run, and with a note more.
+use Rattle.std.specs.Prelude.{false, [], ◌∷◌, ◌++◌, None}
+use Rattle.text_tables.specs.Texts.{Text}
+use Rattle.device_core.specs.Values.{EventValue}
+use Rattle.rule_core.specs.Rules.{Rule}
+use Rattle.eval_state.specs.Start as states
+use Rattle.eval_scene.specs.Finals.{no_finals}
+use Rattle.eval_scene.specs.Notes.{note_about}
+use Rattle.eval_scene.specs.declared.note_kind.NoteKind.{NoteKind}
+use Rattle.eval_scene.specs.declared.scene.Scene.{Scene}
+
+-- what an event has come to before any rule has run: its state as it begins, and nothing collected
+abbrev pub start : EventValue → Scene
+start event = record {
+  state = states.start event;
+  owner = None;
+  group = None;
+  mode = None;
+  priority = None;
+  watch = None;
+  persist = false;
+  labels = [];
+  attrs = [];
+  sysctls = [];
+  runs = [];
+  notes = [];
+  finals = no_finals;
+}
+
+-- one note more: that something of a rule was not done, told with a text
+abbrev pub noted : Rule → NoteKind → Text → Scene → Scene
+noted r kind text s = record s { notes = s.notes ++ note_about r kind text ∷ [] }

@@ -1,0 +1,98 @@
+//! All that is collected while rules run.
+ghost use Rattle.std.specs.Prelude.{◌≡◌, OnOk, IfOk, option_map};
+ghost use Rattle.eval_scene.specs.Notes.{word_of_key};
+ghost use Rattle.eval_scene.specs.Scenes.{noted, start};
+ghost use Rattle.eval_scene.specs.declared.note_kind.NoteKind.TheVariants.{TextTooLong};
+
+use crate::notes::word_of_key;
+use crate::{Finals, Note, NoteKind, Notes, Runs};
+use device_core::Event;
+use eval_state::State;
+use rule_core::{Key, Rule};
+use std::alloc::{AllocError, Global};
+use text_bytes::Bytes;
+use text_tables::OwnedPairs;
+
+/// What an event has come to so far.
+#[derive(Drop)]
+pub struct Scene<'a> {
+    /// What is known of the event, which later rules look at.
+    pub state: State<'a>,
+    /// The owner of the device's node, as it was written.
+    pub owner: Option<Bytes>,
+    /// The group of the device's node, as it was written.
+    pub group: Option<Bytes>,
+    /// The mode of the device's node, as it was written.
+    pub mode: Option<Bytes>,
+    /// How links of this device stand against those of others (`link_priority`).
+    pub priority: Option<i32>,
+    /// Whether the device's node is watched (`watch`, `nowatch`).
+    pub watch: Option<bool>,
+    /// Whether what is known of the device stays in udev's database (`db_persist`).
+    pub persist: bool,
+    /// Labels of security modules.
+    pub labels: OwnedPairs,
+    /// Attributes that are to be written.
+    pub attrs: OwnedPairs,
+    /// Kernel parameters that are to be written.
+    pub sysctls: OwnedPairs,
+    /// What is to be run.
+    pub runs: Runs<'a>,
+    /// What was not done.
+    pub notes: Notes,
+    /// The keys that no longer change.
+    pub finals: Finals,
+}
+
+impl<'a> Scene<'a> {
+    /// What an event has come to before any rule has run: its state as it begins, and nothing
+    /// collected. The error comes where memory is refused.
+    pub fn new(alloc: Global, event: &'a Event<'_>) -> Result<Scene<'a>, AllocError>
+        ensures { IfOk result (λ scene. scene ≡ start event.now) }
+    {
+        Ok(Scene {
+            state: State::new(alloc, event)?,
+            owner: None,
+            group: None,
+            mode: None,
+            priority: None,
+            watch: None,
+            persist: false,
+            labels: OwnedPairs::new(alloc),
+            attrs: OwnedPairs::new(alloc),
+            sysctls: OwnedPairs::new(alloc),
+            runs: Runs::new(alloc),
+            notes: Notes::new(alloc),
+            finals: Finals::none(),
+        })
+    }
+
+    /// Leaves a note that something of a rule was not done, told with a text. The error comes where
+    /// memory is refused.
+    pub fn note(
+        &mut self,
+        alloc: Global,
+        rule: &Rule,
+        kind: NoteKind,
+        text: &[u8],
+    ) -> Result<(), AllocError>
+        ensures { OnOk result (self.new ≡ noted rule.now kind text.now self.old) }
+    {
+        self.notes.add(Note::about(alloc, rule, kind, text)?)
+    }
+
+    /// Leaves a note that a text of a key was too long; the note names the key, with its attribute if
+    /// it has one. The error comes where memory is refused.
+    pub fn note_too_long(
+        &mut self,
+        alloc: Global,
+        rule: &Rule,
+        key: Key,
+        attribute: Option<&[u8]>,
+    ) -> Result<(), AllocError>
+        ensures { OnOk result (self.new ≡ noted rule.now TextTooLong (word_of_key key (option_map (λ text. text.now) attribute.entry)) self.old) }
+    {
+        let word = word_of_key(alloc, key, attribute)?;
+        self.note(alloc, rule, NoteKind::TextTooLong, &word)
+    }
+}

@@ -1,10 +1,13 @@
 -- One more folder's files, and faults that are handed on.
-use Rattle.std.proofs.Common.{◌≡◌, ◌++◌, ℕ, Contains, List, [], ◌∷◌, append-nil, append_assoc, Err, IfErr, IsErrAnd, Ok, Result, inr, refl, subst, sym, string_bytes, String}
+use Rattle.std.proofs.Common.{◌≡◌, ◌∙◌, ◌++◌, ◌<◌, ℕ, ap, Bor, drop, get_or, length, suc, take, List, map, [], ◌∷◌, append-nil, append_assoc, Err, IfErr, IsErrAnd, Ok, Result, inr, refl, subst, sym, string_bytes, String}
+use Rattle.std.proofs.Math.Seq.{split_at}
+use Rattle.std.proofs.lemmas.List.{map-append}
 use Rattle.std.specs.declared.alloc.Global.{Global}
+use Rattle.text_files.specs.declared.source_file.FileKind.{FileKind}
 use Rattle.text_files.specs.declared.source_file.SourceFile.{SourceFile}
 use Rattle.devdry_files.specs.Answers.{Answer}
-use Rattle.devdry_files.specs.Faults.{HasPath, IsFaultyIn, IsFaultyInOneOf, IsUnread}
-use Rattle.devdry_files.specs.Found.{AreInFolder, AreInFolders, AreNamesIn, path_in}
+use Rattle.devdry_files.specs.Faults.{HasPath, IsFaultyIn, IsFaultyInOneOf, IsFaultyNamed, IsUnread}
+use Rattle.devdry_files.specs.Found.{AreFilesAt, AreInFolder, AreInFolders, AreNamed, AreNamesIn, path_in}
 use Rattle.devdry_files.specs.declared.fault.ReadFault.{ReadFault}
 use Rattle.devdry_files.specs.declared.fault.ReadFault.TheVariants.{Path, Memory}
 use Rattle.devdry_files.specs.declared.places.Folder.{Folder}
@@ -27,15 +30,34 @@ folders_more may (g ∷ gs) files folder own h here = record {
   others = folders_more may gs h.behind folder own h.others here;
 }
 
--- a fault at a file of the folder
-pub at_file : (may : Answer → Type 0) (folder : Folder) (names : List (String Global)) (name : String Global) (fault : ReadFault) → AreNamesIn may folder names → Contains names name → HasPath (λ p. (p ≡ path_in folder (string_bytes name)) × IsUnread may p) fault → HasPath (IsFaultyIn may folder) fault
-at_file may folder names name (Path path) are there h = inr (record { names = names; are_names = are; name = name; listed = there; path_is = h.0; unread = h.1 })
-at_file may folder names name Memory are there h = tt
+-- a fault at the named file of this place, where those before it were read
+pub at_named : (d : Bor (List ℕ)) (may : Answer → Type 0) (kind : FileKind) (paths : List (Bor (List ℕ))) (place : ℕ) (files : List SourceFile) (fault : ReadFault) → place < length paths → AreNamed may kind (map (λ p. p.now) (take place paths)) files
+    → HasPath (λ p. (p ≡ (get_or paths place d).now) × IsUnread may p) fault → HasPath (IsFaultyNamed may kind (map (λ p. p.now) paths)) fault
+at_named d may kind paths place files (Path text) within were h =
+    let cut : map (λ p. p.now) paths ≡ map (λ p. p.now) (take place paths) ++ (get_or paths place d).now ∷ map (λ p. p.now) (drop (suc place) paths) =
+        ap (map (λ (p : Bor (List ℕ)). p.now)) (split_at paths place d within) ∙ map-append (λ (p : Bor (List ℕ)). p.now) (take place paths) (get_or paths place d ∷ drop (suc place) paths) in
+    record {
+      before = map (λ p. p.now) (take place paths);
+      behind = map (λ p. p.now) (drop (suc place) paths);
+      cut = subst (λ p. map (λ p. p.now) paths ≡ map (λ p. p.now) (take place paths) ++ p ∷ map (λ p. p.now) (drop (suc place) paths)) (sym h.0) cut;
+      files = files;
+      were_read = were;
+      unread = h.1;
+    }
+at_named d may kind paths place files Memory within were h = tt
 
--- a fault at a folder among others
-pub among : (may : Answer → Type 0) (folders : List Folder) (folder : Folder) (fault : ReadFault) → Contains folders folder → HasPath (IsFaultyIn may folder) fault → HasPath (IsFaultyInOneOf may folders) fault
-among may folders folder (Path path) there h = record { folder = folder; one = there; faulty = h }
-among may folders folder Memory there h = tt
+-- a fault at a file of the folder, where those before it were read
+pub at_file : (may : Answer → Type 0) (folder : Folder) (names before : List (String Global)) (name : String Global) (behind : List (String Global)) (files : List SourceFile) (fault : ReadFault) → AreNamesIn may folder names → names ≡ before ++ name ∷ behind → AreFilesAt may folder.kind folder.rank (path_in folder) (map string_bytes before) files
+    → HasPath (λ p. (p ≡ path_in folder (string_bytes name)) × IsUnread may p) fault → HasPath (IsFaultyIn may folder) fault
+at_file may folder names before name behind files (Path path) are cut were h =
+    inr (record { names = names; are_names = are; before = before; name = name; behind = behind; cut = cut; files = files; were_read = were; path_is = h.0; unread = h.1 })
+at_file may folder names before name behind files Memory are cut were h = tt
+
+-- a fault at a folder among others, where those before it were read
+pub among : (may : Answer → Type 0) (folders before : List Folder) (folder : Folder) (behind : List Folder) (files : List SourceFile) (fault : ReadFault) → folders ≡ before ++ folder ∷ behind → AreInFolders may before files → HasPath (IsFaultyIn may folder) fault
+    → HasPath (IsFaultyInOneOf may folders) fault
+among may folders before folder behind files (Path path) cut were h = record { before = before; folder = folder; behind = behind; cut = cut; files = files; were_read = were; faulty = h }
+among may folders before folder behind files Memory cut were h = tt
 
 -- what `?` hands on is the fault itself
 pub handed_on : {T : Type 0} (P : List ℕ → Type 0) (r : Result T ReadFault) (fault : ReadFault) → IsErrAnd r (λ e. e ≡ fault) → HasPath P fault → IfErr r (HasPath P)

@@ -1,9 +1,11 @@
 -- What the fault of a reading speaks of.
-use Rattle.std.specs.Prelude.{◌≡◌, ◌⊎◌, ⊤, ℕ, List, String, Contains, map, string_bytes}
+use Rattle.std.specs.Prelude.{◌≡◌, ◌++◌, ◌∷◌, ◌⊎◌, ⊤, ℕ, List, String, map, string_bytes}
 use Rattle.std.specs.declared.alloc.Global.{Global}
+use Rattle.text_files.specs.declared.source_file.FileKind.{FileKind}
+use Rattle.text_files.specs.declared.source_file.SourceFile.{SourceFile}
 use Rattle.devdry_files.specs.Answers.{Answer}
 use Rattle.devdry_files.specs.Answers.Answer.{NoContent, NoListing}
-use Rattle.devdry_files.specs.Found.{AreNamesIn, path_in}
+use Rattle.devdry_files.specs.Found.{AreFilesAt, AreInFolders, AreNamed, AreNamesIn, path_in}
 use Rattle.devdry_files.specs.declared.disk.DiskFault.{DiskFault}
 use Rattle.devdry_files.specs.declared.disk.DiskFault.TheVariants.{Absent, Unreadable, OutOfMemory}
 use Rattle.devdry_files.specs.declared.fault.ReadFault.{ReadFault}
@@ -30,17 +32,25 @@ IsUnlisted may path = may (NoListing path Unreadable)
 abbrev pub IsUnread : (Answer → Type 0) → List ℕ → Type 0
 IsUnread may path = may (NoContent path Absent) ⊎ may (NoContent path Unreadable)
 
--- the path is one of these, and the disk may say that it can't read the file there
-pub record IsFaultyNamed (may : Answer → Type 0) (paths : List (List ℕ)) (path : List ℕ) : Type 0 where
-  pub named : Contains paths path
+-- the path is that of a named file, which the disk may say that it can't read; those named before it were read
+pub record IsFaultyNamed (may : Answer → Type 0) (kind : FileKind) (paths : List (List ℕ)) (path : List ℕ) : Type 0 where
+  pub before : List (List ℕ)
+  pub behind : List (List ℕ)
+  pub cut : paths ≡ before ++ path ∷ behind
+  pub files : List SourceFile
+  pub were_read : AreNamed may kind before files
   pub unread : IsUnread may path
 
--- the path is that of one of the folder's files, which the disk may say that it can't read
+-- the path is that of one of the folder's files, which the disk may say that it can't read; those before it were read
 pub record IsFaultyFileIn (may : Answer → Type 0) (folder : Folder) (path : List ℕ) : Type 0 where
   pub names : List (String Global)
   pub are_names : AreNamesIn may folder names
+  pub before : List (String Global)
   pub name : String Global
-  pub listed : Contains names name
+  pub behind : List (String Global)
+  pub cut : names ≡ before ++ name ∷ behind
+  pub files : List SourceFile
+  pub were_read : AreFilesAt may folder.kind folder.rank (path_in folder) (map string_bytes before) files
   pub path_is : path ≡ path_in folder (string_bytes name)
   pub unread : IsUnread may path
 
@@ -49,13 +59,23 @@ pub record IsFaultyFileIn (may : Answer → Type 0) (folder : Folder) (path : Li
 abbrev pub IsFaultyIn : (Answer → Type 0) → Folder → List ℕ → Type 0
 IsFaultyIn may folder path = ((path ≡ string_bytes folder.path) × IsUnlisted may path) ⊎ IsFaultyFileIn may folder path
 
--- so it is of one of the folders
+-- so it is of one of the folders; those before it were read
 pub record IsFaultyInOneOf (may : Answer → Type 0) (folders : List Folder) (path : List ℕ) : Type 0 where
+  pub before : List Folder
   pub folder : Folder
-  pub one : Contains folders folder
+  pub behind : List Folder
+  pub cut : folders ≡ before ++ folder ∷ behind
+  pub files : List SourceFile
+  pub were_read : AreInFolders may before files
   pub faulty : IsFaultyIn may folder path
 
--- the path is that of a named file, of a folder, or of a name in one, and the disk may say that it can't tell what is there
+-- so it is of one of the folders that are wanted; all named files were read
+pub record IsFaultyFound (may : Answer → Type 0) (w : Wanted) (path : List ℕ) : Type 0 where
+  pub files : List SourceFile
+  pub were_read : AreNamed may w.kind (map (λ f. f.now) w.files.now) files
+  pub faulty : IsFaultyInOneOf may w.folders.items path
+
+-- The first of what is wanted, in the order of reading, that the disk may say it can't read or list: the path is that of a
+-- named file, of a folder, or of a name in one.
 abbrev pub IsFaultyWanted : (Answer → Type 0) → Wanted → List ℕ → Type 0
-IsFaultyWanted may w path = IsFaultyNamed may (map (λ f. f.now) w.files.now) path
-    ⊎ IsFaultyInOneOf may w.folders.items path
+IsFaultyWanted may w path = IsFaultyNamed may w.kind (map (λ f. f.now) w.files.now) path ⊎ IsFaultyFound may w path

@@ -126,7 +126,7 @@ fn named_files<D: Disk>(
     ensures files { IfOk result (λ files.
         AreNamed (D.may_answer disk.now) kind (map (λ p. p.now) paths.now) files.items) }
     ensures fault { IfErr result (HasPath
-        (IsFaultyNamed (D.may_answer disk.now) (map (λ p. p.now) paths.now))) }
+        (IsFaultyNamed (D.may_answer disk.now) kind (map (λ p. p.now) paths.now))) }
 {
     let mut files = Vec::new(alloc);
     for path in paths {

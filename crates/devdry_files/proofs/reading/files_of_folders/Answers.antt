@@ -1,5 +1,5 @@
-use Rattle.std.proofs.Common.{◌≡◌, ◌∙◌, ◌++◌, ◌+◌, ◌∷◌, [], Contains, ap, arith, rules, subst, suc, sym, take, take-suc}
-use Rattle.std.proofs.lemmas.List.Elements.{Contains-get_or}
+use Rattle.std.proofs.Common.{◌≡◌, ◌∙◌, ◌++◌, ◌+◌, ◌∷◌, [], ap, arith, drop, rules, subst, suc, sym, take, take-suc}
+use Rattle.std.proofs.Math.Seq.{split_at}
 use Rattle.devdry_files.specs.Faults.{IsFaultyInOneOf}
 use Rattle.devdry_files.specs.Found.{AreInFolders}
 use Rattle.devdry_files.proofs.Adding.{among, folders_more, handed_on}
@@ -11,8 +11,10 @@ returns-in_err-files_in-clause-fault g c =
     let folders = c.args.folders.now in
     let folder = c.folder-item.result in
     let fault = c.in_err-files_in.field-0.0 in
-    let there : Contains folders folder = subst (Contains folders) (sym c.folder-item.is) (Contains-get_or folders c.loop-folder.folder-index folder (search rules)) in
-    handed_on (IsFaultyInOneOf may folders) c.from_residual.result fault c.from_residual.ensures.1 (among may folders folder fault there c.in_err-files_in.ensures.fault)
+    let place = c.loop-folder.folder-index in
+    let cut : folders ≡ take place folders ++ folder ∷ drop (suc place) folders = subst (λ f. folders ≡ take place folders ++ f ∷ drop (suc place) folders) (sym c.folder-item.is) (split_at folders place folder (search rules)) in
+    handed_on (IsFaultyInOneOf may folders) c.from_residual.result fault c.from_residual.ensures.1
+        (among may folders (take place folders) folder (drop (suc place) folders) c.loop-folder.files.items fault cut c.loop-folder.invariant c.in_err-files_in.ensures.fault)
 
 pub loop-folder-preserved : goal.loop-folder-preserved
 loop-folder-preserved g c =

@@ -1,0 +1,4 @@
+pub mod Names
+pub mod Gone
+pub mod Runs
+pub mod Keeping

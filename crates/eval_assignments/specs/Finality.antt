@@ -1,0 +1,52 @@
+-- Which keys `:=` makes final, and when an assignment comes too late.
+use Rattle.std.specs.Prelude.{Bool, false, Option, Some, None}
+use Rattle.rule_keys.specs.declared.roles.AssignOperator.{AssignOperator}
+use Rattle.rule_keys.specs.declared.roles.AssignOperator.TheVariants.{AssignFinal}
+use Rattle.rule_keys.specs.declared.roles.Target.{Target}
+use Rattle.rule_keys.specs.declared.roles.Target.TheVariants as target
+use Rattle.rule_parts.specs.declared.options.RuleOption.{RuleOption}
+use Rattle.rule_parts.specs.declared.options.RuleOption.TheVariants as option
+use Rattle.rule_parts.specs.declared.part.Change.{Change}
+use Rattle.rule_parts.specs.declared.part.Change.TheVariants as change
+use Rattle.eval_scene.specs.Finals.{is_final, made_final}
+use Rattle.eval_scene.specs.declared.finals.FinalKey.{FinalKey}
+use Rattle.eval_scene.specs.declared.finals.FinalKey.TheVariants.{Owner, Group, Mode, Name, Symlink, Run, Priority, Watch}
+use Rattle.eval_scene.specs.declared.finals.Finals.{Finals}
+use Rattle.eval_scene.specs.declared.scene.Scene.{Scene}
+
+-- the key of a text that `:=` makes final, if there is one
+abbrev pub final_target : Target → Option FinalKey
+final_target target.Owner = Some Owner
+final_target target.Group = Some Group
+final_target target.Mode = Some Mode
+final_target target.Name = Some Name
+final_target target.Symlink = Some Symlink
+final_target t = None
+
+-- the key of an option that `:=` makes final, if there is one
+abbrev pub final_option : RuleOption → Option FinalKey
+final_option (option.LinkPriority n) = Some Priority
+final_option option.Watch = Some Watch
+final_option option.NoWatch = Some Watch
+final_option o = None
+
+-- the key of an assignment that `:=` makes final, if there is one
+abbrev pub final_key : Change → Option FinalKey
+final_key (change.Option known) = final_option known
+final_key (change.Text t template) = final_target t
+final_key (change.Run kind template) = Some Run
+
+-- whether a key, if there is one, no longer changes
+abbrev pub is_settled : Option FinalKey → Finals → Bool
+is_settled None f = false
+is_settled (Some k) f = is_final f k
+
+-- a scene in which a key, if there is one, no longer changes
+abbrev pub settled : Option FinalKey → Scene → Scene
+settled None s = s
+settled (Some k) s = record s { finals = made_final s.finals k }
+
+-- what stands behind an assignment that was made: `:=` makes its key final
+abbrev pub finally : AssignOperator → Option FinalKey → Scene → Scene
+finally AssignFinal k s = settled k s
+finally _ k s = s

@@ -1,0 +1,76 @@
+//! What becomes of bytes of links and names that do not belong there, as OPTIONS of a rule has it.
+ghost use Rattle.std.specs.Prelude.{◌≡◌, IfOk};
+ghost use Rattle.eval_assignments.specs.Escapes.{escape_after, escape_of, mode_in, mode_of, turned, turned_byte};
+
+use eval_rendering::Mode;
+use rule_core::{Assignment, Change, RuleOption, Target};
+use std::alloc::{AllocError, Global};
+
+/// How a rule treats the bytes of links and names.
+#[derive(Clone, Copy, Debug, PartialEq, Eq)]
+pub(crate) enum Escape {
+    /// Bytes that do not belong there are replaced; spaces separate links.
+    Usual,
+    /// `string_escape=none`: nothing is replaced; spaces separate links.
+    Keep,
+    /// `string_escape=replace`: spaces of links are replaced too.
+    Replace,
+}
+
+/// How a rule treats bytes behind one assignment more.
+fn escape_after(escape: Escape, change: &Change) -> Escape
+    ensures { result ≡ escape_after escape change.now }
+{
+    match change {
+        Change::Option(RuleOption::KeepEscapes) => Escape::Keep,
+        Change::Option(RuleOption::ReplaceEscapes) => Escape::Replace,
+        _ => escape,
+    }
+}
+
+/// How a rule with these assignments treats bytes: by its last `string_escape`, wherever it stands.
+#[tactic(auto, unfolding(crate::specs::Escapes::escape_of))]
+pub(crate) fn escape_of(sets: &[Assignment]) -> Escape
+    ensures { result ≡ escape_of sets.now }
+{
+    let mut escape = Escape::Usual;
+    for assignment in sets {
+        escape = escape_after(escape, &assignment.change);
+    }
+    escape
+}
+
+/// What a text is rendered for: links and names are made safe unless the rule keeps their bytes.
+pub(crate) fn mode_of(target: &Target, escape: Escape) -> Mode
+    ensures { result ≡ mode_of target.now escape }
+{
+    match escape {
+        Escape::Keep => Mode::Plain,
+        _ => mode_in(target),
+    }
+}
+
+/// What a text is rendered for where bytes are replaced.
+fn mode_in(target: &Target) -> Mode
+    ensures { result ≡ mode_in target.now }
+{
+    match target {
+        Target::Name => Mode::Link,
+        Target::Symlink => Mode::Link,
+        _ => Mode::Plain,
+    }
+}
+
+/// A byte with a space turned to `_`.
+fn turned_byte(byte: u8) -> u8
+    ensures { result ≡ turned_byte byte }
+{
+    if byte == b' ' { b'_' } else { byte }
+}
+
+/// A text with its spaces turned to `_`.
+pub(crate) fn turned(alloc: Global, text: &[u8]) -> Result<Vec<u8>, AllocError>
+    ensures { IfOk result (λ whole. whole.items ≡ turned text.now) }
+{
+    text.iter().map(|byte| turned_byte(*byte)).collect(alloc)
+}

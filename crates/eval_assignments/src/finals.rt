@@ -1,0 +1,72 @@
+//! Which key an assignment makes final behind `:=`.
+ghost use Rattle.std.specs.Prelude.{◌≡◌};
+ghost use Rattle.eval_assignments.specs.Finality.{final_key, final_option, final_target, finally, is_settled, settled};
+
+use eval_scene::{FinalKey, Finals, Scene};
+use rule_core::{AssignOperator, Change, RuleOption, Target};
+
+/// The key of a text that `:=` makes final, if there is one.
+pub(crate) fn final_target(target: &Target) -> Option<FinalKey>
+    ensures { result ≡ final_target target.now }
+{
+    match target {
+        Target::Owner => Some(FinalKey::Owner),
+        Target::Group => Some(FinalKey::Group),
+        Target::Mode => Some(FinalKey::Mode),
+        Target::Name => Some(FinalKey::Name),
+        Target::Symlink => Some(FinalKey::Symlink),
+        _ => None,
+    }
+}
+
+/// The key of an option that `:=` makes final, if there is one.
+pub(crate) fn final_option(option: RuleOption) -> Option<FinalKey>
+    ensures { result ≡ final_option option }
+{
+    match option {
+        RuleOption::LinkPriority(_) => Some(FinalKey::Priority),
+        RuleOption::Watch => Some(FinalKey::Watch),
+        RuleOption::NoWatch => Some(FinalKey::Watch),
+        _ => None,
+    }
+}
+
+/// The key of an assignment that `:=` makes final, if there is one.
+pub(crate) fn final_key(change: &Change) -> Option<FinalKey>
+    ensures { result ≡ final_key change.now }
+{
+    match change {
+        Change::Option(option) => final_option(*option),
+        Change::Text(target, _) => final_target(target),
+        Change::Run(_, _) => Some(FinalKey::Run),
+    }
+}
+
+/// Whether a key, if there is one, no longer changes.
+pub(crate) fn is_settled(key: Option<FinalKey>, finals: Finals) -> bool
+    ensures { result ≡ is_settled key finals }
+{
+    match key {
+        Some(key) => finals.contains(key),
+        None => false,
+    }
+}
+
+/// Makes a key final, if there is one.
+fn settle(key: Option<FinalKey>, scene: &mut Scene<'_>)
+    ensures { scene.new ≡ settled key scene.old }
+{
+    if let Some(key) = key {
+        scene.finals.add(key);
+    }
+}
+
+/// What stands behind an assignment that was made: `:=` makes its key final.
+pub(crate) fn finish(operator: AssignOperator, key: Option<FinalKey>, scene: &mut Scene<'_>)
+    ensures { scene.new ≡ finally operator key scene.old }
+{
+    match operator {
+        AssignOperator::AssignFinal => settle(key, scene),
+        _ => {}
+    }
+}

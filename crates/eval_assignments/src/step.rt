@@ -1,0 +1,145 @@
+//! One assignment of a rule.
+ghost use Rattle.std.specs.Prelude.{◌≡◌, OnOk, option_map};
+ghost use Rattle.eval_assignments.specs.Steps.{is_ignored, is_net, run_kept, run_kind, set_step, step_by, text_set};
+ghost use Rattle.eval_assignments.specs.Steps.{text_given};
+
+use crate::assigning::assign;
+use crate::escapes::{Escape, escape_of, mode_of};
+use crate::finals::{final_key, final_option, final_target, finish, is_settled};
+use crate::options::set_option;
+use eval_rendering::{Rendered, render};
+use eval_scene::{FinalKey, NoteKind, Run, Scene};
+use rule_core::{AssignOperator, Assignment, Change, Rule, RunType, Target, Template};
+use std::alloc::{AllocError, Global};
+use text_bytes::Bytes;
+
+/// Whether a device is a network device: only those have a name to assign.
+fn is_net(subsystem: Option<&[u8]>) -> bool
+    ensures { result ≡ is_net (option_map (λ t. t.now) subsystem.entry) }
+{
+    match subsystem {
+        Some(subsystem) => subsystem == b"net".as_slice(),
+        None => false,
+    }
+}
+
+/// Whether an assignment is ignored: NAME where the device is no network device.
+fn is_ignored(target: &Target, scene: &Scene<'_>) -> bool
+    ensures { result ≡ is_ignored target.now scene.now }
+{
+    match target {
+        Target::Name => !is_net(scene.state.event.device().subsystem()),
+        _ => false,
+    }
+}
+
+/// An assignment of a text that is not too long; one that is ignored leaves a note.
+fn set_given(
+    alloc: Global,
+    rule: &Rule,
+    escape: Escape,
+    operator: AssignOperator,
+    target: &Target,
+    text: Bytes,
+    scene: &mut Scene<'_>,
+) -> Result<(), AllocError>
+    ensures { OnOk result (scene.new ≡ text_given rule.now escape operator target.now text scene.old) }
+{
+    if is_ignored(target, scene) {
+        return scene.note(alloc, rule, NoteKind::NameIgnored, text.as_slice());
+    }
+    assign(alloc, rule, escape, operator, target, text, scene)?;
+    finish(operator, final_target(target), scene);
+    Ok(())
+}
+
+/// An assignment of a text once it is rendered; one that is too long leaves a note.
+fn set_text(
+    alloc: Global,
+    rule: &Rule,
+    escape: Escape,
+    operator: AssignOperator,
+    target: &Target,
+    rendered: Rendered,
+    scene: &mut Scene<'_>,
+) -> Result<(), AllocError>
+    ensures { OnOk result (scene.new ≡ text_set rule.now escape operator target.now rendered scene.old) }
+{
+    match rendered {
+        Rendered::Text(text) => set_given(alloc, rule, escape, operator, target, text, scene),
+        Rendered::TooLong => scene.note_too_long(alloc, rule, target.key(), target.attribute()),
+    }
+}
+
+/// The type of a RUN: a program unless another one is given.
+fn run_kind(given: Option<RunType>) -> RunType
+    ensures { result ≡ run_kind given }
+{
+    match given {
+        Some(kind) => kind,
+        None => RunType::Program,
+    }
+}
+
+/// Takes in a RUN as it is written.
+fn keep_run<'a>(
+    rule: &'a Rule,
+    operator: AssignOperator,
+    kind: Option<RunType>,
+    template: &'a Template,
+    scene: &mut Scene<'a>,
+) -> Result<(), AllocError>
+    ensures { OnOk result (scene.new ≡ run_kept rule.now operator kind template.now scene.old) }
+{
+    let run = Run::new(rule, run_kind(kind), template, scene.state.selected);
+    scene.runs.change(operator, run)?;
+    finish(operator, Some(FinalKey::Run), scene);
+    Ok(())
+}
+
+/// Makes an assignment, by what it changes.
+fn step_by<'a>(
+    alloc: Global,
+    rule: &'a Rule,
+    assignment: &'a Assignment,
+    scene: &mut Scene<'a>,
+) -> Result<(), AllocError>
+    ensures { OnOk result (scene.new ≡ step_by rule.now assignment.now.operator assignment.now.change scene.old) }
+{
+    let operator = assignment.operator;
+    match &assignment.change {
+        Change::Option(option) => {
+            set_option(*option, scene);
+            finish(operator, final_option(*option), scene);
+            Ok(())
+        }
+        Change::Text(target, template) => {
+            let escape = escape_of(rule.sets());
+            let rendered = render(alloc, template, &scene.state, mode_of(target, escape))?;
+            set_text(alloc, rule, escape, operator, target, rendered, scene)
+        }
+        Change::Run(kind, template) => keep_run(rule, operator, *kind, template, scene),
+    }
+}
+
+/// Makes an assignment of a rule, unless its key is final: udev(7), "assign keys".
+///
+/// A text is rendered first. One of more than 16,384 bytes leaves a note and changes nothing, and so
+/// does a NAME for what is no network device. A RUN is kept as it is written, with the device that is
+/// selected now. Behind a `:=` that was made, its key is final.
+///
+/// The error comes where memory is refused; the scene then holds a part of the change.
+#[tactic(auto, unfolding(crate::specs::Steps::set_step))]
+pub fn set_step<'a>(
+    alloc: Global,
+    rule: &'a Rule,
+    assignment: &'a Assignment,
+    scene: &mut Scene<'a>,
+) -> Result<(), AllocError>
+    ensures { OnOk result (scene.new ≡ set_step rule.now scene.old assignment.now) }
+{
+    if is_settled(final_key(&assignment.change), scene.finals) {
+        return Ok(());
+    }
+    step_by(alloc, rule, assignment, scene)
+}

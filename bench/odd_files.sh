@@ -1,6 +1,6 @@
 #!/usr/bin/env bash
-# What the program does with a pipe, with a folder whose names are no text and with a folder that it may
-# not enter: a test of a crate can make none of them. Says which case goes wrong, and then ends in 1.
+# What the program does with a pipe, with a folder whose names are no text, with a folder that it may
+# not enter and with an output that is full: a test of a crate can make none of them. Says which case goes wrong, and then ends in 1.
 # usage: bench/odd_files.sh [PROGRAM]    PROGRAM is build/devdry unless one is given; as root it needs setpriv
 set -euo pipefail
 top=$(cd "$(dirname "$0")/.." && pwd)
@@ -27,7 +27,7 @@ expect() {
 
 # A pipe gives a little at a time, and tells no length.
 mkfifo "$work/pipe"
-{ yes '# a line that is skipped' | head -c 2097152; printf '\nm\n A=1\n'; } >"$work/pipe" &
+{ head -c 2097152 < <(yes '# a line that is skipped'); printf '\nm\n A=1\n'; } >"$work/pipe" &
 expect "a pipe of 2 MB" 0 "A=1" "$program" query m "$work/pipe"
 wait
 
@@ -43,4 +43,7 @@ fi
 chmod 000 "$folder"
 expect "a folder without permission" 3 "devdry: cannot read $folder" "${as_another[@]}" "$program" query -r "$work" m
 chmod 755 "$folder"
+
+to_full() { "$@" >/dev/full; }
+expect "help to an output that is full" 3 "devdry: write failed" to_full "$program" --help
 exit $failed

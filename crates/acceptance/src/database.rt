@@ -129,3 +129,23 @@ fn names_and_words_are_escaped(rt: HostRuntime) -> Result<(), Fail> {
     }
     Ok(())
 }
+
+#[test]
+fn a_match_that_is_too_long_is_told_beside_a_good_one(rt: HostRuntime) -> Result<(), Fail> {
+    let alloc = rt.alloc();
+    for (length, told) in [(16_384, false), (16_385, true)] {
+        let mut long = String::new(alloc);
+        for _ in 0..length {
+            long.push('x')?;
+        }
+        let text = format!(in alloc; "m\n{long}\n A=1\n")?;
+        let query = line(alloc, Verb::Query, "m");
+        let done = run(alloc, &query, one_file(alloc, "t.hwdb", text.as_str())?)?;
+        assert_eq!(rt; done.output.as_slice(), b"A=1\n".as_slice());
+        let message = "t.hwdb:2: H6 pattern not supported: xxxxxxxxxxxxxxxxxxxxxxxxxxxxxxxx\n";
+        let want = if told { message } else { "" };
+        assert_eq!(rt; done.messages.as_slice(), want.as_bytes());
+        assert_eq!(rt; done.status, 0);
+    }
+    Ok(())
+}

@@ -35,7 +35,7 @@ pub at_named : (d : Bor (List ℕ)) (may : Answer → Type 0) (kind : FileKind) 
     → HasPath (λ p. (p ≡ (get_or paths place d).now) × IsUnread may p) fault → HasPath (IsFaultyNamed may kind (map (λ p. p.now) paths)) fault
 at_named d may kind paths place files (Path text) within were h =
     let cut : map (λ p. p.now) paths ≡ map (λ p. p.now) (take place paths) ++ (get_or paths place d).now ∷ map (λ p. p.now) (drop (suc place) paths) =
-        ap (map (λ (p : Bor (List ℕ)). p.now)) (split_at paths place d within) ∙ map-append (λ (p : Bor (List ℕ)). p.now) (take place paths) (get_or paths place d ∷ drop (suc place) paths) in
+    ap (map (λ (p : Bor (List ℕ)). p.now)) (split_at paths place d within) ∙ map-append (λ (p : Bor (List ℕ)). p.now) (take place paths) (get_or paths place d ∷ drop (suc place) paths) in
     record {
       before = map (λ p. p.now) (take place paths);
       behind = map (λ p. p.now) (drop (suc place) paths);

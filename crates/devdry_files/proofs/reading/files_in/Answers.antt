@@ -17,4 +17,4 @@ returns-in_err-file_in-clause-fault g c =
     let cut : items ≡ take place items ++ name ∷ drop (suc place) items = subst (λ n. items ≡ take place items ++ n ∷ drop (suc place) items) (sym c.name-item.is) (split_at items place name (search rules)) in
     let here : HasPath (λ p. (p ≡ path_in folder (string_bytes name)) × IsUnread may p) fault = subst (λ text. HasPath (λ p. (p ≡ path_in folder text) × IsUnread may p) fault) c.as_str.ensures.value c.in_err-file_in.ensures.fault in
     handed_on (IsFaultyIn may folder) c.from_residual-in_err-file_in.result fault c.from_residual-in_err-file_in.ensures.1
-        (at_file may folder names (take place items) name (drop (suc place) items) c.loop-name.files.items fault c.in_ok-names.ensures.names (sym c.deref-name-items.ensures.value ∙ cut) c.loop-name.invariant here)
+    (at_file may folder names (take place items) name (drop (suc place) items) c.loop-name.files.items fault c.in_ok-names.ensures.names (sym c.deref-name-items.ensures.value ∙ cut) c.loop-name.invariant here)

@@ -14,7 +14,7 @@ returns-in_err-files_in-clause-fault g c =
     let place = c.loop-folder.folder-index in
     let cut : folders ≡ take place folders ++ folder ∷ drop (suc place) folders = subst (λ f. folders ≡ take place folders ++ f ∷ drop (suc place) folders) (sym c.folder-item.is) (split_at folders place folder (search rules)) in
     handed_on (IsFaultyInOneOf may folders) c.from_residual.result fault c.from_residual.ensures.1
-        (among may folders (take place folders) folder (drop (suc place) folders) c.loop-folder.files.items fault cut c.loop-folder.invariant c.in_err-files_in.ensures.fault)
+    (among may folders (take place folders) folder (drop (suc place) folders) c.loop-folder.files.items fault cut c.loop-folder.invariant c.in_err-files_in.ensures.fault)
 
 pub loop-folder-preserved : goal.loop-folder-preserved
 loop-folder-preserved g c =

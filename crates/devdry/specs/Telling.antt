@@ -1,0 +1,32 @@
+-- What is told of words, of lines and of files that can't be used, by the status.
+use Rattle.std.specs.Prelude.{◌≡◌, ℕ, List, [], ◌∷◌, ◌++◌, codes, string_bytes}
+use Rattle.text_bytes.specs.Names.{newline}
+use Rattle.engine_line.specs.declared.LineFault.{LineFault}
+use Rattle.engine_line.specs.declared.LineFault.TheVariants.{Help, Usage, Memory}
+use Rattle.engine_streams.specs.Sinks.{SinkState}
+use Rattle.engine_core.specs.Delivery.{Delivers, Tells, out_of_memory}
+use Rattle.devdry_files.specs.declared.fault.ReadFault.{ReadFault}
+use Rattle.devdry_files.specs.declared.fault.ReadFault.TheVariants as read
+
+-- the line on a file or a folder that could not be read
+abbrev pub cannot_read : List ℕ → List ℕ
+cannot_read path = codes "devdry: cannot read " ++ path ++ newline ∷ []
+
+-- what is told where an argument is not UTF-8
+abbrev pub not_text : List ℕ
+not_text = codes "error: an argument is not UTF-8\n\nFor more information, try '--help'.\n"
+
+-- Words are no line: help goes to the output with status 0; what is wrong, to the error output, with status 2, and the output
+-- stays as it is.
+abbrev pub TellsLineFault : LineFault → ℕ → SinkState → SinkState → SinkState → SinkState → Type 0
+TellsLineFault (Help text) status out out_now err err_now =
+    Delivers (record { output = string_bytes text; messages = []; status = 0 }) status out out_now err err_now
+TellsLineFault (Usage text) status out out_now err err_now =
+    (out_now ≡ out) × Tells (string_bytes text) 2 status err err_now
+TellsLineFault Memory status out out_now err err_now =
+    (out_now ≡ out) × Tells out_of_memory 4 status err err_now
+
+-- files could not be read: the path is told with status 3
+abbrev pub TellsReadFault : ReadFault → ℕ → SinkState → SinkState → Type 0
+TellsReadFault (read.Path path) status err err_now = Tells (cannot_read (string_bytes path)) 3 status err err_now
+TellsReadFault read.Memory status err err_now = Tells out_of_memory 4 status err err_now

@@ -1,0 +1,74 @@
+//! What is told of words, of lines and of files that can't be used, and the status that comes of it.
+//!
+//! Nothing here takes memory: a line on a failure is written from the texts that are there.
+ghost use Rattle.std.specs.IoError.{error_kind};
+ghost use Rattle.std.specs.Prelude.{◌≡◌};
+ghost use Rattle.engine_core.specs.Delivery.{Tells, out_of_memory};
+ghost use Rattle.devdry.specs.Telling.{TellsLineFault, TellsReadFault, cannot_read, not_text};
+
+use devdry_files::ReadFault;
+use engine_core::{LineFault, Sink, deliver, tell, tell_in_pieces, tell_out_of_memory};
+use std::io::{self, ErrorKind};
+
+/// Help was given; `serve` gives the other statuses of a run that goes well.
+const WELL: u8 = 0;
+/// The words are not understood.
+const USAGE: u8 = 2;
+/// A file, the input or an output failed.
+const FAILED: u8 = 3;
+
+const NOT_TEXT: &[u8] = b"error: an argument is not UTF-8
+
+For more information, try '--help'.
+";
+
+/// Tells why the words could not be had: one of them is not UTF-8, or memory was refused.
+pub(crate) fn tell_arguments_fault<E: Sink>(fault: &io::Error, error: &mut E) -> u8
+    ensures memory { error_kind fault.now ≡ ErrorKind.OutOfMemory
+        → Tells out_of_memory 4 result (E.shown error.old) (E.shown error.new) }
+    ensures no_text { (error_kind fault.now ≡ ErrorKind.OutOfMemory → ⊥)
+        → Tells not_text 2 result (E.shown error.old) (E.shown error.new) }
+{
+    match fault.kind() {
+        ErrorKind::OutOfMemory => tell_out_of_memory(error),
+        _ => tell(error, NOT_TEXT, USAGE),
+    }
+}
+
+/// Tells what there is to say where words are no line: help on the output, and what is wrong on the
+/// error output.
+pub(crate) fn tell_line_fault<W: Sink, E: Sink>(
+    fault: &LineFault,
+    output: &mut W,
+    error: &mut E,
+) -> u8
+    ensures { TellsLineFault fault.now result
+        (W.shown output.old) (W.shown output.new) (E.shown error.old) (E.shown error.new) }
+{
+    match fault {
+        LineFault::Help(text) => deliver(b"", text.as_bytes(), WELL, output, error),
+        LineFault::Usage(text) => tell(error, text.as_bytes(), USAGE),
+        LineFault::Memory => tell_out_of_memory(error),
+    }
+}
+
+/// Tells which file or folder could not be read, or that memory was refused.
+pub(crate) fn tell_read_fault<E: Sink>(fault: &ReadFault, error: &mut E) -> u8
+    ensures { TellsReadFault fault.now result (E.shown error.old) (E.shown error.new) }
+{
+    match fault {
+        ReadFault::Path(path) => tell_unreadable(path.as_str(), error),
+        ReadFault::Memory => tell_out_of_memory(error),
+    }
+}
+
+/// Tells which file or folder could not be read.
+fn tell_unreadable<E: Sink>(path: &str, error: &mut E) -> u8
+    ensures { Tells (cannot_read path.now) 3 result (E.shown error.old) (E.shown error.new) }
+{
+    tell_in_pieces(
+        error,
+        &[b"devdry: cannot read ", path.as_bytes(), b"\n"],
+        FAILED,
+    )
+}

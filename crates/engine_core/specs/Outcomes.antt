@@ -1,8 +1,9 @@
 -- What a run says: its outcome, as a function of the command line and of the files handed in.
-use Rattle.std.specs.Prelude.{ℕ, ◌-◌, ◌^◌, Bool, ◌==◌, ◌&&◌, nat_le, not, if◌then◌else◌, List, [], length, sum_by, codes}
+use Rattle.std.specs.Prelude.{ℕ, ◌^◌, Bool, ◌==◌, ◌&&◌, nat_le, not, if◌then◌else◌, List, [], length, sum_by, codes}
 use Rattle.text_files.specs.declared.source_file.SourceFile.{SourceFile}
 use Rattle.text_files.specs.declared.source_file.FileKind.TheVariants.{Hwdb, Rules}
 use Rattle.text_files.specs.declared.message.Message.{Message}
+use Rattle.hwdb_lookup.specs.Bounds.{max_entries, max_match_bytes, max_name_bytes, max_text_bytes}
 use Rattle.hwdb_lookup.specs.declared.entry.Entry.{Entry}
 use Rattle.hwdb_core.specs.Sources.{entries_of, match_bytes_of, messages_of, properties_of, text_len}
 use Rattle.rule_core.specs.Rules.{set_of, tokens_in}
@@ -18,10 +19,10 @@ use Rattle.engine_core.specs.Messages.{message_lines}
 -- whether the files hold no more than a database may
 unfoldable pub are_few : List SourceFile → Bool
 are_few files =
-    nat_le (length (properties_of files)) (2 ^ 24)
-    && nat_le (match_bytes_of files) (2 ^ 25 - 1)
-    && nat_le (sum_by text_len (properties_of files)) (2 ^ 30)
-    && nat_le (sum_by (λ f. length f.name) files) (2 ^ 28)
+    nat_le (length (properties_of files)) max_entries
+    && nat_le (match_bytes_of files) max_match_bytes
+    && nat_le (sum_by text_len (properties_of files)) max_text_bytes
+    && nat_le (sum_by (λ f. length f.name) files) max_name_bytes
 
 -- the status of `update`: 1 where it is strict and there is a message
 abbrev pub update_status : Bool → ℕ → ℕ

@@ -6,3 +6,4 @@ mod Bounds
 mod Counting
 mod Gaps
 mod GapPlaces
+mod Again

@@ -16,14 +16,14 @@ none_behind : {X : Type 0} (is : Part → Option X) (parts : List Part) (p : Par
 none_behind is parts p e = rw e at (filter_map-append is parts (p ∷ [])) ∙ append-nil (filter_map is parts)
 
 -- what is to be said of a part goes behind what is said of those before it
-said_behind : (before parts : List Part) (p : Part) → given_again_behind before (parts ++ p ∷ []) ≡ given_again_behind before parts ++ again_in (before ++ parts) p
+pub said_behind : (before parts : List Part) (p : Part) → given_again_behind before (parts ++ p ∷ []) ≡ given_again_behind before parts ++ again_in (before ++ parts) p
 said_behind before [] p = append-nil (again_in before p) ∙ ap (λ (ps : List Part). again_in ps p) (sym (append-nil before))
 said_behind before (q ∷ parts) p =
     ap (λ (fs : List Finding). again_in before q ++ fs) (said_behind (before ++ q ∷ []) parts p)
     ∙ sym (append_assoc (again_in before q) (given_again_behind (before ++ q ∷ []) parts) (again_in ((before ++ q ∷ []) ++ parts) p))
     ∙ ap (λ (ps : List Part). (again_in before q ++ given_again_behind (before ++ q ∷ []) parts) ++ again_in ps p) (append_assoc before (q ∷ []) parts)
 
-none_said : (parts : List Part) (p : Part) → again_in parts p ≡ [] → given_again_behind [] (parts ++ p ∷ []) ≡ given_again_behind [] parts
+pub none_said : (parts : List Part) (p : Part) → again_in parts p ≡ [] → given_again_behind [] (parts ++ p ∷ []) ≡ given_again_behind [] parts
 none_said parts p e = said_behind [] parts p ∙ ap (λ (fs : List Finding). given_again_behind [] parts ++ fs) e ∙ append-nil (given_again_behind [] parts)
 
 -- a name behind others

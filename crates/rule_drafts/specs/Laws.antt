@@ -1,10 +1,13 @@
--- What sorting the parts of a rule keeps, in which order they then stand, and how a line is written of which nothing is to be said.
+-- What sorting the parts of a rule keeps, in which order they then stand, which names are given twice, and how a line is written of which nothing is to be said.
 use Rattle.std.specs.Prelude.{◌≡◌, ℕ, ◌+◌, ◌<◌, ◌≤◌, false, List, [], ◌∷◌, ◌++◌, ⊤, drop, filter_map, length}
 use Rattle.text_bytes.specs.Names.{comma, is_blank}
+use Rattle.text_files.specs.declared.message.MessageKind.TheVariants.{GivenTwice}
 use Rattle.rule_tokens.specs.Grammar.{AllAre, Placed}
 use Rattle.rule_parts.specs.Parts.{is_read_as_assign}
+use Rattle.rule_parts.specs.Values.{finding}
 use Rattle.rule_parts.specs.declared.part.Part.{Part}
-use Rattle.rule_drafts.specs.Drafts.{act_in, assignment_in, draft, goto_in, label_in, plain_in, result_in, up_in}
+use Rattle.rule_parts.specs.declared.part.Part.TheVariants as part
+use Rattle.rule_drafts.specs.Drafts.{act_in, assignment_in, draft, given_again_behind, goto_in, label_in, plain_in, result_in, up_in}
 use Rattle.rule_drafts.specs.Style.{between}
 use Rattle.rule_drafts.specs.Turns.{of_turn, turn_of_act, turn_of_assignment}
 
@@ -28,6 +31,25 @@ abbrev pub NoneIsLost : List Part → Type 0
 NoneIsLost parts =
     length (filter_map plain_in parts) + (length (filter_map up_in parts) + (length (filter_map act_in parts) + (length (filter_map result_in parts)
     + (length (filter_map assignment_in parts) + (length (filter_map label_in parts) + length (filter_map goto_in parts)))))) ≡ length parts
+
+-- both parts give a label, or both a jump, and the later one gives this name
+abbrev pub GivesAgain : Part → Part → List ℕ → Type 0
+GivesAgain (part.Label earlier) (part.Label later) name = later ≡ name
+GivesAgain (part.Goto earlier) (part.Goto later) name = later ≡ name
+GivesAgain _ _ _ = ⊥
+
+-- among the parts stands one of this part's key, and this part gives the name
+pub record IsGivenAmong (parts : List Part) (p : Part) (name : List ℕ) : Type 0 where
+  pub before : List Part
+  pub earlier : Part
+  pub behind : List Part
+  pub cut : parts ≡ before ++ earlier ∷ behind
+  pub again : GivesAgain earlier p name
+
+-- Behind parts a part is told of as one given twice exactly where one of its key stands among them, and else nothing is said.
+pub record IsToldWhereAgain (parts : List Part) (p : Part) : Type 0 where
+  pub again : (name : List ℕ) → IsGivenAmong parts p name → given_again_behind [] (parts ++ p ∷ []) ≡ given_again_behind [] parts ++ finding GivenTwice name ∷ []
+  pub once : ((name : List ℕ) → IsGivenAmong parts p name → ⊥) → given_again_behind [] (parts ++ p ∷ []) ≡ given_again_behind [] parts
 
 -- blanks, one comma, and blanks, of which there is at least one
 pub record IsPlainGap (gap : List ℕ) : Type 0 where

@@ -15,5 +15,7 @@ mod tests;
 mod turns;
 
 pub use draft::Draft;
-pub use laws::{no_part_is_lost, parts_are_kept_in_order, plain_lines_are_passed};
+pub use laws::{
+    names_given_again_are_told, no_part_is_lost, parts_are_kept_in_order, plain_lines_are_passed,
+};
 pub use reading::read_draft;

@@ -1,0 +1,7 @@
+use Rattle.std.proofs.Common.{◌≡◌, map, take}
+use Rattle.hwdb_lookup.specs.Query.{origin, shown_origin}
+use Rattle.trie_nodes.specs.Found.{all_seen}
+use Rattle.trie_nodes.proofs.answers.query_sources.Given as goal
+
+abbrev pub invariant-loop-winner : goal.invariant-loop-winner
+invariant-loop-winner g l = map shown_origin l.found.items ≡ map origin (all_seen (take l.winner-index l.winner-items))

@@ -1,0 +1,12 @@
+-- What was found for a device, as entries whose pattern is left out.
+use Rattle.std.specs.Prelude.{[], List, map}
+use Rattle.hwdb_lookup.specs.declared.entry.Entry.{Entry}
+use Rattle.trie_nodes.specs.declared.found.Found.{Found}
+
+-- a property that was found, as an entry
+abbrev pub seen : Found → Entry
+seen f = record { pattern = []; key = f.key.now; value = f.value.now; order = f.order; file = f.file.now; line = f.line }
+
+-- properties that were found, as entries
+abbrev pub all_seen : List Found → List Entry
+all_seen fs = map seen fs

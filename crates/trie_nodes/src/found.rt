@@ -1,0 +1,50 @@
+//! Properties that were found for a device, and which of them count.
+//!
+//! Those that count so far are kept sorted by key, and each further one is put in its place by a
+//! binary search.
+ghost use Rattle.std.specs.Prelude.{◌≡◌, OnOk};
+ghost use Rattle.hwdb_lookup.specs.Places.{IsPlace};
+ghost use Rattle.hwdb_lookup.specs.Query.{put};
+ghost use Rattle.hwdb_lookup.specs.Winning.{KeysRise};
+ghost use Rattle.trie_nodes.specs.Found.{all_seen, seen};
+
+use std::alloc::AllocError;
+
+/// A property, with the order of its entry, and where it comes from.
+#[derive(Clone, Copy, Debug)]
+pub struct Found<'a> {
+    /// Its name.
+    pub key: &'a [u8],
+    /// Its value.
+    pub value: &'a [u8],
+    /// Of two with one key the greater counts.
+    pub order: u32,
+    /// The name of its file; empty where that is not known.
+    pub file: &'a [u8],
+    /// The number of its line there; 0 where it is not known.
+    pub line: u32,
+}
+
+/// Puts a property that is listed later in its place among those that count.
+pub(crate) fn put<'a>(won: &mut Vec<Found<'a>>, found: Found<'a>) -> Result<(), AllocError>
+    requires { KeysRise (all_seen won.old.items) }
+    ensures { OnOk result (all_seen won.new.items ≡ put (all_seen won.old.items) (seen found.entry)) }
+{
+    match place_of(won, found.key) {
+        Ok(place) => {
+            if won[place].order <= found.order {
+                won[place] = found;
+            }
+        }
+        Err(place) => won.insert(place, found)?,
+    }
+    Ok(())
+}
+
+/// The place of the property with a key among those that count, or the one where it would be.
+fn place_of(won: &[Found<'_>], key: &[u8]) -> Result<usize, usize>
+    requires { KeysRise (all_seen won.now) }
+    ensures { IsPlace (all_seen won.now) key.now result }
+{
+    won.binary_search_by(|other| other.key.cmp(key))
+}

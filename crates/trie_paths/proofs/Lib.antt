@@ -1,0 +1,5 @@
+pub mod Children
+pub mod Distinguishing
+pub mod Later
+pub mod Orders
+pub mod Paths

@@ -1,0 +1,4 @@
+pub mod Distinct
+pub mod Order
+pub mod Paths
+pub mod Tree

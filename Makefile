@@ -1,7 +1,7 @@
 # Builds, checks and installs devdry.
 #
 # Only a proved program is built, so the first `make` proves every crate that it stands on, which
-# takes some minutes; after a change mostly what changed is proved again. Crates that don't stand on
+# takes about twenty minutes; after a change mostly what changed is proved again. Crates that don't stand on
 # one another are proved side by side, as many as there are processors: `make -j1` proves them one
 # behind another, where memory is short (a proof takes 1 to 4 GB).
 

@@ -169,47 +169,72 @@ fn reads_named_files_in_their_order(rt: HostRuntime) -> Result<(), Fail> {
 }
 
 #[test]
-fn names_the_file_that_it_cannot_read(rt: HostRuntime) -> Result<(), Fail> {
-    let root = make_root(&rt, "file")?;
-    let folder = at(&rt, &root, "")?;
-    let none = read_folders(&rt, Verb::Query, &root)?;
-    let absent = fault_path(&rt, &root, &[at(&rt, &root, "x")?.as_str()])?;
-    let a_folder = fault_path(&rt, &root, &[folder.as_str()])?;
-    fs::write(&rt, at(&rt, &root, "a.hwdb")?, "A")?;
-    symlink(&rt, "nothing", at(&rt, &root, "d.hwdb")?)?;
-    let dangling = fault_path(&rt, &root, &[])?;
-    fs::remove_file(&rt, at(&rt, &root, "d.hwdb")?)?;
-    symlink(&rt, "e.hwdb", at(&rt, &root, "e.hwdb")?)?;
-    let endless = fault_path(&rt, &root, &[])?;
+fn an_empty_folder_has_no_files(rt: HostRuntime) -> Result<(), Fail> {
+    let root = make_root(&rt, "empty")?;
+    let files = read_folders(&rt, Verb::Query, &root);
     fs::remove_dir_all(&rt, root)?;
-    assert!(rt; none.is_empty(), "an empty folder, and an absent one");
-    assert_eq!(rt; absent.as_deref(), Some("/etc/udev/hwdb.d/x"));
-    assert_eq!(rt; a_folder.as_deref(), Some("/etc/udev/hwdb.d/"));
-    assert_eq!(rt; dangling.as_deref(), Some("/etc/udev/hwdb.d/d.hwdb"));
-    assert_eq!(rt; endless.as_deref(), Some("/etc/udev/hwdb.d/e.hwdb"));
+    assert!(rt; files?.is_empty(), "an empty folder, and an absent one");
     Ok(())
 }
 
 #[test]
-fn names_the_folder_that_it_cannot_list(rt: HostRuntime) -> Result<(), Fail> {
-    let root = make_root(&rt, "unlisted")?;
-    let below = format!(in rt.alloc(); "{root}/usr/lib/udev")?;
-    fs::create_dir_all(&rt, below.as_str())?;
-    let folder = format!(in rt.alloc(); "{below}/hwdb.d")?;
-    fs::write(&rt, folder.as_str(), "no folder")?;
-    let a_file = fault_path(&rt, &root, &[])?;
-    fs::remove_file(&rt, folder.as_str())?;
-    symlink(&rt, "hwdb.d", folder.as_str())?;
-    let endless = fault_path(&rt, &root, &[])?;
-    fs::remove_file(&rt, folder.as_str())?;
-    symlink(&rt, "nothing", folder.as_str())?;
-    let dangling = read_folders(&rt, Verb::Query, &root);
+fn names_the_file_that_it_cannot_read(rt: HostRuntime) -> Result<(), Fail> {
+    let root = make_root(&rt, "file")?;
+    let absent = fault_path(&rt, &root, &[at(&rt, &root, "x")?.as_str()]);
+    let a_folder = fault_path(&rt, &root, &[at(&rt, &root, "")?.as_str()]);
     fs::remove_dir_all(&rt, root)?;
-    assert_eq!(rt; a_file.as_deref(), Some("/usr/lib/udev/hwdb.d"));
-    assert_eq!(rt; endless.as_deref(), Some("/usr/lib/udev/hwdb.d"));
-    assert!(rt;
-        dangling?.is_empty(),
-        "a link to nothing is an absent folder"
-    );
+    assert_eq!(rt; absent?.as_deref(), Some("/etc/udev/hwdb.d/x"));
+    assert_eq!(rt; a_folder?.as_deref(), Some("/etc/udev/hwdb.d/"));
+    Ok(())
+}
+
+// The path of the fault where a name in the folder links to this.
+fn fault_at_link(rt: &HostRuntime, test: &str, target: &str) -> Result<Option<String>, Fail> {
+    let root = make_root(rt, test)?;
+    fs::write(rt, at(rt, &root, "a.hwdb")?, "A")?;
+    symlink(rt, target, at(rt, &root, "d.hwdb")?)?;
+    let path = fault_path(rt, &root, &[]);
+    fs::remove_dir_all(rt, root)?;
+    Ok(path?)
+}
+
+#[test]
+fn names_the_link_that_it_cannot_follow(rt: HostRuntime) -> Result<(), Fail> {
+    for (test, target) in [("dangling", "nothing"), ("endless", "d.hwdb")] {
+        let path = fault_at_link(&rt, test, target)?;
+        assert_eq!(rt; path.as_deref(), Some("/etc/udev/hwdb.d/d.hwdb"), "{test}");
+    }
+    Ok(())
+}
+
+// A folder of a test's own, in which the folder of /usr links to this.
+fn make_linked(rt: &HostRuntime, test: &str, target: &str) -> Result<String, Fail> {
+    let root = make_root(rt, test)?;
+    let below = format!(in rt.alloc(); "{root}/usr/lib/udev")?;
+    fs::create_dir_all(rt, below.as_str())?;
+    symlink(rt, target, format!(in rt.alloc(); "{below}/hwdb.d")?)?;
+    Ok(root)
+}
+
+#[test]
+fn names_the_folder_that_it_cannot_list(rt: HostRuntime) -> Result<(), Fail> {
+    for (test, target) in [
+        ("a-file", "/proc/self/status"),
+        ("endless-folder", "hwdb.d"),
+    ] {
+        let root = make_linked(&rt, test, target)?;
+        let path = fault_path(&rt, &root, &[]);
+        fs::remove_dir_all(&rt, root)?;
+        assert_eq!(rt; path?.as_deref(), Some("/usr/lib/udev/hwdb.d"), "{test}");
+    }
+    Ok(())
+}
+
+#[test]
+fn a_link_to_nothing_is_an_absent_folder(rt: HostRuntime) -> Result<(), Fail> {
+    let root = make_linked(&rt, "absent", "nothing")?;
+    let files = read_folders(&rt, Verb::Query, &root);
+    fs::remove_dir_all(&rt, root)?;
+    assert!(rt; files?.is_empty());
     Ok(())
 }

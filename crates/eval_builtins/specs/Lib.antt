@@ -1,0 +1,5 @@
+pub mod Words
+pub mod Grammar
+pub mod Hwdb
+pub mod Builtins
+pub mod LookUps

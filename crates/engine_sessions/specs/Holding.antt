@@ -1,0 +1,51 @@
+-- For proofs only, no reader has to believe it: how a session's fields hang together, and what its helpers answer.
+use Rattle.std.specs.Prelude.{◌≡◌, ◌≢◌, ℕ, ◌≤◌, Bool, true, false, List, [], ◌∷◌, Err, length}
+use Rattle.text_tables.specs.Texts.{Text}
+use Rattle.device_runs.specs.Runs.{complete_runs, rest_of}
+use Rattle.device_runs.specs.Blocks.{most_bytes}
+use Rattle.device_runs.specs.Splits.{Split}
+use Rattle.device_runs.specs.declared.splitter.SplitFault.{SplitFault}
+use Rattle.device_runs.specs.declared.splitter.SplitFault.TheVariants.{TooLong, Ended as SplitEnded}
+use Rattle.device_core.specs.Values.{EventValue}
+use Rattle.device_core.specs.Faults.{block_gives}
+use Rattle.device_core.specs.declared.faults.BlockFault.{BlockFault}
+use Rattle.device_core.specs.declared.faults.BlockFaultKind.TheVariants.{TooLong as BlockTooLong}
+use Rattle.engine_sessions.specs.Answers.{answers_to, well}
+use Rattle.engine_sessions.specs.Sessions.{Held}
+use Rattle.engine_sessions.specs.declared.session.SessionFault.{SessionFault}
+use Rattle.engine_sessions.specs.declared.session.SessionFault.TheVariants.{Block, Memory, Ended}
+
+-- what is pending: nothing once the session has ended
+abbrev pub pending_unless : Bool → Text → Text
+pending_unless true pending = []
+pending_unless false pending = pending
+
+-- a session by its fields
+abbrev pub held : {A : Type 0} → A → Text → ℕ → Bool → Held A
+held answering pending answered ended = record { answering = answering; pending = pending_unless ended pending; answered = answered; ended = ended }
+
+-- a run that no empty line follows, or nothing
+pub record IsRest (pending : Text) : Type 0 where
+  pub none : complete_runs pending ≡ []
+  pub rest : rest_of pending ≡ pending
+  pub fits : length pending ≤ most_bytes
+
+-- what a session's splitter is while it has not ended
+pub record IsOpen (split : Split) : Type 0 where
+  pub goes_on : split.ended ≡ false
+  pub pending : IsRest split.pending
+
+-- the text is the answer to the event of the block
+abbrev pub IsAnswer : (EventValue → Text) → Text → Text → Type 0
+IsAnswer answer block text = answers_to answer (block ∷ []) ≡ well (text ∷ [])
+
+-- why a block of this number is not answered
+abbrev pub IsRefused : SessionFault → ℕ → Text → Type 0
+IsRefused (Block number fault) wanted block = (number ≡ wanted) × (block_gives block ≡ Err fault)
+IsRefused Memory wanted block = Unit {0}
+IsRefused Ended wanted block = ⊥
+
+-- what becomes of a splitter's fault at the block of this number
+abbrev pub IsSplitRefused : SplitFault → ℕ → SessionFault → Type 0
+IsSplitRefused (TooLong line) number fault = fault ≡ Block number (record { line = line; kind = BlockTooLong })
+IsSplitRefused SplitEnded number fault = fault ≡ Ended

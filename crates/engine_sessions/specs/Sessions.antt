@@ -1,0 +1,68 @@
+-- What a session is to its callers, and what its calls do.
+use Rattle.std.specs.Prelude.{◌≡◌, ℕ, ◌+◌, ◌<◌, ◌≤◌, Bool, true, false, List, [], ◌∷◌, ◌++◌, Option, Some, None, Err, length, take}
+use Rattle.std.specs.Option.{option_to_list}
+use Rattle.text_tables.specs.Texts.{Text}
+use Rattle.device_runs.specs.Runs.{complete_runs, rest_of, runs}
+use Rattle.device_runs.specs.Blocks.{most_bytes}
+use Rattle.device_core.specs.Values.{EventValue}
+use Rattle.device_core.specs.Faults.{block_gives}
+use Rattle.device_core.specs.declared.faults.BlockFault.{BlockFault}
+use Rattle.engine_sessions.specs.Answers.{Answers, answers_to, well, counted, number_behind}
+use Rattle.engine_sessions.specs.Known.{known_blocks}
+use Rattle.engine_sessions.specs.declared.session.Step.{Step}
+use Rattle.engine_sessions.specs.declared.session.SessionFault.{SessionFault}
+use Rattle.engine_sessions.specs.declared.session.SessionFault.TheVariants.{Block, Memory, Ended}
+
+-- what answers the events, the bytes taken of a block that is not complete, how many blocks were answered, and whether no more is
+-- taken
+pub record Held (A : Type 0) : Type 0 where
+  pub answering : A
+  pub pending : Text
+  pub answered : ℕ
+  pub ended : Bool
+
+-- at an input's start
+abbrev pub opened : {A : Type 0} → A → Held A
+opened answering = record { answering = answering; pending = []; answered = 0; ended = false }
+
+-- nothing is held, and no more is taken
+abbrev pub closed : {A : Type 0} → Held A → Held A
+closed old = record old { pending = []; ended = true }
+
+-- What `take` does: it uses the piece up to the end of the first block completed, or else all of it. The answers to the complete
+-- runs of the pending bytes followed by those used are the one given or none, and the new pending bytes are the rest.
+pub record Takes {A : Type 0} (answer : EventValue → Text) (old : Held A) (piece : Text) (step : Step) (new : Held A) : Type 0 where
+  pub used : step.used ≤ length piece
+  pub answers : answers_to answer (complete_runs (old.pending ++ take step.used piece)) ≡ well (option_to_list step.answer)
+  pub first : (n : ℕ) → n < step.used → complete_runs (old.pending ++ take n piece) ≡ []
+  pub all : step.answer ≡ None → step.used ≡ length piece
+  pub moves : 0 < length piece → 0 < step.used
+  pub fits : length new.pending ≤ most_bytes
+  pub goes_on : old.ended ≡ false
+  pub leaves : new ≡ record {
+    answering = old.answering;
+    pending = rest_of (old.pending ++ take step.used piece);
+    answered = counted (old.answered + length (option_to_list step.answer));
+    ended = false;
+  }
+
+-- The first of these blocks is faulty, and its number is one more than those of the blocks answered.
+pub record BeginsFaulty {A : Type 0} (old : Held A) (blocks : List Text) (number : ℕ) (fault : BlockFault) : Type 0 where
+  pub block : Text
+  pub others : List Text
+  pub first : blocks ≡ block ∷ others
+  pub gives : block_gives block ≡ Err fault
+  pub numbered : number ≡ number_behind old.answered
+
+-- What a call does where it fails, by the blocks known then: the first of them is faulty, memory was refused, or the session had
+-- ended. No more is taken from then on.
+abbrev pub FailsBy : {A : Type 0} → SessionFault → Held A → List Text → Held A → Type 0
+FailsBy (Block number fault) old blocks new = BeginsFaulty old blocks number fault × (old.ended ≡ false) × (new ≡ closed old)
+FailsBy Memory old blocks new = (old.ended ≡ false) × (new ≡ closed old)
+FailsBy Ended old blocks new = (old.ended ≡ true) × (new ≡ old)
+
+-- What `end` does: it gives the answer to the block of the pending bytes, if there are any.
+pub record Ends {A : Type 0} (answer : EventValue → Text) (old : Held A) (last : Option Text) (new : Held A) : Type 0 where
+  pub answers : answers_to answer (runs old.pending) ≡ well (option_to_list last)
+  pub goes_on : old.ended ≡ false
+  pub leaves : new ≡ record (closed old) { answered = counted (old.answered + length (option_to_list last)) }

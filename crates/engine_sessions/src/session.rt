@@ -1,0 +1,200 @@
+//! The session: the blocks of an input that comes in pieces, answered one by one.
+//!
+//! The splitter keeps the only bytes that wait, in room that it took once; a block is read and
+//! answered where it is lent, and only the answer is handed out.
+ghost use Rattle.std.specs.Prelude.{◌≡◌, ◌≤◌, ◌+◌, true, false, IfOk, IfErr, length, Ok, Err, ◌++◌};
+ghost use Rattle.device_runs.specs.Blocks.{most_bytes};
+ghost use Rattle.device_core.specs.Faults.{block_gives};
+ghost use Rattle.engine_sessions.specs.Known.{known_blocks};
+ghost use Rattle.engine_sessions.specs.Sessions.{opened, closed, Takes, Ends, FailsBy};
+ghost use Rattle.engine_sessions.specs.Holding.{IsRest, IsAnswer, IsRefused, IsSplitRefused};
+
+use crate::Answering;
+use device_core::{BlockFault, BlockFaultKind, SplitFault, Splitter, read_block};
+use std::alloc::{AllocError, Global};
+use std::marker::Model;
+use text_bytes::Bytes;
+
+/// What taking a piece came to.
+#[derive(Drop)]
+pub struct Step {
+    /// How many of the piece's bytes were used.
+    pub used: usize,
+    /// The answer to the block that they completed, if they did.
+    pub answer: Option<Bytes>,
+}
+
+/// Why nothing more is answered.
+#[derive(Clone, Copy, Debug, PartialEq, Eq)]
+pub enum SessionFault {
+    /// The block of this number, counted from 1, is faulty. The number stays at 2^64 - 1.
+    Block(u64, BlockFault),
+    /// Memory was refused.
+    Memory,
+    /// The session had ended, by `end` or by a fault.
+    Ended,
+}
+
+/// Answers the blocks of an input, the longest runs of lines that are not empty, one by one.
+#[derive(Drop)]
+pub struct Session<'a, A: Answering> {
+    answering: &'a A,
+    splitter: Splitter,
+    /// How many blocks were answered.
+    answered: u64,
+    ended: bool,
+}
+
+impl<'a, A: Answering> Model for Session<'a, A> {
+    ghost use Rattle.std.specs.Prelude.{◌≡◌, false};
+    ghost use Rattle.engine_sessions.specs.Sessions.{Held};
+    ghost use Rattle.engine_sessions.specs.Holding.{held, IsOpen};
+
+    ghost Value = { Held A };
+
+    ghost view = { λ s. held s.answering.now s.splitter.pending s.answered s.ended };
+
+    ghost invariant = { λ s. s.ended ≡ false → IsOpen s.splitter };
+}
+
+impl<'a, A: Answering> Session<'a, A> {
+    /// A session at the input's start, with all the room that its pending bytes will need: 65,536
+    /// bytes.
+    ///
+    /// The error comes where memory is refused.
+    pub fn new(alloc: Global, answering: &'a A) -> Result<Session<'a, A>, AllocError>
+        ensures { IfOk result (λ s. s ≡ opened answering.now) }
+    {
+        let splitter = Splitter::new(alloc)?;
+        Ok(Session {
+            answering,
+            splitter,
+            answered: 0,
+            ended: false,
+        })
+    }
+
+    /// Takes the bytes of a piece up to the empty line that ends a block, or all of them, and answers
+    /// that block.
+    ///
+    /// `Block` comes where the block is faulty, also at byte 65,537 of one that is too long; `Memory`
+    /// where memory is refused; `Ended` after these, after `end`, and nowhere else.
+    pub fn take(&mut self, alloc: Global, piece: &[u8]) -> Result<Step, SessionFault>
+        ensures ok { IfOk result (λ step. Takes (A.answers self.old.answering) self.old piece.now step self.new) }
+        ensures err { IfErr result (λ fault. FailsBy fault self.old (known_blocks true (self.old.pending ++ piece.now)) self.new) }
+    {
+        if self.ended {
+            return Err(SessionFault::Ended);
+        }
+        let number = self.answered.saturating_add(1);
+        match self.splitter.take(piece) {
+            Ok(taken) => {
+                if !taken.whole {
+                    return Ok(Step {
+                        used: taken.used,
+                        answer: None,
+                    });
+                }
+                match answer_to(alloc, self.answering, self.splitter.block(), number) {
+                    Ok(text) => {
+                        self.answered = number;
+                        Ok(Step {
+                            used: taken.used,
+                            answer: Some(text),
+                        })
+                    }
+                    Err(fault) => {
+                        self.ended = true;
+                        Err(fault)
+                    }
+                }
+            }
+            Err(fault) => {
+                self.ended = true;
+                Err(split_refused(fault, number))
+            }
+        }
+    }
+
+    /// Ends the input, and answers the block that stands there without an empty line behind it, if
+    /// there is one.
+    ///
+    /// `Block` comes where that block is faulty, `Memory` where memory is refused, `Ended` after
+    /// these, after `end` and after a fault of `take`, and nowhere else.
+    pub fn end(&mut self, alloc: Global) -> Result<Option<Bytes>, SessionFault>
+        ensures ok { IfOk result (λ last. Ends (A.answers self.old.answering) self.old last self.new) }
+        ensures err { IfErr result (λ fault. FailsBy fault self.old (known_blocks false self.old.pending) self.new) }
+    {
+        if self.ended {
+            return Err(SessionFault::Ended);
+        }
+        self.ended = true;
+        let number = self.answered.saturating_add(1);
+        match self.splitter.end() {
+            Ok(true) => match answer_to(alloc, self.answering, self.splitter.block(), number) {
+                Ok(text) => {
+                    self.answered = number;
+                    Ok(Some(text))
+                }
+                Err(fault) => Err(fault),
+            },
+            Ok(false) => Ok(None),
+            Err(fault) => Err(split_refused(fault, number)),
+        }
+    }
+
+    /// Whether the session has ended.
+    pub(crate) fn is_ended(&self) -> bool
+        ensures value { result ≡ self.now.ended }
+        ensures pending { self.now.ended ≡ false → IsRest self.now.pending }
+    {
+        self.ended
+    }
+
+    /// Ends the session without an answer to what is pending.
+    pub(crate) fn close(&mut self)
+        ensures { self.new ≡ closed self.old }
+    {
+        self.ended = true;
+    }
+}
+
+/// The answer to a block of this number.
+fn answer_to<A: Answering>(
+    alloc: Global,
+    answering: &A,
+    block: &[u8],
+    number: u64,
+) -> Result<Bytes, SessionFault>
+    ensures ok { IfOk result (λ text. IsAnswer (A.answers answering.now) block.now text) }
+    ensures err { IfErr result (λ fault. IsRefused fault number block.now) }
+{
+    match read_block(alloc, block) {
+        Ok(event) => match answering.answer(alloc, &event) {
+            Ok(text) => Ok(text),
+            Err(_) => Err(SessionFault::Memory),
+        },
+        Err(fault) => {
+            if matches!(fault.kind, BlockFaultKind::Memory) {
+                return Err(SessionFault::Memory);
+            }
+            Err(SessionFault::Block(number, fault))
+        }
+    }
+}
+
+/// The fault of a session whose splitter takes no more of the block of this number.
+fn split_refused(fault: SplitFault, number: u64) -> SessionFault
+    ensures { IsSplitRefused fault number result }
+{
+    match fault {
+        SplitFault::TooLong { line } => SessionFault::Block(
+            number,
+            BlockFault {
+                line,
+                kind: BlockFaultKind::TooLong,
+            },
+        ),
+        SplitFault::Ended => SessionFault::Ended,
+    }
+}

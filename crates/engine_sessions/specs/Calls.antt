@@ -2,9 +2,10 @@
 use Rattle.std.specs.Prelude.{◌≡◌, ℕ, ◌+◌, List, [], ◌∷◌, ◌++◌, Option, Some, length, take}
 use Rattle.std.specs.Option.{option_to_list}
 use Rattle.text_tables.specs.Texts.{Text}
+use Rattle.device_runs.specs.Runs.{complete_runs, rest_of}
 use Rattle.device_core.specs.Values.{EventValue}
 use Rattle.device_core.specs.declared.faults.BlockFault.{BlockFault}
-use Rattle.engine_sessions.specs.Answers.{Answers, answers_of, number_behind}
+use Rattle.engine_sessions.specs.Answers.{answers_to, answers_of, well, counted, number_behind}
 use Rattle.engine_sessions.specs.Sessions.{Held, Takes}
 use Rattle.engine_sessions.specs.declared.session.Step.{Step}
 
@@ -28,3 +29,18 @@ used_by (call ∷ calls) = take call.step.used call.piece ++ used_by calls
 abbrev pub given_by : {A : Type 0} → List (Call A) → List Text
 given_by [] = []
 given_by (call ∷ calls) = option_to_list call.step.answer ++ given_by calls
+
+-- The answers given are those to the complete runs of the bytes used, each counted, and the rest is pending.
+pub record GiveAnswers {A : Type 0} (answer : EventValue → Text) (calls : List (Call A)) (now : Held A) : Type 0 where
+  pub answers : answers_to answer (complete_runs (used_by calls)) ≡ well (given_by calls)
+  pub pending : now.pending ≡ rest_of (used_by calls)
+  pub answered : now.answered ≡ counted (length (given_by calls))
+
+-- The answers given, with that of the end, are those to the input that was used, and no block of it is faulty.
+abbrev pub GiveAll : {A : Type 0} → (EventValue → Text) → List (Call A) → Option Text → Type 0
+GiveAll answer calls last = answers_of answer (used_by calls) ≡ well (given_by calls ++ option_to_list last)
+
+-- The answers to this input are those given, and then this fault in the block of this number.
+pub record GiveUntil (answer : EventValue → Text) (input : Text) (given : List Text) (number : ℕ) (fault : BlockFault) : Type 0 where
+  pub answers : answers_of answer input ≡ record { texts = given; fault = Some fault }
+  pub numbered : number ≡ number_behind (length given)

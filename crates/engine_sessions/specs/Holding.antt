@@ -1,5 +1,5 @@
 -- For proofs only, no reader has to believe it: how a session's fields hang together, and what its helpers answer.
-use Rattle.std.specs.Prelude.{◌≡◌, ◌≢◌, ℕ, ◌≤◌, Bool, true, false, List, [], ◌∷◌, Err, length}
+use Rattle.std.specs.Prelude.{◌≡◌, ◌≢◌, ℕ, ◌≤◌, Bool, true, false, List, [], ◌∷◌, Err, Option, Some, None, length}
 use Rattle.text_tables.specs.Texts.{Text}
 use Rattle.device_runs.specs.Runs.{complete_runs, rest_of}
 use Rattle.device_runs.specs.Blocks.{most_bytes}
@@ -10,7 +10,8 @@ use Rattle.device_core.specs.Values.{EventValue}
 use Rattle.device_core.specs.Faults.{block_gives}
 use Rattle.device_core.specs.declared.faults.BlockFault.{BlockFault}
 use Rattle.device_core.specs.declared.faults.BlockFaultKind.TheVariants.{TooLong as BlockTooLong}
-use Rattle.engine_sessions.specs.Answers.{answers_to, well}
+use Rattle.engine_streams.specs.Sinks.{SinkState, BreaksOff}
+use Rattle.engine_sessions.specs.Answers.{answers_to, well, counted}
 use Rattle.engine_sessions.specs.Sessions.{Held}
 use Rattle.engine_sessions.specs.declared.session.SessionFault.{SessionFault}
 use Rattle.engine_sessions.specs.declared.session.SessionFault.TheVariants.{Block, Memory, Ended}
@@ -30,10 +31,11 @@ pub record IsRest (pending : Text) : Type 0 where
   pub rest : rest_of pending ≡ pending
   pub fits : length pending ≤ most_bytes
 
--- what a session's splitter is while it has not ended
-pub record IsOpen (split : Split) : Type 0 where
+-- what a session's splitter and its count are while it has not ended
+pub record IsOpen (split : Split) (answered : ℕ) : Type 0 where
   pub goes_on : split.ended ≡ false
   pub pending : IsRest split.pending
+  pub counts : counted answered ≡ answered
 
 -- the text is the answer to the event of the block
 abbrev pub IsAnswer : (EventValue → Text) → Text → Text → Type 0
@@ -49,3 +51,14 @@ IsRefused Ended wanted block = ⊥
 abbrev pub IsSplitRefused : SplitFault → ℕ → SessionFault → Type 0
 IsSplitRefused (TooLong line) number fault = fault ≡ Block number (record { line = line; kind = BlockTooLong })
 IsSplitRefused SplitEnded number fault = fault ≡ Ended
+
+-- what a session is while it has not ended
+pub record IsGoing {A : Type 0} (session : Held A) : Type 0 where
+  pub goes_on : session.ended ≡ false
+  pub pending : IsRest session.pending
+  pub counts : counted session.answered ≡ session.answered
+
+-- a sink that breaks off at an answer, if there is one
+abbrev pub BreaksOffAt : SinkState → Option Text → SinkState → Type 0
+BreaksOffAt before None now = ⊥
+BreaksOffAt before (Some text) now = BreaksOff before text now

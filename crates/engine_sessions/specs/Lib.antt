@@ -1,6 +1,6 @@
 pub mod Answers
 pub mod Known
 pub mod Sessions
-pub mod Holding
 pub mod Calls
-
+pub mod Turns
+pub mod Holding

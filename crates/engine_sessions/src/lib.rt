@@ -6,7 +6,13 @@
 #![tactic(auto)]
 
 mod answering;
+mod laws;
 mod session;
+mod turning;
 
 pub use answering::Answering;
+pub use laws::{
+    answers_do_not_depend_on_the_pieces, answers_end_at_the_first_fault, known_answers_stay,
+};
 pub use session::{Session, SessionFault, Step};
+pub use turning::{TurnFault, turn};

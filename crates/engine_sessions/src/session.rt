@@ -7,7 +7,7 @@ ghost use Rattle.device_runs.specs.Blocks.{most_bytes};
 ghost use Rattle.device_core.specs.Faults.{block_gives};
 ghost use Rattle.engine_sessions.specs.Known.{known_blocks};
 ghost use Rattle.engine_sessions.specs.Sessions.{opened, closed, Takes, Ends, FailsBy};
-ghost use Rattle.engine_sessions.specs.Holding.{IsRest, IsAnswer, IsRefused, IsSplitRefused};
+ghost use Rattle.engine_sessions.specs.Holding.{IsGoing, IsAnswer, IsRefused, IsSplitRefused};
 
 use crate::Answering;
 use device_core::{BlockFault, BlockFaultKind, SplitFault, Splitter, read_block};
@@ -54,7 +54,7 @@ impl<'a, A: Answering> Model for Session<'a, A> {
 
     ghost view = { λ s. held s.answering.now s.splitter.pending s.answered s.ended };
 
-    ghost invariant = { λ s. s.ended ≡ false → IsOpen s.splitter };
+    ghost invariant = { λ s. s.ended ≡ false → IsOpen s.splitter s.answered };
 }
 
 impl<'a, A: Answering> Session<'a, A> {
@@ -146,7 +146,7 @@ impl<'a, A: Answering> Session<'a, A> {
     /// Whether the session has ended.
     pub(crate) fn is_ended(&self) -> bool
         ensures value { result ≡ self.now.ended }
-        ensures pending { self.now.ended ≡ false → IsRest self.now.pending }
+        ensures going { self.now.ended ≡ false → IsGoing self.now }
     {
         self.ended
     }

@@ -1,19 +1,21 @@
-use Rattle.std.proofs.Common.{rules, ◌≡◌, ◌++◌, ◌∷◌, [], ℕ, take, false}
+use Rattle.std.proofs.Common.{rules, ◌≡◌, ◌+◌, ◌++◌, ◌∷◌, [], ℕ, take, false}
 use Rattle.device_runs.specs.Runs.{complete_runs}
 use Rattle.engine_sessions.specs.Answers.{number_behind}
 use Rattle.engine_sessions.proofs.KnownLemmas.{rest_after}
+use Rattle.engine_sessions.proofs.AnswerLemmas.{counted_counted}
 use Rattle.engine_sessions.proofs.Failing.{block_refused, split_fails}
 use Rattle.engine_sessions.proofs.session.Session.take.Goals as goal
 
 pub invariant_of-self : goal.invariant_of-self
 invariant_of-self g c = λ _.
     let taken = c.in-Ok.ensures.ok in
-    record { goes_on = taken.goes_on.1; pending = rest_after (c.self.inside.splitter.pending ++ take c.in-Ok.taken.used c.args.piece.now) c.take.new.self.pending taken.pending taken.pending_fits }
+    let going : c.self.inside.ended ≡ false = search rules in
+    record { goes_on = taken.goes_on.1; pending = rest_after (c.self.inside.splitter.pending ++ take c.in-Ok.taken.used c.args.piece.now) c.take.new.self.pending taken.pending taken.pending_fits; counts = (c.self.invariant going).counts }
 
 pub invariant_of-self-in-Ok-answer_to : goal.invariant_of-self-in-Ok-answer_to
 invariant_of-self-in-Ok-answer_to g c = λ _.
     let taken = c.in-Ok.ensures.ok in
-    record { goes_on = taken.goes_on.1; pending = rest_after (c.self.inside.splitter.pending ++ take c.in-Ok.taken.used c.args.piece.now) c.take.new.self.pending taken.pending taken.pending_fits }
+    record { goes_on = taken.goes_on.1; pending = rest_after (c.self.inside.splitter.pending ++ take c.in-Ok.taken.used c.args.piece.now) c.take.new.self.pending taken.pending taken.pending_fits; counts = rw c.saturating_add-number.ensures (counted_counted (c.self.inside.answered + 1)) }
 
 pub returns-in-Err-answer_to-clause-err : goal.returns-in-Err-answer_to-clause-err
 returns-in-Err-answer_to-clause-err g c =

@@ -1,0 +1,27 @@
+-- Answers sent one behind another.
+use Rattle.std.proofs.Common.{◌≡◌, ℕ, List, [], ◌∷◌, ◌++◌, flat_map, refl, ap, sym, ◌∙◌}
+use Rattle.std.proofs.lemmas.List.{append-nil}
+use Rattle.std.proofs.lemmas.Grind.{flat_map-append}
+use Rattle.text_tables.specs.Texts.{Text}
+use Rattle.engine_streams.specs.Told.{followed_by}
+use Rattle.engine_streams.specs.Sinks.{SinkState, HandsOn}
+use Rattle.engine_streams.proofs.Told.{followed_by-append, followed_by-nil}
+use Rattle.engine_sessions.specs.Turns.{Sends, joined}
+
+pub sends-none : (sink : SinkState) → Sends sink [] sink
+sends-none sink = record { taken = sym (followed_by-nil sink.taken); flushed = λ h. h; well = refl }
+
+pub sends-one : (before now : SinkState) (text : Text) → HandsOn before text now → Sends before (text ∷ []) now
+sends-one before now text h = record {
+  taken = h.taken ∙ ap (followed_by before.taken) (sym (append-nil text));
+  flushed = λ _. h.flushed;
+  well = h.well;
+}
+
+pub sends-more : (before between now : SinkState) (first second : List Text) → Sends before first between → Sends between second now → Sends before (first ++ second) now
+sends-more before between now first second h k = record {
+  taken = k.taken ∙ ap (λ told. followed_by told (joined second)) h.taken ∙ followed_by-append before.taken (joined first) (joined second)
+      ∙ ap (followed_by before.taken) (sym (flat_map-append (λ text. text) first second));
+  flushed = λ e. k.flushed (h.flushed e);
+  well = k.well ∙ h.well;
+}

@@ -1,0 +1,113 @@
+-- What a turn reads and sends.
+use Rattle.std.specs.Prelude.{◌≡◌, ◌↔◌, ℕ, ◌+◌, ◌≤◌, Bool, true, false, not, List, [], ◌∷◌, ◌++◌, Some, length, flat_map, if◌then◌else◌}
+use Rattle.text_tables.specs.Texts.{Text}
+use Rattle.device_runs.specs.Runs.{rest_of}
+use Rattle.device_core.specs.Values.{EventValue}
+use Rattle.device_core.specs.declared.faults.BlockFault.{BlockFault}
+use Rattle.engine_streams.specs.Told.{followed_by, NoneLeft}
+use Rattle.engine_streams.specs.Sources.{SourceState, Gives, SourceFails}
+use Rattle.engine_streams.specs.Sinks.{SinkState, BreaksOff}
+use Rattle.engine_sessions.specs.Answers.{Answers, answers_to, well, counted, number_behind}
+use Rattle.engine_sessions.specs.Known.{known_blocks}
+use Rattle.engine_sessions.specs.Sessions.{Held}
+use Rattle.engine_sessions.specs.declared.session.SessionFault.{SessionFault}
+use Rattle.engine_sessions.specs.declared.session.SessionFault.TheVariants.{Block, Memory, Ended}
+use Rattle.engine_sessions.specs.declared.turning.TurnFault.{TurnFault}
+use Rattle.engine_sessions.specs.declared.turning.TurnFault.TheVariants.{Read, Write, Session}
+
+-- answers, one behind another
+abbrev pub joined : List Text → Text
+joined texts = flat_map (λ text. text) texts
+
+-- The sink took these answers. If it had flushed all before, it has flushed all now. No call failed.
+pub record Sends (before : SinkState) (texts : List Text) (now : SinkState) : Type 0 where
+  pub taken : now.taken ≡ followed_by before.taken (joined texts)
+  pub flushed : before.flushed ≡ before.taken → now.flushed ≡ now.taken
+  pub well : now.faults ≡ before.faults
+
+-- The sink took and flushed some of these answers, the first of them, and then broke off in the next one.
+pub record BreaksOffIn (before : SinkState) (texts : List Text) (now : SinkState) : Type 0 where
+  pub sent : List Text
+  pub next : Text
+  pub unsent : List Text
+  pub texts_are : texts ≡ sent ++ next ∷ unsent
+  pub told : SinkState
+  pub sends : Sends before sent told
+  pub breaks : BreaksOff told next now
+
+-- The sink took and flushed some of these answers, the first of them, and none of the others.
+pub record SendsSome (before : SinkState) (texts : List Text) (now : SinkState) : Type 0 where
+  pub sent : List Text
+  pub unsent : List Text
+  pub texts_are : texts ≡ sent ++ unsent
+  pub sends : Sends before sent now
+
+-- The block behind these answers has this number and this fault, and all of them were sent.
+pub record Refuses (answers : Answers) (answered number : ℕ) (fault : BlockFault) (before now : SinkState) : Type 0 where
+  pub faulty : answers.fault ≡ Some fault
+  pub numbered : number ≡ number_behind (answered + length answers.texts)
+  pub sends : Sends before answers.texts now
+
+-- the most bytes of a read
+abbrev pub most_read : ℕ
+most_read = 4096
+
+-- One piece was read; it is empty where the input goes on no more, and only there.
+pub record Reads (more : Bool) (before : SourceState) (piece : Text) (now : SourceState) : Type 0 where
+  pub gives : Gives before piece now
+  pub most : length piece ≤ most_read
+  pub ends : more ≡ false ↔ piece ≡ []
+  pub none_left : more ≡ false → NoneLeft before.left
+
+-- the answers due when a piece was read: those to the blocks known of the pending bytes followed by it
+abbrev pub due : (EventValue → Text) → Bool → Text → Text → Answers
+due answer more pending piece = answers_to answer (known_blocks more (pending ++ piece))
+
+-- the session behind a piece, with so many answers more
+abbrev pub behind : {A : Type 0} → Bool → Held A → Text → ℕ → Held A
+behind more old piece answers = record {
+  answering = old.answering;
+  pending = if more then rest_of (old.pending ++ piece) else [];
+  answered = counted (old.answered + answers);
+  ended = not more;
+}
+
+-- Every answer that is due when a piece was read is sent, and no block known is faulty.
+pub record SendsDue {A : Type 0} (answer : EventValue → Text) (more : Bool) (old : Held A) (piece : Text) (new : Held A) (before now : SinkState) : Type 0 where
+  pub texts : List Text
+  pub answers : due answer more old.pending piece ≡ well texts
+  pub sends : Sends before texts now
+  pub leaves : new ≡ behind more old piece (length texts)
+
+-- What a turn does: it makes one read, and sends every answer that is due then.
+pub record Turns {A : Type 0} (answer : EventValue → Text) (more : Bool) (old new : Held A) (input input_now : SourceState) (output output_now : SinkState) : Type 0 where
+  pub goes_on : old.ended ≡ false
+  pub piece : Text
+  pub reads : Reads more input piece input_now
+  pub sends : SendsDue answer more old piece new output output_now
+
+-- Which of the answers due are sent where a turn fails behind its read: up to that in which the output failed, all before a faulty
+-- block, or some where memory was refused.
+abbrev pub SendsUntil : TurnFault → Answers → ℕ → SinkState → SinkState → Type 0
+SendsUntil Read answers answered before now = ⊥
+SendsUntil Write answers answered before now = BreaksOffIn before answers.texts now
+SendsUntil (Session (Block number fault)) answers answered before now = Refuses answers answered number fault before now
+SendsUntil (Session Memory) answers answered before now = SendsSome before answers.texts now
+SendsUntil (Session Ended) answers answered before now = ⊥
+
+-- One read was made, and then the turn failed.
+pub record FailsBehindRead {A : Type 0} (answer : EventValue → Text) (fault : TurnFault) (old : Held A) (input input_now : SourceState) (output output_now : SinkState) : Type 0 where
+  pub goes_on : old.ended ≡ false
+  pub more : Bool
+  pub piece : Text
+  pub reads : Reads more input piece input_now
+  pub sends : SendsUntil fault (due answer more old.pending piece) old.answered output output_now
+
+-- What a turn does where it fails: its read failed and nothing is sent, or it failed behind the read, or the session had ended and
+-- nothing is read or sent.
+abbrev pub FailsBy : {A : Type 0} → (EventValue → Text) → TurnFault → Held A → SourceState → SourceState → SinkState → SinkState → Type 0
+FailsBy answer Read old input input_now output output_now = (old.ended ≡ false) × SourceFails input input_now × (output_now ≡ output)
+FailsBy answer Write old input input_now output output_now = FailsBehindRead answer Write old input input_now output output_now
+FailsBy answer (Session (Block number fault)) old input input_now output output_now = FailsBehindRead answer (Session (Block number fault)) old input input_now output output_now
+FailsBy answer (Session Memory) old input input_now output output_now = FailsBehindRead answer (Session Memory) old input input_now output output_now
+FailsBy answer (Session Ended) old input input_now output output_now = (old.ended ≡ true) × (input_now ≡ input) × (output_now ≡ output)

@@ -1,0 +1,128 @@
+//! Turns: one read, and the answers then due.
+//!
+//! Each answer is written and flushed as it comes, before the next block is looked at, so that
+//! whoever feeds one event and waits gets its answer, and a fault takes none of those before it away.
+ghost use Rattle.std.specs.Prelude.{◌≡◌, true, false, [], IfOk, IfErr, OnOk, OnErr};
+ghost use Rattle.std.specs.Option.{option_to_list};
+ghost use Rattle.engine_streams.specs.Sinks.{SinkState};
+ghost use Rattle.engine_sessions.specs.Turns.{due, Sends, SendsDue, SendsUntil, Turns, FailsBy};
+ghost use Rattle.engine_sessions.specs.Holding.{IsGoing, BreaksOffAt};
+
+use crate::{Answering, Session, SessionFault};
+use engine_streams::{DeviceFault, Sink, Source, hand_on};
+use std::alloc::Global;
+use text_bytes::Bytes;
+
+/// The most bytes of a read.
+const MOST_READ: usize = 4096;
+
+/// Why a turn failed. The session has then ended.
+#[derive(Clone, Copy, Debug, PartialEq, Eq)]
+pub enum TurnFault {
+    /// The reader failed.
+    Read,
+    /// The writer failed.
+    Write,
+    /// The session gave no answer, or had ended before.
+    Session(SessionFault),
+}
+
+/// Makes one read of at most 4,096 bytes, then writes and flushes every answer that is due, each as
+/// it comes. Says whether the input goes on: false comes where the read found the input's end, with
+/// the answer to the last block written.
+///
+/// `Read` and `Write` come only where that device failed. `Session` has the session's fault: the
+/// answers before a faulty block are written and flushed. After any fault and after false the session
+/// has ended, and `turn` then answers `Session(Ended)`, reads nothing and writes nothing.
+pub fn turn<A: Answering, R: Source, W: Sink>(
+    alloc: Global,
+    session: &mut Session<'_, A>,
+    input: &mut R,
+    output: &mut W,
+) -> Result<bool, TurnFault>
+    ensures ok { IfOk result (λ more. Turns (A.answers session.old.answering) more session.old session.new
+        (R.shown input.old) (R.shown input.new) (W.shown output.old) (W.shown output.new)) }
+    ensures err { IfErr result (λ fault. FailsBy (A.answers session.old.answering) fault session.old
+        (R.shown input.old) (R.shown input.new) (W.shown output.old) (W.shown output.new)) }
+    ensures ended { OnErr result (session.new.ended ≡ true) }
+    ensures untouched { session.old.ended ≡ true → (session.new ≡ session.old) × (input.new ≡ input.old) × (output.new ≡ output.old) }
+{
+    if session.is_ended() {
+        return Err(TurnFault::Session(SessionFault::Ended));
+    }
+    let mut piece = [0u8; MOST_READ];
+    match input.read(&mut piece) {
+        Ok(0) => match answer_last(alloc, session, output) {
+            Ok(()) => Ok(false),
+            Err(fault) => Err(fault),
+        },
+        Ok(len) => match answer_piece(alloc, session, &piece[..len], output) {
+            Ok(()) => Ok(true),
+            Err(fault) => Err(fault),
+        },
+        Err(DeviceFault) => {
+            session.close();
+            Err(TurnFault::Read)
+        }
+    }
+}
+
+/// Takes a piece, and sends each answer as it comes.
+fn answer_piece<A: Answering, W: Sink>(
+    alloc: Global,
+    session: &mut Session<'_, A>,
+    piece: &[u8],
+    output: &mut W,
+) -> Result<(), TurnFault>
+    requires { IsGoing session.old }
+    ensures ok { OnOk result (SendsDue (A.answers session.old.answering) true session.old piece.now session.new (W.shown output.old) (W.shown output.new)) }
+    ensures err { IfErr result (λ fault. SendsUntil fault (due (A.answers session.old.answering) true session.old.pending piece.now) session.old.answered (W.shown output.old) (W.shown output.new)) }
+    ensures ended { OnErr result (session.new.ended ≡ true) }
+{
+    let mut used = 0;
+    while used < piece.len() {
+        let step = match session.take(alloc, &piece[used..]) {
+            Ok(step) => step,
+            Err(fault) => return Err(TurnFault::Session(fault)),
+        };
+        match send(output, &step.answer) {
+            Ok(()) => used += step.used,
+            Err(DeviceFault) => {
+                session.close();
+                return Err(TurnFault::Write);
+            }
+        }
+    }
+    Ok(())
+}
+
+/// Ends the input, and sends the last answer.
+fn answer_last<A: Answering, W: Sink>(
+    alloc: Global,
+    session: &mut Session<'_, A>,
+    output: &mut W,
+) -> Result<(), TurnFault>
+    requires { IsGoing session.old }
+    ensures ok { OnOk result (SendsDue (A.answers session.old.answering) false session.old [] session.new (W.shown output.old) (W.shown output.new)) }
+    ensures err { IfErr result (λ fault. SendsUntil fault (due (A.answers session.old.answering) false session.old.pending []) session.old.answered (W.shown output.old) (W.shown output.new)) }
+    ensures ended { session.new.ended ≡ true }
+{
+    match session.end(alloc) {
+        Ok(last) => match send(output, &last) {
+            Ok(()) => Ok(()),
+            Err(DeviceFault) => Err(TurnFault::Write),
+        },
+        Err(fault) => Err(TurnFault::Session(fault)),
+    }
+}
+
+/// Writes and flushes an answer, if there is one.
+fn send<W: Sink>(output: &mut W, answer: &Option<Bytes>) -> Result<(), DeviceFault>
+    ensures ok { OnOk result (Sends (W.shown output.old) (option_to_list answer.now) (W.shown output.new)) }
+    ensures err { OnErr result (BreaksOffAt (W.shown output.old) answer.now (W.shown output.new)) }
+{
+    match answer {
+        Some(text) => hand_on(output, text.as_slice()),
+        None => Ok(()),
+    }
+}

@@ -1,9 +1,9 @@
 -- Which blocks are known, as a text grows.
-use Rattle.std.proofs.Common.{◌≡◌, ◌≢◌, ℕ, ◌+◌, ◌<◌, ◌≤◌, Bool, true, false, cond, List, [], ◌∷◌, ◌++◌, length, take, drop, Err, refl, append_assoc, ap, sym, ◌∙◌, subst, arith}
+use Rattle.std.proofs.Common.{◌≡◌, ℕ, ◌<◌, ◌≤◌, Bool, true, false, cond, List, [], ◌∷◌, ◌++◌, length, take, drop, Err, refl, append_assoc, ap, sym, ◌∙◌, subst, arith}
 use Rattle.std.proofs.lemmas.Bool.Decides.{nat_tests}
 use Rattle.std.proofs.lemmas.List.{append-nil, take-append-drop}
 use Rattle.text_tables.specs.Texts.{Text}
-use Rattle.device_runs.specs.Runs.{complete_runs, rest_of, runs, not_empty}
+use Rattle.device_runs.specs.Runs.{complete_runs, rest_of, not_empty}
 use Rattle.device_runs.specs.Blocks.{is_too_long, most_bytes, line_of_excess}
 use Rattle.device_runs.specs.Splits.{BeginsTooLong}
 use Rattle.device_runs.proofs.Law.{complete_runs-append, rest_of-append, runs-append}

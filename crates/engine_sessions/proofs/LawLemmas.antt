@@ -1,5 +1,5 @@
 -- What is known stays, and what calls in a row give.
-use Rattle.std.proofs.Common.{◌≡◌, ◌≢◌, ℕ, ◌+◌, ◌<◌, ◌≤◌, Bool, true, false, cond, List, [], ◌∷◌, ◌++◌, map, length, take, drop, Option, Some, None, Result, Ok, Err, refl, append_assoc, length-append, ap, sym, ◌∙◌, subst, arith}
+use Rattle.std.proofs.Common.{◌≡◌, ◌≢◌, ℕ, ◌+◌, ◌<◌, Bool, true, false, cond, List, [], ◌∷◌, ◌++◌, map, length, take, drop, Option, Some, None, Result, Ok, Err, refl, append_assoc, length-append, ap, sym, ◌∙◌, arith}
 use Rattle.std.specs.Option.{option_to_list}
 use Rattle.std.proofs.lemmas.Bool.Decides.{nat_tests}
 use Rattle.std.proofs.lemmas.List.{append-nil, take-append-le}
@@ -12,7 +12,7 @@ use Rattle.device_core.specs.Faults.{block_gives}
 use Rattle.device_core.specs.declared.faults.BlockFault.{BlockFault}
 use Rattle.device_core.specs.declared.faults.BlockFaultKind.TheVariants.{TooLong}
 use Rattle.engine_sessions.specs.Answers.{Answers, well, with_block, answers_to, answers_of, counted, number_behind}
-use Rattle.engine_sessions.specs.Known.{overlong, known_blocks}
+use Rattle.engine_sessions.specs.Known.{known_blocks}
 use Rattle.engine_sessions.specs.Sessions.{Held, opened, Takes, Ends, BeginsFaulty, FailsBy}
 use Rattle.engine_sessions.specs.Calls.{Call, TakesAll, used_by, given_by, GiveAnswers, GiveAll, GiveUntil}
 use Rattle.engine_sessions.specs.declared.session.SessionFault.TheVariants.{Block}

@@ -1,21 +1,21 @@
 -- A piece taken in steps, each with its answer sent.
-use Rattle.std.proofs.Common.{◌≡◌, ℕ, ◌+◌, ◌-◌, ◌<◌, ◌≤◌, Bool, true, false, List, [], ◌∷◌, ◌++◌, Option, Some, None, length, take, drop, Err, refl, append_assoc, length-append, ap, sym, ◌∙◌, subst, arith, add-zero}
+use Rattle.std.proofs.Common.{◌≡◌, ℕ, ◌+◌, ◌-◌, ◌≤◌, Bool, true, false, List, [], ◌∷◌, ◌++◌, Option, Some, None, length, take, drop, refl, append_assoc, length-append, ap, sym, ◌∙◌, subst, arith, add-zero}
 use Rattle.std.specs.Option.{option_to_list}
 use Rattle.std.proofs.lemmas.List.{append-nil, take-append-drop}
 use Rattle.std.proofs.lemmas.Grind.{common_steps}
-use Rattle.std.proofs.Math.Seq.{take-add, take-length}
+use Rattle.std.proofs.Math.Seq.{take-add}
 use Rattle.text_tables.specs.Texts.{Text}
 use Rattle.device_runs.specs.Runs.{complete_runs, rest_of, runs}
 use Rattle.device_runs.specs.Blocks.{most_bytes}
 use Rattle.device_runs.specs.Splits.{Split}
 use Rattle.device_runs.proofs.Law.{complete_runs-append, rest_of-append}
 use Rattle.device_core.specs.Values.{EventValue}
-use Rattle.engine_streams.specs.Sinks.{SinkState, BreaksOff}
+use Rattle.engine_streams.specs.Sinks.{SinkState}
 use Rattle.engine_streams.specs.Sources.{SourceState}
-use Rattle.engine_sessions.specs.Answers.{Answers, answers_to, well, counted, number_behind}
+use Rattle.engine_sessions.specs.Answers.{answers_to, well, counted, number_behind}
 use Rattle.engine_sessions.specs.Known.{known_blocks}
 use Rattle.engine_sessions.specs.Sessions.{Held, Takes, Ends, FailsBy}
-use Rattle.engine_sessions.specs.Turns.{Sends, SendsDue, SendsUntil, due, behind, Reads, FailsBy as TurnFailsBy}
+use Rattle.engine_sessions.specs.Turns.{Sends, SendsDue, SendsUntil, due, Reads, FailsBy as TurnFailsBy}
 use Rattle.engine_sessions.specs.Holding.{IsGoing, IsOpen, held, BreaksOffAt}
 use Rattle.engine_sessions.specs.declared.session.Step.{Step}
 use Rattle.engine_sessions.specs.declared.session.SessionFault.{SessionFault}
@@ -128,6 +128,7 @@ sent-breaks answer old now next part piece step before sink later s t b = at_ans
         ap (λ l. due answer true now.pending l) (sym (take-append-drop step.used piece))
         ∙ ap (answers_to answer) (known_more true now.pending (take step.used piece) (drop step.used piece) (rest_of (now.pending ++ take step.used piece)) refl)
         ∙ answers_to-append answer (complete_runs (now.pending ++ take step.used piece)) (known_blocks true (rest_of (now.pending ++ take step.used piece) ++ drop step.used piece)) (text ∷ []) (t.answers ∙ ap (λ a. well (option_to_list a)) e)
+
     at_answer : (given : Option Text) → step.answer ≡ given → BreaksOffAt sink given later → SendsUntil Write (due answer true old.pending (part ++ piece)) old.answered before later
     at_answer None e b = absurd b
     at_answer (Some text) e b = record {

@@ -1,5 +1,5 @@
 -- Calls of `take` in a row, each with what is handed to it: pieces of an input, and what is left of them.
-use Rattle.std.specs.Prelude.{◌≡◌, ℕ, ◌+◌, List, [], ◌∷◌, ◌++◌, Option, Some, length, take}
+use Rattle.std.specs.Prelude.{◌≡◌, ℕ, List, [], ◌∷◌, ◌++◌, Option, Some, length, take}
 use Rattle.std.specs.Option.{option_to_list}
 use Rattle.text_tables.specs.Texts.{Text}
 use Rattle.device_runs.specs.Runs.{complete_runs, rest_of}

@@ -1,5 +1,5 @@
 -- Which blocks of an input are known once its first bytes were read.
-use Rattle.std.specs.Prelude.{ℕ, Bool, true, false, List, [], ◌∷◌, ◌++◌, if◌then◌else◌}
+use Rattle.std.specs.Prelude.{Bool, true, false, List, [], ◌∷◌, ◌++◌, if◌then◌else◌}
 use Rattle.text_tables.specs.Texts.{Text}
 use Rattle.device_runs.specs.Runs.{complete_runs, rest_of, runs}
 use Rattle.device_runs.specs.Blocks.{is_too_long}

@@ -1,5 +1,5 @@
 -- What a session is to its callers, and what its calls do.
-use Rattle.std.specs.Prelude.{◌≡◌, ℕ, ◌+◌, ◌<◌, ◌≤◌, Bool, true, false, List, [], ◌∷◌, ◌++◌, Option, Some, None, Err, length, take}
+use Rattle.std.specs.Prelude.{◌≡◌, ℕ, ◌+◌, ◌<◌, ◌≤◌, Bool, true, false, List, [], ◌∷◌, ◌++◌, Option, None, Err, length, take}
 use Rattle.std.specs.Option.{option_to_list}
 use Rattle.text_tables.specs.Texts.{Text}
 use Rattle.device_runs.specs.Runs.{complete_runs, rest_of, runs}
@@ -7,8 +7,7 @@ use Rattle.device_runs.specs.Blocks.{most_bytes}
 use Rattle.device_core.specs.Values.{EventValue}
 use Rattle.device_core.specs.Faults.{block_gives}
 use Rattle.device_core.specs.declared.faults.BlockFault.{BlockFault}
-use Rattle.engine_sessions.specs.Answers.{Answers, answers_to, well, counted, number_behind}
-use Rattle.engine_sessions.specs.Known.{known_blocks}
+use Rattle.engine_sessions.specs.Answers.{answers_to, well, counted, number_behind}
 use Rattle.engine_sessions.specs.declared.session.Step.{Step}
 use Rattle.engine_sessions.specs.declared.session.SessionFault.{SessionFault}
 use Rattle.engine_sessions.specs.declared.session.SessionFault.TheVariants.{Block, Memory, Ended}

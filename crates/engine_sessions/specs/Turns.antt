@@ -10,7 +10,6 @@ use Rattle.engine_streams.specs.Sinks.{SinkState, BreaksOff}
 use Rattle.engine_sessions.specs.Answers.{Answers, answers_to, well, counted, number_behind}
 use Rattle.engine_sessions.specs.Known.{known_blocks}
 use Rattle.engine_sessions.specs.Sessions.{Held}
-use Rattle.engine_sessions.specs.declared.session.SessionFault.{SessionFault}
 use Rattle.engine_sessions.specs.declared.session.SessionFault.TheVariants.{Block, Memory, Ended}
 use Rattle.engine_sessions.specs.declared.turning.TurnFault.{TurnFault}
 use Rattle.engine_sessions.specs.declared.turning.TurnFault.TheVariants.{Read, Write, Session}

@@ -35,8 +35,8 @@ pub fn known_answers_stay()
     ensures well { (answer : EventValue → Text) (text later : Text) (texts : List Text)
         → answers_to answer (known_blocks true text) ≡ well texts
         → answers_of answer (text ++ later) ≡ record {
-            texts = texts ++ (answers_of answer (rest_of text ++ later)).texts;
-            fault = (answers_of answer (rest_of text ++ later)).fault;
+          texts = texts ++ (answers_of answer (rest_of text ++ later)).texts;
+          fault = (answers_of answer (rest_of text ++ later)).fault;
         } }
 {}
 

@@ -1,4 +1,4 @@
-use Rattle.std.proofs.Common.{rules, arith, subst, ◌≡◌, ◌≤◌, ◌+◌, ℕ, length, take, drop, true}
+use Rattle.std.proofs.Common.{arith, subst, take, drop, true}
 use Rattle.std.proofs.lemmas.Grind.{common_steps}
 use Rattle.std.proofs.lemmas.List.{take-append-drop}
 use Rattle.engine_sessions.specs.Sessions.{Takes}

@@ -1,4 +1,4 @@
-use Rattle.std.proofs.Common.{rules, ◌≡◌, ◌+◌, ◌++◌, ◌∷◌, [], ℕ, take, false}
+use Rattle.std.proofs.Common.{rules, ◌≡◌, ◌+◌, ◌++◌, ◌∷◌, [], take, false}
 use Rattle.device_runs.specs.Runs.{complete_runs}
 use Rattle.engine_sessions.specs.Answers.{number_behind}
 use Rattle.engine_sessions.proofs.KnownLemmas.{rest_after}

@@ -1,9 +1,9 @@
 //! Each public function once, over one rule and one event.
 
 use crate::{FinalKey, Finals, Note, NoteKind, Notes, Run, Runs, Scene};
-use device_core::read_block;
-use rule_core::{AssignOperator, Key, RuleSet, RulesFault, RunType, Template, read_rules};
-use std::alloc::Global;
+use device_core::{Event, read_block};
+use rule_core::{AssignOperator, Key, Rule, RuleSet, RulesFault, RunType, Template, read_rules};
+use std::alloc::{AllocError, Global};
 use std::test::Fail;
 use text_bytes::Bytes;
 use text_files::{FileKind, SourceFile};
@@ -22,6 +22,50 @@ fn one_rule(alloc: Global) -> Result<RuleSet, RulesFault> {
     read_rules(alloc, &files)
 }
 
+/// The notes that a scene takes about a rule.
+fn leave_notes(alloc: Global, rule: &Rule, event: &Event<'_>) -> Result<Notes, AllocError> {
+    let mut scene = Scene::new(alloc, event)?;
+    scene.note(alloc, rule, NoteKind::NameIgnored, b"eth")?;
+    scene.note_too_long(alloc, rule, Key::Env, Some(b"X".as_slice()))?;
+    Ok(scene.notes)
+}
+
+/// The notes that a scene over the event of a block takes about a rule.
+fn notes_on(alloc: Global, rule: &Rule, block: &[u8]) -> Result<Notes, Fail> {
+    let event = read_block(alloc, block).map_err(|_fault| "no event")?;
+    Ok(leave_notes(alloc, rule, &event)?)
+}
+
+/// How many runs are kept of three, of which two are the same, and whether the last is the builtin.
+fn kept_runs(alloc: Global, rule: &Rule, command: &Template) -> Result<(usize, bool), AllocError> {
+    let mut runs = Runs::new(alloc);
+    runs.change(
+        AssignOperator::Add,
+        Run::new(rule, RunType::Program, command, None),
+    )?;
+    runs.change(
+        AssignOperator::Add,
+        Run::new(rule, RunType::Program, command, Some(1)),
+    )?;
+    runs.change(
+        AssignOperator::Add,
+        Run::new(rule, RunType::Builtin, command, Some(1)),
+    )?;
+    let kept = runs.as_slice();
+    Ok((
+        kept.len(),
+        kept.last().is_some_and(|run| is_builtin_run(run)),
+    ))
+}
+
+/// Whether a run is a builtin of the rule, with the device at place 1 selected.
+fn is_builtin_run(run: &Run<'_>) -> bool {
+    run.kind() == RunType::Builtin
+        && run.selected() == Some(1)
+        && run.template().written() == b"/bin/a".as_slice()
+        && run.rule().line() == 2
+}
+
 /// Whether a note is the one of this kind about the rule.
 fn tells(note: Option<&Note>, kind: NoteKind, word: &[u8]) -> bool {
     match note {
@@ -38,7 +82,7 @@ fn tells(note: Option<&Note>, kind: NoteKind, word: &[u8]) -> bool {
 #[test]
 fn a_note_stands_for_its_rule(rt: HostRuntime) -> Result<(), Fail> {
     let set = one_rule(rt.alloc()).map_err(|_fault| "no rules")?;
-    let rule = &set.rules()[0];
+    let rule = set.rules().first().ok_or("no rule")?;
     let mut notes = Notes::new(rt.alloc());
     notes.add(Note::about(rt.alloc(), rule, NoteKind::BuiltinNotRun, b"kmod")?)?;
     assert!(rt; tells(notes.as_slice().first(), NoteKind::BuiltinNotRun, b"kmod"));
@@ -49,49 +93,20 @@ fn a_note_stands_for_its_rule(rt: HostRuntime) -> Result<(), Fail> {
 #[test]
 fn a_scene_takes_notes(rt: HostRuntime) -> Result<(), Fail> {
     let set = one_rule(rt.alloc()).map_err(|_fault| "no rules")?;
-    let event = read_block(rt.alloc(), BLOCK).map_err(|_fault| "no event")?;
-    let mut scene = Scene::new(rt.alloc(), &event)?;
-    scene.note(rt.alloc(), &set.rules()[0], NoteKind::NameIgnored, b"eth")?;
-    scene.note_too_long(rt.alloc(), &set.rules()[0], Key::Env, Some(b"X".as_slice()))?;
-    assert!(rt;
-        tells(
-            scene.notes.as_slice().first(),
-            NoteKind::NameIgnored,
-            b"eth"
-        )
-    );
-    assert!(rt;
-        tells(
-            scene.notes.as_slice().last(),
-            NoteKind::TextTooLong,
-            b"ENV{X}"
-        )
-    );
+    let rule = set.rules().first().ok_or("no rule")?;
+    let notes = notes_on(rt.alloc(), rule, BLOCK)?;
+    assert!(rt; tells(notes.as_slice().first(), NoteKind::NameIgnored, b"eth"));
+    assert!(rt; tells(notes.as_slice().last(), NoteKind::TextTooLong, b"ENV{X}"));
     Ok(())
 }
 
 #[test]
 fn the_same_command_is_run_once(rt: HostRuntime) -> Result<(), Fail> {
     let set = one_rule(rt.alloc()).map_err(|_fault| "no rules")?;
-    let rule = &set.rules()[0];
-    let a = Template::read(rt.alloc(), b"/bin/a").map_err(|_fault| "no template")?;
-    let mut runs = Runs::new(rt.alloc());
-    runs.change(
-        AssignOperator::Add,
-        Run::new(rule, RunType::Program, &a, None),
-    )?;
-    runs.change(
-        AssignOperator::Add,
-        Run::new(rule, RunType::Program, &a, Some(1)),
-    )?;
-    runs.change(
-        AssignOperator::Add,
-        Run::new(rule, RunType::Builtin, &a, Some(1)),
-    )?;
-    assert_eq!(rt; runs.as_slice().len(), 2);
-    let last = &runs.as_slice()[1];
-    assert!(rt; last.kind() == RunType::Builtin && last.selected() == Some(1));
-    assert!(rt; last.template().written() == b"/bin/a".as_slice() && last.rule().line() == 2);
+    let rule = set.rules().first().ok_or("no rule")?;
+    let command = Template::read(rt.alloc(), b"/bin/a").map_err(|_fault| "no template")?;
+    let kept = kept_runs(rt.alloc(), rule, &command)?;
+    assert!(rt; kept.0 == 2 && kept.1);
     Ok(())
 }
 

@@ -1,0 +1,7 @@
+use Rattle.std.proofs.Common.{◌≡◌, map}
+use Rattle.text_tables.specs.Pairs.{with_values}
+use Rattle.eval_acts.specs.Imports.{names_fitting}
+use Rattle.eval_acts.proofs.imports.set_fitting.Given as goal
+
+abbrev pub invariant-loop-name : goal.invariant-loop-name
+invariant-loop-name l = with_values l.env (names_fitting l.names (map (λ e. (e.0.now, e.1.now)) l.name-iterator)) ≡ with_values l.fn.env (names_fitting l.fn.names l.fn.properties)

@@ -1,0 +1,52 @@
+-- IMPORT, by from where it takes properties. Each comes to the scene after it, and whether it was done.
+use Rattle.std.specs.Prelude.{Bool, true, false, not, ◌==◌, List, length, filter, Option, Some, None}
+use Rattle.text_tables.specs.Texts.{Text}
+use Rattle.text_tables.specs.Pairs.{Pair, with_values}
+use Rattle.text_core.specs.Choices.{choice_fits}
+use Rattle.text_core.specs.declared.item.Item.{Item}
+use Rattle.hwdb_lookup.specs.declared.entry.Entry.{Entry}
+use Rattle.device_core.specs.Values.{DeviceValue}
+use Rattle.rule_keys.specs.Names.{import_name}
+use Rattle.rule_parts.specs.Written.{type_of}
+use Rattle.rule_parts.specs.declared.part.Import.{Import}
+use Rattle.rule_core.specs.Rules.{Rule}
+use Rattle.eval_builtins.specs.Builtins.{builtin}
+use Rattle.eval_builtins.specs.LookUps.{found}
+use Rattle.eval_builtins.specs.declared.builtin.Builtin.{Builtin}
+use Rattle.eval_builtins.specs.declared.builtin.Builtin.TheVariants as asked
+use Rattle.eval_scene.specs.Scenes.{noted}
+use Rattle.eval_scene.specs.declared.note_kind.NoteKind.TheVariants.{BadHwdbArguments, BuiltinNotRun, ImportNotRun}
+use Rattle.eval_scene.specs.declared.scene.Scene.{Scene}
+
+-- properties are set one behind another; it was done where there are any
+abbrev pub taken : List Pair → Scene → Scene × Bool
+taken properties s = (
+  record s { state = record s.state { env = with_values s.state.env properties } },
+  not (length properties == 0),
+)
+
+-- what a command asks for: `hwdb` takes what it finds, other builtins are not run
+abbrev pub builtin_run : List Entry → Rule → Text → Builtin → Scene → Scene × Bool
+builtin_run entries r command (asked.Hwdb hwdb) s = taken (found entries hwdb s.state) s
+builtin_run entries r command (asked.Other name) s = (noted r BuiltinNotRun name s, false)
+builtin_run entries r command asked.BadArguments s = (noted r BadHwdbArguments command s, false)
+
+-- IMPORT{builtin} of a command
+abbrev pub run_builtin : List Entry → Rule → Text → Scene → Scene × Bool
+run_builtin entries r command s = builtin_run entries r command (builtin command) s
+
+-- the properties whose names fit
+abbrev pub names_fitting : List (List Item) → List Pair → List Pair
+names_fitting names properties = filter (λ property. choice_fits names property.0) properties
+
+-- IMPORT{parent} takes the properties of the second device whose names fit; it was done where there is one
+abbrev pub from_parent : List (List Item) → Option DeviceValue → Scene → Scene × Bool
+from_parent names None s = (s, false)
+from_parent names (Some parent) s = (
+  record s { state = record s.state { env = with_values s.state.env (names_fitting names parent.env) } },
+  true,
+)
+
+-- an IMPORT of a type that is never run
+abbrev pub not_run : Rule → Import → Scene → Scene × Bool
+not_run r import s = (noted r ImportNotRun (import_name (type_of import)) s, false)

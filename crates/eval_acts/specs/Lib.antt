@@ -1,0 +1,4 @@
+pub mod Questions
+pub mod Imports
+pub mod Acts
+pub mod Reaching

@@ -1,0 +1,110 @@
+//! Properties that IMPORT takes from elsewhere.
+ghost use Rattle.std.specs.Prelude.{◌≡◌, IfOk, OnOk};
+ghost use Rattle.text_tables.specs.Pairs.{with_values};
+ghost use Rattle.hwdb_lookup.specs.Query.{shown};
+ghost use Rattle.eval_state.specs.Chains.{device_at};
+ghost use Rattle.eval_acts.specs.Imports.{from_parent, names_fitting, not_run, run_builtin, taken};
+
+use eval_builtins::{Builtin, look_up};
+use eval_scene::{NoteKind, Scene};
+use hwdb_lookup::Lookup;
+use rule_core::{Import, Rule};
+use std::alloc::{AllocError, Global};
+use text_core::Choice;
+use text_tables::{OwnedPairs, Pairs};
+
+/// Sets each of these properties.
+fn set_each(alloc: Global, env: &mut OwnedPairs, found: &[(&[u8], &[u8])]) -> Result<(), AllocError>
+    ensures { OnOk result (env.new ≡ with_values env.old (shown found.now)) }
+{
+    for (name, value) in found {
+        env.set(alloc, name, value)?;
+    }
+    Ok(())
+}
+
+/// Takes the properties that were found, and answers whether there are any.
+fn take(alloc: Global, found: &[(&[u8], &[u8])], scene: &mut Scene<'_>) -> Result<bool, AllocError>
+    ensures { IfOk result (λ done. (scene.new, done) ≡ taken (shown found.now) scene.old) }
+{
+    set_each(alloc, &mut scene.state.env, found)?;
+    Ok(!found.is_empty())
+}
+
+/// Runs the builtin of a command, if it is `hwdb`.
+pub(crate) fn run_builtin<L: Lookup>(
+    alloc: Global,
+    rule: &Rule,
+    command: &[u8],
+    database: &L,
+    scene: &mut Scene<'_>,
+) -> Result<bool, AllocError>
+    ensures { IfOk result (λ done. (scene.new, done) ≡ run_builtin (L.entries database.now) rule.now command.now scene.old) }
+{
+    match Builtin::read(alloc, command)? {
+        Builtin::Hwdb(hwdb) => {
+            let found = look_up(alloc, &hwdb, &scene.state, database)?;
+            take(alloc, &found, scene)
+        }
+        Builtin::Other(name) => {
+            scene.note(alloc, rule, NoteKind::BuiltinNotRun, name.as_slice())?;
+            Ok(false)
+        }
+        Builtin::BadArguments => {
+            scene.note(alloc, rule, NoteKind::BadHwdbArguments, command)?;
+            Ok(false)
+        }
+    }
+}
+
+/// Sets those of a device's properties whose names fit.
+fn set_fitting(
+    alloc: Global,
+    env: &mut OwnedPairs,
+    names: &Choice,
+    properties: &Pairs<'_>,
+) -> Result<(), AllocError>
+    ensures { OnOk result (env.new ≡ with_values env.old (names_fitting names.now properties.now)) }
+{
+    for (name, value) in properties.as_map().iter() {
+        if names.fits(name) {
+            env.set(alloc, name, value)?;
+        }
+    }
+    Ok(())
+}
+
+/// Takes the properties of the second device of the chain whose names fit, if there is one.
+pub(crate) fn import_parent(
+    alloc: Global,
+    names: &Choice,
+    scene: &mut Scene<'_>,
+) -> Result<bool, AllocError>
+    ensures { IfOk result (λ done. (scene.new, done) ≡ from_parent names.now (device_at scene.old.state.event 1) scene.old) }
+{
+    match scene.state.event.device_at(1) {
+        Some(parent) => {
+            set_fitting(alloc, &mut scene.state.env, names, parent.env())?;
+            Ok(true)
+        }
+        None => Ok(false),
+    }
+}
+
+/// Notes that an IMPORT of a type is never run.
+pub(crate) fn not_run(
+    alloc: Global,
+    rule: &Rule,
+    import: &Import,
+    scene: &mut Scene<'_>,
+) -> Result<bool, AllocError>
+    ensures { IfOk result (λ done. (scene.new, done) ≡ not_run rule.now import.now scene.old) }
+{
+    scene.note(
+        alloc,
+        rule,
+        NoteKind::ImportNotRun,
+        import.import_type().name(),
+    )?;
+    Ok(false)
+}

@@ -1,0 +1,26 @@
+//! What a match leaves that is only reached.
+ghost use Rattle.std.specs.Prelude.{◌≡◌, OnOk};
+ghost use Rattle.eval_acts.specs.Reaching.{reached};
+
+use eval_scene::{NoteKind, Scene};
+use rule_core::{PlainKey, PlainMatch, Rule};
+use std::alloc::{AllocError, Global};
+
+/// Leaves what a match of the event leaves when it is reached, whether it holds or not: that of SYSCTL,
+/// which a dry run does not read, the note `sysctl not read` with the parameter's name; any other
+/// nothing. The error comes where memory is refused.
+pub fn reached(
+    alloc: Global,
+    rule: &Rule,
+    part: &PlainMatch,
+    scene: &mut Scene<'_>,
+) -> Result<(), AllocError>
+    ensures { OnOk result (scene.new ≡ reached rule.now part.now.key scene.old) }
+{
+    match &part.key {
+        PlainKey::Sysctl(name) => {
+            scene.note(alloc, rule, NoteKind::SysctlNotRead, name.as_slice())
+        }
+        _ => Ok(()),
+    }
+}

@@ -1,6 +1,7 @@
 //! Runs over devices in memory.
 use engine_core::{Line, MemorySink, MemorySource, Verb, serve};
 use std::alloc::Global;
+use std::process::Abort;
 use std::test::Fail;
 use text_bytes::Bytes;
 use text_files::{FileKind, SourceFile};
@@ -27,13 +28,8 @@ pub(crate) fn line<'a>(alloc: Global, verb: Verb, modalias: &'a str) -> Line<'a>
     }
 }
 
-/// A database file of a folder.
-pub(crate) fn file(alloc: Global, rank: u8, name: &str, text: &str) -> Result<SourceFile, Fail> {
-    file_of(alloc, FileKind::Hwdb, rank, name, text)
-}
-
 /// A file of a folder.
-pub(crate) fn file_of(
+fn file_of(
     alloc: Global,
     kind: FileKind,
     rank: u8,
@@ -48,10 +44,22 @@ pub(crate) fn file_of(
     })
 }
 
+/// Files of folders, each by its kind, its rank, its name and its text.
+pub(crate) fn files_of(
+    alloc: Global,
+    given: &[(FileKind, u8, &str, &str)],
+) -> Result<Vec<SourceFile>, Fail> {
+    let mut files = Vec::new(alloc);
+    for (kind, rank, name, text) in given {
+        files.push(file_of(alloc, *kind, *rank, name, text)?)?;
+    }
+    Ok(files)
+}
+
 /// A list of one file, of rank 1.
 pub(crate) fn one_file(alloc: Global, name: &str, text: &str) -> Result<Vec<SourceFile>, Fail> {
     let mut files = Vec::new(alloc);
-    files.push(file(alloc, 1, name, text)?)?;
+    files.push(file_of(alloc, FileKind::Hwdb, 1, name, text)?)?;
     Ok(files)
 }
 
@@ -65,6 +73,30 @@ pub(crate) fn run(alloc: Global, line: &Line<'_>, files: Vec<SourceFile>) -> Res
         messages: Vec::from_slice(alloc, error.bytes_flushed())?,
         status,
     })
+}
+
+/// Asserts what a run wrote and answered.
+pub(crate) fn assert_outcome(
+    rt: &impl Abort,
+    done: &Outcome,
+    output: &str,
+    messages: &str,
+    status: u8,
+) {
+    assert_bytes(rt, done, output.as_bytes(), messages.as_bytes(), status);
+}
+
+/// Asserts the bytes that a run wrote, and what it answered.
+pub(crate) fn assert_bytes(
+    rt: &impl Abort,
+    done: &Outcome,
+    output: &[u8],
+    messages: &[u8],
+    status: u8,
+) {
+    assert_eq!(rt; done.output.as_slice(), output);
+    assert_eq!(rt; done.messages.as_slice(), messages);
+    assert_eq!(rt; done.status, status);
 }
 
 /// Runs a line over these sinks.

@@ -1,5 +1,5 @@
 -- The paths of the trie of a list of entries.
-use Rattle.std.specs.Prelude.{ℕ, ◌+◌, Bool, ◌&&◌, nat_eq, List, ◌∷◌, [], length, map, filter, flat_map, take, count_by}
+use Rattle.std.specs.Prelude.{◌+◌, Bool, ◌&&◌, nat_eq, List, ◌∷◌, [], length, map, filter, flat_map, take}
 use Rattle.std.specs.List.{range_with_len}
 use Rattle.text_core.specs.declared.item.Item.{Item}
 use Rattle.hwdb_lookup.specs.declared.entry.Entry.{Entry}

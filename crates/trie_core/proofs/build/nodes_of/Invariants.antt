@@ -1,0 +1,14 @@
+use Rattle.std.proofs.Common.{◌-◌, ◌≤◌, length}
+use Rattle.trie_core.specs.Content.{max_nodes}
+use Rattle.trie_core.specs.Rows.{patterns}
+use Rattle.trie_core.proofs.Building.{IsBuilt}
+use Rattle.trie_core.proofs.build.nodes_of.Given as goal
+
+abbrev pub invariant-loop-groups : goal.invariant-loop-groups
+invariant-loop-groups l = record {
+  built : IsBuilt (patterns l.rows) l.nodes.items l.groups.items;
+  few : length l.groups.items ≤ max_nodes;
+}
+
+abbrev pub decreases-loop-groups : goal.decreases-loop-groups
+decreases-loop-groups l = max_nodes - length l.nodes.items

@@ -1,0 +1,4 @@
+pub mod Building
+pub mod Content
+pub mod Groups
+pub mod Rows

@@ -1,0 +1,68 @@
+//! The nodes of the trie of sorted patterns, level by level.
+//!
+//! The groups of rows stand in the order of the nodes. Each is cut once into its children, which are
+//! added behind all: so the nodes come by the length of their paths, and then label by label.
+ghost use Rattle.std.specs.Prelude.{◌≡◌, ◌-◌, ◌<◌, ◌≤◌, IfOk, MatchResult, length};
+ghost use Rattle.hwdb_lookup.specs.Bounds.{max_entries};
+ghost use Rattle.text_core.specs.declared.item.Item.TheVariants.{One};
+ghost use Rattle.trie_core.specs.Building.{AreNodes};
+ghost use Rattle.trie_core.specs.Content.{max_nodes};
+ghost use Rattle.trie_core.specs.Groups.{IsGroup, label_at};
+ghost use Rattle.trie_core.specs.Rows.{IsSorted, patterns};
+ghost use Rattle.trie_core.specs.declared.fault.TrieFault.TheVariants.{TooLarge};
+ghost use Rattle.trie_paths.specs.Paths.{paths_among};
+
+use crate::TrieFault;
+use crate::groups::{Group, label_of, longer_from, split};
+use crate::rows::Row;
+use std::alloc::Global;
+use text_core::Item;
+use trie_nodes::Node;
+
+/// How many nodes a trie may have.
+const MAX_NODES: usize = 1 << 26;
+
+/// The label that leads to a group; that of the root, to which none leads, is `?`.
+fn last_label(rows: &[Row<'_>], group: Group) -> Item
+    requires { IsGroup (patterns rows.now) group }
+    ensures root { group.depth ≡ 0 → result ≡ One }
+    ensures label { 0 < group.depth → result ≡ label_at (patterns rows.now) (group.depth - 1) group.start }
+{
+    if group.depth == 0 {
+        return Item::One;
+    }
+    label_of(rows, group.depth - 1, group.start as usize)
+}
+
+/// The nodes of the trie of sorted patterns. There are too many where they are more than 2^26.
+pub(crate) fn nodes_of(alloc: Global, rows: &[Row<'_>]) -> Result<Vec<Node>, TrieFault>
+    requires few { length (patterns rows.now) ≤ max_entries }
+    requires sorted { IsSorted (patterns rows.now) }
+    ensures nodes { IfOk result (λ nodes. AreNodes (patterns rows.now) nodes.items) }
+    ensures fits { MatchResult result (λ _. length (paths_among (patterns rows.now)) ≤ max_nodes) (λ fault. fault ≡ TooLarge → max_nodes < length (paths_among (patterns rows.now))) }
+{
+    let mut nodes = Vec::new(alloc);
+    let mut groups = Vec::new(alloc);
+    groups.push(Group {
+        start: 0,
+        end: rows.len() as u32,
+        depth: 0,
+    })?;
+    while nodes.len() < groups.len() {
+        let group = groups[nodes.len()];
+        let first = groups.len();
+        let from = longer_from(rows, group);
+        split(rows, group, from, &mut groups)?;
+        if groups.len() > MAX_NODES {
+            return Err(TrieFault::TooLarge);
+        }
+        nodes.push(Node {
+            label: last_label(rows, group),
+            first: first as u32,
+            count: (groups.len() - first) as u32,
+            first_value: group.start,
+            values: from as u32 - group.start,
+        })?;
+    }
+    Ok(nodes)
+}

@@ -1,0 +1,34 @@
+//! Why there is no trie.
+
+use std::alloc::{AllocError, AllocFailed};
+
+/// Why there is no trie of some entries.
+#[derive(Clone, Copy, Debug, PartialEq, Eq, Drop)]
+pub enum TrieFault {
+    /// There would be more than 2^26 nodes, or there are more than 2^24 entries.
+    TooLarge,
+    /// A growth was refused.
+    Memory,
+}
+
+impl From<AllocError> for TrieFault {
+    ghost use Rattle.std.specs.Prelude.{◌≡◌};
+    ghost use Rattle.trie_core.specs.declared.fault.TrieFault.TheVariants.{Memory};
+
+    ghost from_gives = { λ _ e. e ≡ Memory };
+
+    fn from(_: AllocError) -> TrieFault {
+        TrieFault::Memory
+    }
+}
+
+impl<T: Drop> From<AllocFailed<T>> for TrieFault {
+    ghost use Rattle.std.specs.Prelude.{◌≡◌};
+    ghost use Rattle.trie_core.specs.declared.fault.TrieFault.TheVariants.{Memory};
+
+    ghost from_gives = { λ _ e. e ≡ Memory };
+
+    fn from(_: AllocFailed<T>) -> TrieFault {
+        TrieFault::Memory
+    }
+}

@@ -1,0 +1,81 @@
+//! The entries, sorted by their patterns.
+//!
+//! Entries that begin alike then stand side by side, so that a node is a range of them. They are
+//! sorted once, by number, and stay where they are.
+ghost use Rattle.std.specs.Prelude.{◌≡◌, ◌<◌, ◌≤◌, ◌^◌, All, IfOk, OnOk, length, map, slice_index_or, []};
+ghost use Rattle.std.specs.List.{range_with_len};
+ghost use Rattle.std.specs.List.Sorted.{IsPermutation};
+ghost use Rattle.hwdb_lookup.specs.Bounds.{max_entries};
+ghost use Rattle.trie_core.specs.Rows.{IsSorted, Tells, pattern_at, patterns, row_cmp};
+
+use hwdb_lookup::Entry;
+use std::alloc::{AllocError, Global};
+use std::cmp::Ordering;
+use text_core::Item;
+use trie_paths::compare;
+
+/// The pattern of an entry, with the entry's number.
+#[derive(Clone, Copy, Debug)]
+pub(crate) struct Row<'a> {
+    /// The items of the pattern.
+    pub(crate) items: &'a [Item],
+    /// The entry's number.
+    pub(crate) number: u32,
+}
+
+/// How a row compares with another: by the patterns, and of one pattern by the numbers.
+fn compare_rows(row: &Row<'_>, other: &Row<'_>) -> Ordering
+    ensures { result ≡ row_cmp row.now other.now }
+{
+    compare(row.items, other.items).then(row.number.cmp(&other.number))
+}
+
+/// A row for each entry, in order.
+fn rows_in_order<'a>(alloc: Global, entries: &'a [Entry]) -> Result<Vec<Row<'a>>, AllocError>
+    requires { length entries.now ≤ max_entries }
+    ensures numbers { IfOk result (λ rows. map (λ r. r.number) rows.items ≡ range_with_len 0 (length entries.now)) }
+    ensures rows { IfOk result (λ rows. All (Tells entries.now) rows.items) }
+{
+    let mut rows = Vec::with_capacity(alloc, entries.len())?;
+    for (i, entry) in entries.iter().enumerate() {
+        rows.push(Row {
+            items: entry.pattern.items(),
+            number: i as u32,
+        })?;
+    }
+    Ok(rows)
+}
+
+/// A row for each entry, sorted by pattern, and of one pattern by number.
+pub(crate) fn sorted_rows<'a>(
+    alloc: Global,
+    entries: &'a [Entry],
+) -> Result<Vec<Row<'a>>, AllocError>
+    requires { length entries.now ≤ max_entries }
+    ensures numbers { IfOk result (λ rows. IsPermutation (range_with_len 0 (length entries.now)) (map (λ r. r.number) rows.items)) }
+    ensures rows { IfOk result (λ rows. All (Tells entries.now) rows.items) }
+    ensures sorted { IfOk result (λ rows. IsSorted (patterns rows.items)) }
+{
+    let mut rows = rows_in_order(alloc, entries)?;
+    rows.sort_by(|row, other| compare_rows(row, other))?;
+    Ok(rows)
+}
+
+/// The numbers of the entries, row by row.
+pub(crate) fn numbers_of(alloc: Global, rows: &[Row<'_>]) -> Result<Vec<u32>, AllocError>
+    ensures { IfOk result (λ numbers. numbers.items ≡ map (λ r. r.number) rows.now) }
+{
+    let mut numbers = Vec::with_capacity(alloc, rows.len())?;
+    for row in rows {
+        numbers.push(row.number)?;
+    }
+    Ok(numbers)
+}
+
+/// The pattern of a row.
+pub(crate) fn items_at<'a>(rows: &[Row<'a>], at: usize) -> &'a [Item]
+    requires { at < length (patterns rows.now) }
+    ensures { result.now ≡ pattern_at (patterns rows.now) at }
+{
+    rows[at].items
+}

@@ -1,0 +1,149 @@
+//! Tries of few and of many entries.
+
+use crate::{Nodes, Trie};
+use hwdb_lookup::{Entry, Lookup, PlainDb, rising};
+use std::alloc::Global;
+use std::test::Fail;
+use text_core::{Bytes, GlobFault, Pattern};
+
+fn entry(alloc: Global, pattern: &[u8], value: &[u8], order: u32) -> Result<Entry, GlobFault> {
+    Ok(Entry {
+        pattern: Pattern::read(alloc, pattern)?,
+        key: Bytes::copy_of(alloc, b"A")?,
+        value: Bytes::copy_of(alloc, value)?,
+        order,
+        file: Bytes::copy_of(alloc, b"t.hwdb")?,
+        line: order,
+    })
+}
+
+fn one(alloc: Global, pattern: &[u8]) -> Result<Vec<Entry>, GlobFault> {
+    let mut entries = Vec::new(alloc);
+    entries.push(entry(alloc, pattern, b"1", 0)?)?;
+    Ok(entries)
+}
+
+fn letters_and_stars(alloc: Global) -> Result<Vec<u8>, GlobFault> {
+    let mut pattern = Vec::new(alloc);
+    for _ in 0..40 {
+        pattern.extend_from_slice(b"*a")?;
+    }
+    Ok(pattern)
+}
+
+#[test]
+fn no_entries_are_one_node(rt: HostRuntime) -> Result<(), Fail> {
+    let alloc = rt.alloc();
+    let entries: Vec<Entry> = Vec::new(alloc);
+    assert!(rt; rising(&entries));
+    let trie = Trie::build(alloc, entries)?;
+    assert_eq!(rt; trie.len(), 1);
+    Ok(())
+}
+
+#[test]
+fn forty_stars_are_walked_in_line_with_the_text(rt: HostRuntime) -> Result<(), Fail> {
+    let alloc = rt.alloc();
+    let entries = one(alloc, &letters_and_stars(alloc)?)?;
+    assert!(rt; rising(&entries));
+    let trie = Trie::build(alloc, entries)?;
+    let mut modalias = vec![in alloc; b'a'; 200]?;
+    modalias.push(b'b')?;
+    let (active, sum) = trie.visits(alloc, &modalias)?;
+    assert_eq!(rt; trie.len(), 81);
+    assert_eq!(rt; sum, 14521);
+    assert_eq!(rt; active.len(), 40);
+    assert_eq!(rt; active.first(), Some(&1));
+    assert_eq!(rt; active.last(), Some(&79));
+    Ok(())
+}
+
+#[test]
+fn a_last_byte_that_fits_nothing_has_no_answer(rt: HostRuntime) -> Result<(), Fail> {
+    let alloc = rt.alloc();
+    let entries = one(alloc, &letters_and_stars(alloc)?)?;
+    assert!(rt; rising(&entries));
+    let trie = Trie::build(alloc, entries)?;
+    let mut modalias = vec![in alloc; b'a'; 200]?;
+    assert_eq!(rt; trie.query(alloc, &modalias)?.len(), 1);
+    modalias.push(b'b')?;
+    assert!(rt; trie.query(alloc, &modalias)?.is_empty());
+    Ok(())
+}
+
+#[test]
+fn the_longest_pattern_of_stars(rt: HostRuntime) -> Result<(), Fail> {
+    let alloc = rt.alloc();
+    let entries = one(alloc, &vec![in alloc; b'*'; 16384]?)?;
+    assert!(rt; rising(&entries));
+    let trie = Trie::build(alloc, entries)?;
+    assert_eq!(rt; trie.len(), 16385);
+    assert_eq!(rt; trie.visits(alloc, b"aaaaaaaaaa")?.1, 180225);
+    assert_eq!(rt; trie.query(alloc, b"aaaaaaaaaa")?.len(), 1);
+    Ok(())
+}
+
+fn ten_thousand(alloc: Global) -> Result<Vec<Entry>, Fail> {
+    let mut entries = Vec::new(alloc);
+    for i in 0..10000u32 {
+        let text = format!(in alloc; "usb:v{i:04}")?;
+        entries.push(entry(alloc, text.as_bytes(), b"1", i)?)?;
+    }
+    Ok(entries)
+}
+
+#[test]
+fn ten_thousand_vendors(rt: HostRuntime) -> Result<(), Fail> {
+    let alloc = rt.alloc();
+    let entries = ten_thousand(alloc)?;
+    assert!(rt; rising(&entries));
+    let trie = Trie::build(alloc, entries)?;
+    assert_eq!(rt; trie.len(), 11116);
+    assert_eq!(rt; trie.visits(alloc, b"usb:v1234")?.1, 10);
+    Ok(())
+}
+
+fn mixed(alloc: Global) -> Result<Vec<Entry>, GlobFault> {
+    let mut entries = Vec::new(alloc);
+    entries.push(entry(alloc, b"ab*", b"1", 0)?)?;
+    entries.push(entry(alloc, b"*[bc]", b"2", 1)?)?;
+    entries.push(entry(alloc, b"ab*", b"3", 2)?)?;
+    entries.push(entry(alloc, b"a?", b"4", 3)?)?;
+    Ok(entries)
+}
+
+#[test]
+fn of_twins_the_later_counts(rt: HostRuntime) -> Result<(), Fail> {
+    let alloc = rt.alloc();
+    let entries = mixed(alloc)?;
+    assert!(rt; rising(&entries));
+    let trie = Trie::build(alloc, entries)?;
+    let found = trie.query_sources(alloc, b"abd")?;
+    assert_eq!(rt; found.len(), 1);
+    assert!(rt; found[0].value == b"3".as_slice());
+    assert_eq!(rt; found[0].line, 2);
+    Ok(())
+}
+
+fn same_answer(alloc: Global, trie: &Trie, plain: &PlainDb, modalias: &[u8]) -> Result<bool, Fail> {
+    let found = trie.query(alloc, modalias)?;
+    let want = plain.query(alloc, modalias)?;
+    Ok(found.as_slice() == want.as_slice())
+}
+
+#[test]
+fn a_trie_answers_as_the_plain_list(rt: HostRuntime) -> Result<(), Fail> {
+    let alloc = rt.alloc();
+    let entries = mixed(alloc)?;
+    let others = mixed(alloc)?;
+    assert!(rt; rising(&entries));
+    assert!(rt; rising(&others));
+    let trie = Trie::build(alloc, entries)?;
+    let plain = PlainDb::new(others);
+    for first in b'a'..b'e' {
+        for second in b'a'..b'e' {
+            assert!(rt; same_answer(alloc, &trie, &plain, &[first, second])?);
+        }
+    }
+    Ok(())
+}

@@ -1,0 +1,5 @@
+pub mod Steps
+pub mod Jumps
+pub mod Outcomes
+pub mod Laws
+pub mod Inner

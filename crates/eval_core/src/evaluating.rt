@@ -1,0 +1,156 @@
+//! An event, from its start to its outcome.
+ghost use Rattle.std.specs.Prelude.{◌≡◌, ◌++◌, OnOk, IfOk, option_map};
+ghost use Rattle.eval_core.specs.Steps.{with_selected};
+ghost use Rattle.eval_core.specs.Outcomes.{braces_of, command, commands, late_note, late_notes, outcome, outcome_of, run_text};
+ghost use Rattle.eval_core.specs.Inner.{unselected, with_notes};
+
+use crate::outcome::{Command, Commands, Outcome};
+use crate::rules::run;
+use crate::sorting::by_name;
+use device_core::Event;
+use eval_rendering::{Mode, Rendered, render};
+use eval_scene::{Run, Runs, Scene};
+use eval_state::State;
+use hwdb_lookup::Lookup;
+use rule_core::{Key, RuleSet, RunType};
+use std::alloc::{AllocError, Global};
+use std::mem;
+
+/// Renders a RUN with the device that its rule had selected, which is selected from then on.
+fn run_text(alloc: Global, kept: &Run<'_>, state: &mut State<'_>) -> Result<Rendered, AllocError>
+    ensures text { IfOk result (λ text. text ≡ run_text state.old kept.now) }
+    ensures selects { OnOk result (state.new ≡ with_selected kept.now.selected state.old) }
+{
+    state.selected = kept.selected();
+    render(alloc, kept.template(), state, Mode::Plain)
+}
+
+/// What stands in the braces of a RUN; a program needs none.
+fn braces_of(kind: RunType) -> Option<&'static [u8]>
+    ensures { option_map (λ text. text.now) result ≡ braces_of kind }
+{
+    match kind {
+        RunType::Program => None,
+        RunType::Builtin => Some(kind.name()),
+    }
+}
+
+/// Takes in a RUN that was rendered: as a command, or with a note where it is too long.
+fn take_run(
+    alloc: Global,
+    kept: &Run<'_>,
+    rendered: Rendered,
+    commands: &mut Commands,
+    scene: &mut Scene<'_>,
+) -> Result<(), AllocError>
+    ensures commands { OnOk result (commands.new ≡ commands.old ++ command kept.now rendered) }
+    ensures scene { OnOk result (scene.new ≡ with_notes (late_note kept.now rendered) scene.old) }
+{
+    match rendered {
+        Rendered::Text(text) => commands.push(Command {
+            kind: kept.kind(),
+            text,
+        }),
+        Rendered::TooLong => {
+            scene.note_too_long(alloc, kept.rule(), Key::Run, braces_of(kept.kind()))
+        }
+    }
+}
+
+/// Renders what is to be run, one behind another.
+fn render_runs(
+    alloc: Global,
+    runs: &[Run<'_>],
+    scene: &mut Scene<'_>,
+) -> Result<Commands, AllocError>
+    ensures commands { IfOk result (λ done. done ≡ commands scene.old.state runs.now) }
+    ensures scene { OnOk result (unselected scene.new ≡ with_notes (late_notes scene.old.state runs.now) (unselected scene.old)) }
+{
+    let mut commands = Commands::new(alloc);
+    for kept in runs {
+        let rendered = run_text(alloc, kept, &mut scene.state)?;
+        take_run(alloc, kept, rendered, &mut commands, scene)?;
+    }
+    Ok(commands)
+}
+
+/// What a scene comes to when no rule is left.
+fn finish(alloc: Global, mut scene: Scene<'_>) -> Result<Outcome, AllocError>
+    ensures { IfOk result (λ outcome. outcome ≡ outcome_of scene.entry) }
+{
+    let runs = mem::replace(&mut scene.runs, Runs::new(alloc));
+    let commands = render_runs(alloc, runs.as_slice(), &mut scene)?;
+    let env = by_name(alloc, &scene.state.env)?;
+    let Scene {
+        state,
+        owner,
+        group,
+        mode,
+        priority,
+        watch,
+        persist,
+        labels,
+        attrs,
+        sysctls,
+        runs: _,
+        notes,
+        finals: _,
+    } = scene;
+    let State {
+        name,
+        links,
+        tags,
+        event: _,
+        selected: _,
+        result: _,
+        env: _,
+    } = state;
+    Ok(Outcome {
+        name,
+        owner,
+        group,
+        mode,
+        priority,
+        watch,
+        persist,
+        labels,
+        links,
+        tags,
+        env,
+        attrs,
+        sysctls,
+        runs: commands,
+        notes,
+    })
+}
+
+/// What an event comes to, where rules and event are lent for one time.
+fn evaluate<'a, L: Lookup>(
+    alloc: Global,
+    rules: &'a RuleSet,
+    event: &'a Event<'_>,
+    lookup: &L,
+) -> Result<Outcome, AllocError>
+    ensures { IfOk result (λ answer. answer ≡ outcome rules.now.rules (L.entries lookup.now) event.now) }
+{
+    let mut scene = Scene::new(alloc, event)?;
+    run(alloc, rules.rules(), lookup, &mut scene)?;
+    finish(alloc, scene)
+}
+
+/// What an event comes to by the rules as they are read, as udev(7) has it: each rule in turn over what
+/// the rules before it left, jumps followed, the database asked where a rule imports from it; then each
+/// RUN rendered with what is known in the end. Programs, builtins other than `hwdb` and files are not
+/// run or read, and leave notes.
+///
+/// The error comes where memory is refused.
+pub fn evaluate_plain<L: Lookup>(
+    alloc: Global,
+    rules: &RuleSet,
+    event: &Event<'_>,
+    lookup: &L,
+) -> Result<Outcome, AllocError>
+    ensures { IfOk result (λ answer. answer ≡ outcome rules.now.rules (L.entries lookup.now) event.now) }
+{
+    evaluate(alloc, rules, event, lookup)
+}

@@ -1,6 +1,6 @@
 //! Matches as a person decides them.
 use crate::{found_place, plain_holds, result_holds};
-use device_core::read_block;
+use device_core::{Event, read_block};
 use eval_state::State;
 use rule_keys::MatchOperator::{Equal, NotEqual};
 use rule_keys::{MatchOperator, PlainKey, UpKey};
@@ -22,11 +22,16 @@ fn comparison(alloc: Global, operator: MatchOperator, choice: &[u8]) -> Result<C
     Ok(Comparison { operator, choice })
 }
 
+/// Whether a match holds of an event.
+fn holds_of(alloc: Global, event: &Event<'_>, part: &PlainMatch) -> Result<bool, Fail> {
+    let state = State::new(alloc, event)?;
+    Ok(plain_holds(part, &state))
+}
+
 /// Whether a match holds of the device.
 fn holds(alloc: Global, part: &PlainMatch) -> Result<bool, Fail> {
     let event = read_block(alloc, DEVICE).map_err(|_fault| "no event")?;
-    let state = State::new(alloc, &event)?;
-    Ok(plain_holds(part, &state))
+    holds_of(alloc, &event, part)
 }
 
 /// Whether a match by this key holds of the device.
@@ -74,12 +79,22 @@ fn an_unknown_constant_never_matches(rt: HostRuntime) -> Result<(), Fail> {
     Ok(())
 }
 
+/// Whether a comparison holds of an answer over an event.
+fn answer_fits_over(
+    alloc: Global,
+    event: &Event<'_>,
+    answer: &[u8],
+    wanted: &Comparison,
+) -> Result<bool, Fail> {
+    let mut state = State::new(alloc, event)?;
+    state.result = Bytes::copy_of(alloc, answer)?;
+    Ok(result_holds(wanted, &state))
+}
+
 /// Whether a comparison holds of an answer.
 fn answer_fits(alloc: Global, answer: &[u8], wanted: &Comparison) -> Result<bool, Fail> {
     let event = read_block(alloc, DEVICE).map_err(|_fault| "no event")?;
-    let mut state = State::new(alloc, &event)?;
-    state.result = Bytes::copy_of(alloc, answer)?;
-    Ok(result_holds(wanted, &state))
+    answer_fits_over(alloc, &event, answer, wanted)
 }
 
 /// Whether an answer fits a choice.
@@ -108,11 +123,16 @@ fn attrs(alloc: Global, choice: &[u8]) -> Result<UpMatch, Fail> {
     Ok(UpMatch { key, wanted })
 }
 
+/// The first place of an event's chain at which matches hold.
+fn found_in(alloc: Global, event: &Event<'_>, parts: &[UpMatch]) -> Result<Option<usize>, Fail> {
+    let state = State::new(alloc, event)?;
+    Ok(found_place(parts, &state))
+}
+
 /// The first place of the terminal's chain at which matches hold.
 fn found(alloc: Global, parts: &[UpMatch]) -> Result<Option<usize>, Fail> {
     let event = read_block(alloc, BELOW_USB).map_err(|_fault| "no event")?;
-    let state = State::new(alloc, &event)?;
-    Ok(found_place(parts, &state))
+    found_in(alloc, &event, parts)
 }
 
 /// The first place of the terminal's chain at which both matches hold.

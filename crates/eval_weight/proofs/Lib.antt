@@ -1,0 +1,12 @@
+pub mod Sums
+pub mod Tables
+pub mod Found
+pub mod Rendered
+pub mod Scenes
+pub mod Assigned
+pub mod Stepped
+pub mod Acted
+pub mod Ruled
+pub mod Starts
+pub mod Ends
+pub mod Weighing

@@ -1,0 +1,3 @@
+pub mod Weights
+pub mod Allowances
+pub mod Inner

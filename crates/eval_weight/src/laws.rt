@@ -1,0 +1,19 @@
+//! The bound on what an answer weighs, whatever the rules, the event and the database are.
+//!
+//! The function here is empty: its contract is the law.
+ghost use Rattle.std.specs.Prelude.{◌≡◌, ◌≤◌, List, length, Ok};
+ghost use Rattle.text_tables.specs.Texts.{Text};
+ghost use Rattle.hwdb_lookup.specs.declared.entry.Entry.{Entry};
+ghost use Rattle.rule_core.specs.Rules.{Rule};
+ghost use Rattle.device_core.specs.Faults.{block_gives};
+ghost use Rattle.device_core.specs.Values.{EventValue};
+ghost use Rattle.eval_core.specs.Outcomes.{outcome};
+ghost use Rattle.eval_weight.specs.Allowances.{most_weight};
+ghost use Rattle.eval_weight.specs.Weights.{outcome_weight};
+
+/// The texts that an event comes to, each with one more, are together no longer than four times its
+/// block and 128, and what each part of a rule may add: 32,896, the lengths of its attribute and of the
+/// name of its file, and for an IMPORT twice the block and all keys and values of the database.
+pub fn an_answer_weighs_no_more_than_is_allowed()
+    ensures { (rules : List Rule) (entries : List Entry) (block : Text) (event : EventValue) → block_gives block ≡ Ok event → outcome_weight (outcome rules entries event) ≤ most_weight (length block) entries rules }
+{}

@@ -1,7 +1,7 @@
 -- What a scene weighs behind an act of a rule.
-use Rattle.std.proofs.Common.{◌≡◌, ℕ, ◌+◌, ◌*◌, ◌≤◌, Bool, true, false, ◌==◌, List, [], ◌∷◌, length, Option, Some, None, is_some, ◌||◌, ap, if◌then◌else◌, arith}
+use Rattle.std.proofs.Common.{ℕ, ◌+◌, ◌≤◌, Bool, true, false, ◌==◌, List, [], ◌∷◌, length, Option, Some, None, is_some, ◌||◌, ap, if◌then◌else◌, arith}
 use Rattle.std.proofs.lemmas.List.Sums.{sum_by-cons}
-use Rattle.std.specs.List.{sum_by, slice_get}
+use Rattle.std.specs.List.{slice_get}
 use Rattle.text_bytes.specs.Names.{slash}
 use Rattle.text_words.specs.Texts.{begins_with}
 use Rattle.text_tables.specs.Texts.{Text}
@@ -17,7 +17,7 @@ use Rattle.rule_parts.specs.declared.part.Deed.TheVariants as deed
 use Rattle.rule_parts.specs.declared.part.Import.{Import}
 use Rattle.rule_parts.specs.declared.part.Import.TheVariants as import
 use Rattle.rule_core.specs.Rules.{Rule}
-use Rattle.device_core.specs.Values.{AnswerValue, DeviceValue, EventValue, chain}
+use Rattle.device_core.specs.Values.{AnswerValue, DeviceValue, EventValue}
 use Rattle.device_core.specs.Weights.{device_weight, devices_weight, event_weight, pair_weight, pairs_weight}
 use Rattle.eval_state.specs.Chains.{device_at}
 use Rattle.eval_rendering.specs.Rendering.{render}
@@ -33,10 +33,10 @@ use Rattle.eval_builtins.specs.Builtins.{builtin}
 use Rattle.eval_builtins.specs.LookUps.{found}
 use Rattle.eval_builtins.specs.declared.builtin.Builtin.{Builtin}
 use Rattle.eval_builtins.specs.declared.builtin.Builtin.TheVariants as asked_for
-use Rattle.eval_acts.specs.Acts.{act_step, going_on, imported, on_text, performed}
-use Rattle.eval_acts.specs.Imports.{builtin_run, from_parent, names_fitting, not_run, run_builtin, taken}
-use Rattle.eval_acts.specs.Questions.{answered, answered_or_noted, asked, tested, with_result}
-use Rattle.eval_weight.specs.Allowances.{deed_allowance, entries_weight, part_allowance}
+use Rattle.eval_acts.specs.Acts.{act_step, imported, on_text, performed}
+use Rattle.eval_acts.specs.Imports.{builtin_run, from_parent, names_fitting, not_run, run_builtin}
+use Rattle.eval_acts.specs.Questions.{answered_or_noted, asked, tested, with_result}
+use Rattle.eval_weight.specs.Allowances.{deed_allowance, entries_weight}
 use Rattle.eval_weight.specs.Inner.{Within, scene_weight}
 use Rattle.eval_weight.proofs.Sums.{filter_light}
 use Rattle.eval_weight.proofs.Tables.{with_values_light}

@@ -1,12 +1,12 @@
 -- What a scene weighs behind an assignment.
-use Rattle.std.proofs.Common.{◌≡◌, ℕ, ◌+◌, ◌≤◌, Bool, true, false, not, List, [], ◌∷◌, ◌++◌, length, map, fold, Option, Some, None, ◌||◌, ◌==◌, if◌then◌else◌, arith}
-use Rattle.std.proofs.lemmas.List.Sums.{sum_by-cons, sum_by_push}
-use Rattle.std.specs.List.{sum_by, list_any, slice_split}
+use Rattle.std.proofs.Common.{◌≡◌, ℕ, ◌+◌, ◌≤◌, not, List, [], ◌∷◌, ◌++◌, length, Option, Some, None, ◌==◌, arith}
+use Rattle.std.proofs.lemmas.List.Sums.{sum_by-cons}
+use Rattle.std.specs.List.{slice_split}
 use Rattle.text_bytes.specs.Names.{space}
 use Rattle.text_words.specs.Texts.{is_empty}
-use Rattle.text_tables.specs.Texts.{Text, with_texts, without_text}
-use Rattle.text_tables.specs.Pairs.{Pair, value_of, with_value, without_name}
-use Rattle.rule_keys.specs.Written.{attribute_of_target, key_of_target}
+use Rattle.text_tables.specs.Texts.{Text, without_text}
+use Rattle.text_tables.specs.Pairs.{Pair, value_of, with_value}
+use Rattle.rule_keys.specs.Written.{attribute_of_target}
 use Rattle.rule_keys.specs.declared.keys.Key.TheVariants as key
 use Rattle.rule_keys.specs.declared.roles.AssignOperator.{AssignOperator}
 use Rattle.rule_keys.specs.declared.roles.AssignOperator.TheVariants.{Assign, Add, Remove, AssignFinal}
@@ -20,7 +20,7 @@ use Rattle.eval_scene.specs.Notes.{word_of_key}
 use Rattle.eval_scene.specs.declared.note_kind.NoteKind.TheVariants.{TextTooLong}
 use Rattle.eval_scene.specs.declared.scene.Scene.{Scene}
 use Rattle.eval_assignments.specs.Assigning.{assigned, given, labels_before, link_text, name_text}
-use Rattle.eval_assignments.specs.Escapes.{turned, turned_byte}
+use Rattle.eval_assignments.specs.Escapes.{turned}
 use Rattle.eval_assignments.specs.Lists.{changed, names, one_tag}
 use Rattle.eval_assignments.specs.Properties.{appended, property_added, property_changed, property_joined, property_set, with_env}
 use Rattle.eval_assignments.specs.declared.escapes.Escape.{Escape}

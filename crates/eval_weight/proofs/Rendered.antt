@@ -1,5 +1,5 @@
 -- A rendered text has at most 16,384 bytes.
-use Rattle.std.proofs.Common.{◌≡◌, ℕ, ◌+◌, ◌≤◌, Bool, true, false, nat_lt, ltb-false, List, length, flat_map, Option, Some, None, refl, if◌then◌else◌, arith}
+use Rattle.std.proofs.Common.{◌≡◌, ◌≤◌, Bool, true, false, nat_lt, ltb-false, length, flat_map, Option, Some, None, refl, if◌then◌else◌, arith}
 use Rattle.text_tables.specs.Texts.{Text}
 use Rattle.text_safe.specs.Safe.{link_marks}
 use Rattle.text_safe.proofs.Places.{length-safe}

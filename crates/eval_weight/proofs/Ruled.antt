@@ -1,10 +1,10 @@
 -- What a scene weighs behind a rule, and behind all rules.
-use Rattle.std.proofs.Common.{◌≡◌, ℕ, ◌+◌, ◌≤◌, Bool, true, false, not, List, [], ◌∷◌, length, fold, Option, Some, None, is_some, refl, if◌then◌else◌, arith}
+use Rattle.std.proofs.Common.{◌≡◌, ℕ, ◌+◌, ◌≤◌, Bool, true, false, List, [], ◌∷◌, length, fold, Option, None, if◌then◌else◌, arith}
 use Rattle.std.proofs.lemmas.List.Sums.{sum_by-cons}
 use Rattle.std.specs.List.{sum_by}
 use Rattle.text_tables.specs.Texts.{Text}
 use Rattle.hwdb_lookup.specs.declared.entry.Entry.{Entry}
-use Rattle.rule_keys.specs.Written.{attribute_of_plain, attribute_of_up}
+use Rattle.rule_keys.specs.Written.{attribute_of_plain}
 use Rattle.rule_keys.specs.declared.roles.PlainKey.{PlainKey}
 use Rattle.rule_keys.specs.declared.roles.PlainKey.TheVariants as plain
 use Rattle.rule_parts.specs.Written.{attribute_of_change}

@@ -1,5 +1,5 @@
 -- What a scene weighs with a note more, and where what changes has no weight.
-use Rattle.std.proofs.Common.{◌≡◌, ℕ, ◌+◌, ◌≤◌, length, take, min, arith}
+use Rattle.std.proofs.Common.{ℕ, ◌+◌, ◌≤◌, length, take, arith}
 use Rattle.std.proofs.lemmas.List.{length-take}
 use Rattle.std.proofs.lemmas.List.Sums.{sum_by_push}
 use Rattle.std.proofs.Math.Nat.{min-le_left}

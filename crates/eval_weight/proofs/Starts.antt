@@ -1,10 +1,10 @@
 -- What an event weighs before any rule has run.
-use Rattle.std.proofs.Common.{◌≡◌, ℕ, ◌+◌, ◌≤◌, List, [], ◌∷◌, ◌++◌, length, Option, Some, None, option_map, codes, refl, arith}
+use Rattle.std.proofs.Common.{◌≡◌, ◌+◌, ◌≤◌, List, [], ◌∷◌, ◌++◌, length, Option, Some, None, option_map, codes, refl, arith}
 use Rattle.std.proofs.lemmas.List.Sums.{sum_by-cons, sum_by-append}
 use Rattle.text_tables.specs.Texts.{Text}
 use Rattle.text_tables.specs.Pairs.{Pair, with_values}
-use Rattle.device_core.specs.Values.{DeviceValue, EventValue, NumberValue}
-use Rattle.device_core.specs.Weights.{device_weight, devices_weight, event_weight, given_weight, number_weight, pair_weight, pairs_weight, text_weight}
+use Rattle.device_core.specs.Values.{EventValue, NumberValue}
+use Rattle.device_core.specs.Weights.{device_weight, event_weight, given_weight, number_weight, pair_weight, pairs_weight, text_weight}
 use Rattle.eval_state.specs.Start.{given, node_path, start_env, told_by}
 use Rattle.eval_scene.specs.Scenes.{start}
 use Rattle.eval_weight.specs.Inner.{Within, scene_weight}

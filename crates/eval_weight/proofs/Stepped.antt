@@ -1,6 +1,6 @@
 -- What a scene weighs behind one assignment of a rule.
-use Rattle.std.proofs.Common.{◌≡◌, ℕ, ◌+◌, ◌≤◌, Bool, true, false, List, [], ◌∷◌, ◌++◌, length, fold, Option, Some, None, ◌||◌, if◌then◌else◌, arith}
-use Rattle.std.proofs.lemmas.List.Sums.{sum_by-cons, sum_by_push}
+use Rattle.std.proofs.Common.{ℕ, ◌+◌, ◌≤◌, Bool, true, false, List, [], ◌∷◌, ◌++◌, length, Option, Some, None, ◌||◌, if◌then◌else◌, arith}
+use Rattle.std.proofs.lemmas.List.Sums.{sum_by_push}
 use Rattle.std.specs.List.{sum_by, list_any}
 use Rattle.text_words.specs.Texts.{is_empty}
 use Rattle.text_tables.specs.Texts.{Text}
@@ -8,8 +8,6 @@ use Rattle.rule_keys.specs.Written.{attribute_of_target, key_of_target}
 use Rattle.rule_keys.specs.declared.roles.AssignOperator.{AssignOperator}
 use Rattle.rule_keys.specs.declared.roles.AssignOperator.TheVariants.{Assign, Add, Remove, AssignFinal}
 use Rattle.rule_keys.specs.declared.roles.Target.{Target}
-use Rattle.rule_keys.specs.declared.types.RunType.{RunType}
-use Rattle.rule_templates.specs.Template.{Parts as Template}
 use Rattle.rule_parts.specs.Written.{attribute_of_change}
 use Rattle.rule_parts.specs.declared.options.RuleOption.{RuleOption}
 use Rattle.rule_parts.specs.declared.options.RuleOption.TheVariants as option
@@ -31,7 +29,7 @@ use Rattle.eval_scene.specs.declared.scene.Scene.{Scene}
 use Rattle.eval_assignments.specs.Assigning.{assigned, with_option}
 use Rattle.eval_assignments.specs.Escapes.{escape_of, mode_of}
 use Rattle.eval_assignments.specs.Finality.{final_key, final_option, final_target, finally, is_settled, settled}
-use Rattle.eval_assignments.specs.Steps.{is_ignored, run_kept, run_of, set_step, step_by, text_given, text_set}
+use Rattle.eval_assignments.specs.Steps.{is_ignored, run_of, set_step, step_by, text_given, text_set}
 use Rattle.eval_assignments.specs.declared.escapes.Escape.{Escape}
 use Rattle.eval_weight.specs.Allowances.{part_allowance}
 use Rattle.eval_weight.specs.Inner.{Within, run_weight, scene_weight}

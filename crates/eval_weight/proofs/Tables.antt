@@ -1,5 +1,5 @@
 -- What tables weigh as names are set and texts added or taken away.
-use Rattle.std.proofs.Common.{◌≡◌, ℕ, ◌+◌, ◌≤◌, Bool, true, false, not, List, [], ◌∷◌, ◌++◌, length, if◌then◌else◌, arith}
+use Rattle.std.proofs.Common.{◌+◌, ◌≤◌, Bool, true, false, not, List, [], ◌∷◌, ◌++◌, if◌then◌else◌, arith}
 use Rattle.std.proofs.lemmas.List.Sums.{sum_by-cons, sum_by_push}
 use Rattle.text_tables.specs.Texts.{Text, is_among, same_text, with_text, with_texts, without_text}
 use Rattle.text_tables.specs.Pairs.{Pair, with_value, with_values, without_name}

@@ -20,11 +20,8 @@ use Rattle.eval_scene.specs.Notes.{word_of_key}
 use Rattle.eval_scene.specs.declared.note_kind.NoteKind.TheVariants.{TextTooLong}
 use Rattle.eval_scene.specs.declared.scene.Scene.{Scene}
 use Rattle.eval_assignments.specs.Assigning.{assigned, given, labels_before, link_text, name_text}
-use Rattle.eval_assignments.specs.Escapes.{turned}
 use Rattle.eval_assignments.specs.Lists.{changed, names, one_tag}
 use Rattle.eval_assignments.specs.Properties.{appended, property_added, property_changed, property_joined, property_set, with_env}
-use Rattle.eval_assignments.specs.declared.escapes.Escape.{Escape}
-use Rattle.eval_assignments.specs.declared.escapes.Escape.TheVariants.{Usual, Keep, Replace}
 use Rattle.eval_weight.specs.Allowances.{part_allowance}
 use Rattle.eval_weight.specs.Inner.{Within, scene_weight}
 use Rattle.eval_weight.proofs.Sums.{filter_light, fold_light, split_light}
@@ -35,20 +32,6 @@ use Rattle.eval_weight.proofs.Scenes.{more, noted_within}
 given_light : (t : Text) → given_weight (given t) ≤ length t + 1
 given_light [] = omega arith
 given_light (b ∷ t) = omega arith
-
-turned_same : (t : Text) → length (turned t) ≡ length t
-turned_same [] = omega arith
-turned_same (b ∷ t) = let a = turned_same t in omega (arith, a)
-
-name_same : (e : Escape) (t : Text) → length (name_text e t) ≡ length t
-name_same Usual t = turned_same t
-name_same Keep t = omega arith
-name_same Replace t = turned_same t
-
-link_same : (e : Escape) (t : Text) → length (link_text e t) ≡ length t
-link_same Usual t = omega arith
-link_same Keep t = omega arith
-link_same Replace t = turned_same t
 
 tag_light : (t : Text) → texts_weight (one_tag t) ≤ length t + 1
 tag_light [] = omega arith
@@ -109,39 +92,39 @@ module _ (event : EventValue) (n : ℕ) (r : Rule) (s : Scene) (h : Within event
   property_within AssignFinal name t short = set_within name t short
 
   -- a text of a key
-  pub assigned_within : (e : Escape) (o : AssignOperator) (about : Target) (t : Text) → length t ≤ 16384
+  pub assigned_within : (e : _) → ((t : Text) → (length (name_text e t) ≡ length t) × (length (link_text e t) ≡ length t)) → (o : AssignOperator) (about : Target) (t : Text) → length t ≤ 16384
       → Within event (n + part_allowance r (attribute_of_target about)) (assigned r e o about t s)
   unfolding scene_weight
-  assigned_within e o target.Owner t short = let a = h.light in let b = given_light t in record { same = h.same; light = omega (arith, a, b, short) }
-  assigned_within e o target.Group t short = let a = h.light in let b = given_light t in record { same = h.same; light = omega (arith, a, b, short) }
-  assigned_within e o target.Mode t short = let a = h.light in let b = given_light t in record { same = h.same; light = omega (arith, a, b, short) }
-  assigned_within e o target.Tag t short =
+  assigned_within e same o target.Owner t short = let a = h.light in let b = given_light t in record { same = h.same; light = omega (arith, a, b, short) }
+  assigned_within e same o target.Group t short = let a = h.light in let b = given_light t in record { same = h.same; light = omega (arith, a, b, short) }
+  assigned_within e same o target.Mode t short = let a = h.light in let b = given_light t in record { same = h.same; light = omega (arith, a, b, short) }
+  assigned_within e same o target.Tag t short =
       let a = h.light in
       let b = changed_light o (one_tag t) s.state.tags in
       let c = tag_light t in
       record { same = h.same; light = omega (arith, a, b, c, short) }
-  assigned_within e o (target.Seclabel name) t short =
+  assigned_within e same o (target.Seclabel name) t short =
       let a = h.light in
       let b = with_value_light (labels_before o s.labels) name t in
       let c = labels_light o s.labels in
       record { same = h.same; light = omega (arith, a, b, c, short) }
-  assigned_within e o (target.Env name) t short = property_within o name t short
-  assigned_within e o target.Name t short =
+  assigned_within e same o (target.Env name) t short = property_within o name t short
+  assigned_within e same o target.Name t short =
       let a = h.light in
       let b = given_light (name_text e t) in
-      let c = name_same e t in
+      let c = (same t).0 in
       record { same = h.same; light = omega (arith, a, b, c, short) }
-  assigned_within e o target.Symlink t short =
+  assigned_within e same o target.Symlink t short =
       let a = h.light in
       let b = changed_light o (names (link_text e t)) s.state.links in
       let c = names_light (link_text e t) in
-      let d = link_same e t in
+      let d = (same t).1 in
       record { same = h.same; light = omega (arith, a, b, c, d, short) }
-  assigned_within e o (target.Attr name) t short =
+  assigned_within e same o (target.Attr name) t short =
       let a = h.light in
       let b = with_value_light s.attrs name t in
       record { same = h.same; light = omega (arith, a, b, short) }
-  assigned_within e o (target.Sysctl name) t short =
+  assigned_within e same o (target.Sysctl name) t short =
       let a = h.light in
       let b = with_value_light s.sysctls name t in
       record { same = h.same; light = omega (arith, a, b, short) }

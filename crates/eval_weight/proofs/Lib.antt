@@ -3,6 +3,7 @@ pub mod Tables
 pub mod Found
 pub mod Rendered
 pub mod Scenes
+pub mod Escaped
 pub mod Assigned
 pub mod Stepped
 pub mod Acted

@@ -1,5 +1,5 @@
 -- What a scene weighs behind one assignment of a rule.
-use Rattle.std.proofs.Common.{ℕ, ◌+◌, ◌≤◌, Bool, true, false, List, [], ◌∷◌, ◌++◌, length, Option, Some, None, ◌||◌, if◌then◌else◌, arith}
+use Rattle.std.proofs.Common.{◌≡◌, ℕ, ◌+◌, ◌≤◌, Bool, true, false, List, [], ◌∷◌, ◌++◌, length, Option, Some, None, ◌||◌, if◌then◌else◌, arith}
 use Rattle.std.proofs.lemmas.List.Sums.{sum_by_push}
 use Rattle.std.specs.List.{sum_by, list_any}
 use Rattle.text_words.specs.Texts.{is_empty}
@@ -26,15 +26,15 @@ use Rattle.eval_scene.specs.declared.finals.FinalKey.{FinalKey}
 use Rattle.eval_scene.specs.declared.finals.FinalKey.TheVariants as final
 use Rattle.eval_scene.specs.declared.note_kind.NoteKind.TheVariants.{TextTooLong, NameIgnored}
 use Rattle.eval_scene.specs.declared.scene.Scene.{Scene}
-use Rattle.eval_assignments.specs.Assigning.{assigned, with_option}
+use Rattle.eval_assignments.specs.Assigning.{assigned, link_text, name_text, with_option}
 use Rattle.eval_assignments.specs.Escapes.{escape_of, mode_of}
 use Rattle.eval_assignments.specs.Finality.{final_key, final_option, final_target, finally, is_settled, settled}
 use Rattle.eval_assignments.specs.Steps.{is_ignored, run_of, set_step, step_by, text_given, text_set}
-use Rattle.eval_assignments.specs.declared.escapes.Escape.{Escape}
 use Rattle.eval_weight.specs.Allowances.{part_allowance}
 use Rattle.eval_weight.specs.Inner.{Within, run_weight, scene_weight}
 use Rattle.eval_weight.proofs.Rendered.{IsShort, rendered_short}
 use Rattle.eval_weight.proofs.Scenes.{more, noted_within}
+use Rattle.eval_weight.proofs.Escaped.{escaped_same}
 use Rattle.eval_weight.proofs.Assigned.{assigned_within}
 
 -- a RUN more
@@ -74,19 +74,19 @@ module _ (event : EventValue) where
   option_within n option.Ignored s h = h
 
   module _ (n : ℕ) (r : Rule) (s : Scene) (h : Within event n s) where
-    given_within : (e : Escape) (o : AssignOperator) (about : Target) (t : Text) → length t ≤ 16384
+    given_within : (e : _) → ((t : Text) → (length (name_text e t) ≡ length t) × (length (link_text e t) ≡ length t)) → (o : AssignOperator) (about : Target) (t : Text) → length t ≤ 16384
         → Within event (n + part_allowance r (attribute_of_target about)) (text_given r e o about t s)
-    given_within e o about t short = by (is_ignored about s)
+    given_within e same o about t short = by (is_ignored about s)
       where
         by : (b : Bool) → Within event (n + part_allowance r (attribute_of_target about)) (if b then noted r NameIgnored t s else finally o (final_target about) (assigned r e o about t s))
         by true = more event (n + (length r.file + 56)) (n + part_allowance r (attribute_of_target about)) _ (omega arith) (noted_within event n r NameIgnored t s h)
         by false =
-            finally_within (n + part_allowance r (attribute_of_target about)) o (final_target about) (assigned r e o about t s) (assigned_within event n r s h e o about t short)
+            finally_within (n + part_allowance r (attribute_of_target about)) o (final_target about) (assigned r e o about t s) (assigned_within event n r s h e same o about t short)
 
-    text_within : (e : Escape) (o : AssignOperator) (about : Target) (given : Rendered) → IsShort given
+    text_within : (e : _) → ((t : Text) → (length (name_text e t) ≡ length t) × (length (link_text e t) ≡ length t)) → (o : AssignOperator) (about : Target) (given : Rendered) → IsShort given
         → Within event (n + part_allowance r (attribute_of_target about)) (text_set r e o about given s)
-    text_within e o about (rendered.Text t) short = given_within e o about t short
-    text_within e o about rendered.TooLong short =
+    text_within e same o about (rendered.Text t) short = given_within e same o about t short
+    text_within e same o about rendered.TooLong short =
         more event (n + (length r.file + 56)) (n + part_allowance r (attribute_of_target about)) _ (omega arith)
         (noted_within event n r TextTooLong (word_of_key (key_of_target about) (attribute_of_target about)) s h)
 
@@ -99,7 +99,7 @@ module _ (event : EventValue) where
         more event n (n + part_allowance r (attribute_of_change (change.Option known))) _ (omega arith)
         (finally_within n o (final_option known) (with_option known s) (option_within n known s h))
     change_within o (change.Text about template) =
-        text_within (escape_of r.sets) o about (render template s.state (mode_of about (escape_of r.sets))) (rendered_short template s.state (mode_of about (escape_of r.sets)))
+        text_within (escape_of r.sets) (escaped_same r.sets) o about (render template s.state (mode_of about (escape_of r.sets))) (rendered_short template s.state (mode_of about (escape_of r.sets)))
     change_within o (change.Run kind template) =
         let most : ℕ = part_allowance r (attribute_of_change (change.Run kind template)) in
         finally_within (n + most) o (Some final.Run) (record s { runs = runs_after o s.runs (run_of r kind template s) })

@@ -11,9 +11,9 @@ ghost use Rattle.eval_core.specs.Outcomes.{outcome};
 ghost use Rattle.eval_weight.specs.Allowances.{most_weight};
 ghost use Rattle.eval_weight.specs.Weights.{outcome_weight};
 
-/// The texts that an event comes to, each with one more, are together no longer than four times its
-/// block and 128, and what each part of a rule may add: 32,896, the lengths of its attribute and of the
-/// name of its file, and for an IMPORT twice the block and all keys and values of the database.
+/// The texts that an event comes to, each with one more, are together at most four times its block and
+/// 128, and for each part of a rule 32,896, the length of its attribute and that of its file's name, and
+/// for each IMPORT besides twice the block and all keys and values of the database, each with one more.
 pub fn an_answer_weighs_no_more_than_is_allowed()
     ensures { (rules : List Rule) (entries : List Entry) (block : Text) (event : EventValue) → block_gives block ≡ Ok event → outcome_weight (outcome rules entries event) ≤ most_weight (length block) entries rules }
 {}

@@ -1,0 +1,138 @@
+//! One line of each kind.
+ghost use Rattle.std.specs.Prelude.{◌≡◌, ◌++◌, codes, OnOk, option_map};
+ghost use Rattle.engine_answers.specs.Lines.{event_line, given_line, is_hidden, note_line, pair_line, persist_line, priority_line, run_line, shown_line, text_line, watch_line};
+
+use engine_places::{push_place, push_word};
+use eval_scene::Note;
+use itoa::Buffer;
+use rule_core::RunType;
+use std::alloc::{AllocError, Global};
+use text_bytes::Bytes;
+use text_files::escape;
+
+/// Puts a line with a text behind others.
+#[tactic(auto, unfolding(crate::specs::Lines::text_line))]
+pub(crate) fn push_text(alloc: Global, lines: &mut Vec<u8>, word: &[u8], text: &[u8]) -> Result<(), AllocError>
+    ensures { OnOk result (lines.new.items ≡ lines.old.items ++ text_line word.now text.now) }
+{
+    lines.extend_from_slice(word)?;
+    lines.push(b' ')?;
+    lines.extend_from_slice(&escape(alloc, text)?)?;
+    lines.push(b'\n')?;
+    Ok(())
+}
+
+/// Puts a line with a text behind others, if the text is there.
+pub(crate) fn push_given(alloc: Global, lines: &mut Vec<u8>, word: &[u8], text: &Option<Bytes>) -> Result<(), AllocError>
+    ensures { OnOk result (lines.new.items ≡ lines.old.items ++ given_line word.now text.now) }
+{
+    match text {
+        Some(text) => push_text(alloc, lines, word, text.as_slice()),
+        None => Ok(()),
+    }
+}
+
+/// Puts a line with a name and its value behind others.
+#[tactic(auto, unfolding(crate::specs::Lines::pair_line))]
+pub(crate) fn push_pair(alloc: Global, lines: &mut Vec<u8>, word: &[u8], name: &[u8], value: &[u8]) -> Result<(), AllocError>
+    ensures { OnOk result (lines.new.items ≡ lines.old.items ++ pair_line word.now (name.now, value.now)) }
+{
+    lines.extend_from_slice(word)?;
+    lines.push(b' ')?;
+    lines.extend_from_slice(&escape(alloc, name)?)?;
+    lines.push(b'=')?;
+    lines.extend_from_slice(&escape(alloc, value)?)?;
+    lines.push(b'\n')?;
+    Ok(())
+}
+
+/// Puts the line of a property behind others, unless its name begins with a dot.
+pub(crate) fn push_shown(alloc: Global, lines: &mut Vec<u8>, name: &[u8], value: &[u8]) -> Result<(), AllocError>
+    ensures { OnOk result (lines.new.items ≡ lines.old.items ++ shown_line (name.now, value.now)) }
+{
+    if is_hidden(name) {
+        return Ok(());
+    }
+    push_pair(alloc, lines, b"env", name, value)
+}
+
+/// Whether a name begins with a dot.
+fn is_hidden(name: &[u8]) -> bool
+    ensures { result ≡ is_hidden name.now }
+{
+    name.first() == Some(&b'.')
+}
+
+/// Puts the line of a priority behind others, if one was assigned.
+pub(crate) fn push_priority(lines: &mut Vec<u8>, priority: Option<i32>) -> Result<(), AllocError>
+    ensures { OnOk result (lines.new.items ≡ lines.old.items ++ priority_line priority) }
+{
+    let Some(priority) = priority else {
+        return Ok(());
+    };
+    lines.extend_from_slice(b"priority ")?;
+    lines.extend_from_slice(Buffer::new().format(priority).as_bytes())?;
+    lines.push(b'\n')?;
+    Ok(())
+}
+
+/// Puts the line on watching behind others, if it was assigned.
+pub(crate) fn push_watch(lines: &mut Vec<u8>, watch: Option<bool>) -> Result<(), AllocError>
+    ensures { OnOk result (lines.new.items ≡ lines.old.items ++ watch_line watch) }
+{
+    match watch {
+        Some(true) => lines.extend_from_slice(b"watch\n")?,
+        Some(false) => lines.extend_from_slice(b"nowatch\n")?,
+        None => {}
+    }
+    Ok(())
+}
+
+/// Puts the line of what stays in the database behind others.
+pub(crate) fn push_persist(lines: &mut Vec<u8>, persist: bool) -> Result<(), AllocError>
+    ensures { OnOk result (lines.new.items ≡ lines.old.items ++ persist_line persist) }
+{
+    if persist {
+        lines.extend_from_slice(b"persist\n")?;
+    }
+    Ok(())
+}
+
+/// Puts the line of a command behind others.
+#[tactic(auto, unfolding(crate::specs::Lines::run_line))]
+pub(crate) fn push_run(alloc: Global, lines: &mut Vec<u8>, kind: RunType, text: &[u8]) -> Result<(), AllocError>
+    ensures { OnOk result (lines.new.items ≡ lines.old.items ++ run_line kind text.now) }
+{
+    lines.extend_from_slice(b"run ")?;
+    lines.extend_from_slice(kind.name())?;
+    lines.push(b' ')?;
+    lines.extend_from_slice(&escape(alloc, text)?)?;
+    lines.push(b'\n')?;
+    Ok(())
+}
+
+/// Puts the line of a note behind others.
+#[tactic(auto, unfolding(crate::specs::Lines::note_line))]
+pub(crate) fn push_note(alloc: Global, lines: &mut Vec<u8>, note: &Note) -> Result<(), AllocError>
+    ensures { OnOk result (lines.new.items ≡ lines.old.items ++ note_line note.now) }
+{
+    lines.extend_from_slice(b"note ")?;
+    push_place(alloc, lines, note.file.as_slice(), note.line)?;
+    lines.extend_from_slice(note.kind.text())?;
+    push_word(alloc, lines, note.word.as_slice())?;
+    lines.push(b'\n')?;
+    Ok(())
+}
+
+/// Puts the first line behind others: what happened, and to which device.
+#[tactic(auto, unfolding(crate::specs::Lines::event_line))]
+pub(crate) fn push_event(alloc: Global, lines: &mut Vec<u8>, action: &[u8], path: &[u8]) -> Result<(), AllocError>
+    ensures { OnOk result (lines.new.items ≡ lines.old.items ++ event_line action.now path.now) }
+{
+    lines.extend_from_slice(b"event ")?;
+    lines.extend_from_slice(&escape(alloc, action)?)?;
+    lines.push(b' ')?;
+    lines.extend_from_slice(&escape(alloc, path)?)?;
+    lines.push(b'\n')?;
+    Ok(())
+}

@@ -1,0 +1,48 @@
+//! A line for each member of a list.
+ghost use Rattle.std.specs.Prelude.{◌≡◌, ◌++◌, OnOk};
+ghost use Rattle.engine_answers.specs.Lines.{env_lines, note_lines, pair_lines, text_lines};
+
+use crate::lines::{push_note, push_pair, push_shown, push_text};
+use eval_scene::Notes;
+use std::alloc::{AllocError, Global};
+use text_tables::{OwnedPairs, OwnedTexts};
+
+/// Puts a line for each text behind others.
+pub(crate) fn push_texts(alloc: Global, lines: &mut Vec<u8>, word: &[u8], texts: &OwnedTexts) -> Result<(), AllocError>
+    ensures { OnOk result (lines.new.items ≡ lines.old.items ++ text_lines word.now texts.now) }
+{
+    for text in texts.as_slice() {
+        push_text(alloc, lines, word, text)?;
+    }
+    Ok(())
+}
+
+/// Puts a line for each name and its value behind others.
+pub(crate) fn push_pairs(alloc: Global, lines: &mut Vec<u8>, word: &[u8], pairs: &OwnedPairs) -> Result<(), AllocError>
+    ensures { OnOk result (lines.new.items ≡ lines.old.items ++ pair_lines word.now pairs.now) }
+{
+    for (name, value) in pairs.as_map().iter() {
+        push_pair(alloc, lines, word, name, value.as_slice())?;
+    }
+    Ok(())
+}
+
+/// Puts the lines of properties behind others.
+pub(crate) fn push_env(alloc: Global, lines: &mut Vec<u8>, pairs: &OwnedPairs) -> Result<(), AllocError>
+    ensures { OnOk result (lines.new.items ≡ lines.old.items ++ env_lines pairs.now) }
+{
+    for (name, value) in pairs.as_map().iter() {
+        push_shown(alloc, lines, name, value.as_slice())?;
+    }
+    Ok(())
+}
+
+/// Puts the lines of notes behind others.
+pub(crate) fn push_notes(alloc: Global, lines: &mut Vec<u8>, notes: &Notes) -> Result<(), AllocError>
+    ensures { OnOk result (lines.new.items ≡ lines.old.items ++ note_lines notes.now) }
+{
+    for note in notes.as_slice() {
+        push_note(alloc, lines, note)?;
+    }
+    Ok(())
+}

@@ -1,0 +1,43 @@
+//! Where something stands, and a word about it: the parts of lines that messages and notes share.
+//!
+//! A file's name and a word may hold any byte, so both are escaped here, and no line is made without.
+#![tactic(auto)]
+
+ghost use Rattle.std.specs.Prelude.{◌≡◌, ◌++◌, OnOk};
+ghost use Rattle.engine_places.specs.Places.{place_of, word_part};
+
+use itoa::Buffer;
+use std::alloc::{AllocError, Global};
+use text_files::escape;
+
+/// Puts `FILE:LINE: ` behind a text, the file's name escaped.
+///
+/// The error comes where memory is refused; a part may then stand behind the text.
+pub fn push_place(
+    alloc: Global,
+    text: &mut Vec<u8>,
+    file: &[u8],
+    line: u32,
+) -> Result<(), AllocError>
+    ensures { OnOk result (text.new.items ≡ text.old.items ++ place_of file.now line) }
+{
+    text.extend_from_slice(&escape(alloc, file)?)?;
+    text.push(b':')?;
+    text.extend_from_slice(Buffer::new().format(line).as_bytes())?;
+    text.extend_from_slice(b": ")?;
+    Ok(())
+}
+
+/// Puts `: ` and a word behind a text, the word escaped, and nothing where the word is empty.
+///
+/// The error comes where memory is refused; a part may then stand behind the text.
+pub fn push_word(alloc: Global, text: &mut Vec<u8>, word: &[u8]) -> Result<(), AllocError>
+    ensures { OnOk result (text.new.items ≡ text.old.items ++ word_part word.now) }
+{
+    if word.is_empty() {
+        return Ok(());
+    }
+    text.extend_from_slice(b": ")?;
+    text.extend_from_slice(&escape(alloc, word)?)?;
+    Ok(())
+}

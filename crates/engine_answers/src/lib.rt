@@ -4,5 +4,8 @@
 //! every text is escaped, so that none can be taken for a line.
 #![tactic(auto)]
 
+mod answers;
 mod lines;
 mod lists;
+
+pub use answers::answer;

@@ -1,0 +1,66 @@
+//! The whole answer.
+ghost use Rattle.std.specs.Prelude.{◌≡◌, ◌++◌, IfOk, OnOk};
+ghost use Rattle.engine_answers.specs.Answers.{answer, node_lines, run_lines};
+
+use crate::lines::{push_event, push_given, push_persist, push_priority, push_run, push_watch};
+use crate::lists::{push_env, push_notes, push_pairs, push_texts};
+use device_core::Event;
+use eval_core::{Commands, Outcome};
+use std::alloc::{AllocError, Global};
+use text_bytes::Bytes;
+
+/// The answer to an event: a line for each part of what it comes to that has something to say, and an
+/// empty line behind them.
+///
+/// The lines are `event ACTION PATH`, `name`, `owner`, `group`, `mode`, `priority`, `watch` or
+/// `nowatch`, `persist`, `label MODULE=..`, `link`, `tag`, `env KEY=..`, `attr NAME=..`,
+/// `sysctl NAME=..`, `run TYPE ..` and `note FILE:LINE: TEXT: WORD`, in this order, as udev(7) names
+/// these things. Properties whose names begin with a dot are left out. The error comes where memory is
+/// refused.
+#[tactic(auto, unfolding(crate::specs::Answers::answer))]
+pub fn answer(
+    alloc: Global,
+    event: &Event<'_>,
+    outcome: &Outcome,
+) -> Result<Bytes, AllocError>
+    ensures { IfOk result (λ text. text ≡ answer event.now outcome.now) }
+{
+    let mut lines = Vec::new(alloc);
+    push_event(alloc, &mut lines, event.action(), event.device().path())?;
+    push_node(alloc, &mut lines, outcome)?;
+    push_pairs(alloc, &mut lines, b"label", &outcome.labels)?;
+    push_texts(alloc, &mut lines, b"link", &outcome.links)?;
+    push_texts(alloc, &mut lines, b"tag", &outcome.tags)?;
+    push_env(alloc, &mut lines, &outcome.env)?;
+    push_pairs(alloc, &mut lines, b"attr", &outcome.attrs)?;
+    push_pairs(alloc, &mut lines, b"sysctl", &outcome.sysctls)?;
+    push_runs(alloc, &mut lines, &outcome.runs)?;
+    push_notes(alloc, &mut lines, &outcome.notes)?;
+    lines.push(b'\n')?;
+    Ok(Bytes::new(lines))
+}
+
+/// Puts the lines on the device's node behind others.
+#[tactic(auto, unfolding(crate::specs::Answers::node_lines))]
+fn push_node(alloc: Global, lines: &mut Vec<u8>, outcome: &Outcome) -> Result<(), AllocError>
+    ensures { OnOk result (lines.new.items ≡ lines.old.items ++ node_lines outcome.now) }
+{
+    push_given(alloc, lines, b"name", &outcome.name)?;
+    push_given(alloc, lines, b"owner", &outcome.owner)?;
+    push_given(alloc, lines, b"group", &outcome.group)?;
+    push_given(alloc, lines, b"mode", &outcome.mode)?;
+    push_priority(lines, outcome.priority)?;
+    push_watch(lines, outcome.watch)?;
+    push_persist(lines, outcome.persist)?;
+    Ok(())
+}
+
+/// Puts the lines of commands behind others.
+fn push_runs(alloc: Global, lines: &mut Vec<u8>, runs: &Commands) -> Result<(), AllocError>
+    ensures { OnOk result (lines.new.items ≡ lines.old.items ++ run_lines runs.now) }
+{
+    for command in runs.as_slice() {
+        push_run(alloc, lines, command.kind, command.text.as_slice())?;
+    }
+    Ok(())
+}

@@ -7,5 +7,7 @@
 mod answers;
 mod lines;
 mod lists;
+#[cfg(test)]
+mod tests;
 
 pub use answers::answer;

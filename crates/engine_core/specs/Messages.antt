@@ -1,7 +1,7 @@
 -- The lines of messages: `FILE:LINE: CODE TEXT: WORD`.
-use Rattle.std.specs.Prelude.{ℕ, ◌==◌, if◌then◌else◌, List, [], ◌∷◌, ◌++◌, length, codes, decimal, flat_map}
-use Rattle.text_bytes.specs.Names.{colon, newline}
-use Rattle.text_files.specs.Escapes.{escape_text}
+use Rattle.std.specs.Prelude.{ℕ, List, [], ◌∷◌, ◌++◌, codes, flat_map}
+use Rattle.text_bytes.specs.Names.{newline}
+use Rattle.engine_places.specs.Places.{place_of, word_part}
 use Rattle.text_files.specs.declared.message.Message.{Message}
 use Rattle.text_files.specs.declared.message.MessageKind.{MessageKind}
 use Rattle.text_files.specs.declared.message.MessageKind.TheVariants.{PropertyWithoutMatch, MatchWithoutProperty, UnindentedLine, NoEquals, EmptyKey, PatternNotSupported, BadSyntax, UnknownKey, OperatorNotAllowed, WrongAttribute, BadValue, BadSubstitution, NoLaterLabel, GivenTwice, LineTooLong, BadPrefix, SetNotSupported, OpenAtEnd, CommaExpected, BlankExpected, ReadAsAssign, LabelUnused}
@@ -30,14 +30,6 @@ heading_of CommaExpected = codes "S1 one comma expected"
 heading_of BlankExpected = codes "S2 blank after a comma expected"
 heading_of ReadAsAssign = codes "S3 operator read as ="
 heading_of LabelUnused = codes "S4 label unused"
-
--- where something stands, `FILE:LINE: `, the file's name escaped and the line's number in decimal
-abbrev pub place_of : List ℕ → ℕ → List ℕ
-place_of file line = escape_text file ++ colon ∷ decimal line ++ codes ": "
-
--- the word of a message behind its text, escaped; an empty word is left out with its colon
-abbrev pub word_part : List ℕ → List ℕ
-word_part word = if length word == 0 then [] else codes ": " ++ escape_text word
 
 -- the line of a message
 unfoldable pub message_line : Message → List ℕ

@@ -3,11 +3,11 @@
 //! The texts stand here and not beside the kinds of messages, since they are needed only where the
 //! lines are written.
 ghost use Rattle.std.specs.Prelude.{◌≡◌, ◌++◌, IfOk, OnOk};
-ghost use Rattle.engine_core.specs.Messages.{heading_of, message_line, message_lines, place_of, word_part};
+ghost use Rattle.engine_core.specs.Messages.{heading_of, message_line, message_lines};
 
-use itoa::Buffer;
+use engine_places::{push_place, push_word};
 use std::alloc::{AllocError, Global};
-use text_files::{Message, MessageKind, escape};
+use text_files::{Message, MessageKind};
 
 /// The lines of messages, in the order given.
 pub(crate) fn message_lines(alloc: Global, messages: &[Message]) -> Result<Vec<u8>, AllocError>
@@ -29,34 +29,6 @@ fn push_message(alloc: Global, text: &mut Vec<u8>, message: &Message) -> Result<
     text.extend_from_slice(heading(message.kind))?;
     push_word(alloc, text, message.word.as_slice())?;
     text.push(b'\n')?;
-    Ok(())
-}
-
-/// Puts a message's word behind a text, escaped, and nothing where there is none.
-fn push_word(alloc: Global, text: &mut Vec<u8>, word: &[u8]) -> Result<(), AllocError>
-    ensures { OnOk result (text.new.items ≡ text.old.items ++ word_part word.now) }
-{
-    if word.is_empty() {
-        return Ok(());
-    }
-    text.extend_from_slice(b": ")?;
-    text.extend_from_slice(&escape(alloc, word)?)?;
-    Ok(())
-}
-
-/// Puts `FILE:LINE: ` behind a text, the file's name escaped.
-pub(crate) fn push_place(
-    alloc: Global,
-    text: &mut Vec<u8>,
-    file: &[u8],
-    line: u32,
-) -> Result<(), AllocError>
-    ensures { OnOk result (text.new.items ≡ text.old.items ++ place_of file.now line) }
-{
-    text.extend_from_slice(&escape(alloc, file)?)?;
-    text.push(b':')?;
-    text.extend_from_slice(Buffer::new().format(line).as_bytes())?;
-    text.extend_from_slice(b": ")?;
     Ok(())
 }
 

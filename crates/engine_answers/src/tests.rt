@@ -27,8 +27,8 @@ fn rules_of(alloc: Global, text: &[u8]) -> Result<RuleSet, Fail> {
 /// The answer to an event.
 fn on_event(alloc: Global, rules: &RuleSet, event: &Event<'_>) -> Result<Bytes, Fail> {
     let lookup = PlainDb::new(Vec::new(alloc));
-    let outcome = evaluate_plain(alloc, rules, event, &lookup).map_err(|_error| "no outcome")?;
-    Ok(answer(alloc, event, &outcome).map_err(|_error| "no answer")?)
+    let outcome = evaluate_plain(alloc, rules, event, &lookup)?;
+    Ok(answer(alloc, event, &outcome)?)
 }
 
 /// The answer to a block's event.

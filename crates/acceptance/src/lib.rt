@@ -7,6 +7,8 @@
 #[cfg(test)]
 mod database;
 #[cfg(test)]
+mod events;
+#[cfg(test)]
 mod failures;
 #[cfg(test)]
 mod rules;

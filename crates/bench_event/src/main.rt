@@ -1,0 +1,133 @@
+//! Evaluates the rules of its input over each event block behind them, and prints what the events come
+//! to together. The rules are the lines up to the first empty one.
+//!
+//! `bench/event.sh` runs it over many rules. It stands in a crate of its own since `devdry` has no
+//! command yet that reads events.
+#![tactic(auto)]
+
+use device_core::{Event, SplitFault, Splitter, read_block};
+use eval_core::{Outcome, evaluate_plain};
+use hwdb_lookup::PlainDb;
+use rule_core::{RuleSet, RulesFault, read_rules};
+use std::alloc::{AllocError, Global};
+use std::io::{self, Read};
+use text_bytes::Bytes;
+use text_files::{FileKind, SourceFile};
+
+/// How many events there are, and what they come to.
+#[derive(Clone, Copy)]
+struct Counts {
+    events: u64,
+    properties: usize,
+    links: usize,
+    notes: usize,
+}
+
+impl Counts {
+    fn with_outcome(self, outcome: &Outcome) -> Counts {
+        Counts {
+            events: self.events.wrapping_add(1),
+            properties: self.properties.wrapping_add(outcome.env.len()),
+            links: self.links.wrapping_add(outcome.links.as_slice().len()),
+            notes: self.notes.wrapping_add(outcome.notes.as_slice().len()),
+        }
+    }
+}
+
+/// How many bytes stand before the first empty line.
+fn rules_len(text: &[u8]) -> usize {
+    let mut len = 0_usize;
+    for line in text.split(|byte| *byte == b'\n') {
+        if line.is_empty() {
+            break;
+        }
+        len = len.wrapping_add(line.len()).wrapping_add(1);
+    }
+    len.min(text.len())
+}
+
+/// The rules of a text.
+fn rules_of(alloc: Global, text: &[u8]) -> Result<RuleSet, RulesFault> {
+    let mut files = Vec::new(alloc);
+    files.push(SourceFile {
+        kind: FileKind::Rules,
+        rank: 0,
+        name: Bytes::copy_of(alloc, b"a.rules")?,
+        bytes: Bytes::copy_of(alloc, text)?,
+    })?;
+    read_rules(alloc, &files)
+}
+
+/// The counts with one event.
+fn with_event(
+    alloc: Global,
+    rules: &RuleSet,
+    event: &Event<'_>,
+    counts: Counts,
+) -> Result<Counts, AllocError> {
+    let lookup = PlainDb::new(Vec::new(alloc));
+    let outcome = evaluate_plain(alloc, rules, event, &lookup)?;
+    Ok(counts.with_outcome(&outcome))
+}
+
+/// The counts with the event of a block; a faulty block is none.
+fn with_block(
+    alloc: Global,
+    rules: &RuleSet,
+    block: &[u8],
+    counts: Counts,
+) -> Result<Counts, AllocError> {
+    match read_block(alloc, block) {
+        Ok(event) => with_event(alloc, rules, &event, counts),
+        Err(_) => Ok(counts),
+    }
+}
+
+/// The counts with all events of a text, each with an empty line behind it.
+fn take_all(
+    alloc: Global,
+    rules: &RuleSet,
+    splitter: &mut Splitter,
+    text: &[u8],
+) -> Result<Counts, SplitFault> {
+    let mut counts = Counts {
+        events: 0,
+        properties: 0,
+        links: 0,
+        notes: 0,
+    };
+    let mut rest = text;
+    while !rest.is_empty() {
+        let taken = splitter.take(rest)?;
+        if taken.whole {
+            if let Ok(more) = with_block(alloc, rules, splitter.block(), counts) {
+                counts = more;
+            }
+        }
+        (_, rest) = rest.split_at(taken.used);
+    }
+    Ok(counts)
+}
+
+fn main(rt: HostRuntime) -> io::Result<()> {
+    let alloc = rt.alloc();
+    let mut text = Vec::new(alloc);
+    rt.stdin().read_to_end(&mut text)?;
+    let (rules, blocks) = text.as_slice().split_at(rules_len(&text));
+    let mut splitter = Splitter::new(alloc)?;
+    match rules_of(alloc, rules) {
+        Ok(rules) => match take_all(alloc, &rules, &mut splitter, blocks) {
+            Ok(counts) => println!(rt;
+                "{} rules, {} events, {} properties, {} links, {} notes",
+                rules.rules().len(),
+                counts.events,
+                counts.properties,
+                counts.links,
+                counts.notes
+            )?,
+            Err(_) => println!(rt; "a block is too long")?,
+        },
+        Err(_) => println!(rt; "no rules")?,
+    }
+    Ok(())
+}

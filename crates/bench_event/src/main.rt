@@ -34,8 +34,8 @@ impl Counts {
     }
 }
 
-/// How many bytes stand before the first empty line.
-fn rules_len(text: &[u8]) -> usize {
+/// A text up to its first empty line, and from there on.
+fn rules_and_blocks(text: &[u8]) -> (&[u8], &[u8]) {
     let mut len = 0_usize;
     for line in text.split(|byte| *byte == b'\n') {
         if line.is_empty() {
@@ -43,7 +43,7 @@ fn rules_len(text: &[u8]) -> usize {
         }
         len = len.wrapping_add(line.len()).wrapping_add(1);
     }
-    len.min(text.len())
+    text.split_at(len.min(text.len()))
 }
 
 /// The rules of a text.
@@ -113,7 +113,7 @@ fn main(rt: HostRuntime) -> io::Result<()> {
     let alloc = rt.alloc();
     let mut text = Vec::new(alloc);
     rt.stdin().read_to_end(&mut text)?;
-    let (rules, blocks) = text.as_slice().split_at(rules_len(&text));
+    let (rules, blocks) = rules_and_blocks(&text);
     let mut splitter = Splitter::new(alloc)?;
     match rules_of(alloc, rules) {
         Ok(rules) => match take_all(alloc, &rules, &mut splitter, blocks) {

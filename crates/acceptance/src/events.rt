@@ -1,11 +1,13 @@
-//! Rules over one event, from the texts of both.
+//! Rules over one event, from the texts of both to the lines of the answer.
 use crate::running::files_of;
 use device_core::{Event, read_block};
-use eval_core::{NoteKind, Outcome, evaluate_plain};
+use engine_answers::answer;
+use eval_core::evaluate_plain;
 use hwdb_core::{PlainDb, read_sources};
-use rule_core::{RuleSet, RunType, read_rules};
+use rule_core::{RuleSet, read_rules};
 use std::alloc::Global;
 use std::test::Fail;
+use text_bytes::Bytes;
 use text_files::FileKind;
 
 /// A disk.
@@ -13,6 +15,46 @@ const DISK: &str = "C: add\nP: /devices/pci0/block/sda\nU: block\nN: sda\nD: 8:0
 
 /// A terminal below a USB device.
 const BELOW_USB: &str = "C: add\nP: /devices/b/h/d/t0\nU: tty\nP: /devices/b/h/d\nU: usb\n";
+
+/// A device whose kernel's name has capitals.
+const MIXED: &str = "C: add\nP: /x/SdA\n";
+
+/// An attribute with whitespace at its end.
+const PADDED: &str = "C: add\nP: /x\nA: m=Disk  \n";
+
+/// A device of USB, and above it another one with a serial number.
+const APART: &str = "C: add\nP: /a/b/c\nP: /a/b\nU: usb\nP: /a\nU: pci\nA: serial=7\n";
+
+/// A device of USB with a serial number.
+const TOGETHER: &str = "C: add\nP: /a/b/c\nP: /a/b\nU: usb\nA: serial=7\nP: /a\nU: pci\n";
+
+/// An attribute that is named as the parent.
+const NAMED_AS_PARENT: &str = "C: add\nP: /b/h/d/t0\nA: d=1\nP: /b/h/d\nU: usb\n";
+
+/// What a program answers about a disk.
+const ANSWERED: &str = "C: add\nP: /a/sda\nQ: /bin/id sda\nR: 0 ab cd ef\n";
+
+/// A parent with properties.
+const WITH_PARENT: &str = "C: add\nP: /a/b\nP: /a\nE: ID_A=1\nE: X=2\n";
+
+/// A property with whitespace in it.
+const SPACED: &str = "C: add\nP: /x\nE: L= a  b \n";
+
+/// Matches at one device of the chain.
+const USB_WITH_SERIAL: &str = "SUBSYSTEMS==\"usb\", ATTRS{serial}==\"7\", ENV{HIT}=\"$id\"\n";
+
+/// A command about the selected device, and what of it lasts over rules.
+const SELECTIONS: &str = "SUBSYSTEMS==\"usb\", RUN+=\"/bin/x $id\"\nENV{P}=\"$id\"\nSUBSYSTEMS==\"none\", ENV{N}=\"1\"\nENV{Q}=\"$id\"\n";
+
+/// Two rules of one label, and a jump between them.
+const JUMPS: &str = "LABEL=\"x\", ENV{A}=\"1\"\nGOTO=\"x\"\nENV{B}=\"1\"\nLABEL=\"x\", ENV{C}=\"1\"\n";
+
+/// A program, its result, and a word of it.
+const PROGRAM: &str = "PROGRAM==\"/bin/id %k\", RESULT==\"a*\", ENV{R}=\"$result{2+}\"\n";
+
+/// Keys that stay as they are from the first rule on.
+const FINAL: &str =
+    "OWNER:=\"a\"\nOWNER=\"b\"\nOPTIONS:=\"link_priority=5\"\nOPTIONS=\"link_priority=7\"\n";
 
 /// The rules of two files.
 fn rules_of(alloc: Global, first: &str, second: &str) -> Result<RuleSet, Fail> {
@@ -33,315 +75,184 @@ fn database_of(alloc: Global, text: &str) -> Result<PlainDb, Fail> {
     Ok(PlainDb::new(sources.entries))
 }
 
-/// What an event comes to.
+/// The answer to an event.
 fn on_event(
     alloc: Global,
     rules: &RuleSet,
     lookup: &PlainDb,
     event: &Event<'_>,
-) -> Result<Outcome, Fail> {
-    Ok(evaluate_plain(alloc, rules, event, lookup)?)
+) -> Result<Bytes, Fail> {
+    let outcome = evaluate_plain(alloc, rules, event, lookup)?;
+    Ok(answer(alloc, event, &outcome)?)
 }
 
-/// What the event of a block comes to.
+/// The answer to the event of a block.
 fn on_block(
     alloc: Global,
     rules: &RuleSet,
     lookup: &PlainDb,
     block: &[u8],
-) -> Result<Outcome, Fail> {
+) -> Result<Bytes, Fail> {
     let event = read_block(alloc, block).map_err(|_fault| "no event")?;
     on_event(alloc, rules, lookup, &event)
 }
 
-/// What an event comes to by the rules of two files and a database file.
-fn outcome_by(
+/// The answer by the rules of two files and a database file.
+fn answer_by(
     alloc: Global,
     first: &str,
     second: &str,
     database: &str,
     block: &str,
-) -> Result<Outcome, Fail> {
+) -> Result<Bytes, Fail> {
     let rules = rules_of(alloc, first, second)?;
     let lookup = database_of(alloc, database)?;
     on_block(alloc, &rules, &lookup, block.as_bytes())
 }
 
-/// What an event comes to by the rules of one file.
-fn outcome(alloc: Global, rules: &str, block: &str) -> Result<Outcome, Fail> {
-    outcome_by(alloc, rules, "", "", block)
+/// Whether an answer has a line.
+fn has_line(answer: &Bytes, wanted: &str) -> bool {
+    answer
+        .as_slice()
+        .split(|byte| *byte == b'\n')
+        .any(|line| line == wanted.as_bytes())
 }
 
-/// Whether a property has a value.
-fn has(outcome: &Outcome, name: &str, value: &str) -> bool {
-    match outcome.env.get(name.as_bytes()) {
-        Some(found) => found.as_slice() == value.as_bytes(),
-        None => false,
-    }
-}
-
-/// Whether there is no such property.
-fn lacks(outcome: &Outcome, name: &str) -> bool {
-    outcome.env.get(name.as_bytes()).is_none()
-}
-
-/// Whether there is one link, and it is this one.
-fn links_to(outcome: &Outcome, wanted: &str) -> bool {
-    match outcome.links.as_slice() {
-        [link] => link.as_slice() == wanted.as_bytes(),
-        _ => false,
-    }
-}
-
-/// Whether one program is to be run, and it is this one.
-fn runs(outcome: &Outcome, wanted: &str) -> bool {
-    match outcome.runs.as_slice() {
-        [run] => run.kind == RunType::Program && run.text.as_slice() == wanted.as_bytes(),
-        _ => false,
-    }
-}
-
-/// Whether there is one note, and it is this one.
-fn notes(outcome: &Outcome, line: u32, kind: NoteKind, word: &str) -> bool {
-    match outcome.notes.as_slice() {
-        [note] => note.line == line && note.kind == kind && note.word.as_slice() == word.as_bytes(),
-        _ => false,
-    }
+/// Whether the answer by the rules of one file has a line.
+fn tells(alloc: Global, rules: &str, block: &str, line: &str) -> Result<bool, Fail> {
+    let answer = answer_by(alloc, rules, "", "", block)?;
+    Ok(has_line(&answer, line))
 }
 
 #[test]
-fn a_link_is_added(rt: HostRuntime) -> Result<(), Fail> {
+fn matches_hold(rt: HostRuntime) -> Result<(), Fail> {
+    for (rules, block, line) in [
+        (USB_WITH_SERIAL, TOGETHER, "env HIT=b"),
+        ("ENV{X}==\"\", ENV{A}=\"1\"\n", DISK, "env A=1"),
+        ("ATTR{x}!=\"y\", ENV{A}=\"1\"\n", DISK, "env A=1"),
+        ("ATTR{m}==\"Disk\", ENV{A}=\"1\"\n", PADDED, "env A=1"),
+        ("KERNEL==i\"SDA\", ENV{HIT}=\"1\"\n", MIXED, "env HIT=1"),
+        ("KERNEL==i\"SDA\", ENV{HIT}=\"1\"\n", DISK, "env HIT=1"),
+    ] {
+        assert!(rt; tells(rt.alloc(), rules, block, line)?);
+    }
+    Ok(())
+}
+
+#[test]
+fn matches_do_not_hold(rt: HostRuntime) -> Result<(), Fail> {
+    for (rules, block, line) in [
+        (USB_WITH_SERIAL, APART, "env HIT=b"),
+        ("ENV{X}!=\"\", ENV{A}=\"1\"\n", DISK, "env A=1"),
+        ("ATTR{x}==\"*\", ENV{A}=\"1\"\n", DISK, "env A=1"),
+        ("ATTR{m}==\"Disk \", ENV{A}=\"1\"\n", PADDED, "env A=1"),
+        ("KERNEL!=i\"SDA\", ENV{MISS}=\"1\"\n", MIXED, "env MISS=1"),
+        ("KERNEL!=i\"SDA\", ENV{MISS}=\"1\"\n", DISK, "env MISS=1"),
+        ("KERNEL==\"x\", OWNER=\"a\"\n", DISK, "owner a"),
+    ] {
+        assert!(rt; !tells(rt.alloc(), rules, block, line)?);
+    }
+    Ok(())
+}
+
+#[test]
+fn assignments_are_made(rt: HostRuntime) -> Result<(), Fail> {
+    for (rules, block, line) in [
+        ("SYMLINK+=\"disk/%k\"\n", DISK, "link disk/sda"),
+        ("SYMLINK+=\"l$env{X}\", ENV{X}=\"1\"\n", DISK, "link l1"),
+        ("SYMLINK+=\"x/$env{L} y;z\"\n", SPACED, "link x/a_b"),
+        ("SYMLINK+=\"x/$env{L} y;z\"\n", SPACED, "link y_z"),
+        (FINAL, DISK, "owner a"),
+        (FINAL, DISK, "priority 5"),
+        ("RUN+=\"/bin/n $env{V}\"\nENV{V}=\"2\"\n", DISK, "run program /bin/n 2"),
+    ] {
+        assert!(rt; tells(rt.alloc(), rules, block, line)?);
+    }
+    Ok(())
+}
+
+#[test]
+fn acts_are_done(rt: HostRuntime) -> Result<(), Fail> {
+    for (rules, block, line) in [
+        (PROGRAM, ANSWERED, "env R=cd ef"),
+        (PROGRAM, DISK, "note 10-a.rules:1: no answer for program: /bin/id sda"),
+        ("IMPORT{parent}=\"ID_*\"\n", WITH_PARENT, "env ID_A=1"),
+        ("IMPORT{parent}!=\"*\", ENV{Z}=\"1\"\n", DISK, "env Z=1"),
+        ("TEST==\"$id\", SUBSYSTEMS==\"usb\", ENV{T}=\"1\"\n", NAMED_AS_PARENT, "env T=1"),
+        ("IMPORT{builtin}=\"kmod load\"\n", DISK, "note 10-a.rules:1: builtin not run: kmod"),
+    ] {
+        assert!(rt; tells(rt.alloc(), rules, block, line)?);
+    }
+    assert!(rt; !tells(rt.alloc(), "IMPORT{parent}=\"ID_*\"\n", WITH_PARENT, "env X=2")?);
+    Ok(())
+}
+
+#[test]
+fn rules_stand_one_behind_another(rt: HostRuntime) -> Result<(), Fail> {
+    for (rules, block, line) in [
+        (SELECTIONS, BELOW_USB, "env P=d"),
+        (SELECTIONS, BELOW_USB, "run program /bin/x d"),
+        (JUMPS, DISK, "env A=1"),
+        (JUMPS, DISK, "env C=1"),
+        ("GOTO=\"y\", ENV{D}=\"1\"\nENV{E}=\"1\"\n", DISK, "env E=1"),
+    ] {
+        assert!(rt; tells(rt.alloc(), rules, block, line)?);
+    }
+    for (rules, block, line) in [
+        (SELECTIONS, BELOW_USB, "env N=1"),
+        (SELECTIONS, BELOW_USB, "env Q="),
+        (JUMPS, DISK, "env B=1"),
+    ] {
+        assert!(rt; !tells(rt.alloc(), rules, block, line)?);
+    }
+    Ok(())
+}
+
+#[test]
+fn an_answer_is_written_whole(rt: HostRuntime) -> Result<(), Fail> {
     let rules = "SUBSYSTEM==\"block\", KERNEL==\"sd[a-z]\", SYMLINK+=\"disk/%k\"\n";
-    let done = outcome(rt.alloc(), rules, DISK)?;
-    assert!(rt; links_to(&done, "disk/sda"));
-    assert!(rt; has(&done, "DEVNAME", "/dev/sda") && has(&done, "MINOR", "0"));
+    let wanted = "event add /devices/pci0/block/sda\nlink disk/sda\nenv ACTION=add\nenv DEVNAME=/dev/sda\nenv DEVPATH=/devices/pci0/block/sda\nenv MAJOR=8\nenv MINOR=0\nenv SUBSYSTEM=block\n\n";
+    let answer = answer_by(rt.alloc(), rules, "", "", DISK)?;
+    assert_eq!(rt; answer.as_slice(), wanted.as_bytes());
     Ok(())
 }
 
 #[test]
-fn properties_are_sorted(rt: HostRuntime) -> Result<(), Fail> {
-    let done = outcome(rt.alloc(), "ENV{B}=\"1\"\nENV{A}=\"2\"\n", DISK)?;
-    let mut names = Vec::new(rt.alloc());
-    for (name, _) in done.env.as_map().iter() {
-        names.extend_from_slice(name)?;
-        names.push(b' ')?;
-    }
-    let wanted = b"A ACTION B DEVNAME DEVPATH MAJOR MINOR SUBSYSTEM ".as_slice();
-    assert_eq!(rt; names.as_slice(), wanted);
-    Ok(())
-}
-
-#[test]
-fn all_matches_are_met_at_one_device(rt: HostRuntime) -> Result<(), Fail> {
-    let rules = "SUBSYSTEMS==\"usb\", ATTRS{serial}==\"7\", ENV{HIT}=\"$id\"\n";
-    let apart = "C: add\nP: /a/b/c\nP: /a/b\nU: usb\nP: /a\nU: pci\nA: serial=7\n";
-    let together = "C: add\nP: /a/b/c\nP: /a/b\nU: usb\nA: serial=7\nP: /a\nU: pci\n";
-    assert!(rt; lacks(&outcome(rt.alloc(), rules, apart)?, "HIT"));
-    assert!(rt; has(&outcome(rt.alloc(), rules, together)?, "HIT", "b"));
-    Ok(())
-}
-
-#[test]
-fn final_links_stay(rt: HostRuntime) -> Result<(), Fail> {
-    let done = outcome_by(rt.alloc(), "SYMLINK:=\"a\"\n", "SYMLINK+=\"b\"\n", "", DISK)?;
-    assert!(rt; links_to(&done, "a"));
-    Ok(())
-}
-
-#[test]
-fn final_owners_and_options_stay(rt: HostRuntime) -> Result<(), Fail> {
-    let rules =
-        "OWNER:=\"a\"\nOWNER=\"b\"\nOPTIONS:=\"link_priority=5\"\nOPTIONS=\"link_priority=7\"\n";
-    let done = outcome(rt.alloc(), rules, DISK)?;
-    let owner = done.owner.ok_or("no owner")?;
-    assert_eq!(rt; owner.as_slice(), b"a".as_slice());
-    assert_eq!(rt; done.priority, Some(5));
-    Ok(())
-}
-
-#[test]
-fn jumps_lead_to_the_next_label(rt: HostRuntime) -> Result<(), Fail> {
-    let rules = "LABEL=\"x\", ENV{A}=\"1\"\nGOTO=\"x\"\nENV{B}=\"1\"\nLABEL=\"x\", ENV{C}=\"1\"\n";
-    let done = outcome(rt.alloc(), rules, DISK)?;
-    assert!(rt; has(&done, "A", "1") && has(&done, "C", "1"));
-    assert!(rt; lacks(&done, "B"));
-    Ok(())
-}
-
-#[test]
-fn jumps_without_a_label_are_none(rt: HostRuntime) -> Result<(), Fail> {
-    let done = outcome(rt.alloc(), "GOTO=\"y\", ENV{D}=\"1\"\nENV{E}=\"1\"\n", DISK)?;
-    assert!(rt; has(&done, "D", "1") && has(&done, "E", "1"));
-    Ok(())
-}
-
-#[test]
-fn absent_properties_are_empty(rt: HostRuntime) -> Result<(), Fail> {
-    let rules = "ENV{X}==\"\", ENV{A}=\"1\"\nENV{X}!=\"\", ENV{B}=\"1\"\n";
-    let done = outcome(rt.alloc(), rules, DISK)?;
-    assert!(rt; has(&done, "A", "1") && lacks(&done, "B"));
-    Ok(())
-}
-
-#[test]
-fn absent_attributes_only_differ(rt: HostRuntime) -> Result<(), Fail> {
-    let rules = "ATTR{x}!=\"y\", ENV{A}=\"1\"\nATTR{x}==\"*\", ENV{B}=\"1\"\n";
-    let done = outcome(rt.alloc(), rules, DISK)?;
-    assert!(rt; has(&done, "A", "1") && lacks(&done, "B"));
-    Ok(())
-}
-
-#[test]
-fn whitespace_at_the_end_of_attributes(rt: HostRuntime) -> Result<(), Fail> {
-    let rules = "ATTR{m}==\"Disk\", ENV{A}=\"1\"\nATTR{m}==\"Disk \", ENV{B}=\"1\"\n";
-    let done = outcome(rt.alloc(), rules, "C: add\nP: /x\nA: m=Disk  \n")?;
-    assert!(rt; has(&done, "A", "1") && lacks(&done, "B"));
-    Ok(())
-}
-
-#[test]
-fn commands_are_rendered_in_the_end(rt: HostRuntime) -> Result<(), Fail> {
-    let done = outcome(rt.alloc(), "RUN+=\"/bin/n $env{V}\"\nENV{V}=\"2\"\n", DISK)?;
-    assert!(rt; runs(&done, "/bin/n 2"));
-    Ok(())
-}
-
-#[test]
-fn the_selection_lasts_until_the_next_search(rt: HostRuntime) -> Result<(), Fail> {
-    let rules =
-        "SUBSYSTEMS==\"usb\", RUN+=\"/bin/x $id\"\nENV{P}=\"$id\"\nSUBSYSTEMS==\"none\", ENV{N}=\"1\"\nENV{Q}=\"$id\"\n";
-    let done = outcome(rt.alloc(), rules, BELOW_USB)?;
-    assert!(rt; has(&done, "P", "d"));
-    assert!(rt; lacks(&done, "N") && lacks(&done, "Q"));
-    assert!(rt; runs(&done, "/bin/x d"));
-    Ok(())
-}
-
-#[test]
-fn a_test_sees_the_selection(rt: HostRuntime) -> Result<(), Fail> {
-    let block = "C: add\nP: /b/h/d/t0\nA: d=1\nP: /b/h/d\nU: usb\n";
-    let done = outcome(
-        rt.alloc(),
-        "TEST==\"$id\", SUBSYSTEMS==\"usb\", ENV{T}=\"1\"\n",
-        block,
-    )?;
-    assert!(rt; has(&done, "T", "1"));
-    Ok(())
-}
-
-#[test]
-fn properties_are_set_before_links(rt: HostRuntime) -> Result<(), Fail> {
-    let done = outcome(rt.alloc(), "SYMLINK+=\"l$env{X}\", ENV{X}=\"1\"\n", DISK)?;
-    assert!(rt; links_to(&done, "l1"));
-    Ok(())
-}
-
-#[test]
-fn texts_that_are_too_long_are_left_out(rt: HostRuntime) -> Result<(), Fail> {
-    let mut block = String::from_str(rt.alloc(), "C: add\nP: /x\nE: X=")?;
-    for _byte in 0..1000 {
-        block.push('v')?;
-    }
-    let mut rules = String::new(rt.alloc());
-    for _line in 0..5 {
-        rules.push_str("ENV{X}=\"$env{X}$env{X}\"\n")?;
-    }
-    let done = outcome(rt.alloc(), rules.as_str(), block.as_str())?;
-    let value = done.env.get(b"X").ok_or("no property")?;
-    assert_eq!(rt; value.as_slice().len(), 16_000);
-    assert!(rt; notes(&done, 5, NoteKind::TextTooLong, "ENV{X}"));
-    Ok(())
-}
-
-#[test]
-fn commands_that_are_too_long_are_left_out(rt: HostRuntime) -> Result<(), Fail> {
-    let mut block = String::from_str(rt.alloc(), "C: add\nP: /x\nE: X=")?;
-    for _byte in 0..10_000 {
-        block.push('v')?;
-    }
-    let done = outcome(
-        rt.alloc(),
-        "RUN{builtin}+=\"$env{X}$env{X}\"\n",
-        block.as_str(),
-    )?;
-    assert!(rt; done.runs.as_slice().is_empty());
-    assert!(rt; notes(&done, 1, NoteKind::TextTooLong, "RUN{builtin}"));
+fn final_keys_stay_over_files(rt: HostRuntime) -> Result<(), Fail> {
+    let answer = answer_by(rt.alloc(), "SYMLINK:=\"a\"\n", "SYMLINK+=\"b\"\n", "", DISK)?;
+    assert!(rt; has_line(&answer, "link a"));
+    assert!(rt; !has_line(&answer, "link b"));
     Ok(())
 }
 
 #[test]
 fn the_database_is_asked_for_a_parent(rt: HostRuntime) -> Result<(), Fail> {
-    let done = outcome_by(
+    let answer = answer_by(
         rt.alloc(),
         "IMPORT{builtin}=\"hwdb --subsystem=usb\"\n",
         "",
         "usb:v1D6B*\n ID_VENDOR=Linux\n",
         "C: add\nP: /a/b\nP: /a\nU: usb\nE: MODALIAS=usb:v1D6Bp0002\n",
     )?;
-    assert!(rt; has(&done, "ID_VENDOR", "Linux"));
+    assert!(rt; has_line(&answer, "env ID_VENDOR=Linux"));
     Ok(())
 }
 
-#[test]
-fn other_builtins_are_not_run(rt: HostRuntime) -> Result<(), Fail> {
-    let done = outcome(rt.alloc(), "IMPORT{builtin}=\"kmod load\"\n", DISK)?;
-    assert!(rt; notes(&done, 1, NoteKind::BuiltinNotRun, "kmod"));
-    Ok(())
+/// A block with a property `X` of so many letters.
+fn block_with(alloc: Global, letters: usize) -> Result<String, Fail> {
+    let mut block = String::from_str(alloc, "C: add\nP: /x\nE: X=")?;
+    for _letter in 0..letters {
+        block.push('v')?;
+    }
+    Ok(block)
 }
 
 #[test]
-fn programs_are_answered_by_the_block(rt: HostRuntime) -> Result<(), Fail> {
-    let rules = "PROGRAM==\"/bin/id %k\", RESULT==\"a*\", ENV{R}=\"$result{2+}\"\n";
-    let block = "C: add\nP: /a/sda\nQ: /bin/id sda\nR: 0 ab cd ef\n";
-    assert!(rt; has(&outcome(rt.alloc(), rules, block)?, "R", "cd ef"));
-    let silent = outcome(rt.alloc(), rules, DISK)?;
-    assert!(rt; lacks(&silent, "R"));
-    assert!(rt; notes(&silent, 1, NoteKind::NoAnswer, "/bin/id sda"));
-    Ok(())
-}
-
-#[test]
-fn names_of_links_are_made_safe(rt: HostRuntime) -> Result<(), Fail> {
-    let done = outcome(
-        rt.alloc(),
-        "SYMLINK+=\"x/$env{L} y;z\"\n",
-        "C: add\nP: /x\nE: L= a  b \n",
-    )?;
-    let links = done.links.as_slice();
-    assert_eq!(rt; links.len(), 2);
-    assert_eq!(rt; links[0].as_slice(), b"x/a_b".as_slice());
-    assert_eq!(rt; links[1].as_slice(), b"y_z".as_slice());
-    Ok(())
-}
-
-#[test]
-fn properties_of_a_parent_are_taken(rt: HostRuntime) -> Result<(), Fail> {
-    let block = "C: add\nP: /a/b\nP: /a\nE: ID_A=1\nE: X=2\n";
-    let done = outcome(rt.alloc(), "IMPORT{parent}=\"ID_*\"\n", block)?;
-    assert!(rt; has(&done, "ID_A", "1") && lacks(&done, "X"));
-    let alone = outcome(rt.alloc(), "IMPORT{parent}!=\"*\", ENV{Z}=\"1\"\n", DISK)?;
-    assert!(rt; has(&alone, "Z", "1"));
-    Ok(())
-}
-
-#[test]
-fn case_is_ignored_where_it_is_asked_for(rt: HostRuntime) -> Result<(), Fail> {
-    let rules = "KERNEL==i\"SDA\", ENV{HIT}=\"1\"\nKERNEL!=i\"SDA\", ENV{MISS}=\"1\"\n";
-    let mixed = outcome(rt.alloc(), rules, "C: add\nP: /x/SdA\n")?;
-    assert!(rt; has(&mixed, "HIT", "1") && lacks(&mixed, "MISS"));
-    let lower = outcome(rt.alloc(), rules, DISK)?;
-    assert!(rt; has(&lower, "HIT", "1") && lacks(&lower, "MISS"));
-    Ok(())
-}
-
-#[test]
-fn a_rule_that_does_not_match_changes_nothing(rt: HostRuntime) -> Result<(), Fail> {
-    let done = outcome(
-        rt.alloc(),
-        "KERNEL==\"x\", OWNER=\"a\", RUN+=\"/bin/x\"\n",
-        DISK,
-    )?;
-    assert!(rt; done.owner.is_none() && done.runs.as_slice().is_empty());
-    assert!(rt; done.notes.as_slice().is_empty());
+fn texts_that_are_too_long_are_left_out(rt: HostRuntime) -> Result<(), Fail> {
+    let rules = "ENV{X}=\"$env{X}$env{X}\"\n";
+    let note = "note 10-a.rules:1: text too long: ENV{X}";
+    let (fits, too_long) = (block_with(rt.alloc(), 8192)?, block_with(rt.alloc(), 8193)?);
+    assert!(rt; !tells(rt.alloc(), rules, fits.as_str(), note)?);
+    assert!(rt; tells(rt.alloc(), rules, too_long.as_str(), note)?);
     Ok(())
 }

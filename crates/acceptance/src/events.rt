@@ -44,10 +44,12 @@ const SPACED: &str = "C: add\nP: /x\nE: L= a  b \n";
 const USB_WITH_SERIAL: &str = "SUBSYSTEMS==\"usb\", ATTRS{serial}==\"7\", ENV{HIT}=\"$id\"\n";
 
 /// A command about the selected device, and what of it lasts over rules.
-const SELECTIONS: &str = "SUBSYSTEMS==\"usb\", RUN+=\"/bin/x $id\"\nENV{P}=\"$id\"\nSUBSYSTEMS==\"none\", ENV{N}=\"1\"\nENV{Q}=\"$id\"\n";
+const SELECTIONS: &str =
+    "SUBSYSTEMS==\"usb\", RUN+=\"/bin/x $id\"\nENV{P}=\"$id\"\nSUBSYSTEMS==\"none\", ENV{N}=\"1\"\nENV{Q}=\"$id\"\n";
 
 /// Two rules of one label, and a jump between them.
-const JUMPS: &str = "LABEL=\"x\", ENV{A}=\"1\"\nGOTO=\"x\"\nENV{B}=\"1\"\nLABEL=\"x\", ENV{C}=\"1\"\n";
+const JUMPS: &str =
+    "LABEL=\"x\", ENV{A}=\"1\"\nGOTO=\"x\"\nENV{B}=\"1\"\nLABEL=\"x\", ENV{C}=\"1\"\n";
 
 /// A program, its result, and a word of it.
 const PROGRAM: &str = "PROGRAM==\"/bin/id %k\", RESULT==\"a*\", ENV{R}=\"$result{2+}\"\n";
@@ -87,12 +89,7 @@ fn on_event(
 }
 
 /// The answer to the event of a block.
-fn on_block(
-    alloc: Global,
-    rules: &RuleSet,
-    lookup: &PlainDb,
-    block: &[u8],
-) -> Result<Bytes, Fail> {
+fn on_block(alloc: Global, rules: &RuleSet, lookup: &PlainDb, block: &[u8]) -> Result<Bytes, Fail> {
     let event = read_block(alloc, block).map_err(|_fault| "no event")?;
     on_event(alloc, rules, lookup, &event)
 }
@@ -164,7 +161,11 @@ fn assignments_are_made(rt: HostRuntime) -> Result<(), Fail> {
         ("SYMLINK+=\"x/$env{L} y;z\"\n", SPACED, "link y_z"),
         (FINAL, DISK, "owner a"),
         (FINAL, DISK, "priority 5"),
-        ("RUN+=\"/bin/n $env{V}\"\nENV{V}=\"2\"\n", DISK, "run program /bin/n 2"),
+        (
+            "RUN+=\"/bin/n $env{V}\"\nENV{V}=\"2\"\n",
+            DISK,
+            "run program /bin/n 2",
+        ),
     ] {
         assert!(rt; tells(rt.alloc(), rules, block, line)?);
     }
@@ -175,15 +176,34 @@ fn assignments_are_made(rt: HostRuntime) -> Result<(), Fail> {
 fn acts_are_done(rt: HostRuntime) -> Result<(), Fail> {
     for (rules, block, line) in [
         (PROGRAM, ANSWERED, "env R=cd ef"),
-        (PROGRAM, DISK, "note 10-a.rules:1: no answer for program: /bin/id sda"),
+        (
+            PROGRAM,
+            DISK,
+            "note 10-a.rules:1: no answer for program: /bin/id sda",
+        ),
         ("IMPORT{parent}=\"ID_*\"\n", WITH_PARENT, "env ID_A=1"),
         ("IMPORT{parent}!=\"*\", ENV{Z}=\"1\"\n", DISK, "env Z=1"),
-        ("TEST==\"$id\", SUBSYSTEMS==\"usb\", ENV{T}=\"1\"\n", NAMED_AS_PARENT, "env T=1"),
-        ("IMPORT{builtin}=\"kmod load\"\n", DISK, "note 10-a.rules:1: builtin not run: kmod"),
+        (
+            "TEST==\"$id\", SUBSYSTEMS==\"usb\", ENV{T}=\"1\"\n",
+            NAMED_AS_PARENT,
+            "env T=1",
+        ),
+        (
+            "IMPORT{builtin}=\"kmod load\"\n",
+            DISK,
+            "note 10-a.rules:1: builtin not run: kmod",
+        ),
     ] {
         assert!(rt; tells(rt.alloc(), rules, block, line)?);
     }
-    assert!(rt; !tells(rt.alloc(), "IMPORT{parent}=\"ID_*\"\n", WITH_PARENT, "env X=2")?);
+    assert!(rt;
+        !tells(
+            rt.alloc(),
+            "IMPORT{parent}=\"ID_*\"\n",
+            WITH_PARENT,
+            "env X=2"
+        )?
+    );
     Ok(())
 }
 
@@ -211,7 +231,8 @@ fn rules_stand_one_behind_another(rt: HostRuntime) -> Result<(), Fail> {
 #[test]
 fn an_answer_is_written_whole(rt: HostRuntime) -> Result<(), Fail> {
     let rules = "SUBSYSTEM==\"block\", KERNEL==\"sd[a-z]\", SYMLINK+=\"disk/%k\"\n";
-    let wanted = "event add /devices/pci0/block/sda\nlink disk/sda\nenv ACTION=add\nenv DEVNAME=/dev/sda\nenv DEVPATH=/devices/pci0/block/sda\nenv MAJOR=8\nenv MINOR=0\nenv SUBSYSTEM=block\n\n";
+    let wanted =
+        "event add /devices/pci0/block/sda\nlink disk/sda\nenv ACTION=add\nenv DEVNAME=/dev/sda\nenv DEVPATH=/devices/pci0/block/sda\nenv MAJOR=8\nenv MINOR=0\nenv SUBSYSTEM=block\n\n";
     let answer = answer_by(rt.alloc(), rules, "", "", DISK)?;
     assert_eq!(rt; answer.as_slice(), wanted.as_bytes());
     Ok(())

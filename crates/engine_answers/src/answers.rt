@@ -18,11 +18,7 @@ use text_bytes::Bytes;
 /// these things. Properties whose names begin with a dot are left out. The error comes where memory is
 /// refused.
 #[tactic(auto, unfolding(crate::specs::Answers::answer))]
-pub fn answer(
-    alloc: Global,
-    event: &Event<'_>,
-    outcome: &Outcome,
-) -> Result<Bytes, AllocError>
+pub fn answer(alloc: Global, event: &Event<'_>, outcome: &Outcome) -> Result<Bytes, AllocError>
     ensures { IfOk result (λ text. text ≡ answer event.now outcome.now) }
 {
     let mut lines = Vec::new(alloc);

@@ -12,7 +12,12 @@ use text_files::escape;
 
 /// Puts a line with a text behind others.
 #[tactic(auto, unfolding(crate::specs::Lines::text_line))]
-pub(crate) fn push_text(alloc: Global, lines: &mut Vec<u8>, word: &[u8], text: &[u8]) -> Result<(), AllocError>
+pub(crate) fn push_text(
+    alloc: Global,
+    lines: &mut Vec<u8>,
+    word: &[u8],
+    text: &[u8],
+) -> Result<(), AllocError>
     ensures { OnOk result (lines.new.items ≡ lines.old.items ++ text_line word.now text.now) }
 {
     lines.extend_from_slice(word)?;
@@ -23,7 +28,12 @@ pub(crate) fn push_text(alloc: Global, lines: &mut Vec<u8>, word: &[u8], text: &
 }
 
 /// Puts a line with a text behind others, if the text is there.
-pub(crate) fn push_given(alloc: Global, lines: &mut Vec<u8>, word: &[u8], text: &Option<Bytes>) -> Result<(), AllocError>
+pub(crate) fn push_given(
+    alloc: Global,
+    lines: &mut Vec<u8>,
+    word: &[u8],
+    text: &Option<Bytes>,
+) -> Result<(), AllocError>
     ensures { OnOk result (lines.new.items ≡ lines.old.items ++ given_line word.now text.now) }
 {
     match text {
@@ -34,7 +44,13 @@ pub(crate) fn push_given(alloc: Global, lines: &mut Vec<u8>, word: &[u8], text: 
 
 /// Puts a line with a name and its value behind others.
 #[tactic(auto, unfolding(crate::specs::Lines::pair_line))]
-pub(crate) fn push_pair(alloc: Global, lines: &mut Vec<u8>, word: &[u8], name: &[u8], value: &[u8]) -> Result<(), AllocError>
+pub(crate) fn push_pair(
+    alloc: Global,
+    lines: &mut Vec<u8>,
+    word: &[u8],
+    name: &[u8],
+    value: &[u8],
+) -> Result<(), AllocError>
     ensures { OnOk result (lines.new.items ≡ lines.old.items ++ pair_line word.now (name.now, value.now)) }
 {
     lines.extend_from_slice(word)?;
@@ -47,7 +63,12 @@ pub(crate) fn push_pair(alloc: Global, lines: &mut Vec<u8>, word: &[u8], name: &
 }
 
 /// Puts the line of a property behind others, unless its name begins with a dot.
-pub(crate) fn push_shown(alloc: Global, lines: &mut Vec<u8>, name: &[u8], value: &[u8]) -> Result<(), AllocError>
+pub(crate) fn push_shown(
+    alloc: Global,
+    lines: &mut Vec<u8>,
+    name: &[u8],
+    value: &[u8],
+) -> Result<(), AllocError>
     ensures { OnOk result (lines.new.items ≡ lines.old.items ++ shown_line (name.now, value.now)) }
 {
     if is_hidden(name) {
@@ -100,7 +121,12 @@ pub(crate) fn push_persist(lines: &mut Vec<u8>, persist: bool) -> Result<(), All
 
 /// Puts the line of a command behind others.
 #[tactic(auto, unfolding(crate::specs::Lines::run_line))]
-pub(crate) fn push_run(alloc: Global, lines: &mut Vec<u8>, kind: RunType, text: &[u8]) -> Result<(), AllocError>
+pub(crate) fn push_run(
+    alloc: Global,
+    lines: &mut Vec<u8>,
+    kind: RunType,
+    text: &[u8],
+) -> Result<(), AllocError>
     ensures { OnOk result (lines.new.items ≡ lines.old.items ++ run_line kind text.now) }
 {
     lines.extend_from_slice(b"run ")?;
@@ -126,7 +152,12 @@ pub(crate) fn push_note(alloc: Global, lines: &mut Vec<u8>, note: &Note) -> Resu
 
 /// Puts the first line behind others: what happened, and to which device.
 #[tactic(auto, unfolding(crate::specs::Lines::event_line))]
-pub(crate) fn push_event(alloc: Global, lines: &mut Vec<u8>, action: &[u8], path: &[u8]) -> Result<(), AllocError>
+pub(crate) fn push_event(
+    alloc: Global,
+    lines: &mut Vec<u8>,
+    action: &[u8],
+    path: &[u8],
+) -> Result<(), AllocError>
     ensures { OnOk result (lines.new.items ≡ lines.old.items ++ event_line action.now path.now) }
 {
     lines.extend_from_slice(b"event ")?;

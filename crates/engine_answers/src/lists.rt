@@ -8,7 +8,12 @@ use std::alloc::{AllocError, Global};
 use text_tables::{OwnedPairs, OwnedTexts};
 
 /// Puts a line for each text behind others.
-pub(crate) fn push_texts(alloc: Global, lines: &mut Vec<u8>, word: &[u8], texts: &OwnedTexts) -> Result<(), AllocError>
+pub(crate) fn push_texts(
+    alloc: Global,
+    lines: &mut Vec<u8>,
+    word: &[u8],
+    texts: &OwnedTexts,
+) -> Result<(), AllocError>
     ensures { OnOk result (lines.new.items ≡ lines.old.items ++ text_lines word.now texts.now) }
 {
     for text in texts.as_slice() {
@@ -18,7 +23,12 @@ pub(crate) fn push_texts(alloc: Global, lines: &mut Vec<u8>, word: &[u8], texts:
 }
 
 /// Puts a line for each name and its value behind others.
-pub(crate) fn push_pairs(alloc: Global, lines: &mut Vec<u8>, word: &[u8], pairs: &OwnedPairs) -> Result<(), AllocError>
+pub(crate) fn push_pairs(
+    alloc: Global,
+    lines: &mut Vec<u8>,
+    word: &[u8],
+    pairs: &OwnedPairs,
+) -> Result<(), AllocError>
     ensures { OnOk result (lines.new.items ≡ lines.old.items ++ pair_lines word.now pairs.now) }
 {
     for (name, value) in pairs.as_map().iter() {
@@ -28,7 +38,11 @@ pub(crate) fn push_pairs(alloc: Global, lines: &mut Vec<u8>, word: &[u8], pairs:
 }
 
 /// Puts the lines of properties behind others.
-pub(crate) fn push_env(alloc: Global, lines: &mut Vec<u8>, pairs: &OwnedPairs) -> Result<(), AllocError>
+pub(crate) fn push_env(
+    alloc: Global,
+    lines: &mut Vec<u8>,
+    pairs: &OwnedPairs,
+) -> Result<(), AllocError>
     ensures { OnOk result (lines.new.items ≡ lines.old.items ++ env_lines pairs.now) }
 {
     for (name, value) in pairs.as_map().iter() {
@@ -38,7 +52,11 @@ pub(crate) fn push_env(alloc: Global, lines: &mut Vec<u8>, pairs: &OwnedPairs) -
 }
 
 /// Puts the lines of notes behind others.
-pub(crate) fn push_notes(alloc: Global, lines: &mut Vec<u8>, notes: &Notes) -> Result<(), AllocError>
+pub(crate) fn push_notes(
+    alloc: Global,
+    lines: &mut Vec<u8>,
+    notes: &Notes,
+) -> Result<(), AllocError>
     ensures { OnOk result (lines.new.items ≡ lines.old.items ++ note_lines notes.now) }
 {
     for note in notes.as_slice() {

@@ -46,7 +46,8 @@ fn on_disk(alloc: Global, rules: &[u8]) -> Result<Bytes, Fail> {
 #[test]
 fn a_link_and_the_properties_are_told(rt: HostRuntime) -> Result<(), Fail> {
     let rules = b"SUBSYSTEM==\"block\", KERNEL==\"sd[a-z]\", SYMLINK+=\"disk/%k\"\n";
-    let wanted = b"event add /devices/pci0/block/sda\nlink disk/sda\nenv ACTION=add\nenv DEVNAME=/dev/sda\nenv DEVPATH=/devices/pci0/block/sda\nenv MAJOR=8\nenv MINOR=0\nenv SUBSYSTEM=block\n\n";
+    let wanted =
+        b"event add /devices/pci0/block/sda\nlink disk/sda\nenv ACTION=add\nenv DEVNAME=/dev/sda\nenv DEVPATH=/devices/pci0/block/sda\nenv MAJOR=8\nenv MINOR=0\nenv SUBSYSTEM=block\n\n";
     assert_eq!(rt; on_disk(rt.alloc(), rules)?.as_slice(), wanted.as_slice());
     assert_eq!(rt; wanted.len(), 165);
     Ok(())
@@ -55,6 +56,9 @@ fn a_link_and_the_properties_are_told(rt: HostRuntime) -> Result<(), Fail> {
 #[test]
 fn a_note_tells_its_place_and_word(rt: HostRuntime) -> Result<(), Fail> {
     let told = on_disk(rt.alloc(), b"IMPORT{builtin}=\"kmod load\"\n")?;
-    assert!(rt; told.as_slice().ends_with(b"\nnote r.rules:1: builtin not run: kmod\n\n"));
+    assert!(rt;
+        told.as_slice()
+            .ends_with(b"\nnote r.rules:1: builtin not run: kmod\n\n")
+    );
     Ok(())
 }

@@ -1,0 +1,63 @@
+//! Rules and a database, as one thing that answers events.
+ghost use Rattle.std.specs.Prelude.{◌≡◌, IfOk};
+ghost use Rattle.engine_answers.specs.Answers.{answer};
+ghost use Rattle.eval_core.specs.Outcomes.{outcome};
+
+use device_core::Event;
+use engine_answers::answer;
+use engine_sessions::Answering;
+use eval_core::evaluate_plain;
+use hwdb_lookup::Lookup;
+use rule_core::RuleSet;
+use std::alloc::{AllocError, Global};
+use std::marker::Model;
+use text_bytes::Bytes;
+
+/// Rules and a database, by which events are answered.
+#[derive(Drop)]
+pub struct Tables<L: Lookup> {
+    rules: RuleSet,
+    lookup: L,
+}
+
+impl<L: Lookup> Model for Tables<L> {
+    ghost use Rattle.engine_tables.specs.Answering.{TablesValue};
+
+    ghost Value = { TablesValue };
+
+    ghost view = { λ t. record { rules = t.rules.rules; entries = L.entries t.lookup } };
+}
+
+impl<L: Lookup> Tables<L> {
+    /// The rules and the database that events are answered by.
+    ///
+    /// The error comes where memory is refused; what was handed in is dropped then.
+    pub fn new(_alloc: Global, rules: RuleSet, lookup: L) -> Result<Tables<L>, AllocError>
+        ensures { IfOk result (λ tables. tables ≡ record { rules = rules.rules; entries = L.entries lookup }) }
+    {
+        Ok(Tables { rules, lookup })
+    }
+}
+
+/// The answer to an event by rules and a database.
+fn answer_by<L: Lookup>(
+    alloc: Global,
+    rules: &RuleSet,
+    lookup: &L,
+    event: &Event<'_>,
+) -> Result<Bytes, AllocError>
+    ensures { IfOk result (λ text. text ≡ answer event.now (outcome rules.now.rules (L.entries lookup.now) event.now)) }
+{
+    let outcome = evaluate_plain(alloc, rules, event, lookup)?;
+    answer(alloc, event, &outcome)
+}
+
+impl<L: Lookup> Answering for Tables<L> {
+    ghost use Rattle.engine_tables.specs.Answering.{answer_by};
+
+    ghost answers = { answer_by };
+
+    fn answer(&self, alloc: Global, event: &Event<'_>) -> Result<Bytes, AllocError> {
+        answer_by(alloc, &self.rules, &self.lookup, event)
+    }
+}

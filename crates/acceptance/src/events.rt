@@ -40,6 +40,12 @@ const WITH_PARENT: &str = "C: add\nP: /a/b\nP: /a\nE: ID_A=1\nE: X=2\n";
 /// A property with whitespace in it.
 const SPACED: &str = "C: add\nP: /x\nE: L= a  b \n";
 
+/// A network device.
+const NETWORK: &str = "C: add\nP: /x/eth0\nU: net\n";
+
+/// Two links, and constants that are known and that are not.
+const LINKED: &str = "C: add\nP: /x\nK: arch=x86-64\nK: x=1\nS: one\nS: two\n";
+
 /// Matches at one device of the chain.
 const USB_WITH_SERIAL: &str = "SUBSYSTEMS==\"usb\", ATTRS{serial}==\"7\", ENV{HIT}=\"$id\"\n";
 
@@ -130,6 +136,8 @@ fn matches_hold(rt: HostRuntime) -> Result<(), Fail> {
         ("ATTR{m}==\"Disk\", ENV{A}=\"1\"\n", PADDED, "env A=1"),
         ("KERNEL==i\"SDA\", ENV{HIT}=\"1\"\n", MIXED, "env HIT=1"),
         ("KERNEL==i\"SDA\", ENV{HIT}=\"1\"\n", DISK, "env HIT=1"),
+        ("SYMLINK==\"t*\", ENV{A}=\"1\"\n", LINKED, "env A=1"),
+        ("CONST{arch}==\"x86*\", ENV{A}=\"1\"\n", LINKED, "env A=1"),
     ] {
         assert!(rt; tells(rt.alloc(), rules, block, line)?);
     }
@@ -146,6 +154,8 @@ fn matches_do_not_hold(rt: HostRuntime) -> Result<(), Fail> {
         ("KERNEL!=i\"SDA\", ENV{MISS}=\"1\"\n", MIXED, "env MISS=1"),
         ("KERNEL!=i\"SDA\", ENV{MISS}=\"1\"\n", DISK, "env MISS=1"),
         ("KERNEL==\"x\", OWNER=\"a\"\n", DISK, "owner a"),
+        ("SYMLINK!=\"t*\", ENV{A}=\"1\"\n", LINKED, "env A=1"),
+        ("CONST{x}!=\"2\", ENV{A}=\"1\"\n", LINKED, "env A=1"),
     ] {
         assert!(rt; !tells(rt.alloc(), rules, block, line)?);
     }
@@ -173,6 +183,26 @@ fn assignments_are_made(rt: HostRuntime) -> Result<(), Fail> {
 }
 
 #[test]
+fn each_key_is_assigned(rt: HostRuntime) -> Result<(), Fail> {
+    for (rules, block, line) in [
+        ("GROUP=\"disk\"\n", DISK, "group disk"),
+        ("MODE=\"0600\"\n", DISK, "mode 0600"),
+        ("TAG+=\"x\"\n", DISK, "tag x"),
+        ("SECLABEL{m}=\"u\"\n", DISK, "label m=u"),
+        ("ENV{A}=\"1\"\nENV{A}+=\"2\"\n", DISK, "env A=1 2"),
+        ("NAME=\"lan 0\"\n", NETWORK, "name lan_0"),
+        ("NAME=\"x\"\n", DISK, "note 10-a.rules:1: name ignored: x"),
+        ("ATTR{mtu}=\"1400\"\n", DISK, "attr mtu=1400"),
+        ("SYSCTL{x}=\"1\"\n", DISK, "sysctl x=1"),
+        ("OPTIONS+=\"nowatch\"\n", DISK, "nowatch"),
+        ("OPTIONS+=\"db_persist\"\n", DISK, "persist"),
+    ] {
+        assert!(rt; tells(rt.alloc(), rules, block, line)?);
+    }
+    Ok(())
+}
+
+#[test]
 fn acts_are_done(rt: HostRuntime) -> Result<(), Fail> {
     for (rules, block, line) in [
         (PROGRAM, ANSWERED, "env R=cd ef"),
@@ -183,6 +213,11 @@ fn acts_are_done(rt: HostRuntime) -> Result<(), Fail> {
         ),
         ("IMPORT{parent}=\"ID_*\"\n", WITH_PARENT, "env ID_A=1"),
         ("IMPORT{parent}!=\"*\", ENV{Z}=\"1\"\n", DISK, "env Z=1"),
+        (
+            "SYSCTL{x}!=\"1\"\n",
+            DISK,
+            "note 10-a.rules:1: sysctl not read: x",
+        ),
         (
             "TEST==\"$id\", SUBSYSTEMS==\"usb\", ENV{T}=\"1\"\n",
             NAMED_AS_PARENT,

@@ -7,7 +7,5 @@
 mod answers;
 mod lines;
 mod lists;
-#[cfg(test)]
-mod tests;
 
 pub use answers::answer;

@@ -10,8 +10,6 @@ mod imports;
 mod laws;
 mod questions;
 mod reaching;
-#[cfg(test)]
-mod tests;
 
 pub use acting::act_step;
 pub use laws::an_operator_tells_only_whether_a_rule_goes_on;

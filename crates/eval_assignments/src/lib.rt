@@ -13,8 +13,6 @@ mod lists;
 mod options;
 mod properties;
 mod step;
-#[cfg(test)]
-mod tests;
 
 pub use laws::{
     additions_that_are_there_change_nothing, final_keys_stay, removed_texts_are_gone,

@@ -12,8 +12,6 @@ mod outcome;
 mod rules;
 mod sorting;
 mod steps;
-#[cfg(test)]
-mod tests;
 
 pub use eval_scene::{Note, NoteKind, Notes};
 pub use evaluating::evaluate_plain;

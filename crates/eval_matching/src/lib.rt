@@ -8,8 +8,6 @@
 mod holding;
 mod laws;
 mod plain;
-#[cfg(test)]
-mod tests;
 mod upward;
 
 pub use laws::{a_list_differs_where_no_member_fits, one_device_meets_all_matches};

@@ -11,8 +11,6 @@ mod note_kind;
 mod notes;
 mod runs;
 mod scene;
-#[cfg(test)]
-mod tests;
 
 pub use finals::{FinalKey, Finals};
 pub use note_kind::NoteKind;

@@ -52,10 +52,6 @@ pub record IsTrie (t : Content) : Type 0 where
   pub within : (i : ℕ) → i < length t.nodes → (node_at t.nodes i).first_value + (node_at t.nodes i).values ≤ length t.numbers
   pub own : (i j : ℕ) → i < length t.nodes → j < length t.numbers → IsValueOf (node_at t.nodes i) j ↔ (pattern_of t j ≡ path t.nodes i)
 
--- how many nodes a trie may have
-abbrev pub max_nodes : ℕ
-max_nodes = 2 ^ 26
-
 -- the nodes that are active after a text: those whose path, as a pattern, fits it
 abbrev pub active_nodes : List Entry → List ℕ → List ℕ
 active_nodes es t = filter (λ i. fits (slice_index_or (paths_of es) i []) t) (range_with_len 0 (length (paths_of es)))

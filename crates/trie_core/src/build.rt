@@ -6,11 +6,11 @@ ghost use Rattle.std.specs.Prelude.{◌≡◌, ◌-◌, ◌<◌, ◌≤◌, IfOk
 ghost use Rattle.hwdb_lookup.specs.Bounds.{max_entries};
 ghost use Rattle.text_core.specs.declared.item.Item.TheVariants.{One};
 ghost use Rattle.trie_core.specs.Building.{AreNodes};
-ghost use Rattle.trie_core.specs.Content.{max_nodes};
 ghost use Rattle.trie_core.specs.Groups.{IsGroup, label_at};
 ghost use Rattle.trie_core.specs.Rows.{IsSorted, patterns};
 ghost use Rattle.trie_core.specs.declared.fault.TrieFault.TheVariants.{TooLarge};
 ghost use Rattle.trie_paths.specs.Paths.{paths_among};
+ghost use Rattle.trie_paths.specs.Sizes.{max_nodes};
 
 use crate::TrieFault;
 use crate::groups::{Group, label_of, longer_from, split};

@@ -5,9 +5,10 @@
 ghost use Rattle.std.specs.Prelude.{◌≡◌, ◌*◌, ◌+◌, ◌<◌, ◌≤◌, ◌⊎◌, IfOk, MatchResult, length};
 ghost use Rattle.hwdb_lookup.specs.Bounds.{max_entries};
 ghost use Rattle.hwdb_lookup.specs.Orders.{Rising};
-ghost use Rattle.trie_core.specs.Content.{IsTrie, active_count, active_nodes, all_values, max_nodes};
+ghost use Rattle.trie_core.specs.Content.{IsTrie, active_count, active_nodes, all_values};
 ghost use Rattle.trie_core.specs.declared.fault.TrieFault.TheVariants.{TooLarge};
 ghost use Rattle.trie_paths.specs.Paths.{paths_of};
+ghost use Rattle.trie_paths.specs.Sizes.{max_nodes};
 
 use crate::TrieFault;
 use crate::build::nodes_of;
@@ -30,7 +31,8 @@ pub struct Trie {
 impl Model for Trie {
     ghost use Rattle.std.specs.Prelude.{◌≤◌, length};
     ghost use Rattle.hwdb_lookup.specs.Bounds.{max_entries};
-    ghost use Rattle.trie_core.specs.Content.{Content, IsTrie, max_nodes};
+    ghost use Rattle.trie_core.specs.Content.{Content, IsTrie};
+    ghost use Rattle.trie_paths.specs.Sizes.{max_nodes};
 
     ghost Value = { Content };
 

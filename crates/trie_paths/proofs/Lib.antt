@@ -1,4 +1,5 @@
 pub mod Children
+pub mod Counting
 pub mod Distinguishing
 pub mod Later
 pub mod Orders

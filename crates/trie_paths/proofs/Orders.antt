@@ -11,6 +11,7 @@ use Rattle.text_core.specs.declared.item.Item.{Item}
 use Rattle.text_core.specs.declared.item.Item.TheVariants.{Byte, One, Many, Among}
 use Rattle.trie_paths.specs.Distinct.{IsOrder}
 use Rattle.trie_paths.specs.Order.{label_cmp, label_key, path_cmp, pattern_cmp}
+use Rattle.trie_paths.specs.Sizes.{text_cmp}
 
 -- an order of which what ties is one
 order_of : {A : Type 0} (cmp : A → A → Ordering) → IsTotalOrder cmp → ((x y : A) → cmp x y ≡ Equal → x ≡ y) → IsOrder cmp
@@ -77,3 +78,6 @@ patterns_total = lists_total labels_total
 
 pub patterns_order : IsOrder pattern_cmp
 patterns_order = order_of pattern_cmp patterns_total (same_lists label_cmp same_label)
+
+pub texts_order : IsOrder text_cmp
+texts_order = order_of text_cmp nat_list_cmp_total same_key

@@ -7,5 +7,5 @@
 mod laws;
 mod order;
 
-pub use laws::{paths_are_a_tree, paths_stand_once, trees_stand_level_by_level};
+pub use laws::{a_trie_is_small, paths_are_a_tree, paths_stand_once, trees_stand_level_by_level};
 pub use order::{compare, compare_labels};

@@ -1,5 +1,5 @@
 use Rattle.std.proofs.Common.{◌-◌, ◌≤◌, length}
-use Rattle.trie_core.specs.Content.{max_nodes}
+use Rattle.trie_paths.specs.Sizes.{max_nodes}
 use Rattle.trie_core.specs.Rows.{patterns}
 use Rattle.trie_core.proofs.Building.{IsBuilt}
 use Rattle.trie_core.proofs.build.nodes_of.Given as goal

@@ -6,7 +6,7 @@ use Rattle.std.proofs.lemmas.List.FromFn.{length-range_with_len}
 use Rattle.std.proofs.lemmas.List.Sorted.{length_permutation}
 use Rattle.trie_paths.specs.Paths.{paths_among, paths_of}
 use Rattle.trie_core.specs.Building.{AreNodes}
-use Rattle.trie_core.specs.Content.{max_nodes}
+use Rattle.trie_paths.specs.Sizes.{max_nodes}
 use Rattle.trie_core.specs.Rows.{patterns}
 use Rattle.trie_core.specs.declared.rows.Row.{Row}
 use Rattle.trie_core.proofs.Made.{made, paths_are, refused}

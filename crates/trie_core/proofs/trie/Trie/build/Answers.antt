@@ -5,7 +5,8 @@ use Rattle.std.proofs.lemmas.List.Sorted.{length_permutation}
 use Rattle.hwdb_lookup.specs.declared.entry.Entry.{Entry}
 use Rattle.trie_nodes.specs.declared.node.Node.{Node}
 use Rattle.trie_paths.specs.Paths.{paths_of}
-use Rattle.trie_core.specs.Content.{IsTrie, max_nodes}
+use Rattle.trie_paths.specs.Sizes.{max_nodes}
+use Rattle.trie_core.specs.Content.{IsTrie}
 use Rattle.trie_core.proofs.trie.Trie.build.Goals as goal
 
 pub invariant_of-result : goal.invariant_of-result

@@ -1,12 +1,20 @@
-# Builds, checks and installs devdry.
+# Builds, checks, installs and packs devdry.
 #
 # Only a proved program is built, so the first `make` proves every crate that it stands on, which
-# takes about twenty minutes; after a change mostly what changed is proved again. Crates that don't stand on
-# one another are proved side by side, as many as there are processors: `make -j1` proves them one
-# behind another, where memory is short (a proof takes 1 to 4 GB).
+# takes about twenty minutes; after a change what changed is proved again, and what stands on it.
+# Crates that don't stand on one another are proved side by side, as many as there are processors:
+# `make -j1` proves them one behind another, where memory is short (a proof takes 1 to 4 GB).
 
 PREFIX ?= /usr/local
 DESTDIR ?=
+BINDIR ?= $(PREFIX)/bin
+MANDIR ?= $(PREFIX)/share/man
+BASHDIR ?= $(PREFIX)/share/bash-completion/completions
+ZSHDIR ?= $(PREFIX)/share/zsh/site-functions
+FISHDIR ?= $(PREFIX)/share/fish/vendor_completions.d
+
+# The program that is installed and packed. It is built first, unless one that is there is named.
+PROGRAM ?= build/devdry
 
 # The toolchain: `rt` on PATH, or else where it is installed.
 RT ?= $(shell command -v rt || echo /opt/rattle/bin/rt)
@@ -17,32 +25,57 @@ MAKEFLAGS += --jobs=$(shell nproc)
 CRATES := $(shell sed -n 's/^\([a-z_]*\):.*/\1/p' crates.txt)
 below = $(filter $(CRATES),$(shell sed -n 's/^$(1)://p' crates.txt))
 
-.PHONY: all check install clean $(CRATES)
+# What a proof rests on beside the crate's own files: the kit.
+KIT := $(wildcard $(dir $(realpath $(RT)))../KIT-ID)
+
+.PHONY: all check check-uses install uninstall deb clean $(CRATES)
 
 all: build/devdry
 
-build/devdry: devdry
+build/devdry: build/devdry.proved
 	@cd crates/devdry && $(RT) run -- --version
 	@cp crates/devdry/out/devdry $@
 
 build:
 	@mkdir -p $@
 
-# Proves one crate, behind those that it stands on.
+# Proves one crate, behind those that it stands on, where one of its files or of theirs has changed.
 define prove
-$(1): $(call below,$(1)) | build
+$(1): build/$(1).proved
+build/$(1).proved: $(patsubst %,build/%.proved,$(call below,$(1))) $(KIT) \
+    $(shell find $(wildcard crates/$(1)/src crates/$(1)/specs crates/$(1)/proofs) -type f) | build
 	@echo "proving $(1)"
 	@cd crates/$(1) && $(RT) check > $(CURDIR)/build/$(1).log 2>&1 || { cat $(CURDIR)/build/$(1).log; exit 1; }
+	@touch $$@
 endef
 $(foreach crate,$(CRATES),$(eval $(call prove,$(crate))))
 
-# Proves every crate from nothing, tries each edit that has to be refused, and runs the tests and
-# the program.
+# Proves every crate from nothing, tries each edit that has to be refused, and runs the tests and the
+# program; then what a user meets beside that, over the program that was built.
 check:
-	$(RT) ci
+	tests/all.sh $(RT)
 
-install: build/devdry
-	install -D -m 755 build/devdry $(DESTDIR)$(PREFIX)/bin/devdry
+# What a user meets beside the proofs: a few seconds.
+check-uses: $(PROGRAM)
+	tests/run.sh $(PROGRAM)
+
+install: $(PROGRAM)
+	install -D -m 755 $(PROGRAM) $(DESTDIR)$(BINDIR)/devdry
+	install -d $(DESTDIR)$(MANDIR)/man1
+	install -m 644 man/*.1 $(DESTDIR)$(MANDIR)/man1
+	install -D -m 644 completions/devdry.bash $(DESTDIR)$(BASHDIR)/devdry
+	install -D -m 644 completions/_devdry $(DESTDIR)$(ZSHDIR)/_devdry
+	install -D -m 644 completions/devdry.fish $(DESTDIR)$(FISHDIR)/devdry.fish
+
+# Takes away just what `install` puts there.
+uninstall:
+	rm -f $(DESTDIR)$(BINDIR)/devdry
+	rm -f $(patsubst man/%,$(DESTDIR)$(MANDIR)/man1/%,$(wildcard man/*.1))
+	rm -f $(DESTDIR)$(BASHDIR)/devdry $(DESTDIR)$(ZSHDIR)/_devdry $(DESTDIR)$(FISHDIR)/devdry.fish
+
+# A Debian package, build/devdry_VERSION_ARCHITECTURE.deb.
+deb: $(PROGRAM) | build
+	packaging/deb.sh $(PROGRAM) build
 
 clean:
 	rm -rf build crates/*/out

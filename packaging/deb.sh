@@ -1,0 +1,61 @@
+#!/usr/bin/env bash
+# Packs the program, its pages and its completions for Debian: DIR/devdry_VERSION_ARCHITECTURE.deb. The same files give
+# the same package, byte by byte. It wants dpkg-deb; with dpkg-shlibdeps (package dpkg-dev) it knows which libc.
+# usage: packaging/deb.sh PROGRAM DIR
+#   DEBFULLNAME, DEBEMAIL     who makes the package, as Debian's other tools take it
+#   SOURCE_DATE_EPOCH         the time of its files, that of the last commit unless it is given
+set -euo pipefail
+top=$(cd "$(dirname "$0")/.." && pwd)
+program=$(realpath "$1")
+target=$(realpath "$2")
+export SOURCE_DATE_EPOCH=${SOURCE_DATE_EPOCH:-$(git -C "$top" log -1 --format=%ct)}
+version=$("$program" --version | sed 's/^devdry //')
+architecture=$(dpkg --print-architecture)
+work=$(mktemp -d)
+trap 'rm -rf "$work"' EXIT
+umask 022
+root=$work/debian/devdry
+doc=$root/usr/share/doc/devdry
+
+mkdir -p "$root/DEBIAN"
+MAKEFLAGS="" make --silent -C "$top" install PROGRAM="$program" DESTDIR="$root" PREFIX=/usr MANDIR=/usr/share/man \
+    ZSHDIR=/usr/share/zsh/vendor-completions
+strip --remove-section=.comment --remove-section=.note "$root/usr/bin/devdry"
+gzip -9n "$root"/usr/share/man/man1/*
+mkdir -p "$doc"
+gzip -9nc "$top/CHANGELOG.md" > "$doc/changelog.gz"
+cp "$top/README.md" "$top/docs/behaviour.md" "$doc"
+cat > "$doc/copyright" << 'END'
+Format: https://www.debian.org/doc/packaging-manuals/copyright-format/1.0/
+Upstream-Name: devdry
+
+Files: *
+Copyright: the makers of devdry
+License: Apache-2.0
+ On Debian systems the text of this license stands in /usr/share/common-licenses/Apache-2.0.
+END
+
+depends=libc6
+if command -v dpkg-shlibdeps > /dev/null; then
+    printf 'Source: devdry\n\nPackage: devdry\nArchitecture: any\n' > "$work/debian/control"
+    depends=$(cd "$work" && dpkg-shlibdeps -O "$root/usr/bin/devdry" | sed -n 's/^shlibs:Depends=//p')
+fi
+
+(cd "$root" && find usr -type f -print0 | LC_ALL=C sort -z | xargs -0 md5sum) > "$root/DEBIAN/md5sums"
+cat > "$root/DEBIAN/control" << END
+Package: devdry
+Version: $version
+Architecture: $architecture
+Maintainer: ${DEBFULLNAME:-$(id -un)} <${DEBEMAIL:-$(id -un)@$(hostname)}>
+Installed-Size: $(du -k -s --apparent-size "$root/usr" | cut -f 1)
+Depends: $depends
+Section: utils
+Priority: optional
+Description: dry run of udev's rules and hardware database
+ Checks udev's rules files and the files of its hardware database, and tells
+ which properties the database has for a device, with the file and the line
+ that each comes from. No device is touched and no program is started, so
+ that it serves in builds and over images of other systems.
+END
+find "$root" -exec touch -h -d "@$SOURCE_DATE_EPOCH" {} +
+dpkg-deb --root-owner-group --build "$root" "$target/devdry_${version}_$architecture.deb"

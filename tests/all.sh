@@ -1,0 +1,23 @@
+#!/usr/bin/env bash
+# The gate: every proof, edit, test and run of `rt ci`, then tests/run.sh over the program that it built. The last line
+# is `N passed, M failed`, over both.
+# usage: tests/all.sh [RT]    RT is the toolchain's command, rt unless one is given
+set -uo pipefail
+cd "$(dirname "$0")/.." || exit 1
+work=$(mktemp -d)
+trap 'rm -rf "$work"' EXIT
+
+"${1:-rt}" ci | tee "$work/proofs"
+status=${PIPESTATUS[0]}
+tests/run.sh crates/devdry/out/devdry | tee "$work/uses"
+status=$((status | PIPESTATUS[0]))
+
+passed=0 failed=0
+for log in proofs uses; do
+    read -r p f < <(tail -n 1 "$work/$log" | sed -nE 's/^([0-9]+) passed, ([0-9]+) failed$/\1 \2/p')
+    # a run that was cut off tells no count, and is a failure
+    passed=$((passed + ${p:-0})) failed=$((failed + ${f:-1}))
+done
+[ "$status" = 0 ] || [ "$failed" != 0 ] || failed=1
+echo "$passed passed, $failed failed"
+[ "$failed" = 0 ]

@@ -1,0 +1,32 @@
+# What the test scripts share; to be sourced. Each case is told in one line: `ok CASE`, `not ok CASE` with what was
+# seen below it, or `skipped CASE` where this machine lacks what it takes. tests/run.sh counts the lines.
+# shellcheck shell=bash disable=SC2034
+
+top=$(cd "$(dirname "${BASH_SOURCE[0]}")/.." && pwd)
+program=${PROGRAM:-$top/build/devdry}
+work=$(mktemp -d)
+trap 'rm -rf "$work"' EXIT
+
+ok() { echo "ok $1"; }
+
+# not_ok CASE TEXT: with the text, indented, below it
+not_ok() {
+    echo "not ok $1"
+    printf '%s\n' "$2" | sed 's/^/    /'
+}
+
+skipped() { echo "skipped $1: $2"; }
+
+# same CASE EXPECTED GOT
+same() {
+    if [ "$2" = "$3" ]; then ok "$1"; else not_ok "$1" "$(diff <(printf '%s\n' "$2") <(printf '%s\n' "$3"))"; fi
+}
+
+# goes_well CASE COMMAND..: the command ends in 0; what it says is told only where it doesn't
+goes_well() {
+    local case=$1 said
+    shift
+    if said=$("$@" 2>&1); then ok "$case"; else not_ok "$case" "$said"; fi
+}
+
+has() { command -v "$1" > /dev/null; }

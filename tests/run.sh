@@ -1,0 +1,21 @@
+#!/usr/bin/env bash
+# What a user meets beside the proofs: options in the pages and completions, installing, what docs/ and README.md show,
+# the recipes, and devdry-capture. A few seconds. The last line is `N passed, M failed`.
+# usage: tests/run.sh [PROGRAM]    PROGRAM is build/devdry unless one is given
+set -uo pipefail
+cd "$(dirname "$0")/.." || exit 1
+PROGRAM=$(realpath "${1:-build/devdry}")
+export PROGRAM
+log=$(mktemp)
+trap 'rm -f "$log"' EXIT
+[ -x "$PROGRAM" ] || { echo "tests/run.sh: there is no program $PROGRAM" >&2; echo '0 passed, 1 failed'; exit 1; }
+for script in tests/test_*.sh; do
+    echo "== $script"
+    bash "$script" 2>&1 | tee -a "$log"
+    [ "${PIPESTATUS[0]}" = 0 ] || echo "not ok $script ends well" | tee -a "$log"
+done
+passed=$(grep -c '^ok ' "$log")
+failed=$(grep -c '^not ok ' "$log")
+grep '^not ok ' "$log"
+echo "$passed passed, $failed failed"
+[ "$failed" = 0 ]

@@ -1,0 +1,57 @@
+#!/usr/bin/env bash
+# `make install` puts its files where they belong, `make uninstall` takes just these away, and the Debian package can be
+# installed, run and removed, in a root folder of its own.
+set -uo pipefail
+# shellcheck source=lib.sh
+. "$(dirname "$0")/lib.sh"
+
+make_in() { make --silent -C "$top" "$@" PROGRAM="$program"; }
+files_of() { (cd "$1" && find . ! -type d | sed 's/^\.//' | LC_ALL=C sort); }
+pages=$(cd "$top/man" && printf '%s\n' *.1)
+wanted() {
+    printf '%s\n' "$1/bin/devdry" "$1/share/bash-completion/completions/devdry" "$2/_devdry" \
+        "$1/share/fish/vendor_completions.d/devdry.fish"
+    for page in $pages; do echo "$1/share/man/man1/$page$3"; done
+}
+
+root=$work/root
+mkdir -p "$root/usr/local/bin"
+touch "$root/usr/local/bin/other"
+goes_well "make install" make_in install DESTDIR="$root"
+same "what stands there then" "$({ wanted /usr/local /usr/local/share/zsh/site-functions ''; echo /usr/local/bin/other; } | LC_ALL=C sort)" \
+    "$(files_of "$root")"
+same "the program that was installed runs" "$("$program" --version)" "$(env -i "$root/usr/local/bin/devdry" --version)"
+goes_well "make uninstall" make_in uninstall DESTDIR="$root"
+same "what stands there then" /usr/local/bin/other "$(files_of "$root")"
+goes_well "make install with folders of one's own" make_in install DESTDIR="$work/own" PREFIX=/p MANDIR=/m BINDIR=/b \
+    BASHDIR=/c/bash ZSHDIR=/c/zsh FISHDIR=/c/fish
+same "what stands there then" "$({ printf '%s\n' /b/devdry /c/bash/devdry /c/zsh/_devdry /c/fish/devdry.fish; for page in $pages; do echo "/m/man1/$page"; done; } | LC_ALL=C sort)" \
+    "$(files_of "$work/own")"
+
+if ! has dpkg-deb || ! has strip; then
+    skipped "make deb" "there is no dpkg-deb"
+    exit 0
+fi
+mkdir "$work/debs" "$work/again"
+goes_well "packaging/deb.sh" "$top/packaging/deb.sh" "$program" "$work/debs"
+goes_well "packaging/deb.sh once more" "$top/packaging/deb.sh" "$program" "$work/again"
+deb=$(echo "$work"/debs/*.deb)
+goes_well "it gives the same package" cmp "$deb" "$work/again/${deb##*/}"
+same "its files" "$({ wanted /usr /usr/share/zsh/vendor-completions .gz; printf '/usr/share/doc/devdry/%s\n' README.md behaviour.md changelog.gz copyright; } | LC_ALL=C sort)" \
+    "$(dpkg-deb --fsys-tarfile "$deb" | tar -t | sed 's/^\.//' | grep -v '/$' | LC_ALL=C sort)"
+
+as_root=()
+if [ "$(id -u)" != 0 ]; then as_root=(fakeroot); fi
+if [ "${#as_root[@]}" = 1 ] && ! has fakeroot; then
+    skipped "dpkg -i" "it takes root, or fakeroot"
+    exit 0
+fi
+machine=$work/machine
+mkdir -p "$machine"/var/lib/dpkg/{info,updates,triggers}
+touch "$machine/var/lib/dpkg/status"
+# (a root folder of its own has no libc6 that dpkg would know of)
+in_machine() { "${as_root[@]}" dpkg --root="$machine" --log=/dev/null --force-depends --force-script-chrootless "$@"; }
+goes_well "dpkg -i" in_machine -i "$deb"
+same "the program that it installed runs" "$("$program" --version)" "$(env -i "$machine/usr/bin/devdry" --version)"
+goes_well "dpkg -r" in_machine -r devdry
+same "nothing of it stands there then" "" "$(files_of "$machine/usr" 2> /dev/null)"

@@ -1,0 +1,95 @@
+#!/usr/bin/env bash
+# The options and commands that --help prints are those of the man pages and of the completions, no more and no fewer.
+set -uo pipefail
+# shellcheck source=lib.sh
+. "$(dirname "$0")/lib.sh"
+
+# The options of a command, or of the program, by its help: the first column of its lines.
+helps() {
+    "$program" "$@" --help | sed -nE '/^Options:/,/^$/s/^ +(-[a-zA-Z], +)?(--[a-z-]+).*/\1\2/p' \
+        | tr -s ', ' '\n' | sort -u
+}
+
+# The commands, by the help of the program.
+commands=$("$program" --help | sed -n '/^Commands:/,/^$/s/^  \([a-z]*\) .*/\1/p' | sort)
+verbs=$(grep -vxe help -e events <<< "$commands")
+
+# The options that the section OPTIONS of a page lists.
+pages() {
+    sed -n '/^\.Sh OPTIONS/,/^\.Sh EXIT\|^\.Sh FILES/s/^\.It \(Fl.*\)/\1/p' "$1" \
+        | grep -oE 'Fl (Fl )?[A-Za-z-]+' | sed -E 's/^Fl Fl /--/; s/^Fl /-/' | sort -u
+}
+
+# The options that the synopsis of a page names, each in one of its forms.
+synopses() { sed -n '/^\.Sh SYNOPSIS/,/^\.Sh DESC/s/^\.Op \(Fl.*\)/\1/p' "$1" | sed -E 's/^Fl Fl /--/; s/^Fl /-/; s/ .*//'; }
+
+same "devdry(1) has the options of --help" "$(helps)" "$(pages "$top/man/devdry.1")"
+same "devdry(1) has the commands of --help" "$commands" \
+    "$(sed -n '/^\.Sh COMMANDS/,/^\.Sh OPT/s/^\.It Cm //p' "$top/man/devdry.1" | sort)"
+same "there is a page for each command" "$verbs" \
+    "$(cd "$top/man" && printf '%s\n' devdry-*.1 | sed 's/^devdry-//; s/\.1$//' | sort)"
+for verb in $verbs; do
+    page=$top/man/devdry-$verb.1
+    same "devdry-$verb(1) has the options of --help" "$(helps "$verb")" "$(pages "$page")"
+    named=0 missing=
+    for option in $(synopses "$page"); do
+        named=$((named + 1))
+        helps "$verb" | grep -qxe "$option" || missing+=" $option"
+    done
+    lines=$("$program" "$verb" --help | grep -cE '^ +(-., )? *--')
+    same "the synopsis of devdry-$verb(1) has all of them but help and version" "$((lines - 2))$missing" "$named$missing"
+    for name in $("$program" "$verb" --help | sed -nE '/^Arguments:/,/^$/s/^ +[[<]([A-Z]+).*/\1/p'); do
+        goes_well "the synopsis of devdry-$verb(1) has the argument $name" \
+            grep -qE "^\.(Op )?Ar $name" <(sed -n '/^\.Sh SYNOPSIS/,/^\.Sh DESC/p' "$page")
+    done
+done
+
+# What bash offers behind these words.
+bash_offers() {
+    (
+        complete() { :; }
+        # shellcheck source=../completions/devdry.bash disable=SC2317
+        . "$top/completions/devdry.bash"
+        COMP_WORDS=("$@") COMP_CWORD=$(($# - 1))
+        _devdry
+        printf '%s\n' "${COMPREPLY[@]}" | sort -u
+    )
+}
+same "bash offers the commands" "$({ echo "$commands"; helps; } | sort -u)" "$(bash_offers devdry '')"
+for verb in $verbs; do
+    same "bash offers the options of $verb" "$(helps "$verb")" "$(bash_offers devdry "$verb" -)"
+done
+(
+    cd "$work" && mkdir folder && touch a.rules b.hwdb c.txt
+    same "bash offers rules files and folders to verify" "a.rules folder" "$(bash_offers devdry verify '' | xargs)"
+    same "bash offers database files to update" "b.hwdb folder" "$(bash_offers devdry update '' | xargs)"
+    same "bash offers folders behind -r" "folder" "$(bash_offers devdry query -r '' | xargs)"
+    same "bash offers no file for a modalias" "" "$(bash_offers devdry query '' | xargs)"
+    same "bash offers database files behind a modalias" "b.hwdb folder" "$(bash_offers devdry query -r folder m '' | xargs)"
+)
+
+if has zsh; then
+    # What the function hands to _arguments for a command, whose first words of each spec are options.
+    zsh_offers() {
+        zsh -f -c '
+            _arguments() { if [ "$1" = -C ]; then state=argument; else print -l -- "$@"; fi; }
+            words=($2 -) CURRENT=2
+            . $1' zsh "$top/completions/_devdry" "$1" | sed -nE 's/^(\([^)]*\))?(--?[A-Za-z-]+)\[.*/\2/p' | sort -u
+    }
+    for verb in $verbs; do same "zsh offers the options of $verb" "$(helps "$verb")" "$(zsh_offers "$verb")"; done
+    zsh_commands=$(zsh -f -c '
+        _arguments() { state=command; }
+        _describe() { print -l -- ${(P)4}; }
+        . $1' zsh "$top/completions/_devdry" | sed 's/:.*//' | sort)
+    same "zsh offers the commands" "$commands" "$zsh_commands"
+else
+    skipped "what zsh offers" "there is no zsh"
+fi
+
+if has fish; then
+    fish_offers() { fish --no-config -c "source '$top/completions/devdry.fish'; complete -C '$1'" | cut -f 1 | sort -u; }
+    same "fish offers the commands" "$commands" "$(cd "$work" && fish_offers 'devdry ')"
+    for verb in $verbs; do same "fish offers the options of $verb" "$(helps "$verb")" "$(fish_offers "devdry $verb -")"; done
+else
+    skipped "what fish offers" "there is no fish"
+fi

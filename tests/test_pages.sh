@@ -1,0 +1,20 @@
+#!/usr/bin/env bash
+# The man pages pass what checks man pages, where it is there.
+set -uo pipefail
+# shellcheck source=lib.sh
+. "$(dirname "$0")/lib.sh"
+cd "$top/man" || exit 1
+
+for page in *.1; do
+    if has mandoc; then
+        # (what it says of the machine's own index of pages names no file)
+        same "$page by mandoc -T lint" "" "$(mandoc -T lint "$page" 2>&1 | grep -F "$page:")"
+    else
+        skipped "$page by mandoc -T lint" "there is no mandoc"
+    fi
+    if has man && has groff && man --help 2>&1 | grep -q -- --warnings; then
+        same "$page by man --warnings" "" "$(man --warnings -E UTF-8 -Tutf8 -Z -l "$page" 2>&1 > /dev/null)"
+    else
+        skipped "$page by man --warnings" "there is no man of man-db"
+    fi
+done

@@ -61,6 +61,7 @@ check-uses: $(PROGRAM)
 
 install: $(PROGRAM)
 	install -D -m 755 $(PROGRAM) $(DESTDIR)$(BINDIR)/devdry
+	install -m 755 tools/devdry-capture $(DESTDIR)$(BINDIR)
 	install -d $(DESTDIR)$(MANDIR)/man1
 	install -m 644 man/*.1 $(DESTDIR)$(MANDIR)/man1
 	install -D -m 644 completions/devdry.bash $(DESTDIR)$(BASHDIR)/devdry
@@ -69,7 +70,7 @@ install: $(PROGRAM)
 
 # Takes away just what `install` puts there.
 uninstall:
-	rm -f $(DESTDIR)$(BINDIR)/devdry
+	rm -f $(DESTDIR)$(BINDIR)/devdry $(DESTDIR)$(BINDIR)/devdry-capture
 	rm -f $(patsubst man/%,$(DESTDIR)$(MANDIR)/man1/%,$(wildcard man/*.1))
 	rm -f $(DESTDIR)$(BASHDIR)/devdry $(DESTDIR)$(ZSHDIR)/_devdry $(DESTDIR)$(FISHDIR)/devdry.fish
 

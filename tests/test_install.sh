@@ -9,7 +9,7 @@ make_in() { make --silent -C "$top" "$@" PROGRAM="$program"; }
 files_of() { (cd "$1" && find . ! -type d | sed 's/^\.//' | LC_ALL=C sort); }
 pages=$(cd "$top/man" && printf '%s\n' *.1)
 wanted() {
-    printf '%s\n' "$1/bin/devdry" "$1/share/bash-completion/completions/devdry" "$2/_devdry" \
+    printf '%s\n' "$1/bin/devdry" "$1/bin/devdry-capture" "$1/share/bash-completion/completions/devdry" "$2/_devdry" \
         "$1/share/fish/vendor_completions.d/devdry.fish"
     for page in $pages; do echo "$1/share/man/man1/$page$3"; done
 }
@@ -25,7 +25,7 @@ goes_well "make uninstall" make_in uninstall DESTDIR="$root"
 same "what stands there then" /usr/local/bin/other "$(files_of "$root")"
 goes_well "make install with folders of one's own" make_in install DESTDIR="$work/own" PREFIX=/p MANDIR=/m BINDIR=/b \
     BASHDIR=/c/bash ZSHDIR=/c/zsh FISHDIR=/c/fish
-same "what stands there then" "$({ printf '%s\n' /b/devdry /c/bash/devdry /c/zsh/_devdry /c/fish/devdry.fish; for page in $pages; do echo "/m/man1/$page"; done; } | LC_ALL=C sort)" \
+same "what stands there then" "$({ printf '%s\n' /b/devdry /b/devdry-capture /c/bash/devdry /c/zsh/_devdry /c/fish/devdry.fish; for page in $pages; do echo "/m/man1/$page"; done; } | LC_ALL=C sort)" \
     "$(files_of "$work/own")"
 
 if ! has dpkg-deb || ! has strip; then

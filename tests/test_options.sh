@@ -27,7 +27,7 @@ same "devdry(1) has the options of --help" "$(helps)" "$(pages "$top/man/devdry.
 same "devdry(1) has the commands of --help" "$commands" \
     "$(sed -n '/^\.Sh COMMANDS/,/^\.Sh OPT/s/^\.It Cm //p' "$top/man/devdry.1" | sort)"
 same "there is a page for each command" "$verbs" \
-    "$(cd "$top/man" && printf '%s\n' devdry-*.1 | sed 's/^devdry-//; s/\.1$//' | sort)"
+    "$(cd "$top/man" && printf '%s\n' devdry-*.1 | sed 's/^devdry-//; s/\.1$//' | grep -vx capture | sort)"
 for verb in $verbs; do
     page=$top/man/devdry-$verb.1
     same "devdry-$verb(1) has the options of --help" "$(helps "$verb")" "$(pages "$page")"
@@ -43,6 +43,9 @@ for verb in $verbs; do
             grep -qE "^\.(Op )?Ar $name" <(sed -n '/^\.Sh SYNOPSIS/,/^\.Sh DESC/p' "$page")
     done
 done
+
+same "devdry-capture(1) has the options of --help" "$(program=$top/tools/devdry-capture; helps)" \
+    "$(pages "$top/man/devdry-capture.1")"
 
 # What bash offers behind these words.
 bash_offers() {

@@ -1,0 +1,7 @@
+" As ~/.vim/compiler/devdry.vim: in a rules file `:compiler devdry` and then `:make`; `:cnext` goes from message to message.
+if exists("current_compiler")
+  finish
+endif
+let current_compiler = "devdry"
+CompilerSet makeprg=devdry\ verify\ --no-summary\ %:S
+CompilerSet errorformat=%f:%l:\ %t%n\ %m,%-G%.%#

@@ -55,7 +55,7 @@ $(foreach crate,$(CRATES),$(eval $(call prove,$(crate))))
 check:
 	tests/all.sh $(RT)
 
-# What a user meets beside the proofs: a few seconds.
+# What a user meets beside the proofs: less than a minute.
 check-uses: $(PROGRAM)
 	tests/run.sh $(PROGRAM)
 

@@ -1,0 +1,4 @@
+pub mod Bits
+pub mod Failing
+pub mod Faults
+pub mod Sums

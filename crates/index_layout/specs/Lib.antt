@@ -1,0 +1,5 @@
+pub mod Numbers
+pub mod Kinds
+pub mod Header
+pub mod Records
+pub mod Written

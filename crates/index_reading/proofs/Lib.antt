@@ -1,0 +1,4 @@
+pub mod First
+pub mod Labels
+pub mod Nodes
+pub mod Sums

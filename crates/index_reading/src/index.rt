@@ -1,0 +1,48 @@
+//! An index file that was checked.
+ghost use Rattle.std.specs.Prelude.{◌≡◌, ◌*◌, ◌+◌, ◌≤◌, IfOk, MatchResult, length};
+ghost use Rattle.trie_nodes.specs.Tree.{active_after, count};
+ghost use Rattle.index_checks.specs.Accepted.{Accepted, FailsFirst};
+ghost use Rattle.index_reading.specs.Contents.{contents};
+
+use index_checks::{IndexFault, Records, check};
+use std::alloc::{AllocError, Global};
+use std::marker::Model;
+
+/// A database in the bytes of an index file.
+#[derive(Debug, Drop)]
+pub struct Index<'a> {
+    pub(crate) records: Records<'a>,
+}
+
+impl<'a> Model for Index<'a> {
+    ghost use Rattle.index_checks.specs.Accepted.{Accepted};
+    ghost use Rattle.index_reading.specs.Contents.{Contents, contents};
+
+    ghost Value = { Contents };
+
+    ghost view = { λ a. contents a.records };
+
+    ghost invariant = { λ a. Accepted a.records };
+}
+
+impl<'a> Index<'a> {
+    /// Opens an index of version 1 or 2, or tells the first check that its bytes fail. It takes no
+    /// memory, and time that grows with the file.
+    pub fn open(bytes: &'a [u8]) -> Result<Index<'a>, IndexFault>
+        ensures accepted { MatchResult result (λ _. Accepted bytes.now) (λ fault. FailsFirst bytes.now fault) }
+        ensures value { IfOk result (λ index. index ≡ contents bytes.now) }
+    {
+        let records = check(bytes)?;
+        Ok(Index { records })
+    }
+
+    /// The nodes that are active at the end of a modalias, rising, and how many are active after each
+    /// length of it from 0 on, summed. Fails only where there is no memory for the lists.
+    pub fn visits(&self, alloc: Global, modalias: &[u8]) -> Result<(Vec<u32>, u128), AllocError>
+        ensures nodes { IfOk result (λ r. r.0.items ≡ active_after self.now.nodes modalias.now) }
+        ensures count { IfOk result (λ r. r.1 ≡ count self.now.nodes modalias.now) }
+        ensures bound { IfOk result (λ r. r.1 ≤ length self.now.nodes * (length modalias.now + 1)) }
+    {
+        trie_nodes::visits(alloc, self, modalias)
+    }
+}

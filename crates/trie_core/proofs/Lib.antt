@@ -5,3 +5,4 @@ pub mod Made
 pub mod Numbering
 pub mod Sorting
 pub mod Splitting
+pub mod Sharing

@@ -1,11 +1,12 @@
 -- Serves inner proofs only: the entries, sorted by their patterns.
-use Rattle.std.specs.Prelude.{ℕ, ◌≡◌, ◌<◌, List, [], length, map, slice_index_or}
+use Rattle.std.specs.Prelude.{ℕ, ◌≡◌, ◌-◌, ◌<◌, List, [], length, map, slice_index_or}
 use Rattle.std.specs.Ordering.{nat_cmp, ordering_then}
 use Rattle.std.specs.declared.cmp.Ordering.{Ordering}
-use Rattle.std.specs.declared.cmp.Ordering.TheVariants.{Greater}
+use Rattle.std.specs.declared.cmp.Ordering.TheVariants.{Equal, Greater}
 use Rattle.text_core.specs.declared.item.Item.{Item}
+use Rattle.text_core.specs.declared.item.Item.TheVariants.{One}
 use Rattle.hwdb_lookup.specs.declared.entry.Entry.{Entry}
-use Rattle.trie_paths.specs.Order.{pattern_cmp}
+use Rattle.trie_paths.specs.Order.{label_cmp, pattern_cmp}
 use Rattle.trie_core.specs.Content.{entry_at}
 use Rattle.trie_core.specs.declared.rows.Row.{Row}
 
@@ -29,3 +30,13 @@ pattern_at ps x = slice_index_or ps x []
 -- none is above a later one
 abbrev pub IsSorted : List (List Item) → Type 0
 IsSorted ps = (x y : ℕ) → x < y → y < length ps → pattern_cmp (pattern_at ps x) (pattern_at ps y) ≡ Greater → ⊥
+
+-- two patterns have so many labels in common at their fronts, and no more
+pub record IsCommon (p q : List Item) (n : ℕ) : Type 0 where
+  pub same : (d : ℕ) → d < n → slice_index_or p d One ≡ slice_index_or q d One
+  pub next : n < length p → n < length q → label_cmp (slice_index_or p n One) (slice_index_or q n One) ≡ Equal → ⊥
+
+-- for each pattern but the first how many labels it has in common with the one before it
+pub record AreShared (ps : List (List Item)) (shared : List ℕ) : Type 0 where
+  pub len : length shared ≡ length ps
+  pub each : (x : ℕ) → x < length ps → 0 < x → IsCommon (pattern_at ps (x - 1)) (pattern_at ps x) (slice_index_or shared x 0)

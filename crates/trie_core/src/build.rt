@@ -7,14 +7,14 @@ ghost use Rattle.hwdb_lookup.specs.Bounds.{max_entries};
 ghost use Rattle.text_core.specs.declared.item.Item.TheVariants.{One};
 ghost use Rattle.trie_core.specs.Building.{AreNodes};
 ghost use Rattle.trie_core.specs.Groups.{IsGroup, label_at};
-ghost use Rattle.trie_core.specs.Rows.{IsSorted, patterns};
+ghost use Rattle.trie_core.specs.Rows.{AreShared, IsSorted, patterns};
 ghost use Rattle.trie_core.specs.declared.fault.TrieFault.TheVariants.{TooLarge};
 ghost use Rattle.trie_paths.specs.Paths.{paths_among};
 ghost use Rattle.trie_paths.specs.Sizes.{max_nodes};
 
 use crate::TrieFault;
 use crate::groups::{Group, label_of, longer_from, split};
-use crate::rows::Row;
+use crate::rows::{Row, Sorted};
 use std::alloc::Global;
 use text_core::Item;
 use trie_nodes::Node;
@@ -35,29 +35,30 @@ fn last_label(rows: &[Row<'_>], group: Group) -> Item
 }
 
 /// The nodes of the trie of sorted patterns. There are too many where they are more than 2^26.
-pub(crate) fn nodes_of(alloc: Global, rows: &[Row<'_>]) -> Result<Vec<Node>, TrieFault>
-    requires few { length (patterns rows.now) ≤ max_entries }
-    requires sorted { IsSorted (patterns rows.now) }
-    ensures nodes { IfOk result (λ nodes. AreNodes (patterns rows.now) nodes.items) }
-    ensures fits { MatchResult result (λ _. length (paths_among (patterns rows.now)) ≤ max_nodes) (λ fault. fault ≡ TooLarge → max_nodes < length (paths_among (patterns rows.now))) }
+pub(crate) fn nodes_of(alloc: Global, sorted: Sorted<'_, '_>) -> Result<Vec<Node>, TrieFault>
+    requires few { length (patterns sorted.rows.now) ≤ max_entries }
+    requires up { IsSorted (patterns sorted.rows.now) }
+    requires shared { AreShared (patterns sorted.rows.now) sorted.shared.now }
+    ensures nodes { IfOk result (λ nodes. AreNodes (patterns sorted.entry.rows.now) nodes.items) }
+    ensures fits { MatchResult result (λ _. length (paths_among (patterns sorted.entry.rows.now)) ≤ max_nodes) (λ fault. fault ≡ TooLarge → max_nodes < length (paths_among (patterns sorted.entry.rows.now))) }
 {
     let mut nodes = Vec::new(alloc);
     let mut groups = Vec::new(alloc);
     groups.push(Group {
         start: 0,
-        end: rows.len() as u32,
+        end: sorted.rows.len() as u32,
         depth: 0,
     })?;
     while nodes.len() < groups.len() {
         let group = groups[nodes.len()];
         let first = groups.len();
-        let from = longer_from(rows, group);
-        split(rows, group, from, &mut groups)?;
+        let from = longer_from(sorted.rows, group);
+        split(sorted, group, from, &mut groups)?;
         if groups.len() > MAX_NODES {
             return Err(TrieFault::TooLarge);
         }
         nodes.push(Node {
-            label: last_label(rows, group),
+            label: last_label(sorted.rows, group),
             first: first as u32,
             count: (groups.len() - first) as u32,
             first_value: group.start,

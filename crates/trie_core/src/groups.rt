@@ -2,15 +2,13 @@
 //!
 //! Each node of a trie is such a range: first stand the patterns that end there, then for each label
 //! those that go on with it.
-ghost use Rattle.std.specs.Prelude.{◌≡◌, ◌+◌, ◌<◌, ◌≤◌, ◌^◌, OnOk, length, ℕ};
+ghost use Rattle.std.specs.Prelude.{◌≡◌, ◌+◌, ◌<◌, ◌≤◌, ◌^◌, OnOk, length, take, ℕ};
 ghost use Rattle.trie_core.specs.Groups.{AreChildren, IsGroup, IsRun, IsSplit, label_at};
-ghost use Rattle.trie_core.specs.Rows.{IsSorted, pattern_at, patterns};
+ghost use Rattle.trie_core.specs.Rows.{AreShared, IsSorted, pattern_at, patterns};
 
-use crate::rows::{Row, items_at};
+use crate::rows::{Row, Sorted, items_at};
 use std::alloc::AllocError;
-use std::cmp::Ordering;
 use text_core::Item;
-use trie_paths::compare_labels;
 
 /// The rows whose patterns begin with one path.
 #[derive(Clone, Copy, Debug)]
@@ -27,7 +25,8 @@ pub(crate) struct Group {
 pub(crate) fn longer_from(rows: &[Row<'_>], group: Group) -> usize
     requires sorted { IsSorted (patterns rows.now) }
     requires group { IsGroup (patterns rows.now) group }
-    ensures { IsSplit (patterns rows.now) group result }
+    ensures split { IsSplit (patterns rows.now) group result }
+    ensures room { result < group.end → group.depth + 1 < 2 ^ 64 }
 {
     for at in group.start as usize..group.end as usize {
         if items_at(rows, at).len() > group.depth {
@@ -47,17 +46,17 @@ pub(crate) fn label_of(rows: &[Row<'_>], depth: usize, at: usize) -> Item
     items_at(rows, at)[depth]
 }
 
-/// Where the run of rows ends that have the same label as the first.
-fn run_end(rows: &[Row<'_>], start: usize, end: usize, depth: usize) -> usize
-    requires within { end ≤ length (patterns rows.now) }
+/// Where the run of rows ends that have the same label as the first, in a group whose patterns go on.
+fn run_end(sorted: Sorted<'_, '_>, start: usize, end: usize, depth: usize) -> usize
+    requires shared { AreShared (patterns sorted.rows.now) sorted.shared.now }
+    requires within { end ≤ length (patterns sorted.rows.now) }
     requires some { start < end }
-    requires longer { (x : ℕ) → start ≤ x → x < end → depth < length (pattern_at (patterns rows.now) x) }
-    ensures run { IsRun (patterns rows.now) start end depth result }
-    ensures room { depth + 1 < 2 ^ 64 }
+    requires longer { (x : ℕ) → start ≤ x → x < end → depth < length (pattern_at (patterns sorted.rows.now) x) }
+    requires alike { (x : ℕ) → start ≤ x → x < end → take depth (pattern_at (patterns sorted.rows.now) x) ≡ take depth (pattern_at (patterns sorted.rows.now) start) }
+    ensures run { IsRun (patterns sorted.entry.rows.now) start end depth result }
 {
-    let label = label_of(rows, depth, start);
     for at in start + 1..end {
-        if compare_labels(&label, &label_of(rows, depth, at)) != Ordering::Equal {
+        if sorted.shared[at] <= depth {
             return at;
         }
     }
@@ -66,20 +65,22 @@ fn run_end(rows: &[Row<'_>], start: usize, end: usize, depth: usize) -> usize
 
 /// Adds a group for each label that follows in a group, whose longer patterns begin at a row.
 pub(crate) fn split(
-    rows: &[Row<'_>],
+    sorted: Sorted<'_, '_>,
     group: Group,
     from: usize,
     groups: &mut Vec<Group>,
 ) -> Result<(), AllocError>
-    requires few { length (patterns rows.now) < 2 ^ 32 }
-    requires sorted { IsSorted (patterns rows.now) }
-    requires group { IsGroup (patterns rows.now) group }
-    requires from { IsSplit (patterns rows.now) group from }
-    ensures { OnOk result (AreChildren (patterns rows.now) group groups.old.items groups.new.items) }
+    requires few { length (patterns sorted.rows.now) < 2 ^ 32 }
+    requires up { IsSorted (patterns sorted.rows.now) }
+    requires shared { AreShared (patterns sorted.rows.now) sorted.shared.now }
+    requires group { IsGroup (patterns sorted.rows.now) group }
+    requires from { IsSplit (patterns sorted.rows.now) group from }
+    requires room { from < group.end → group.depth + 1 < 2 ^ 64 }
+    ensures { OnOk result (AreChildren (patterns sorted.entry.rows.now) group groups.old.items groups.new.items) }
 {
     let mut at = from;
     while at < group.end as usize {
-        let end = run_end(rows, at, group.end as usize, group.depth);
+        let end = run_end(sorted, at, group.end as usize, group.depth);
         groups.push(Group {
             start: at as u32,
             end: end as u32,

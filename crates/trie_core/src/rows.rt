@@ -2,17 +2,17 @@
 //!
 //! Entries that begin alike then stand side by side, so that a node is a range of them. They are
 //! sorted once, by number, and stay where they are.
-ghost use Rattle.std.specs.Prelude.{◌≡◌, ◌<◌, ◌≤◌, ◌^◌, All, IfOk, OnOk, length, map, slice_index_or, []};
+ghost use Rattle.std.specs.Prelude.{◌≡◌, ◌-◌, ◌<◌, ◌≤◌, ◌^◌, All, IfOk, OnOk, length, map, slice_index_or, []};
 ghost use Rattle.std.specs.List.{range_with_len};
 ghost use Rattle.std.specs.List.Sorted.{IsPermutation};
 ghost use Rattle.hwdb_lookup.specs.Bounds.{max_entries};
-ghost use Rattle.trie_core.specs.Rows.{IsSorted, Tells, pattern_at, patterns, row_cmp};
+ghost use Rattle.trie_core.specs.Rows.{AreShared, IsCommon, IsSorted, Tells, pattern_at, patterns, row_cmp};
 
 use hwdb_lookup::Entry;
 use std::alloc::{AllocError, Global};
 use std::cmp::Ordering;
 use text_core::Item;
-use trie_paths::compare;
+use trie_paths::{compare, compare_labels};
 
 /// The pattern of an entry, with the entry's number.
 #[derive(Clone, Copy, Debug)]
@@ -59,6 +59,50 @@ pub(crate) fn sorted_rows<'a>(
     let mut rows = rows_in_order(alloc, entries)?;
     rows.sort_by(|row, other| compare_rows(row, other))?;
     Ok(rows)
+}
+
+/// Sorted rows, and how many labels each has at its front in common with the row before it.
+#[derive(Clone, Copy, Debug)]
+pub(crate) struct Sorted<'r, 'a> {
+    /// The rows.
+    pub(crate) rows: &'r [Row<'a>],
+    /// A number for each row.
+    pub(crate) shared: &'r [usize],
+}
+
+/// How many labels two patterns have in common at their fronts.
+fn common_front(pattern: &[Item], other: &[Item]) -> usize
+    ensures { IsCommon pattern.now other.now result }
+{
+    let len = pattern.len().min(other.len());
+    for at in 0..len {
+        if compare_labels(&pattern[at], &other[at]) != Ordering::Equal {
+            return at;
+        }
+    }
+    len
+}
+
+/// How many labels a row has in common with the row before it; the first has none.
+fn shared_at(rows: &[Row<'_>], at: usize) -> usize
+    requires { at < length (patterns rows.now) }
+    ensures { 0 < at → IsCommon (pattern_at (patterns rows.now) (at - 1)) (pattern_at (patterns rows.now) at) result }
+{
+    if at == 0 {
+        return 0;
+    }
+    common_front(items_at(rows, at - 1), items_at(rows, at))
+}
+
+/// How many labels each row has at its front in common with the row before it.
+pub(crate) fn shared_fronts(alloc: Global, rows: &[Row<'_>]) -> Result<Vec<usize>, AllocError>
+    ensures { IfOk result (λ shared. AreShared (patterns rows.now) shared.items) }
+{
+    let mut shared = Vec::with_capacity(alloc, rows.len())?;
+    for at in 0..rows.len() {
+        shared.push(shared_at(rows, at))?;
+    }
+    Ok(shared)
 }
 
 /// The numbers of the entries, row by row.

@@ -12,7 +12,7 @@ ghost use Rattle.trie_paths.specs.Sizes.{max_nodes};
 
 use crate::TrieFault;
 use crate::build::nodes_of;
-use crate::rows::{numbers_of, sorted_rows};
+use crate::rows::{Sorted, numbers_of, shared_fronts, sorted_rows};
 use hwdb_lookup::{Entry, Lookup, MAX_ENTRIES, Sourced};
 use std::alloc::{AllocError, Global};
 use std::marker::Model;
@@ -56,7 +56,12 @@ fn made_of(alloc: Global, entries: &[Entry]) -> Result<Made, TrieFault>
     ensures fits { MatchResult result (λ _. length (paths_of entries.now) ≤ max_nodes) (λ fault. fault ≡ TooLarge → max_nodes < length (paths_of entries.now)) }
 {
     let rows = sorted_rows(alloc, entries)?;
-    let nodes = nodes_of(alloc, &rows)?;
+    let shared = shared_fronts(alloc, &rows)?;
+    let sorted = Sorted {
+        rows: &rows,
+        shared: &shared,
+    };
+    let nodes = nodes_of(alloc, sorted)?;
     let numbers = numbers_of(alloc, &rows)?;
     Ok(Made { numbers, nodes })
 }

@@ -9,21 +9,21 @@ use Rattle.trie_core.proofs.build.nodes_of.Goals as goal
 
 pub longer_from-from-requires-clause-group : goal.longer_from-from-requires-clause-group
 longer_from-from-requires-clause-group c =
-    valid_at (patterns c.args.rows.now) c.loop-groups.nodes.items c.loop-groups.groups.items c.loop-groups.invariant.built c.index-group.result.now c.len-in-loop-groups-2.result (omega arith) c.index-group.ensures
+    valid_at (patterns c.args.sorted.rows.now) c.loop-groups.nodes.items c.loop-groups.groups.items c.loop-groups.invariant.built c.index-group.result.now c.len-in-loop-groups-2.result (omega arith) c.index-group.ensures
 
 pub split-requires-clause-group : goal.split-requires-clause-group
 split-requires-clause-group c =
-    valid_at (patterns c.args.rows.now) c.loop-groups.nodes.items c.loop-groups.groups.items c.loop-groups.invariant.built c.index-group.result.now c.len-in-loop-groups-2.result (omega arith) c.index-group.ensures
+    valid_at (patterns c.args.sorted.rows.now) c.loop-groups.nodes.items c.loop-groups.groups.items c.loop-groups.invariant.built c.index-group.result.now c.len-in-loop-groups-2.result (omega arith) c.index-group.ensures
 
 pub last_label-requires : goal.last_label-requires
 last_label-requires c =
-    valid_at (patterns c.args.rows.now) c.loop-groups.nodes.items c.loop-groups.groups.items c.loop-groups.invariant.built c.index-group.result.now c.len-in-loop-groups-2.result (omega arith) c.index-group.ensures
+    valid_at (patterns c.args.sorted.rows.now) c.loop-groups.nodes.items c.loop-groups.groups.items c.loop-groups.invariant.built c.index-group.result.now c.len-in-loop-groups-2.result (omega arith) c.index-group.ensures
 
 pub overflow_cast-from : goal.overflow_cast-from
 overflow_cast-from c =
-    let valid : IsGroup (patterns c.args.rows.now) c.index-group.result.now =
-    valid_at (patterns c.args.rows.now) c.loop-groups.nodes.items c.loop-groups.groups.items c.loop-groups.invariant.built c.index-group.result.now c.len-in-loop-groups-2.result (omega arith) c.index-group.ensures in
-    omega (arith, c.longer_from-from.ensures.end, valid.within, c.requires.few)
+    let valid : IsGroup (patterns c.args.sorted.rows.now) c.index-group.result.now =
+    valid_at (patterns c.args.sorted.rows.now) c.loop-groups.nodes.items c.loop-groups.groups.items c.loop-groups.invariant.built c.index-group.result.now c.len-in-loop-groups-2.result (omega arith) c.index-group.ensures in
+    omega (arith, c.longer_from-from.ensures.split.end, valid.within, c.requires.few)
 
 pub returns-then-len-gt-MAX_NODES-clause-fits : goal.returns-then-len-gt-MAX_NODES-clause-fits
 returns-then-len-gt-MAX_NODES-clause-fits c =
@@ -32,9 +32,9 @@ returns-then-len-gt-MAX_NODES-clause-fits c =
     let group : Group = c.index-group.result.now in
     let k : c.len-in-loop-groups-2.result ≡ length nodes = omega arith in
     let inside : length nodes < length groups = omega arith in
-    let few : length c.split.new.groups.items ≤ length (paths_among (patterns c.args.rows.now)) =
-    not_more (patterns c.args.rows.now) nodes groups c.split.new.groups.items c.loop-groups.invariant.built inside group (group_at groups group c.len-in-loop-groups-2.result (length nodes) k inside c.index-group.ensures)
-    c.longer_from-from.result c.longer_from-from.ensures c.in_ok-split.ensures in
+    let few : length c.split.new.groups.items ≤ length (paths_among (patterns c.args.sorted.rows.now)) =
+    not_more (patterns c.args.sorted.rows.now) nodes groups c.split.new.groups.items c.loop-groups.invariant.built inside group (group_at groups group c.len-in-loop-groups-2.result (length nodes) k inside c.index-group.ensures)
+    c.longer_from-from.result c.longer_from-from.ensures.split c.in_ok-split.ensures in
     λ _. omega (arith, few)
 
 pub loop-groups-preserved : goal.loop-groups-preserved
@@ -55,17 +55,17 @@ loop-groups-preserved c =
     let first : node.first ≡ length groups = omega arith in
     let count : node.count ≡ length c.split.new.groups.items - length groups = omega arith in
     record {
-      built = subst (λ l. IsBuilt (patterns c.args.rows.now) l c.split.new.groups.items) (sym c.in_ok-push-2.ensures.items)
-          (built_more (patterns c.args.rows.now) nodes groups c.split.new.groups.items c.loop-groups.invariant.built inside group
-          (group_at groups group c.len-in-loop-groups-2.result (length nodes) k inside c.index-group.ensures) from c.longer_from-from.ensures c.in_ok-split.ensures
+      built = subst (λ l. IsBuilt (patterns c.args.sorted.rows.now) l c.split.new.groups.items) (sym c.in_ok-push-2.ensures.items)
+          (built_more (patterns c.args.sorted.rows.now) nodes groups c.split.new.groups.items c.loop-groups.invariant.built inside group
+          (group_at groups group c.len-in-loop-groups-2.result (length nodes) k inside c.index-group.ensures) from c.longer_from-from.ensures.split c.in_ok-split.ensures
           node first count refl refl c.last_label.ensures.root c.last_label.ensures.label);
       few = omega arith;
     }
 
 pub returns-clause-nodes : goal.returns-clause-nodes
-returns-clause-nodes c = all_built (patterns c.args.rows.now) c.loop-groups.nodes.items c.loop-groups.groups.items c.loop-groups.invariant.built (omega arith)
+returns-clause-nodes c = all_built (patterns c.args.sorted.rows.now) c.loop-groups.nodes.items c.loop-groups.groups.items c.loop-groups.invariant.built (omega arith)
 
 pub returns-clause-fits : goal.returns-clause-fits
 returns-clause-fits c =
-    let all : length c.loop-groups.nodes.items ≡ length (paths_among (patterns c.args.rows.now)) = counted (patterns c.args.rows.now) c.loop-groups.nodes.items c.loop-groups.groups.items c.loop-groups.invariant.built (omega arith) in
+    let all : length c.loop-groups.nodes.items ≡ length (paths_among (patterns c.args.sorted.rows.now)) = counted (patterns c.args.sorted.rows.now) c.loop-groups.nodes.items c.loop-groups.groups.items c.loop-groups.invariant.built (omega arith) in
     omega (arith, all, c.loop-groups.invariant.few, c.loop-groups.invariant.built.ahead)

@@ -6,7 +6,7 @@ use Rattle.trie_core.proofs.build.nodes_of.Given as goal
 
 abbrev pub invariant-loop-groups : goal.invariant-loop-groups
 invariant-loop-groups l = record {
-  built : IsBuilt (patterns l.rows) l.nodes.items l.groups.items;
+  built : IsBuilt (patterns l.sorted.rows.now) l.nodes.items l.groups.items;
   few : length l.groups.items ≤ max_nodes;
 }
 

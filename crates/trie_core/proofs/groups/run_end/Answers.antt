@@ -4,12 +4,26 @@ use Rattle.trie_paths.specs.Order.{label_cmp}
 use Rattle.trie_paths.proofs.Orders.{labels_order}
 use Rattle.trie_core.specs.Groups.{label_at}
 use Rattle.trie_core.specs.Rows.{patterns}
+use Rattle.trie_core.proofs.Sharing.{run_more, run_over}
 use Rattle.trie_core.proofs.groups.run_end.Goals as goal
 
 pub loop-at-init : goal.loop-at-init
 loop-at-init c =
-    let label : ℕ → _ = label_at (patterns c.args.rows.now) c.args.depth in
+    let label : ℕ → _ = label_at (patterns c.args.sorted.rows.now) c.args.depth in
     record {
       started = omega arith;
       same = λ x h k. let e : c.args.start ≡ x = omega arith in subst (λ z. label_cmp (label c.args.start) (label z) ≡ Equal) e (labels_order.itself (label c.args.start));
     }
+
+pub returns-then-sorted-at : goal.returns-then-sorted-at
+returns-then-sorted-at c = record {
+  run = run_over (patterns c.args.sorted.rows.now) c.args.sorted.shared.now c.requires.shared c.args.start c.args.end c.args.depth c.requires.within c.requires.longer c.requires.alike
+      c.loop-at.at c.loop-at.invariant.started c.loop-at-test.true c.loop-at.invariant.same c.if-sorted-at.true;
+}
+
+pub loop-at-preserved : goal.loop-at-preserved
+loop-at-preserved c = record {
+  started = omega arith;
+  same = run_more (patterns c.args.sorted.rows.now) c.args.sorted.shared.now c.requires.shared c.args.start c.args.end c.args.depth c.requires.within c.requires.longer c.requires.alike
+      c.loop-at.at c.loop-at.invariant.started c.loop-at-test.true c.loop-at.invariant.same (omega (arith, c.if-sorted-at.false));
+}

@@ -8,5 +8,5 @@ use Rattle.trie_core.proofs.groups.run_end.Given as goal
 abbrev pub invariant-loop-at : goal.invariant-loop-at
 invariant-loop-at l = record {
   started : l.start < l.at;
-  same : (x : ℕ) → l.start ≤ x → x < l.at → label_cmp (label_at (patterns l.rows) l.depth l.start) (label_at (patterns l.rows) l.depth x) ≡ Equal;
+  same : (x : ℕ) → l.start ≤ x → x < l.at → label_cmp (label_at (patterns l.sorted.rows.now) l.depth l.start) (label_at (patterns l.sorted.rows.now) l.depth x) ≡ Equal;
 }

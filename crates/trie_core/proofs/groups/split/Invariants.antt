@@ -4,7 +4,7 @@ use Rattle.trie_core.proofs.Splitting.{IsSoFar}
 use Rattle.trie_core.proofs.groups.split.Given as goal
 
 abbrev pub invariant-loop-at : goal.invariant-loop-at
-invariant-loop-at l = IsSoFar (patterns l.rows) l.group l.from l.at l.fn.groups.items l.groups.items
+invariant-loop-at l = IsSoFar (patterns l.sorted.rows.now) l.group l.from l.at l.fn.groups.items l.groups.items
 
 abbrev pub decreases-loop-at : goal.decreases-loop-at
 decreases-loop-at l = l.group.end - l.at

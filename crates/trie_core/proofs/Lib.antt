@@ -6,3 +6,4 @@ pub mod Numbering
 pub mod Sorting
 pub mod Splitting
 pub mod Sharing
+pub mod Fronting

@@ -1,6 +1,10 @@
 -- Rows that were sorted.
 use Rattle.std.proofs.Common.{◌≡◌, ℕ, zero, suc, ◌<◌, List, ◌∷◌, [], length, map, ◌++◌, ◌+◌, zero-add, get_or, false, true, refl, sym, ◌∙◌, ap, subst, arith}
-use Rattle.std.proofs.lemmas.Cmp.{nat_cmp_total, on_total, then_total}
+use Rattle.std.proofs.lemmas.Cmp.{nat_cmp_total, nat_list_cmp_total, on_total, then_total}
+use Rattle.std.proofs.Math.Logic.{⊎_elim}
+use Rattle.std.specs.Cmp.Lexicographic.{slice_cmp}
+use Rattle.trie_core.specs.Fronts.{codes}
+use Rattle.trie_core.proofs.Fronting.{fronts_agree}
 use Rattle.std.proofs.lemmas.List.{get_or_default, length-map, map-append}
 use Rattle.std.proofs.lemmas.List.Elements.{All-push}
 use Rattle.std.specs.List.{All, range_with_len}
@@ -18,7 +22,7 @@ use Rattle.trie_core.specs.Rows.{IsSorted, Tells, pattern_at, patterns, row_cmp}
 use Rattle.trie_core.specs.declared.rows.Row.{Row}
 
 pub rows_total : IsTotalOrder row_cmp
-rows_total = then_total (on_total (λ (r : Row). r.items.now) patterns_total) (on_total (λ (r : Row). r.number) nat_cmp_total)
+rows_total = then_total (on_total (λ (r : Row). r.front) nat_list_cmp_total) (then_total (on_total (λ (r : Row). r.items.now) patterns_total) (on_total (λ (r : Row). r.number) nat_cmp_total))
 
 -- the row at a place
 pub row_at : (rows : List Row) (x : ℕ) → x < length rows → (r : Row) × (pattern_at (patterns rows) x ≡ r.items.now) × ((d : Row) → get_or rows x d ≡ r)
@@ -26,14 +30,23 @@ row_at [] x h = absurd (omega arith)
 row_at (r ∷ rows) zero h = (r, refl, λ d. refl)
 row_at (r ∷ rows) (suc x) h = row_at rows x (omega arith)
 
-pub patterns_rise : (rows : List Row) → IsSortedBy (λ r s. is_lt (row_cmp r s)) rows → IsSorted (patterns rows)
-patterns_rise rows up x y h k greater =
+-- rows stand as their patterns, where these differ
+row_greater : (es : List Entry) (r s : Row) → Tells es r → Tells es s → pattern_cmp r.items.now s.items.now ≡ Greater → row_cmp r s ≡ Greater
+row_greater es r s told other greater =
+    let fronts : slice_cmp nat_cmp r.front s.front ≡ slice_cmp nat_cmp (codes 24 r.items.now) (codes 24 s.items.now) = ap (λ l. slice_cmp nat_cmp l s.front) told.front ∙ ap (slice_cmp nat_cmp (codes 24 r.items.now)) other.front in
+    let rest : ordering_then (pattern_cmp r.items.now s.items.now) (nat_cmp r.number s.number) ≡ Greater = ap (λ o. ordering_then o (nat_cmp r.number s.number)) greater in
+    ⊎_elim (λ tie. ap (λ o. ordering_then o (ordering_then (pattern_cmp r.items.now s.items.now) (nat_cmp r.number s.number))) (fronts ∙ tie) ∙ rest)
+    (λ is. ap (λ o. ordering_then o (ordering_then (pattern_cmp r.items.now s.items.now) (nat_cmp r.number s.number))) (fronts ∙ is ∙ greater)) (fronts_agree 24 r.items.now s.items.now)
+
+pub patterns_rise : (es : List Entry) (rows : List Row) → All (Tells es) rows → IsSortedBy (λ r s. is_lt (row_cmp r s)) rows → IsSorted (patterns rows)
+patterns_rise es rows tells up x y h k greater =
     let len : length (patterns rows) ≡ length rows = simp length-map in
     let inside : y < length rows = omega (arith, len) in
     let r = row_at rows x (omega arith) in
     let s = row_at rows y inside in
     let above : row_cmp r.0 s.0 ≡ Greater =
-    ap (λ o. ordering_then o (nat_cmp r.0.number s.0.number)) (ap (λ p. pattern_cmp p s.0.items.now) (sym r.1) ∙ ap (pattern_cmp (pattern_at (patterns rows) x)) (sym s.1) ∙ greater) in
+    row_greater es r.0 s.0 (subst (Tells es) (r.2 r.0) (tells x r.0 (omega arith))) (subst (Tells es) (s.2 s.0) (tells y s.0 inside))
+    (ap (λ p. pattern_cmp p s.0.items.now) (sym r.1) ∙ ap (pattern_cmp (pattern_at (patterns rows) x)) (sym s.1) ∙ greater) in
     let turned : row_cmp s.0 r.0 ≡ Less = rows_total.antisymm s.0 r.0 ∙ ap ordering_reverse above in
     let not : is_lt (row_cmp (get_or rows y r.0) (get_or rows x r.0)) ≡ false =
     sorted_far (λ a b. is_lt (row_cmp a b)) (ranks_by rows_total (λ (z : Row). z)) rows up x y r.0 (omega arith) inside in
@@ -47,10 +60,11 @@ module _ (es : List Entry) (rows more : List Row) (i : ℕ) (e : Entry) (r : Row
       ap (map (λ (s : Row). s.number)) pushed ∙ map-append (λ (s : Row). s.number) rows (r ∷ [])
       ∙ ap (λ l. l ++ r.number ∷ []) so_far ∙ ap (λ n. range_with_len 0 i ++ n ∷ []) (number ∙ sym (zero-add i)) ∙ range-append 0 i 1
 
-  pub rows_more : i < length es → e ≡ get_or es i e → r.items.now ≡ e.pattern → All (Tells es) rows → All (Tells es) more
-  rows_more within is items so_far =
+  pub rows_more : i < length es → e ≡ get_or es i e → r.items.now ≡ e.pattern → r.front ≡ codes 24 r.items.now → All (Tells es) rows → All (Tells es) more
+  rows_more within is items front so_far =
       let own : Tells es r = record {
         within = omega (arith, number, within);
         items = items ∙ ap (λ (x : Entry). x.pattern) (is ∙ get_or_default es i e no_entry within ∙ ap (λ k. get_or es k no_entry) (sym number));
+        front = front;
       } in
       subst (All (Tells es)) (sym pushed) (All-push (Tells es) rows r so_far own)

@@ -2,3 +2,4 @@ pub mod Building
 pub mod Content
 pub mod Groups
 pub mod Rows
+pub mod Fronts

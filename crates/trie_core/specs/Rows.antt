@@ -1,6 +1,7 @@
 -- Serves inner proofs only: the entries, sorted by their patterns.
 use Rattle.std.specs.Prelude.{ℕ, ◌≡◌, ◌-◌, ◌<◌, List, [], length, map, slice_index_or}
 use Rattle.std.specs.Ordering.{nat_cmp, ordering_then}
+use Rattle.std.specs.Cmp.Lexicographic.{slice_cmp}
 use Rattle.std.specs.declared.cmp.Ordering.{Ordering}
 use Rattle.std.specs.declared.cmp.Ordering.TheVariants.{Equal, Greater}
 use Rattle.text_core.specs.declared.item.Item.{Item}
@@ -8,16 +9,18 @@ use Rattle.text_core.specs.declared.item.Item.TheVariants.{One}
 use Rattle.hwdb_lookup.specs.declared.entry.Entry.{Entry}
 use Rattle.trie_paths.specs.Order.{label_cmp, pattern_cmp}
 use Rattle.trie_core.specs.Content.{entry_at}
+use Rattle.trie_core.specs.Fronts.{codes}
 use Rattle.trie_core.specs.declared.rows.Row.{Row}
 
 -- a row has the pattern of the entry with its number
 pub record Tells (es : List Entry) (r : Row) : Type 0 where
   pub within : r.number < length es
   pub items : r.items.now ≡ (entry_at es r.number).pattern
+  pub front : r.front ≡ codes 24 r.items.now
 
--- how a row compares with another: by the patterns, and of one pattern by the numbers
+-- how a row compares with another: by the first labels, by the patterns, and of one pattern by the numbers
 abbrev pub row_cmp : Row → Row → Ordering
-row_cmp r s = ordering_then (pattern_cmp r.items.now s.items.now) (nat_cmp r.number s.number)
+row_cmp r s = ordering_then (slice_cmp nat_cmp r.front s.front) (ordering_then (pattern_cmp r.items.now s.items.now) (nat_cmp r.number s.number))
 
 -- the patterns of rows
 abbrev pub patterns : List Row → List (List Item)

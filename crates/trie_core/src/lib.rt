@@ -6,6 +6,7 @@
 
 mod build;
 mod fault;
+mod fronts;
 mod groups;
 mod rows;
 #[cfg(test)]

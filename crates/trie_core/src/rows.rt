@@ -8,6 +8,7 @@ ghost use Rattle.std.specs.List.Sorted.{IsPermutation};
 ghost use Rattle.hwdb_lookup.specs.Bounds.{max_entries};
 ghost use Rattle.trie_core.specs.Rows.{AreShared, IsCommon, IsSorted, Tells, pattern_at, patterns, row_cmp};
 
+use crate::fronts::{FRONT, front_of};
 use hwdb_lookup::Entry;
 use std::alloc::{AllocError, Global};
 use std::cmp::Ordering;
@@ -19,15 +20,21 @@ use trie_paths::{compare, compare_labels};
 pub(crate) struct Row<'a> {
     /// The items of the pattern.
     pub(crate) items: &'a [Item],
+    /// The bytes of the pattern's first labels.
+    pub(crate) front: [u8; FRONT],
     /// The entry's number.
     pub(crate) number: u32,
 }
 
-/// How a row compares with another: by the patterns, and of one pattern by the numbers.
+/// How a row compares with another: by the patterns, of which the first labels mostly decide, and of
+/// one pattern by the numbers.
 fn compare_rows(row: &Row<'_>, other: &Row<'_>) -> Ordering
     ensures { result ≡ row_cmp row.now other.now }
 {
-    compare(row.items, other.items).then(row.number.cmp(&other.number))
+    match row.front.cmp(&other.front) {
+        Ordering::Equal => { compare(row.items, other.items).then(row.number.cmp(&other.number)) }
+        order => order,
+    }
 }
 
 /// A row for each entry, in order.
@@ -40,6 +47,7 @@ fn rows_in_order<'a>(alloc: Global, entries: &'a [Entry]) -> Result<Vec<Row<'a>>
     for (i, entry) in entries.iter().enumerate() {
         rows.push(Row {
             items: entry.pattern.items(),
+            front: front_of(entry.pattern.items()),
             number: i as u32,
         })?;
     }

@@ -16,4 +16,4 @@ returns-clause-rows c = All-permutation (Tells c.args.entries.now) c.in_ok-rows.
 
 pub returns-clause-sorted : goal.returns-clause-sorted
 returns-clause-sorted c =
-    patterns_rise c.sort_by.new.self.items (c.in_ok-sort_by.ensures.sorted (λ r s. is_lt (row_cmp r s)) (ranks_by rows_total (λ z. z)) (always_returns_same _ _ _ (λ a r f k. search (rules, of_calls))))
+    patterns_rise c.args.entries.now c.sort_by.new.self.items (All-permutation (Tells c.args.entries.now) c.in_ok-rows.rows.items c.sort_by.new.self.items c.in_ok-sort_by.ensures.permutation c.in_ok-rows.ensures.rows) (c.in_ok-sort_by.ensures.sorted (λ r s. is_lt (row_cmp r s)) (ranks_by rows_total (λ z. z)) (always_returns_same _ _ _ (λ a r f k. search (rules, of_calls))))

@@ -11,6 +11,7 @@ target=$(realpath "$2")
 export SOURCE_DATE_EPOCH=${SOURCE_DATE_EPOCH:-$(git -C "$top" log -1 --format=%ct)}
 version=$("$program" --version | sed 's/^devdry //')
 architecture=$(dpkg --print-architecture)
+maintainer="${DEBFULLNAME:-$(id -un)} <${DEBEMAIL:-$(id -un)@$(hostname)}>"
 work=$(mktemp -d)
 trap 'rm -rf "$work"' EXIT
 umask 022
@@ -23,14 +24,21 @@ MAKEFLAGS="" make --silent -C "$top" install PROGRAM="$program" DESTDIR="$root" 
 strip --remove-section=.comment --remove-section=.note "$root/usr/bin/devdry"
 gzip -9n "$root"/usr/share/man/man1/*
 mkdir -p "$doc"
-gzip -9nc "$top/CHANGELOG.md" > "$doc/changelog.gz"
-cp "$top/README.md" "$top/docs/behaviour.md" "$doc"
+gzip -9nc "$top/CHANGELOG.md" > "$doc/CHANGELOG.md.gz"
+cp "$top/README.md" "$top/docs/behaviour.md" "$top/docs/messages.md" "$top/docs/differences.md" "$doc"
+gzip -9nc > "$doc/changelog.gz" << END
+devdry ($version) unstable; urgency=low
+
+  * What this version brings stands in CHANGELOG.md.gz.
+
+ -- $maintainer  $(LC_ALL=C date -u -R -d "@$SOURCE_DATE_EPOCH")
+END
 cat > "$doc/copyright" << 'END'
 Format: https://www.debian.org/doc/packaging-manuals/copyright-format/1.0/
 Upstream-Name: devdry
 
 Files: *
-Copyright: the makers of devdry
+Copyright: 2026 the makers of devdry
 License: Apache-2.0
  On Debian systems the text of this license stands in /usr/share/common-licenses/Apache-2.0.
 END
@@ -46,7 +54,7 @@ cat > "$root/DEBIAN/control" << END
 Package: devdry
 Version: $version
 Architecture: $architecture
-Maintainer: ${DEBFULLNAME:-$(id -un)} <${DEBEMAIL:-$(id -un)@$(hostname)}>
+Maintainer: $maintainer
 Installed-Size: $(du -k -s --apparent-size "$root/usr" | cut -f 1)
 Depends: $depends
 Section: utils

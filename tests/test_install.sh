@@ -6,27 +6,30 @@ set -uo pipefail
 . "$(dirname "$0")/lib.sh"
 
 make_in() { make --silent -C "$top" "$@" PROGRAM="$program"; }
-files_of() { (cd "$1" && find . ! -type d | sed 's/^\.//' | LC_ALL=C sort); }
-pages=$(cd "$top/man" && printf '%s\n' *.1)
+sorted() { LC_ALL=C sort; }
+files_of() { (cd "$1" && find . ! -type d | sed 's/^\.//' | sorted); }
+
+# wanted PREFIX ZSHDIR END: what `make install` puts there, the pages with that end
 wanted() {
     printf '%s\n' "$1/bin/devdry" "$1/bin/devdry-capture" "$1/share/bash-completion/completions/devdry" "$2/_devdry" \
         "$1/share/fish/vendor_completions.d/devdry.fish"
-    for page in $pages; do echo "$1/share/man/man1/$page$3"; done
+    for page in "$top"/man/*.1; do echo "$1/share/man/man1/${page##*/}$3"; done
 }
 
 root=$work/root
 mkdir -p "$root/usr/local/bin"
 touch "$root/usr/local/bin/other"
 goes_well "make install" make_in install DESTDIR="$root"
-same "what stands there then" "$({ wanted /usr/local /usr/local/share/zsh/site-functions ''; echo /usr/local/bin/other; } | LC_ALL=C sort)" \
-    "$(files_of "$root")"
+installed=$(wanted /usr/local /usr/local/share/zsh/site-functions '')
+same "what stands there then" "$({ echo "$installed"; echo /usr/local/bin/other; } | sorted)" "$(files_of "$root")"
 same "the program that was installed runs" "$("$program" --version)" "$(env -i "$root/usr/local/bin/devdry" --version)"
 goes_well "make uninstall" make_in uninstall DESTDIR="$root"
 same "what stands there then" /usr/local/bin/other "$(files_of "$root")"
-goes_well "make install with folders of one's own" make_in install DESTDIR="$work/own" PREFIX=/p MANDIR=/m BINDIR=/b \
-    BASHDIR=/c/bash ZSHDIR=/c/zsh FISHDIR=/c/fish
-same "what stands there then" "$({ printf '%s\n' /b/devdry /b/devdry-capture /c/bash/devdry /c/zsh/_devdry /c/fish/devdry.fish; for page in $pages; do echo "/m/man1/$page"; done; } | LC_ALL=C sort)" \
-    "$(files_of "$work/own")"
+
+own=(PREFIX=/p BINDIR=/b MANDIR=/m BASHDIR=/c/bash ZSHDIR=/c/zsh FISHDIR=/c/fish)
+goes_well "make install with folders of one's own" make_in install DESTDIR="$work/own" "${own[@]}"
+same "what stands there then" "$(sed 's|^/p/bin|/b|; s|^/p/share/man|/m|; s|^/p/share/bash[a-z/-]*|/c/bash|; s|^/p/share/fish/[a-z_.]*|/c/fish|' \
+    <<< "$(wanted /p /c/zsh '')" | sorted)" "$(files_of "$work/own")"
 
 if ! has dpkg-deb || ! has strip; then
     skipped "make deb" "there is no dpkg-deb"
@@ -37,8 +40,9 @@ goes_well "packaging/deb.sh" "$top/packaging/deb.sh" "$program" "$work/debs"
 goes_well "packaging/deb.sh once more" "$top/packaging/deb.sh" "$program" "$work/again"
 deb=$(echo "$work"/debs/*.deb)
 goes_well "it gives the same package" cmp "$deb" "$work/again/${deb##*/}"
-same "its files" "$({ wanted /usr /usr/share/zsh/vendor-completions .gz; printf '/usr/share/doc/devdry/%s\n' README.md behaviour.md changelog.gz copyright; } | LC_ALL=C sort)" \
-    "$(dpkg-deb --fsys-tarfile "$deb" | tar -t | sed 's/^\.//' | grep -v '/$' | LC_ALL=C sort)"
+docs=$(printf '/usr/share/doc/devdry/%s\n' README.md behaviour.md messages.md differences.md CHANGELOG.md.gz changelog.gz copyright)
+same "its files" "$({ wanted /usr /usr/share/zsh/vendor-completions .gz; echo "$docs"; } | sorted)" \
+    "$(dpkg-deb --fsys-tarfile "$deb" | tar -t | sed 's/^\.//' | grep -v '/$' | sorted)"
 
 as_root=()
 if [ "$(id -u)" != 0 ]; then as_root=(fakeroot); fi

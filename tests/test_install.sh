@@ -28,8 +28,8 @@ same "what stands there then" /usr/local/bin/other "$(files_of "$root")"
 
 own=(PREFIX=/p BINDIR=/b MANDIR=/m BASHDIR=/c/bash ZSHDIR=/c/zsh FISHDIR=/c/fish)
 goes_well "make install with folders of one's own" make_in install DESTDIR="$work/own" "${own[@]}"
-same "what stands there then" "$(sed 's|^/p/bin|/b|; s|^/p/share/man|/m|; s|^/p/share/bash[a-z/-]*|/c/bash|; s|^/p/share/fish/[a-z_.]*|/c/fish|' \
-    <<< "$(wanted /p /c/zsh '')" | sorted)" "$(files_of "$work/own")"
+moved='s|^/p/bin|/b|; s|^/p/share/man|/m|; s|^/p/share/bash-completion/completions|/c/bash|; s|^/p/share/fish/[a-z_.]*|/c/fish|'
+same "what stands there then" "$(wanted /p /c/zsh '' | sed "$moved" | sorted)" "$(files_of "$work/own")"
 
 if ! has dpkg-deb || ! has strip; then
     skipped "make deb" "there is no dpkg-deb"

@@ -1,0 +1,54 @@
+#!/usr/bin/env bash
+# What docs/behaviour.md says of statuses and of the two outputs, and the files that a test of a crate can't make.
+set -uo pipefail
+# shellcheck source=lib.sh
+. "$(dirname "$0")/lib.sh"
+cd "$work" || exit 1
+cp "$top"/examples/*.rules "$top"/examples/*.hwdb .
+
+# ends CASE STATUS OUTPUT ERRORS WORD..: the program ends so; of each text the first line is looked at
+ends() {
+    local case=$1 status=$2 output=$3 errors=$4 got=0
+    shift 4
+    "$program" "$@" > out 2> err < /dev/null || got=$?
+    same "$case" "$status|$output|$errors" "$got|$(head -n 1 out)|$(head -n 1 err)"
+}
+title="A dry run of udev's rules and hardware database"
+ends "no words" 2 "" "$title"
+ends "--help" 0 "$title" "" --help
+ends "help" 0 "$title" "" help
+ends "-h behind a command" 0 "Checks rules files" "" verify -h
+ends "--version" 0 "devdry 0.1.0" "" --version
+ends "an unknown command" 2 "" "error: unrecognized subcommand 'none'" none
+ends "an unknown option" 2 "" "error: unexpected argument '--none' found" verify --none
+ends "an option twice" 2 "" "error: the argument '--root <DIR>' cannot be used multiple times" verify -r a -r b
+ends "a query without a modalias" 2 "" "error: the following required arguments were not provided:" query
+ends "a word that is not UTF-8" 2 "" "error: an argument is not UTF-8" verify $'\377'
+ends "a good file" 0 "1 files checked, 1 good, 0 bad" "" verify disk.rules
+ends "a good file, not counted" 0 "" "" verify --no-summary disk.rules
+ends "a bad file" 1 "1 files checked, 0 good, 1 bad" "mistakes.rules:2: V2 unknown key: SUBSYSTEMM" verify mistakes.rules
+ends "messages of the database" 0 "" "mistakes.hwdb:1: H1 property without a match: A=1" query none mistakes.hwdb
+ends "a query without a match" 0 "" "" query none trackball.hwdb
+ends "a file that is not there" 3 "" "devdry: cannot read none.rules" verify disk.rules none.rules
+ends "a folder" 3 "" "devdry: cannot read ." verify .
+ends "-" 3 "" "devdry: cannot read -" verify -
+ends "an absent root" 0 "0 files checked, 0 good, 0 bad" "" verify -r none
+
+# A reader that closes early.
+{
+    sleep 0.2
+    "$program" query 'mouse:usb:name:My TrackBall:x' trackball.hwdb 2> err
+    echo $? > status
+} | true
+same "a reader that closes early" "3|devdry: write failed" "$(cat status)|$(cat err)"
+status=0
+"$program" verify mistakes.rules 2> /dev/full > out || status=$?
+same "an error output that is full" "3|" "$status|$(cat out)"
+
+if [ "$(id -u)" != 0 ] || has setpriv; then
+    # (a user without rights has to reach the program)
+    chmod 755 "$work" && cp "$program" "$work/devdry" && program=$work/devdry
+    goes_well "pipes, odd names, a full output (bench/odd_files.sh)" "$top/bench/odd_files.sh" "$program"
+else
+    skipped "bench/odd_files.sh" "as root it takes setpriv"
+fi

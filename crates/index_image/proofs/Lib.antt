@@ -1,0 +1,11 @@
+pub mod Accepting
+pub mod Fitting
+pub mod Imaging
+pub mod Listing
+pub mod Members
+pub mod Permuting
+pub mod Rising
+pub mod Saying
+pub mod Sounding
+pub mod Spelling
+pub mod Texting

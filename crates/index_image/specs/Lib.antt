@@ -1,0 +1,4 @@
+pub mod Image
+pub mod Entries
+pub mod Rows
+pub mod Sound

@@ -6,6 +6,8 @@ set -uo pipefail
 cd "$(dirname "$0")/.." || exit 1
 PROGRAM=$(realpath "${1:-build/devdry}")
 export PROGRAM
+# (run by make, it hands nothing of that on to those that the tests run)
+unset MAKEFLAGS MFLAGS
 log=$(mktemp)
 trap 'rm -f "$log"' EXIT
 [ -x "$PROGRAM" ] || { echo "tests/run.sh: there is no program $PROGRAM" >&2; echo '0 passed, 1 failed'; exit 1; }

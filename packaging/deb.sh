@@ -3,12 +3,13 @@
 # the same package, byte by byte. It wants dpkg-deb; with dpkg-shlibdeps (package dpkg-dev) it knows which libc.
 # usage: packaging/deb.sh PROGRAM DIR
 #   DEBFULLNAME, DEBEMAIL     who makes the package, as Debian's other tools take it
-#   SOURCE_DATE_EPOCH         the time of its files, that of the last commit unless it is given
+#   SOURCE_DATE_EPOCH         the time of its files; unless it is given that of the last commit, or of CHANGELOG.md
 set -euo pipefail
 top=$(cd "$(dirname "$0")/.." && pwd)
 program=$(realpath "$1")
 target=$(realpath "$2")
-export SOURCE_DATE_EPOCH=${SOURCE_DATE_EPOCH:-$(git -C "$top" log -1 --format=%ct)}
+SOURCE_DATE_EPOCH=${SOURCE_DATE_EPOCH:-$(git -C "$top" log -1 --format=%ct 2> /dev/null || date -r "$top/CHANGELOG.md" +%s)}
+export SOURCE_DATE_EPOCH
 version=$("$program" --version | sed 's/^devdry //')
 architecture=$(dpkg --print-architecture)
 maintainer="${DEBFULLNAME:-$(id -un)} <${DEBEMAIL:-$(id -un)@$(hostname)}>"

@@ -64,11 +64,11 @@ for verb in $verbs; do
 done
 (
     cd "$work" && mkdir folder && touch a.rules b.hwdb c.txt
-    same "bash offers rules files and folders to verify" "a.rules folder" "$(bash_offers devdry verify '' | xargs)"
-    same "bash offers database files to update" "b.hwdb folder" "$(bash_offers devdry update '' | xargs)"
-    same "bash offers folders behind -r" "folder" "$(bash_offers devdry query -r '' | xargs)"
-    same "bash offers no file for a modalias" "" "$(bash_offers devdry query '' | xargs)"
-    same "bash offers database files behind a modalias" "b.hwdb folder" "$(bash_offers devdry query -r folder m '' | xargs)"
+    same "bash offers rules files and folders to verify" "a.rules folder" "$(bash_offers devdry verify '' | paste -s -d " " -)"
+    same "bash offers database files to update" "b.hwdb folder" "$(bash_offers devdry update '' | paste -s -d " " -)"
+    same "bash offers folders behind -r" "folder" "$(bash_offers devdry query -r '' | paste -s -d " " -)"
+    same "bash offers no file for a modalias" "" "$(bash_offers devdry query '' | paste -s -d " " -)"
+    same "bash offers database files behind a modalias" "b.hwdb folder" "$(bash_offers devdry query -r folder m '' | paste -s -d " " -)"
 )
 
 if has zsh; then

@@ -6,4 +6,5 @@ pub mod Numbering
 pub mod Sorting
 pub mod Splitting
 pub mod Sharing
+pub mod Sizing
 pub mod Fronting

@@ -5,7 +5,8 @@ use std::alloc::{AllocError, AllocFailed};
 /// Why there is no trie of some entries.
 #[derive(Clone, Copy, Debug, PartialEq, Eq, Drop)]
 pub enum TrieFault {
-    /// There would be more than 2^26 nodes, or there are more than 2^24 entries.
+    /// There would be more than 2^26 nodes, there are more than 2^24 entries, or the index file would have
+    /// more than 2^32 - 1 bytes.
     TooLarge,
     /// A growth was refused.
     Memory,

@@ -9,6 +9,7 @@ mod fault;
 mod fronts;
 mod groups;
 mod rows;
+mod size;
 #[cfg(test)]
 mod tests;
 mod trie;

@@ -2,17 +2,18 @@
 //!
 //! The entries stay as they were given. The nodes know their values as a range of the numbers of the
 //! entries, sorted by pattern, so that nothing of an entry is held twice.
-ghost use Rattle.std.specs.Prelude.{◌≡◌, ◌*◌, ◌+◌, ◌<◌, ◌≤◌, ◌⊎◌, IfOk, MatchResult, length};
+ghost use Rattle.std.specs.Prelude.{◌≡◌, ◌*◌, ◌+◌, ◌<◌, ◌≤◌, IfOk, MatchResult, length};
 ghost use Rattle.hwdb_lookup.specs.Bounds.{max_entries};
 ghost use Rattle.hwdb_lookup.specs.Orders.{Rising};
 ghost use Rattle.trie_core.specs.Content.{IsTrie, active_count, active_nodes, all_values};
 ghost use Rattle.trie_core.specs.declared.fault.TrieFault.TheVariants.{TooLarge};
 ghost use Rattle.trie_paths.specs.Paths.{paths_of};
-ghost use Rattle.trie_paths.specs.Sizes.{max_nodes};
+ghost use Rattle.trie_paths.specs.Sizes.{KeepsBounds, max_nodes};
 
 use crate::TrieFault;
 use crate::build::nodes_of;
 use crate::rows::{Sorted, numbers_of, shared_fronts, sorted_rows};
+use crate::size::index_fits;
 use hwdb_lookup::{Entry, Lookup, MAX_ENTRIES, Sourced};
 use std::alloc::{AllocError, Global};
 use std::marker::Model;
@@ -32,13 +33,13 @@ impl Model for Trie {
     ghost use Rattle.std.specs.Prelude.{◌≤◌, length};
     ghost use Rattle.hwdb_lookup.specs.Bounds.{max_entries};
     ghost use Rattle.trie_core.specs.Content.{Content, IsTrie};
-    ghost use Rattle.trie_paths.specs.Sizes.{max_nodes};
+    ghost use Rattle.trie_paths.specs.Sizes.{KeepsBounds, max_nodes};
 
     ghost Value = { Content };
 
     ghost view = { λ t. record { entries = t.entries.items; numbers = t.numbers.items; nodes = t.nodes.items } };
 
-    ghost invariant = { λ t. IsTrie (record { entries = t.entries.items; numbers = t.numbers.items; nodes = t.nodes.items }) × (length t.nodes.items ≤ max_nodes) × (length t.numbers.items ≤ max_entries) };
+    ghost invariant = { λ t. IsTrie (record { entries = t.entries.items; numbers = t.numbers.items; nodes = t.nodes.items }) × (length t.nodes.items ≤ max_nodes) × (length t.numbers.items ≤ max_entries) × KeepsBounds t.entries.items };
 }
 
 /// What is made of entries for their trie.
@@ -66,22 +67,37 @@ fn made_of(alloc: Global, entries: &[Entry]) -> Result<Made, TrieFault>
     Ok(Made { numbers, nodes })
 }
 
+/// What is made of some entries, unless it is too large.
+fn small_made_of(alloc: Global, entries: &[Entry]) -> Result<Made, TrieFault>
+    requires rising { Rising entries.now }
+    requires few { length entries.now ≤ max_entries }
+    ensures trie { IfOk result (λ made. IsTrie (record { entries = entries.now; numbers = made.numbers.items; nodes = made.nodes.items })) }
+    ensures fits { MatchResult result (λ _. KeepsBounds entries.now) (λ fault. fault ≡ TooLarge → KeepsBounds entries.now → ⊥) }
+{
+    let made = made_of(alloc, entries)?;
+    if !index_fits(alloc, entries, &made.nodes)? {
+        return Err(TrieFault::TooLarge);
+    }
+    Ok(made)
+}
+
 impl Trie {
     /// The trie of entries whose orders strictly rise and whose keys are not empty, as
     /// [`rising`](hwdb_lookup::rising) tells.
     ///
-    /// `TooLarge` comes where it would have more than 2^26 nodes, or where there are more than 2^24
-    /// entries; `Memory` where a growth was refused. The entries are dropped then.
+    /// `TooLarge` comes where it would have more than 2^26 nodes, where there are more than 2^24
+    /// entries, or where its index file would have more than 2^32 - 1 bytes; `Memory` where a growth
+    /// was refused. The entries are dropped then.
     pub fn build(alloc: Global, entries: Vec<Entry>) -> Result<Trie, TrieFault>
         requires { Rising entries.items }
         ensures entries { IfOk result (λ t. t.entries ≡ entries.items) }
         ensures trie { IfOk result (λ t. IsTrie t) }
-        ensures fits { MatchResult result (λ _. (length entries.items ≤ max_entries) × (length (paths_of entries.items) ≤ max_nodes)) (λ fault. fault ≡ TooLarge → (max_entries < length entries.items) ⊎ (max_nodes < length (paths_of entries.items))) }
+        ensures fits { MatchResult result (λ _. KeepsBounds entries.items) (λ fault. fault ≡ TooLarge → KeepsBounds entries.items → ⊥) }
     {
         if entries.len() > MAX_ENTRIES {
             return Err(TrieFault::TooLarge);
         }
-        let Made { numbers, nodes } = made_of(alloc, &entries)?;
+        let Made { numbers, nodes } = small_made_of(alloc, &entries)?;
         Ok(Trie {
             entries,
             numbers,

@@ -1,0 +1,23 @@
+-- Serves inner proofs only: the length of an index, by the nodes that are made for it.
+use Rattle.std.specs.Prelude.{ℕ, ◌+◌, ◌*◌, List, flat_map, length, map}
+use Rattle.std.specs.Borrow.{Bor}
+use Rattle.hwdb_lookup.specs.declared.entry.Entry.{Entry}
+use Rattle.trie_nodes.specs.declared.node.Node.{Node}
+use Rattle.trie_paths.specs.Distinct.{distinct}
+use Rattle.trie_paths.specs.Sizes.{header_len, node_len, set_in, set_len, text_cmp, text_len, value_len}
+
+-- the texts that references lead to
+abbrev pub shown : List (Bor (List ℕ)) → List (List ℕ)
+shown texts = map (λ t. t.now) texts
+
+-- how many bytes the key and the value of an entry have
+abbrev pub own_len : Entry → ℕ
+own_len e = length e.key + length e.value
+
+-- the sets of the nodes' labels, each once
+abbrev pub node_sets : List Node → List (List ℕ)
+node_sets nodes = distinct text_cmp (flat_map (λ n. set_in n.label) nodes)
+
+-- how many bytes the index of entries has whose nodes these are
+abbrev pub index_len_by : List Node → List Entry → ℕ
+index_len_by nodes es = header_len + node_len * length nodes + value_len * length es + set_len * length (node_sets nodes) + text_len es

@@ -30,17 +30,18 @@ contains_of x xs i = let w = in_get x x xs i in (w.0, w.1, sym w.2)
 pub in_of : {A : Type 0} (x : A) (xs : List A) → Contains xs x → IsIn x xs
 in_of x xs c = subst (λ z. IsIn z xs) c.2 (get_in x xs c.0 c.1)
 
+-- orders that rise do so over any distance
+pub rising_far : (ys : List Entry) → Rising ys → (i j : ℕ) → i < j → j < length ys → (entry_at ys i).order < (entry_at ys j).order
+rising_far ys rising i zero h k = absurd (omega arith)
+rising_far ys rising i (suc j) h k =
+    let step : (entry_at ys j).order < (entry_at ys (suc j)).order = subst (λ n. (entry_at ys j).order < (entry_at ys n).order) (add-one j) (rising.orders j no_entry (omega arith)) in
+    elim (leb_tells j i) [
+      | inl t ↦ let e : j ≡ i = omega (arith, t.1) in subst (λ n. (entry_at ys n).order < (entry_at ys (suc j)).order) e step
+      | inr t ↦ omega (arith, rising_far ys rising i j t.1 (omega arith), step)
+    ]
+
 -- of entries whose orders rise, with the same members as others
 module _ (xs ys : List Entry) (rising : Rising ys) (to : (e : Entry) → IsIn e xs → IsIn e ys) (fro : (e : Entry) → IsIn e ys → IsIn e xs) (m : List ℕ) where
-  rising_far : (i j : ℕ) → i < j → j < length ys → (entry_at ys i).order < (entry_at ys j).order
-  rising_far i zero h k = absurd (omega arith)
-  rising_far i (suc j) h k =
-      let step : (entry_at ys j).order < (entry_at ys (suc j)).order = subst (λ n. (entry_at ys j).order < (entry_at ys n).order) (add-one j) (rising.orders j no_entry (omega arith)) in
-      elim (leb_tells j i) [
-        | inl t ↦ let e : j ≡ i = omega (arith, t.1) in subst (λ n. (entry_at ys n).order < (entry_at ys (suc j)).order) e step
-        | inr t ↦ omega (arith, rising_far i j t.1 (omega arith), step)
-      ]
-
   module _ (e : Entry) (counts : Counts xs m e) where
     abbrev NotAbove : Entry → Type 0
     NotAbove o = Applies m e.key o → o.order ≤ e.order
@@ -80,7 +81,7 @@ module _ (xs ys : List Entry) (rising : Rising ys) (to : (e : Entry) → IsIn e 
           let there : get_or (drop (suc place.0) ys) k d ≡ entry_at ys n = same ∙ get_or_default ys n d no_entry inside in
           let low : (get_or (drop (suc place.0) ys) k d).order ≤ e.order =
           highest (get_or (drop (suc place.0) ys) k d) (fro (get_or (drop (suc place.0) ys) k d) (subst (λ o. IsIn o ys) (sym same) (get_in d ys n inside))) a in
-          let high : (entry_at ys place.0).order < (entry_at ys n).order = rising_far place.0 n (omega arith) inside in
+          let high : (entry_at ys place.0).order < (entry_at ys n).order = rising_far ys rising place.0 n (omega arith) inside in
           let own : e.order ≡ (entry_at ys place.0).order = ap (λ (x : Entry). x.order) place.2 in
           let other : (get_or (drop (suc place.0) ys) k d).order ≡ (entry_at ys n).order = ap (λ (x : Entry). x.order) there in
           absurd (omega (arith, low, high, own, other));

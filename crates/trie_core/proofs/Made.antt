@@ -17,11 +17,11 @@ use Rattle.trie_paths.proofs.Orders.{paths_order}
 use Rattle.trie_paths.proofs.Paths.{front_is_path, path_is_front, paths_tree}
 use Rattle.trie_core.specs.Building.{AreNodes}
 use Rattle.trie_core.specs.Content.{IsTrie, entry_at, no_entry}
-use Rattle.trie_core.specs.Rows.{Tells, pattern_at, patterns}
+use Rattle.trie_core.specs.Rows.{SameRise, Tells, pattern_at, patterns}
 use Rattle.trie_core.specs.declared.fault.TrieFault.{TrieFault}
 use Rattle.trie_core.specs.declared.fault.TrieFault.TheVariants.{TooLarge}
 use Rattle.trie_core.specs.declared.rows.Row.{Row}
-use Rattle.trie_core.proofs.Answering.{contains_of, in_of}
+use Rattle.trie_core.proofs.Answering.{contains_of, in_of, rising_far}
 use Rattle.trie_core.proofs.Sorting.{row_at}
 
 -- what is said of a fault that is handed on
@@ -73,8 +73,8 @@ module _ (es : List Entry) (rows : List Row) (tells : All (Tells es) rows) (numb
   pub paths_are : paths_among (patterns rows) ≡ paths_of es
   paths_are = same_paths (patterns rows) (patterns_of es) to fro
 
-  pub made : Rising es → (nodes : List Node) → AreNodes (patterns rows) nodes → IsTrie (record { entries = es; numbers = numbers; nodes = nodes })
-  made rising nodes are =
+  pub made : Rising es → SameRise rows → (nodes : List Node) → AreNodes (patterns rows) nodes → IsTrie (record { entries = es; numbers = numbers; nodes = nodes })
+  made rising rise nodes are =
       let len : length numbers ≡ length rows = ap length same ∙ length-map rows (λ (r : Row). r.number) in
       let long : length (patterns rows) ≡ length rows = length-map rows (λ (r : Row). r.items.now) in
       record {
@@ -88,4 +88,14 @@ module _ (es : List Entry) (rows : List Row) (tells : All (Tells es) rows) (numb
           (λ v. sym (row_told j (omega (arith, k, len))) ∙ (are.each i h).own j v.0 v.1 ∙ sym (are.paths i h)),
           (λ e. (are.each i h).has j (omega (arith, k, len, long)) (row_told j (omega (arith, k, len)) ∙ e ∙ are.paths i h)),
         );
+        by_order = λ i j k h v w less.
+            let there : k < length rows = omega (arith, w.1, (are.each i h).within, long) in
+            let one : pattern_at (patterns rows) j ≡ pattern_at (patterns rows) k =
+            (are.each i h).own j v.0 v.1 ∙ sym ((are.each i h).own k w.0 w.1) in
+            let up : get_or (map (λ (r : Row). r.number) rows) j 0 < get_or (map (λ (r : Row). r.number) rows) k 0 = rise j k less there one in
+            let r = row_at rows k there in
+            let told : Tells es r.0 = subst (Tells es) (r.2 r.0) (tells k r.0 there) in
+            let last : get_or (map (λ (s : Row). s.number) rows) k 0 ≡ r.0.number = get_or-map (λ (s : Row). s.number) rows k r.0 0 there ∙ ap (λ (s : Row). s.number) (r.2 r.0) in
+            subst (λ l. (entry_at es (get_or l j 0)).order < (entry_at es (get_or l k 0)).order) (sym same)
+            (rising_far es rising (get_or (map (λ (s : Row). s.number) rows) j 0) (get_or (map (λ (s : Row). s.number) rows) k 0) up (omega (arith, last, told.within)));
       }

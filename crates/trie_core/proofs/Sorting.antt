@@ -1,24 +1,29 @@
 -- Rows that were sorted.
-use Rattle.std.proofs.Common.{◌≡◌, ℕ, zero, suc, ◌<◌, List, ◌∷◌, [], length, map, ◌++◌, ◌+◌, zero-add, get_or, false, true, refl, sym, ◌∙◌, ap, subst, arith}
+use Rattle.std.proofs.Common.{◌≡◌, ℕ, zero, suc, ◌<◌, nat_eq, List, ◌∷◌, [], length, map, ◌++◌, ◌+◌, zero-add, get_or, false, true, refl, sym, ◌∙◌, ap, subst, arith}
 use Rattle.std.proofs.lemmas.Cmp.{nat_cmp_total, nat_list_cmp_total, on_total, then_total}
 use Rattle.std.proofs.Math.Logic.{⊎_elim}
 use Rattle.std.specs.Cmp.Lexicographic.{slice_cmp}
 use Rattle.trie_core.specs.Fronts.{codes}
 use Rattle.trie_core.proofs.Fronting.{fronts_agree}
-use Rattle.std.proofs.lemmas.List.{get_or_default, length-map, map-append}
+use Rattle.std.proofs.lemmas.Bool.{cases_order}
+use Rattle.std.proofs.lemmas.List.FromFn.{get_or-range_with_len, length-range_with_len}
+use Rattle.std.proofs.lemmas.Map.Keys.{IsDistinct-IsPermutation, IsDistinct-from_sorted, apart_from_distinct, sorted_from_strictly_increasing}
+use Rattle.std.specs.Cmp.{nat_cmp_is, nat_eq_equiv, unsigned_ties}
+use Rattle.std.specs.Ordering.{eq_by_cmp}
+use Rattle.std.proofs.lemmas.List.{get_or-map, get_or_default, length-map, map-append}
 use Rattle.std.proofs.lemmas.List.Elements.{All-push}
-use Rattle.std.specs.List.{All, range_with_len}
+use Rattle.std.specs.List.{All, IsDistinct, range_with_len}
 use Rattle.std.proofs.lemmas.List.Sorted.{ranks_by, sorted_far}
-use Rattle.std.specs.List.Sorted.{IsSortedBy}
+use Rattle.std.specs.List.Sorted.{IsPermutation, IsSortedBy, IsStrictlyIncreasing}
 use Rattle.std.specs.Cmp.{IsTotalOrder}
 use Rattle.std.specs.Ordering.{is_lt, nat_cmp, ordering_reverse, ordering_then}
-use Rattle.std.specs.declared.cmp.Ordering.TheVariants.{Less, Greater}
+use Rattle.std.specs.declared.cmp.Ordering.TheVariants.{Less, Equal, Greater}
 use Rattle.trie_paths.specs.Order.{pattern_cmp}
-use Rattle.trie_paths.proofs.Orders.{patterns_total}
+use Rattle.trie_paths.proofs.Orders.{patterns_order, patterns_total, texts_order}
 use Rattle.hwdb_lookup.specs.declared.entry.Entry.{Entry}
 use Rattle.trie_nodes.proofs.Pieces.{range-append}
 use Rattle.trie_core.specs.Content.{no_entry}
-use Rattle.trie_core.specs.Rows.{IsSorted, Tells, pattern_at, patterns, row_cmp}
+use Rattle.trie_core.specs.Rows.{IsSorted, SameRise, Tells, numbers, pattern_at, patterns, row_cmp}
 use Rattle.trie_core.specs.declared.rows.Row.{Row}
 
 pub rows_total : IsTotalOrder row_cmp
@@ -52,6 +57,47 @@ patterns_rise es rows tells up x y h k greater =
     sorted_far (λ a b. is_lt (row_cmp a b)) (ranks_by rows_total (λ (z : Row). z)) rows up x y r.0 (omega arith) inside in
     let yes : is_lt (row_cmp (get_or rows y r.0) (get_or rows x r.0)) ≡ true = ap is_lt (ap (λ z. row_cmp z (get_or rows x r.0)) (s.2 r.0) ∙ ap (row_cmp s.0) (r.2 r.0) ∙ turned) in
     cc
+
+range_up : (n : ℕ) → IsStrictlyIncreasing (range_with_len 0 n)
+range_up n k h =
+    let len : length (range_with_len 0 n) ≡ n = length-range_with_len 0 n in
+    let low : get_or (range_with_len 0 n) k 0 ≡ k = get_or-range_with_len 0 n k 0 (omega (arith, len)) ∙ zero-add k in
+    let high : get_or (range_with_len 0 n) (k + 1) 0 ≡ k + 1 = get_or-range_with_len 0 n (k + 1) 0 (omega (arith, len)) ∙ zero-add (k + 1) in
+    omega (arith, low, high)
+
+-- numbers that were in a range stand there once
+apart : (n : ℕ) (xs : List ℕ) → IsPermutation (range_with_len 0 n) xs → (i j : ℕ) → i < j → j < length xs → get_or xs i 0 ≡ get_or xs j 0 → ⊥
+apart n xs p i j h k e =
+    let once : IsDistinct (eq_by_cmp nat_cmp) xs =
+    IsDistinct-IsPermutation (eq_by_cmp nat_cmp) (λ x y. sym (unsigned_ties x y) ∙ nat_eq_equiv.symm x y ∙ unsigned_ties y x) (range_with_len 0 n) xs p
+    (IsDistinct-from_sorted nat_cmp (range_with_len 0 n) (sorted_from_strictly_increasing (range_with_len 0 n) (range_up n))) in
+    let other : eq_by_cmp nat_cmp (get_or xs i 0) (get_or xs j 0) ≡ false = apart_from_distinct (eq_by_cmp nat_cmp) xs i j 0 once h k in
+    let tie : eq_by_cmp nat_cmp (get_or xs i 0) (get_or xs j 0) ≡ true = sym (unsigned_ties (get_or xs i 0) (get_or xs j 0)) ∙ ap (λ m. nat_eq m (get_or xs j 0)) e ∙ nat_eq_equiv.refl (get_or xs j 0) in
+    cc
+
+pub same_rise : (es : List Entry) (rows : List Row) → All (Tells es) rows → IsSortedBy (λ r s. is_lt (row_cmp r s)) rows → (n : ℕ) → IsPermutation (range_with_len 0 n) (numbers rows) → SameRise rows
+same_rise es rows tells up n p x y h k one =
+    let r = row_at rows x (omega arith) in
+    let s = row_at rows y k in
+    let told : Tells es r.0 = subst (Tells es) (r.2 r.0) (tells x r.0 (omega arith)) in
+    let other : Tells es s.0 = subst (Tells es) (s.2 s.0) (tells y s.0 k) in
+    let items : s.0.items.now ≡ r.0.items.now = sym s.1 ∙ sym one ∙ r.1 in
+    let fronts : slice_cmp nat_cmp s.0.front r.0.front ≡ Equal =
+    ap (λ l. slice_cmp nat_cmp l r.0.front) (other.front ∙ ap (codes 24) items ∙ sym told.front) ∙ texts_order.itself r.0.front in
+    let patterns_tie : pattern_cmp s.0.items.now r.0.items.now ≡ Equal = ap (λ q. pattern_cmp q r.0.items.now) items ∙ patterns_order.itself r.0.items.now in
+    let by_number : row_cmp s.0 r.0 ≡ nat_cmp s.0.number r.0.number =
+    ap (λ o. ordering_then o (ordering_then (pattern_cmp s.0.items.now r.0.items.now) (nat_cmp s.0.number r.0.number))) fronts
+    ∙ ap (λ o. ordering_then o (nat_cmp s.0.number r.0.number)) patterns_tie in
+    let not : is_lt (row_cmp (get_or rows y r.0) (get_or rows x r.0)) ≡ false =
+    sorted_far (λ a b. is_lt (row_cmp a b)) (ranks_by rows_total (λ (z : Row). z)) rows up x y r.0 (omega arith) k in
+    let not_less : is_lt (nat_cmp s.0.number r.0.number) ≡ false =
+    ap is_lt (sym by_number ∙ sym (ap (λ z. row_cmp z r.0) (s.2 r.0)) ∙ sym (ap (row_cmp (get_or rows y r.0)) (r.2 r.0))) ∙ not in
+    let low : get_or (numbers rows) x 0 ≡ r.0.number = get_or-map (λ (z : Row). z.number) rows x r.0 0 (omega arith) ∙ ap (λ (z : Row). z.number) (r.2 r.0) in
+    let high : get_or (numbers rows) y 0 ≡ s.0.number = get_or-map (λ (z : Row). z.number) rows y s.0 0 k ∙ ap (λ (z : Row). z.number) (s.2 s.0) in
+    let len : length (numbers rows) ≡ length rows = length-map rows (λ (z : Row). z.number) in
+    ⊎_elim (λ tie. absurd (apart n (numbers rows) p x y h (omega (arith, len)) (low ∙ tie ∙ sym high)))
+    (λ rest. ⊎_elim (λ less. omega (arith, low, high, less)) (λ more. absurd (let less : nat_cmp s.0.number r.0.number ≡ Less = sym (nat_cmp_is s.0.number r.0.number Less more) in cc)) rest)
+    (cases_order r.0.number s.0.number)
 
 -- one row more, of the next entry
 module _ (es : List Entry) (rows more : List Row) (i : ℕ) (e : Entry) (r : Row) (pushed : more ≡ rows ++ r ∷ []) (number : r.number ≡ i) where

@@ -37,12 +37,16 @@ all_values t = map (λ i. value_of (entry_at t.entries i)) t.numbers
 abbrev pub pattern_of : Content → ℕ → List Item
 pattern_of t j = (entry_at t.entries (slice_index_or t.numbers j 0)).pattern
 
+-- the order of the entry that a value is
+abbrev pub order_of : Content → ℕ → ℕ
+order_of t j = (entry_at t.entries (slice_index_or t.numbers j 0)).order
+
 -- a value is one of a node's
 abbrev pub IsValueOf : Node → ℕ → Type 0
 IsValueOf n j = (n.first_value ≤ j) × (j < n.first_value + n.values)
 
 -- The nodes are those of the distinct prefixes, in their order. The values are the entries, each once,
--- and those of a node are the entries whose pattern is its path.
+-- and those of a node are the entries whose pattern is its path, by order.
 pub record IsTrie (t : Content) : Type 0 where
   pub rising : Rising t.entries
   pub shape : Shape t.nodes
@@ -51,6 +55,7 @@ pub record IsTrie (t : Content) : Type 0 where
   pub values : IsPermutation (range_with_len 0 (length t.entries)) t.numbers
   pub within : (i : ℕ) → i < length t.nodes → (node_at t.nodes i).first_value + (node_at t.nodes i).values ≤ length t.numbers
   pub own : (i j : ℕ) → i < length t.nodes → j < length t.numbers → IsValueOf (node_at t.nodes i) j ↔ (pattern_of t j ≡ path t.nodes i)
+  pub by_order : (i j k : ℕ) → i < length t.nodes → IsValueOf (node_at t.nodes i) j → IsValueOf (node_at t.nodes i) k → j < k → order_of t j < order_of t k
 
 -- the nodes that are active after a text: those whose path, as a pattern, fits it
 abbrev pub active_nodes : List Entry → List ℕ → List ℕ

@@ -26,6 +26,10 @@ row_cmp r s = ordering_then (slice_cmp nat_cmp r.front s.front) (ordering_then (
 abbrev pub patterns : List Row → List (List Item)
 patterns rows = map (λ r. r.items.now) rows
 
+-- the numbers of rows
+abbrev pub numbers : List Row → List ℕ
+numbers rows = map (λ r. r.number) rows
+
 -- the pattern at a place
 abbrev pub pattern_at : List (List Item) → ℕ → List Item
 pattern_at ps x = slice_index_or ps x []
@@ -33,6 +37,10 @@ pattern_at ps x = slice_index_or ps x []
 -- none is above a later one
 abbrev pub IsSorted : List (List Item) → Type 0
 IsSorted ps = (x y : ℕ) → x < y → y < length ps → pattern_cmp (pattern_at ps x) (pattern_at ps y) ≡ Greater → ⊥
+
+-- of rows of one pattern the numbers rise
+abbrev pub SameRise : List Row → Type 0
+SameRise rows = (x y : ℕ) → x < y → y < length rows → pattern_at (patterns rows) x ≡ pattern_at (patterns rows) y → slice_index_or (numbers rows) x 0 < slice_index_or (numbers rows) y 0
 
 -- two patterns have so many labels in common at their fronts, and no more
 pub record IsCommon (p q : List Item) (n : ℕ) : Type 0 where

@@ -6,7 +6,7 @@ ghost use Rattle.std.specs.Prelude.{◌≡◌, ◌-◌, ◌<◌, ◌≤◌, ◌^
 ghost use Rattle.std.specs.List.{range_with_len};
 ghost use Rattle.std.specs.List.Sorted.{IsPermutation};
 ghost use Rattle.hwdb_lookup.specs.Bounds.{max_entries};
-ghost use Rattle.trie_core.specs.Rows.{AreShared, IsCommon, IsSorted, Tells, pattern_at, patterns, row_cmp};
+ghost use Rattle.trie_core.specs.Rows.{AreShared, IsCommon, IsSorted, SameRise, Tells, pattern_at, patterns, row_cmp};
 
 use crate::fronts::{FRONT, front_of};
 use hwdb_lookup::Entry;
@@ -63,6 +63,7 @@ pub(crate) fn sorted_rows<'a>(
     ensures numbers { IfOk result (λ rows. IsPermutation (range_with_len 0 (length entries.now)) (map (λ r. r.number) rows.items)) }
     ensures rows { IfOk result (λ rows. All (Tells entries.now) rows.items) }
     ensures sorted { IfOk result (λ rows. IsSorted (patterns rows.items)) }
+    ensures rise { IfOk result (λ rows. SameRise rows.items) }
 {
     let mut rows = rows_in_order(alloc, entries)?;
     rows.sort_by(|row, other| compare_rows(row, other))?;

@@ -125,24 +125,50 @@ fn of_twins_the_later_counts(rt: HostRuntime) -> Result<(), Fail> {
     Ok(())
 }
 
+fn many_patterns(alloc: Global) -> Result<Vec<Entry>, GlobFault> {
+    let patterns = [
+        b"ab*".as_slice(),
+        b"*[bc]",
+        b"ab*",
+        b"a?",
+        b"**b",
+        b"?b*c",
+        b"[!a]*",
+        b"a*b?",
+        b"",
+        b"[a-c]?d",
+    ];
+    let mut entries = Vec::new(alloc);
+    for i in 0..10u32 {
+        let pattern = patterns[i as usize];
+        entries.push(entry(alloc, pattern, pattern, i)?)?;
+    }
+    Ok(entries)
+}
+
 fn same_answer(alloc: Global, trie: &Trie, plain: &PlainDb, modalias: &[u8]) -> Result<bool, Fail> {
-    let found = trie.query(alloc, modalias)?;
-    let want = plain.query(alloc, modalias)?;
+    let found = trie.query_sources(alloc, modalias)?;
+    let want = plain.query_sources(alloc, modalias)?;
     Ok(found.as_slice() == want.as_slice())
 }
 
 #[test]
 fn a_trie_answers_as_the_plain_list(rt: HostRuntime) -> Result<(), Fail> {
     let alloc = rt.alloc();
-    let entries = mixed(alloc)?;
-    let others = mixed(alloc)?;
+    let entries = many_patterns(alloc)?;
+    let others = many_patterns(alloc)?;
     assert!(rt; rising(&entries));
     assert!(rt; rising(&others));
     let trie = Trie::build(alloc, entries)?;
     let plain = PlainDb::new(others);
     for first in b'a'..b'e' {
         for second in b'a'..b'e' {
-            assert!(rt; same_answer(alloc, &trie, &plain, &[first, second])?);
+            for third in b'a'..b'e' {
+                let modalias = [first, second, third];
+                for len in 0..4 {
+                    assert!(rt; same_answer(alloc, &trie, &plain, &modalias[..len])?);
+                }
+            }
         }
     }
     Ok(())

@@ -42,7 +42,7 @@ returns-clause-trie c =
     let rows : List Row = c.in_ok-rows.rows.items in
     let numbers : c.in_ok-numbers.numbers.items ≡ map (λ (r : Row). r.number) rows = c.in_ok-numbers.ensures ∙ ap (map (λ (r : Row). r.number)) c.deref-4.ensures.value in
     let nodes : AreNodes (patterns rows) c.in_ok-nodes.nodes.items = subst (λ (l : List Row). AreNodes (patterns l) c.in_ok-nodes.nodes.items) c.deref-2.ensures.value c.in_ok-nodes.ensures.nodes in
-    made c.args.entries.now rows c.in_ok-rows.ensures.rows c.in_ok-numbers.numbers.items numbers c.in_ok-rows.ensures.numbers c.requires.rising c.in_ok-nodes.nodes.items nodes
+    made c.args.entries.now rows c.in_ok-rows.ensures.rows c.in_ok-numbers.numbers.items numbers c.in_ok-rows.ensures.numbers c.requires.rising c.in_ok-rows.ensures.rise c.in_ok-nodes.nodes.items nodes
 
 pub returns-clause-fits : goal.returns-clause-fits
 returns-clause-fits c =

@@ -1,7 +1,5 @@
 //! Properties, as ENV changes them.
 ghost use Rattle.std.specs.Prelude.{◌≡◌, OnOk, IfOk, option_map};
-ghost use Rattle.text_tables.specs.Pairs.{value_of};
-ghost use Rattle.eval_state.specs.Texts.{or_empty};
 ghost use Rattle.eval_assignments.specs.Properties.{appended, property_added, property_changed, property_joined, property_set};
 
 use eval_scene::Scene;
@@ -47,16 +45,6 @@ fn appended(alloc: Global, value: &[u8], text: &[u8]) -> Result<Option<Bytes>, A
     Ok(Some(Bytes::new(joined)))
 }
 
-/// The value of a property, empty where it has none.
-fn value_in<'e>(env: &'e OwnedPairs, name: &[u8]) -> &'e [u8]
-    ensures { result.now ≡ or_empty (value_of env.now name.now) }
-{
-    match env.get(name) {
-        Some(value) => value.as_slice(),
-        None => b"",
-    }
-}
-
 /// Gives a property a value that was put together, or leaves a note where that is too long.
 fn set_joined(
     alloc: Global,
@@ -86,7 +74,7 @@ fn add_to_property(
     if text.is_empty() {
         return Ok(());
     }
-    let joined = appended(alloc, value_in(&scene.state.env, name), text)?;
+    let joined = appended(alloc, scene.state.property(name), text)?;
     set_joined(alloc, rule, name, joined, scene)
 }
 

@@ -11,3 +11,7 @@ pub record IsFirstToMeet (parts : List UpMatch) (state : State) (place : ℕ) : 
   pub in_chain : place < length (chain state.event)
   pub meets : list_all (holds_at state place) parts ≡ true
   pub first : (earlier : ℕ) → earlier < place → list_all (holds_at state earlier) parts ≡ false
+
+-- No device of the chain meets all of these matches.
+abbrev pub NoneMeets : List UpMatch → State → Type 0
+NoneMeets parts state = (place : ℕ) → place < length (chain state.event) → list_all (holds_at state place) parts ≡ false

@@ -10,6 +10,9 @@ mod laws;
 mod plain;
 mod upward;
 
-pub use laws::{a_list_differs_where_no_member_fits, one_device_meets_all_matches};
+pub use laws::{
+    a_list_differs_where_no_member_fits, nothing_is_found_where_no_device_meets_all_matches,
+    one_device_meets_all_matches,
+};
 pub use plain::{plain_holds, result_holds};
 pub use upward::found_place;

@@ -1,6 +1,5 @@
 //! The matches of the event and its device.
 ghost use Rattle.std.specs.Prelude.{◌≡◌};
-ghost use Rattle.text_tables.specs.Pairs.{value_of};
 ghost use Rattle.eval_state.specs.Texts.{or_empty};
 ghost use Rattle.eval_matching.specs.Holding.{holds, one};
 ghost use Rattle.eval_matching.specs.Subjects.{constant, is_known, plain_subject};
@@ -16,16 +15,6 @@ fn name<'s>(state: &'s State<'_>) -> &'s [u8]
 {
     match &state.name {
         Some(name) => name.as_slice(),
-        None => b"",
-    }
-}
-
-/// A property, empty where there is none.
-fn property<'s>(state: &'s State<'_>, name: &[u8]) -> &'s [u8]
-    ensures { result.now ≡ or_empty (value_of state.now.env name.now) }
-{
-    match state.env.get(name) {
-        Some(value) => value.as_slice(),
         None => b"",
     }
 }
@@ -68,7 +57,7 @@ pub fn plain_holds(part: &PlainMatch, state: &State<'_>) -> bool
         PlainKey::Tag => members_hold(wanted, state.tags.as_slice()),
         PlainKey::Attr(name) => attribute_holds(wanted, device.attrs().get(name.as_slice())),
         PlainKey::Sysctl(_) => unread_holds(wanted),
-        PlainKey::Env(name) => text_holds(wanted, property(state, name.as_slice())),
+        PlainKey::Env(name) => text_holds(wanted, state.property(name.as_slice())),
         PlainKey::Const(name) => constant_holds(wanted, name.as_slice(), state),
     }
 }

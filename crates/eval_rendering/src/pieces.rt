@@ -88,16 +88,6 @@ fn attribute<'a>(state: &State<'a>, name: &[u8]) -> Option<&'a [u8]>
     }
 }
 
-/// A property, empty where there is none.
-fn property<'s>(state: &'s State<'_>, name: &[u8]) -> &'s [u8]
-    ensures { result.now ≡ or_empty (value_of state.now.env name.now) }
-{
-    match state.env.get(name) {
-        Some(value) => value.as_slice(),
-        None => b"",
-    }
-}
-
 /// The first part of the device number, or 0.
 fn major<'a>(state: &State<'a>) -> &'a [u8]
     ensures { result.now ≡ unwrap_or (option_map (λ number. number.major) state.now.event.device.number) (codes "0") }
@@ -192,7 +182,7 @@ pub(crate) fn piece_text<'s>(
             let value = attribute(state, name.as_slice()).unwrap_or(b"");
             return Ok(PieceText::Made(attribute_safe(alloc, trimmed(value))?));
         }
-        Piece::Env(name) => property(state, name.as_slice()),
+        Piece::Env(name) => state.property(name.as_slice()),
         Piece::Major => major(state),
         Piece::Minor => minor(state),
         Piece::Result => state.result.as_slice(),

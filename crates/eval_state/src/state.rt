@@ -1,4 +1,7 @@
 //! What is known of an event.
+ghost use Rattle.std.specs.Prelude.{◌≡◌};
+ghost use Rattle.text_tables.specs.Pairs.{value_of};
+ghost use Rattle.eval_state.specs.Texts.{or_empty};
 
 use crate::Chain;
 use text_bytes::Bytes;
@@ -22,4 +25,16 @@ pub struct State<'a> {
     pub links: OwnedTexts,
     /// The tags as they are now.
     pub tags: OwnedTexts,
+}
+
+impl<'a> State<'a> {
+    /// Lends the value of a property as it is now, empty where it has none.
+    pub fn property(&self, name: &[u8]) -> &[u8]
+        ensures { result.now ≡ or_empty (value_of self.now.env name.now) }
+    {
+        match self.env.get(name) {
+            Some(value) => value.as_slice(),
+            None => b"",
+        }
+    }
 }

@@ -14,16 +14,13 @@ use Rattle.eval_builtins.specs.Builtins.{builtin}
 use Rattle.eval_builtins.specs.LookUps.{found}
 use Rattle.eval_builtins.specs.declared.builtin.Builtin.{Builtin}
 use Rattle.eval_builtins.specs.declared.builtin.Builtin.TheVariants as asked
-use Rattle.eval_scene.specs.Scenes.{noted}
+use Rattle.eval_scene.specs.Scenes.{noted, with_env}
 use Rattle.eval_scene.specs.declared.note_kind.NoteKind.TheVariants.{BadHwdbArguments, BuiltinNotRun, ImportNotRun}
 use Rattle.eval_scene.specs.declared.scene.Scene.{Scene}
 
 -- properties are set one behind another; it was done where there are any
 abbrev pub taken : List Pair → Scene → Scene × Bool
-taken properties s = (
-  record s { state = record s.state { env = with_values s.state.env properties } },
-  not (length properties == 0),
-)
+taken properties s = (with_env (with_values s.state.env properties) s, not (length properties == 0))
 
 -- what a command asks for: `hwdb` takes what it finds, other builtins are not run
 abbrev pub builtin_run : List Entry → Rule → Text → Builtin → Scene → Scene × Bool
@@ -42,10 +39,7 @@ names_fitting names properties = filter (λ property. choice_fits names property
 -- IMPORT{parent} takes the properties of the second device whose names fit; it was done where there is one
 abbrev pub from_parent : List (List Item) → Option DeviceValue → Scene → Scene × Bool
 from_parent names None s = (s, false)
-from_parent names (Some parent) s = (
-  record s { state = record s.state { env = with_values s.state.env (names_fitting names parent.env) } },
-  true,
-)
+from_parent names (Some parent) s = (with_env (with_values s.state.env (names_fitting names parent.env)) s, true)
 
 -- an IMPORT of a type that is never run
 abbrev pub not_run : Rule → Import → Scene → Scene × Bool

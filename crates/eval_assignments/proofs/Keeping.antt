@@ -19,7 +19,7 @@ use Rattle.eval_rendering.specs.declared.rendered.Rendered.{Rendered}
 use Rattle.eval_rendering.specs.declared.rendered.Rendered.TheVariants as rendered
 use Rattle.eval_scene.specs.Finals.{is_final, made_final}
 use Rattle.eval_scene.specs.Runs.{runs_after}
-use Rattle.eval_scene.specs.Scenes.{noted}
+use Rattle.eval_scene.specs.Scenes.{noted, with_env}
 use Rattle.eval_scene.specs.declared.note_kind.NoteKind.TheVariants.{NameIgnored}
 use Rattle.eval_scene.specs.declared.finals.FinalKey.{FinalKey}
 use Rattle.eval_scene.specs.declared.finals.FinalKey.TheVariants as key
@@ -31,7 +31,7 @@ use Rattle.eval_assignments.specs.Assigning.{assigned, with_option}
 use Rattle.eval_assignments.specs.Escapes.{escape_of}
 use Rattle.eval_assignments.specs.Finality.{final_key, final_option, final_target, finally, is_settled}
 use Rattle.eval_assignments.specs.Laws.{SameAt, Keeps}
-use Rattle.eval_assignments.specs.Properties.{property_added, property_changed, property_joined, with_env}
+use Rattle.eval_assignments.specs.Properties.{property_added, property_changed, property_joined}
 use Rattle.eval_assignments.specs.Steps.{is_ignored, run_of, set_step, step_by, text_given, text_set}
 
 -- what is true is not false

@@ -10,13 +10,9 @@ use Rattle.rule_core.specs.Rules.{Rule}
 use Rattle.eval_state.specs.Texts.{or_empty}
 use Rattle.eval_rendering.specs.Bounds.{bounded}
 use Rattle.eval_scene.specs.Notes.{word_of_key}
-use Rattle.eval_scene.specs.Scenes.{noted}
+use Rattle.eval_scene.specs.Scenes.{noted, with_env}
 use Rattle.eval_scene.specs.declared.note_kind.NoteKind.TheVariants.{TextTooLong}
 use Rattle.eval_scene.specs.declared.scene.Scene.{Scene}
-
--- a scene with other properties
-abbrev pub with_env : List Pair → Scene → Scene
-with_env env s = record s { state = record s.state { env = env } }
 
 -- a property is set; the empty text takes it away
 abbrev pub property_set : Text → Text → List Pair → List Pair

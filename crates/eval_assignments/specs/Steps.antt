@@ -6,7 +6,6 @@ use Rattle.rule_keys.specs.declared.roles.AssignOperator.{AssignOperator}
 use Rattle.rule_keys.specs.declared.roles.Target.{Target}
 use Rattle.rule_keys.specs.declared.roles.Target.TheVariants as target
 use Rattle.rule_keys.specs.declared.types.RunType.{RunType}
-use Rattle.rule_keys.specs.declared.types.RunType.TheVariants.{Program}
 use Rattle.rule_templates.specs.Template.{Parts as Template}
 use Rattle.rule_parts.specs.declared.part.Assignment.{Assignment}
 use Rattle.rule_parts.specs.declared.part.Change.{Change}
@@ -46,25 +45,20 @@ abbrev pub text_set : Rule → Escape → AssignOperator → Target → Rendered
 text_set r e o about (rendered.Text t) s = text_given r e o about t s
 text_set r e o about rendered.TooLong s = noted r TextTooLong (word_of_key (key_of_target about) (attribute_of_target about)) s
 
--- the type of a RUN: a program unless another one is given
-abbrev pub run_kind : Option RunType → RunType
-run_kind None = Program
-run_kind (Some kind) = kind
-
 -- a RUN as it is written, with the device that is selected now
 abbrev pub run_of : Rule → Option RunType → Template → Scene → RunValue
-run_of r kind template s = record { rule = r; kind = run_kind kind; template = template; selected = s.state.selected }
+run_of r braces template s = record { rule = r; braces = braces; template = template; selected = s.state.selected }
 
 -- a RUN is taken in as it is written
 abbrev pub run_kept : Rule → AssignOperator → Option RunType → Template → Scene → Scene
-run_kept r o kind template s = finally o (Some final.Run) (record s { runs = runs_after o s.runs (run_of r kind template s) })
+run_kept r o braces template s = finally o (Some final.Run) (record s { runs = runs_after o s.runs (run_of r braces template s) })
 
 -- an assignment, by what it changes: an option, a text once it is rendered, or what is to be run
 abbrev pub step_by : Rule → AssignOperator → Change → Scene → Scene
 step_by r o (change.Option known) s = finally o (final_option known) (with_option known s)
 step_by r o (change.Text about template) s =
     text_set r (escape_of r.sets) o about (render template s.state (mode_of about (escape_of r.sets))) s
-step_by r o (change.Run kind template) s = run_kept r o kind template s
+step_by r o (change.Run braces template) s = run_kept r o braces template s
 
 -- an assignment of a rule; one to a key that is final changes nothing
 unfoldable pub set_step : Rule → Scene → Assignment → Scene

@@ -1,6 +1,6 @@
 //! One assignment of a rule.
 ghost use Rattle.std.specs.Prelude.{◌≡◌, OnOk, option_map};
-ghost use Rattle.eval_assignments.specs.Steps.{is_ignored, is_net, run_kept, run_kind, set_step, step_by, text_set};
+ghost use Rattle.eval_assignments.specs.Steps.{is_ignored, is_net, run_kept, set_step, step_by, text_set};
 ghost use Rattle.eval_assignments.specs.Steps.{text_given};
 
 use crate::assigning::assign;
@@ -71,27 +71,17 @@ fn set_text(
     }
 }
 
-/// The type of a RUN: a program unless another one is given.
-fn run_kind(given: Option<RunType>) -> RunType
-    ensures { result ≡ run_kind given }
-{
-    match given {
-        Some(kind) => kind,
-        None => RunType::Program,
-    }
-}
-
 /// Takes in a RUN as it is written.
 fn keep_run<'a>(
     rule: &'a Rule,
     operator: AssignOperator,
-    kind: Option<RunType>,
+    braces: Option<RunType>,
     template: &'a Template,
     scene: &mut Scene<'a>,
 ) -> Result<(), AllocError>
-    ensures { OnOk result (scene.new ≡ run_kept rule.now operator kind template.now scene.old) }
+    ensures { OnOk result (scene.new ≡ run_kept rule.now operator braces template.now scene.old) }
 {
-    let run = Run::new(rule, run_kind(kind), template, scene.state.selected);
+    let run = Run::new(rule, braces, template, scene.state.selected);
     scene.runs.change(operator, run)?;
     finish(operator, Some(FinalKey::Run), scene);
     Ok(())
@@ -118,7 +108,7 @@ fn step_by<'a>(
             let rendered = render(alloc, template, &scene.state, mode_of(target, escape))?;
             set_text(alloc, rule, escape, operator, target, rendered, scene)
         }
-        Change::Run(kind, template) => keep_run(rule, operator, *kind, template, scene),
+        Change::Run(braces, template) => keep_run(rule, operator, *braces, template, scene),
     }
 }
 

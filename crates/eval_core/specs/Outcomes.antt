@@ -1,13 +1,10 @@
 -- What an event comes to.
-use Rattle.std.specs.Prelude.{ℕ, List, [], ◌∷◌, ◌++◌, Option, Some, None, flat_map, fold}
+use Rattle.std.specs.Prelude.{ℕ, List, [], ◌∷◌, ◌++◌, None, option_map, flat_map, fold}
 use Rattle.text_files.specs.Insertion.{put_by}
 use Rattle.text_tables.specs.Pairs.{Pair}
 use Rattle.hwdb_lookup.specs.declared.entry.Entry.{Entry}
-use Rattle.text_tables.specs.Texts.{Text}
 use Rattle.rule_keys.specs.Names.{run_name}
 use Rattle.rule_keys.specs.declared.keys.Key.TheVariants as key
-use Rattle.rule_keys.specs.declared.types.RunType.{RunType}
-use Rattle.rule_keys.specs.declared.types.RunType.TheVariants.{Program, Builtin}
 use Rattle.rule_core.specs.Rules.{Rule}
 use Rattle.device_core.specs.Values.{EventValue}
 use Rattle.eval_state.specs.declared.state.State.{State}
@@ -16,7 +13,7 @@ use Rattle.eval_rendering.specs.declared.rendered.Mode.TheVariants.{Plain}
 use Rattle.eval_rendering.specs.declared.rendered.Rendered.{Rendered}
 use Rattle.eval_rendering.specs.declared.rendered.Rendered.TheVariants as rendered
 use Rattle.eval_scene.specs.Notes.{note_about, word_of_key}
-use Rattle.eval_scene.specs.Runs.{RunValue}
+use Rattle.eval_scene.specs.Runs.{RunValue, run_kind}
 use Rattle.eval_scene.specs.Scenes.{start}
 use Rattle.eval_scene.specs.declared.note_kind.NoteKind.TheVariants.{TextTooLong}
 use Rattle.eval_scene.specs.declared.notes.Note.{Note}
@@ -32,18 +29,13 @@ run_text state kept = render kept.template (with_selected kept.selected state) P
 
 -- a RUN as a command, once it is rendered; one that is too long is left out
 abbrev pub command : RunValue → Rendered → List Command
-command kept (rendered.Text text) = record { kind = kept.kind; text = text } ∷ []
+command kept (rendered.Text text) = record { kind = run_kind kept.braces; text = text } ∷ []
 command kept rendered.TooLong = []
 
--- what stands in the braces of a RUN; a program needs none
-abbrev pub braces_of : RunType → Option Text
-braces_of Program = None
-braces_of Builtin = Some (run_name Builtin)
-
--- the note of a RUN that is too long
+-- the note of a RUN that is too long, with its braces where it has any
 abbrev pub late_note : RunValue → Rendered → List Note
 late_note kept (rendered.Text text) = []
-late_note kept rendered.TooLong = note_about kept.rule TextTooLong (word_of_key key.Run (braces_of kept.kind)) ∷ []
+late_note kept rendered.TooLong = note_about kept.rule TextTooLong (word_of_key key.Run (option_map run_name kept.braces)) ∷ []
 
 -- the commands of what is kept, in its order
 abbrev pub commands : State → List RunValue → List Command

@@ -1,7 +1,8 @@
 //! An event, from its start to its outcome.
 ghost use Rattle.std.specs.Prelude.{◌≡◌, ◌++◌, OnOk, IfOk, option_map};
+ghost use Rattle.rule_keys.specs.Names.{run_name};
 ghost use Rattle.eval_core.specs.Steps.{with_selected};
-ghost use Rattle.eval_core.specs.Outcomes.{braces_of, command, commands, late_note, late_notes, outcome, outcome_of, run_text};
+ghost use Rattle.eval_core.specs.Outcomes.{command, commands, late_note, late_notes, outcome, outcome_of, run_text};
 ghost use Rattle.eval_core.specs.Inner.{unselected, with_notes};
 
 use crate::outcome::{Command, Commands, Outcome};
@@ -12,7 +13,7 @@ use eval_rendering::{Mode, Rendered, render};
 use eval_scene::{Run, Runs, Scene};
 use eval_state::State;
 use hwdb_lookup::Lookup;
-use rule_core::{Key, RuleSet, RunType};
+use rule_core::{Key, RuleSet};
 use std::alloc::{AllocError, Global};
 use std::mem;
 
@@ -25,13 +26,13 @@ fn run_text(alloc: Global, kept: &Run<'_>, state: &mut State<'_>) -> Result<Rend
     render(alloc, kept.template(), state, Mode::Plain)
 }
 
-/// What stands in the braces of a RUN; a program needs none.
-fn braces_of(kind: RunType) -> Option<&'static [u8]>
-    ensures { option_map (λ text. text.now) result ≡ braces_of kind }
+/// What stands in the braces of a RUN, if it has any.
+fn braces(kept: &Run<'_>) -> Option<&'static [u8]>
+    ensures { option_map (λ text. text.now) result ≡ option_map run_name kept.now.braces }
 {
-    match kind {
-        RunType::Program => None,
-        RunType::Builtin => Some(kind.name()),
+    match kept.braces() {
+        Some(kind) => Some(kind.name()),
+        None => None,
     }
 }
 
@@ -51,9 +52,7 @@ fn take_run(
             kind: kept.kind(),
             text,
         }),
-        Rendered::TooLong => {
-            scene.note_too_long(alloc, kept.rule(), Key::Run, braces_of(kept.kind()))
-        }
+        Rendered::TooLong => scene.note_too_long(alloc, kept.rule(), Key::Run, braces(kept)),
     }
 }
 

@@ -1,5 +1,5 @@
 -- What is kept of each RUN until all rules have run.
-use Rattle.std.specs.Prelude.{ℕ, Bool, true, false, ◌&&◌, ◌||◌, if◌then◌else◌, List, [], ◌∷◌, ◌++◌, Option}
+use Rattle.std.specs.Prelude.{ℕ, Bool, true, false, ◌&&◌, ◌||◌, if◌then◌else◌, List, [], ◌∷◌, ◌++◌, Option, Some, None}
 use Rattle.std.specs.List.{list_any}
 use Rattle.text_words.specs.Texts.{is_empty}
 use Rattle.text_tables.specs.Texts.{same_text}
@@ -10,12 +10,18 @@ use Rattle.rule_keys.specs.declared.types.RunType.TheVariants.{Program, Builtin}
 use Rattle.rule_templates.specs.Template.{Parts as Template}
 use Rattle.rule_core.specs.Rules.{Rule}
 
--- a RUN as it is written: its rule, its type, its command, and the place of the device that was selected, if one was
+-- a RUN as it is written: its rule, the type in its braces, if it has any, its command, and the place of the device that
+-- was selected, if one was
 pub record RunValue : Type 0 where
   pub rule : Rule
-  pub kind : RunType
+  pub braces : Option RunType
   pub template : Template
   pub selected : Option ℕ
+
+-- the type of a RUN: a program unless another one stands in its braces
+abbrev pub run_kind : Option RunType → RunType
+run_kind None = Program
+run_kind (Some kind) = kind
 
 -- whether two types are the same
 abbrev pub same_kind : RunType → RunType → Bool
@@ -26,7 +32,7 @@ same_kind Builtin Builtin = true
 
 -- whether two RUNs have one type and one written text
 abbrev pub same_run : RunValue → RunValue → Bool
-same_run a b = same_kind a.kind b.kind && same_text a.template.written b.template.written
+same_run a b = same_kind (run_kind a.braces) (run_kind b.braces) && same_text a.template.written b.template.written
 
 -- a RUN at the end, unless it is there or its written text is empty
 abbrev pub with_run : List RunValue → RunValue → List RunValue

@@ -1,6 +1,7 @@
--- What an event has come to: before any rule has run, and with a note more.
-use Rattle.std.specs.Prelude.{false, [], ◌∷◌, ◌++◌, None}
+-- What an event has come to: before any rule has run, with a note more, and with other properties.
+use Rattle.std.specs.Prelude.{false, List, [], ◌∷◌, ◌++◌, None}
 use Rattle.text_tables.specs.Texts.{Text}
+use Rattle.text_tables.specs.Pairs.{Pair}
 use Rattle.device_core.specs.Values.{EventValue}
 use Rattle.rule_core.specs.Rules.{Rule}
 use Rattle.eval_state.specs.Start as states
@@ -30,3 +31,7 @@ start event = record {
 -- one note more: that something of a rule was not done, told with a text
 abbrev pub noted : Rule → NoteKind → Text → Scene → Scene
 noted r kind text s = record s { notes = s.notes ++ note_about r kind text ∷ [] }
+
+-- a scene with other properties
+abbrev pub with_env : List Pair → Scene → Scene
+with_env env s = record s { state = record s.state { env = env } }

@@ -4,7 +4,7 @@
 //! was selected when its rule was reached: so a run holds its template, and the place of that device.
 ghost use Rattle.std.specs.Prelude.{◌≡◌, [], OnOk, OnErr};
 ghost use Rattle.std.specs.List.{list_any};
-ghost use Rattle.eval_scene.specs.Runs.{runs_after, same_kind, same_run, with_run};
+ghost use Rattle.eval_scene.specs.Runs.{run_kind, runs_after, same_kind, same_run, with_run};
 
 use rule_core::{AssignOperator, Rule, RunType, Template};
 use std::alloc::{AllocError, Global};
@@ -14,7 +14,7 @@ use std::marker::Model;
 #[derive(Drop)]
 pub struct Run<'a> {
     rule: &'a Rule,
-    kind: RunType,
+    braces: Option<RunType>,
     template: &'a Template,
     selected: Option<usize>,
 }
@@ -26,25 +26,26 @@ impl<'a> Model for Run<'a> {
 
     ghost view = { λ r. record {
       rule = r.rule.now;
-      kind = r.kind;
+      braces = r.braces;
       template = r.template.now;
       selected = r.selected;
     } };
 }
 
 impl<'a> Run<'a> {
-    /// A RUN of a rule, as it is written and while a device is selected, or none.
+    /// A RUN of a rule, as it is written, with the type in its braces, and while a device is selected,
+    /// or none.
     pub fn new(
         rule: &'a Rule,
-        kind: RunType,
+        braces: Option<RunType>,
         template: &'a Template,
         selected: Option<usize>,
     ) -> Run<'a>
-        ensures { result ≡ record { rule = rule.now; kind = kind; template = template.now; selected = selected } }
+        ensures { result ≡ record { rule = rule.now; braces = braces; template = template.now; selected = selected } }
     {
         Run {
             rule,
-            kind,
+            braces,
             template,
             selected,
         }
@@ -57,11 +58,21 @@ impl<'a> Run<'a> {
         self.rule
     }
 
-    /// Whether it is a program or a builtin.
-    pub fn kind(&self) -> RunType
-        ensures { result ≡ self.now.kind }
+    /// The type that stands in its braces, if it has any.
+    pub fn braces(&self) -> Option<RunType>
+        ensures { result ≡ self.now.braces }
     {
-        self.kind
+        self.braces
+    }
+
+    /// Whether it is a program or a builtin: without braces it is a program.
+    pub fn kind(&self) -> RunType
+        ensures { result ≡ run_kind self.now.braces }
+    {
+        match self.braces {
+            Some(kind) => kind,
+            None => RunType::Program,
+        }
     }
 
     /// Lends the command, its substitutions not yet made.
@@ -82,7 +93,7 @@ impl<'a> Run<'a> {
     fn is_same(&self, other: &Run<'_>) -> bool
         ensures { result ≡ same_run self.now other.now }
     {
-        same_kind(self.kind, other.kind) && self.template.written() == other.template.written()
+        same_kind(self.kind(), other.kind()) && self.template.written() == other.template.written()
     }
 }
 

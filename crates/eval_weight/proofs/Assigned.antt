@@ -18,10 +18,11 @@ use Rattle.device_core.specs.Weights.{given_weight, pair_weight, pairs_weight, t
 use Rattle.eval_state.specs.Texts.{or_empty}
 use Rattle.eval_scene.specs.Notes.{word_of_key}
 use Rattle.eval_scene.specs.declared.note_kind.NoteKind.TheVariants.{TextTooLong}
+use Rattle.eval_scene.specs.Scenes.{with_env}
 use Rattle.eval_scene.specs.declared.scene.Scene.{Scene}
 use Rattle.eval_assignments.specs.Assigning.{assigned, given, labels_before, link_text, name_text}
 use Rattle.eval_assignments.specs.Lists.{changed, names, one_tag}
-use Rattle.eval_assignments.specs.Properties.{appended, property_added, property_changed, property_joined, property_set, with_env}
+use Rattle.eval_assignments.specs.Properties.{appended, property_added, property_changed, property_joined, property_set}
 use Rattle.eval_weight.specs.Allowances.{part_allowance}
 use Rattle.eval_weight.specs.Inner.{Within, scene_weight}
 use Rattle.eval_weight.proofs.Sums.{filter_light, fold_light, split_light}

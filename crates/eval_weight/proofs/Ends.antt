@@ -1,5 +1,5 @@
 -- What an answer weighs, by the scene that it is made of.
-use Rattle.std.proofs.Common.{◌+◌, ◌≤◌, List, [], ◌∷◌, arith}
+use Rattle.std.proofs.Common.{◌+◌, ◌≤◌, List, [], ◌∷◌, option_map, arith}
 use Rattle.std.proofs.lemmas.List.Sums.{sum_by-cons, sum_by-append}
 use Rattle.std.specs.List.{sum_by}
 use Rattle.text_tables.specs.Pairs.{Pair}
@@ -13,10 +13,10 @@ use Rattle.eval_rendering.specs.declared.rendered.Mode.TheVariants.{Plain}
 use Rattle.eval_rendering.specs.declared.rendered.Rendered.{Rendered}
 use Rattle.eval_rendering.specs.declared.rendered.Rendered.TheVariants as rendered
 use Rattle.eval_scene.specs.Notes.{note_about, word_of_key}
-use Rattle.eval_scene.specs.Runs.{RunValue}
+use Rattle.eval_scene.specs.Runs.{RunValue, run_kind}
 use Rattle.eval_scene.specs.declared.note_kind.NoteKind.TheVariants.{TextTooLong}
 use Rattle.eval_scene.specs.declared.scene.Scene.{Scene}
-use Rattle.eval_core.specs.Outcomes.{braces_of, by_name, command, commands, late_note, late_notes, outcome_of, put, run_text}
+use Rattle.eval_core.specs.Outcomes.{by_name, command, commands, late_note, late_notes, outcome_of, put, run_text}
 use Rattle.eval_core.specs.Steps.{with_selected}
 use Rattle.eval_weight.specs.Weights.{command_weight, note_weight, outcome_weight}
 use Rattle.eval_weight.specs.Inner.{run_weight, scene_weight}
@@ -36,12 +36,12 @@ type_light Builtin = omega arith
 -- a RUN is a command or a note
 either_light : (kept : RunValue) (text : Rendered) → IsShort text → sum_by command_weight (command kept text) + sum_by note_weight (late_note kept text) ≤ run_weight kept
 either_light kept (rendered.Text text) short =
-    let a = sum_by-cons command_weight (record { kind = kept.kind; text = text }) [] in
-    let b = type_light kept.kind in
+    let a = sum_by-cons command_weight (record { kind = run_kind kept.braces; text = text }) [] in
+    let b = type_light (run_kind kept.braces) in
     omega (arith, a, b, short)
 either_light kept rendered.TooLong short =
-    let a = sum_by-cons note_weight (note_about kept.rule TextTooLong (word_of_key key.Run (braces_of kept.kind))) [] in
-    let b = note_light kept.rule TextTooLong (word_of_key key.Run (braces_of kept.kind)) in
+    let a = sum_by-cons note_weight (note_about kept.rule TextTooLong (word_of_key key.Run (option_map run_name kept.braces))) [] in
+    let b = note_light kept.rule TextTooLong (word_of_key key.Run (option_map run_name kept.braces)) in
     omega (arith, a, b)
 
 runs_light : (state : State) (runs : List RunValue) → sum_by command_weight (commands state runs) + sum_by note_weight (late_notes state runs) ≤ sum_by run_weight runs

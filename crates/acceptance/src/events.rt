@@ -312,16 +312,3 @@ fn texts_that_are_too_long_are_left_out(rt: HostRuntime) -> Result<(), Fail> {
     assert!(rt; tells(rt.alloc(), rules, too_long.as_str(), note)?);
     Ok(())
 }
-
-#[test]
-fn a_note_names_a_command_as_it_is_written(rt: HostRuntime) -> Result<(), Fail> {
-    let rules = "RUN{program}+=\"$env{X}$env{X}\"\nRUN+=\"$env{X}-$env{X}\"\n";
-    let block = block_with(rt.alloc(), 8193)?;
-    for note in [
-        "note 10-a.rules:1: text too long: RUN{program}",
-        "note 10-a.rules:2: text too long: RUN",
-    ] {
-        assert!(rt; tells(rt.alloc(), rules, block.as_str(), note)?);
-    }
-    Ok(())
-}

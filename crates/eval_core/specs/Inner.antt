@@ -1,12 +1,15 @@
 -- Serves inner proofs only: what functions below the public ones leave.
-use Rattle.std.specs.Prelude.{◌≡◌, List, ◌++◌, None}
+use Rattle.std.specs.Prelude.{◌≡◌, ℕ, ◌+◌, List, ◌++◌, Option, None, drop}
+use Rattle.std.specs.List.{prefix_len}
 use Rattle.std.specs.List.Sorted.{IsStrictlySortedBy}
 use Rattle.text_files.specs.Insertion.{text_order}
 use Rattle.text_tables.specs.Texts.{Text, AreOnce, is_among}
 use Rattle.text_tables.specs.Pairs.{Pair, named, names}
 use Rattle.eval_scene.specs.declared.notes.Note.{Note}
 use Rattle.eval_scene.specs.declared.scene.Scene.{Scene}
+use Rattle.rule_core.specs.Rules.{Rule}
 use Rattle.eval_core.specs.Steps.{with_selected}
+use Rattle.eval_core.specs.Jumps.{is_passed}
 
 -- a scene in which no device is selected
 abbrev pub unselected : Scene → Scene
@@ -15,6 +18,10 @@ unselected s = record s { state = with_selected None s.state }
 -- a scene with further notes
 abbrev pub with_notes : List Note → Scene → Scene
 with_notes notes s = record s { notes = s.notes ++ notes }
+
+-- the place of the next rule that is not passed over while a label is sought, or none is, from a place on
+abbrev pub landing : Option Text → List Rule → ℕ → ℕ
+landing sought rules from = from + prefix_len (is_passed sought) (drop from rules)
 
 -- the names of properties, which have each once, in rising order
 pub record AreSortedNames (pairs : List Pair) (found : List Text) : Type 0 where

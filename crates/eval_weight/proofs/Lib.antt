@@ -11,3 +11,4 @@ pub mod Ruled
 pub mod Starts
 pub mod Ends
 pub mod Weighing
+pub mod Counted

@@ -1,3 +1,4 @@
 pub mod Weights
 pub mod Allowances
+pub mod Counts
 pub mod Inner

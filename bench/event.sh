@@ -1,47 +1,109 @@
 #!/usr/bin/env bash
-# How long one event takes: 4,600 rules, of which most fail at their first match, over 2,000 blocks and over one,
-# and the difference for each event; then the same rules where every tenth one changes a property, so that one
-# sees what a rule costs whose end is reached. Reading rules and blocks counts in both, and so falls out.
-# usage: bench/event.sh
+# How long one event takes: rules of which most fail at their first match, over 2,000 blocks and over one,
+# and the difference for each event, for 4,600 rules, half of them and twice as many; by each first key
+# alone, and what a rule costs where all of them stay in the processor's cache; the same rules where every
+# tenth one changes a property, so that one sees what a rule costs whose end is reached; then the rules of a
+# distribution, copied to about 200 files, with events as a machine has them. Reading rules and blocks counts
+# in both, and so falls out.
+# usage: bench/event.sh [DIR]    DIR holds usr/lib/udev/rules.d, as tools that unpack packages leave it
 set -euo pipefail
+root=$(cd "${1:-/nonexistent}" 2> /dev/null && pwd || true)
 top=$(cd "$(dirname "$0")/.." && pwd)
 program=$top/crates/bench_event/out/bench_event
 (cd "$top/crates/bench_event" && rt run > /dev/null)
-PYTHONPATH=$top/bench exec python3 - "$program" <<'P'
-import sys, tempfile
+PYTHONPATH=$top/bench exec python3 - "$program" "$root" <<'P'
+import glob, os, sys, tempfile
 from timing import best_of_five
 
-program = sys.argv[1]
-RULES = 4600
+program, root = sys.argv[1:]
 EVENTS = 2000
+FIRST = ('SUBSYSTEM=="net"', 'ACTION=="remove"', 'KERNEL=="tty[A-Z]*|pty[a-z]"', 'ENV{ID_BUS}=="ata"')
+DISK = "/devices/pci0000:00/0000:00:14.0/usb1/1-1/1-1:1.0/host6/target6:0:0/6:0:0:0/block/sda"
 BLOCK = "\n".join([
     "C: add", "P: /devices/pci0000:00/0000:00:14.0/usb1/1-1/block/sda", "U: block", "N: sda", "D: 8:0",
     *(f"E: K{n}=value" for n in range(20)), "P: /devices/pci0000:00/0000:00:14.0/usb1/1-1", "U: usb",
     "A: serial=7", "", ""])
+USB = ["P: /devices/pci0000:00/0000:00:14.0/usb1/1-1", "U: usb", "V: usb", "E: DEVTYPE=usb_device",
+       "E: MODALIAS=usb:v0781p5567d0126dc00dsc00dp00", "A: idVendor=0781", "A: idProduct=5567",
+       "A: manufacturer=SanDisk", "A: product=Cruzer Blade", "A: serial=4C530001",
+       "P: /devices/pci0000:00/0000:00:14.0/usb1", "U: usb", "V: usb", "E: DEVTYPE=usb_device",
+       "P: /devices/pci0000:00/0000:00:14.0", "U: pci", "V: xhci_hcd", "A: vendor=0x8086", "A: class=0x0c0330",
+       "E: MODALIAS=pci:v00008086d0000A12Fsv00001028sd000006DBbc0Csc03i30"]
+REAL = {
+    "a USB disk": [
+        "C: add", f"P: {DISK}", "U: block", "N: sda", "D: 8:0", "E: DEVTYPE=disk", "E: DISKSEQ=9",
+        "A: removable=1", "A: size=15633408", "A: ro=0", f"P: {DISK[:-10]}", "U: scsi", "V: sd",
+        "A: vendor=SanDisk ", "A: model=Cruzer Blade    ", "A: type=0", "A: rev=1.26",
+        f"P: {DISK[:-len('/6:0:0:0/block/sda')]}", "U: scsi",
+        "P: /devices/pci0000:00/0000:00:14.0/usb1/1-1/1-1:1.0", "U: usb", "V: usb-storage",
+        "E: DEVTYPE=usb_interface", "A: bInterfaceNumber=00", *USB],
+    "a mouse": [
+        "C: add", "P: /devices/pci0000:00/0000:00:14.0/usb1/1-1/1-1:1.0/0003:046D:C077.0001/input/input5/event5",
+        "U: input", "N: input/event5", "D: 13:69", "P: /devices/pci0000:00/0000:00:14.0/usb1/1-1/1-1:1.0/0003:046D:C077.0001/input/input5",
+        "U: input", "A: name=Logitech USB Optical Mouse", "A: phys=usb-0000:00:14.0-1/input0",
+        "E: PRODUCT=3/46d/c077/111", 'E: NAME="Logitech USB Optical Mouse"',
+        "P: /devices/pci0000:00/0000:00:14.0/usb1/1-1/1-1:1.0", "U: usb", "V: usbhid", *USB],
+    "a network device": [
+        "C: add", "P: /devices/pci0000:00/0000:00:1f.6/net/eth0", "U: net", "E: INTERFACE=eth0", "E: IFINDEX=2",
+        "A: address=00:11:22:33:44:55", "A: type=1", "A: name_assign_type=4", "P: /devices/pci0000:00/0000:00:1f.6",
+        "U: pci", "V: e1000e", "A: vendor=0x8086", "E: MODALIAS=pci:v00008086d000015B7"],
+    "a serial line": [
+        "C: add", "P: /devices/pci0000:00/0000:00:14.0/usb1/1-1/1-1:1.0/ttyUSB0/tty/ttyUSB0", "U: tty", "N: ttyUSB0",
+        "D: 188:0", "P: /devices/pci0000:00/0000:00:14.0/usb1/1-1/1-1:1.0/ttyUSB0", "U: usb-serial", "V: ftdi_sio",
+        "P: /devices/pci0000:00/0000:00:14.0/usb1/1-1/1-1:1.0", "U: usb", "V: ftdi_sio", *USB],
+    "a USB device": ["C: add", USB[0], "N: bus/usb/001/002", "D: 189:1", *USB[1:]],
+    "a mapped disk": [
+        "C: change", "P: /devices/virtual/block/dm-0", "U: block", "N: dm-0", "D: 254:0", "E: DEVTYPE=disk",
+        "E: DM_COOKIE=6345981", "A: dm/name=root", "A: dm/uuid=LVM-abc", "A: dm/suspended=0", "A: size=1000"],
+    "a processor": ["C: add", "P: /devices/system/cpu/cpu0", "U: cpu", "V: processor", "E: MODALIAS=cpu:type:x86"],
+}
 
 
-def rule(number, changing):
+def rule(number, firsts, changing):
     """A rule that fails at its first match; every tenth may change a property instead."""
     if changing and number % 10 == 0:
         return f'KERNEL=="sd*", SUBSYSTEM=="block", ENV{{P{number % 100}}}="$kernel"'
-    first = ('SUBSYSTEM=="net"', 'ACTION=="remove"', 'KERNEL=="tty[A-Z]*|pty[a-z]"', 'ENV{ID_BUS}=="ata"')
-    return f'{first[number % 4]}, ATTRS{{idVendor}}=="{number:04x}", SYMLINK+="x/{number}"'
+    return f'{firsts[number % len(firsts)]}, ATTRS{{idVendor}}=="{number:04x}", SYMLINK+="x/{number}"'
 
 
-def measure(name, changing):
+def measure(name, rules, block):
     """The time of one event, by the least of five runs over many and over one."""
-    rules = "".join(rule(number, changing) + "\n" for number in range(RULES)) + "\n"
     times = []
     for events in (1, EVENTS):
         with tempfile.NamedTemporaryFile(mode="w") as file:
-            file.write(rules + BLOCK * events)
+            file.write(rules + block * events)
             file.flush()
             best, answer = best_of_five([program], file.name)
             times.append(best)
     each = (times[1] - times[0]) / (EVENTS - 1)
-    print(f"{name}: {answer}, {each * 1000:.3f} ms an event, {each / RULES * 1e9:.0f} ns a rule", flush=True)
+    count = int(answer.split()[0])
+    print(f"{name}: {answer}, {each * 1000:.3f} ms an event, {each / count * 1e9:.0f} ns a rule", flush=True)
+    return each
 
 
-measure("rules that fail", False)
-measure("every tenth rule changes a property", True)
+def made(count, firsts=FIRST, changing=False):
+    """So many rules, as one file."""
+    return "".join(rule(number, firsts, changing) + "\n" for number in range(count)) + "\n"
+
+
+def distribution(copies):
+    """The rules of a distribution, so many times, each file with an empty line behind it and none inside."""
+    texts = []
+    for path in sorted(glob.glob(os.path.join(root, "usr/lib/udev/rules.d/*.rules"))):
+        with open(path, encoding="latin-1") as file:
+            texts.append("".join((line or " ") + "\n" for line in file.read().split("\n")) + "\n")
+    return "".join(texts) * copies
+
+
+for count in (2300, 4600, 9200):
+    measure(f"{count} rules that fail", made(count), BLOCK)
+for first in FIRST:
+    few, more, _ = (measure(f"{count} rules that fail at {first}", made(count, (first,)), BLOCK) for count in (300, 900, 4600))
+    print(f"a rule that fails at {first}, in the cache: {(more - few) / 600 * 1e9:.0f} ns", flush=True)
+measure("every tenth rule changes a property", made(4600, changing=True), BLOCK)
+if root:
+    for name, lines in REAL.items():
+        measure(f"rules of a distribution, {name}", distribution(3), "\n".join(lines) + "\n\n")
+    name, lines = next(iter(REAL.items()))
+    measure(f"twice as many, {name}", distribution(6), "\n".join(lines) + "\n\n")
 P

@@ -1,5 +1,6 @@
 //! Evaluates the rules of its input over each event block behind them, and prints what the events come
-//! to together. The rules are the lines up to the first empty one.
+//! to together. The rules are the lines up to the first that begins with `C:`; an empty line ends a
+//! file.
 //!
 //! `bench/event.sh` runs it over many rules. It stands in a crate of its own since `devdry` has no
 //! command yet that reads events.
@@ -11,6 +12,7 @@ use hwdb_lookup::PlainDb;
 use rule_core::{RuleSet, RulesFault, read_rules};
 use std::alloc::{AllocError, Global};
 use std::io::{self, Read};
+use std::mem;
 use text_bytes::Bytes;
 use text_files::{FileKind, SourceFile};
 
@@ -34,11 +36,11 @@ impl Counts {
     }
 }
 
-/// A text up to its first empty line, and from there on.
+/// A text up to its first line that begins with `C:`, and from there on.
 fn rules_and_blocks(text: &[u8]) -> (&[u8], &[u8]) {
     let mut len = 0_usize;
     for line in text.split(|byte| *byte == b'\n') {
-        if line.is_empty() {
+        if line.starts_with(b"C:") {
             break;
         }
         len = len.wrapping_add(line.len()).wrapping_add(1);
@@ -46,15 +48,35 @@ fn rules_and_blocks(text: &[u8]) -> (&[u8], &[u8]) {
     text.split_at(len.min(text.len()))
 }
 
-/// The rules of a text.
-fn rules_of(alloc: Global, text: &[u8]) -> Result<RuleSet, RulesFault> {
-    let mut files = Vec::new(alloc);
-    files.push(SourceFile {
+/// A file of rules.
+fn file_of(alloc: Global, bytes: Vec<u8>) -> Result<SourceFile, AllocError> {
+    Ok(SourceFile {
         kind: FileKind::Rules,
         rank: 0,
         name: Bytes::copy_of(alloc, b"a.rules")?,
-        bytes: Bytes::copy_of(alloc, text)?,
-    })?;
+        bytes: Bytes::new(bytes),
+    })
+}
+
+/// The files of a text, each of which ends at an empty line.
+fn files_of(alloc: Global, text: &[u8]) -> Result<Vec<SourceFile>, AllocError> {
+    let mut files = Vec::new(alloc);
+    let mut bytes = Vec::new(alloc);
+    for line in text.split(|byte| *byte == b'\n') {
+        if line.is_empty() {
+            let whole = mem::replace(&mut bytes, Vec::new(alloc));
+            files.push(file_of(alloc, whole)?)?;
+        } else {
+            bytes.extend_from_slice(line)?;
+            bytes.push(b'\n')?;
+        }
+    }
+    Ok(files)
+}
+
+/// The rules of a text.
+fn rules_of(alloc: Global, text: &[u8]) -> Result<RuleSet, RulesFault> {
+    let files = files_of(alloc, text)?;
     read_rules(alloc, &files)
 }
 

@@ -1,5 +1,5 @@
 -- How a builtin's command is written: said of its pieces, without a reader.
-use Rattle.std.specs.Prelude.{◌≡◌, ◌↔◌, ℕ, Bool, true, false, not, ◌==◌, List, [], ◌∷◌, ◌++◌, map, filter, flat_map, All, Option, Some, None}
+use Rattle.std.specs.Prelude.{◌≡◌, ◌↔◌, ℕ, Bool, true, false, not, ◌==◌, List, [], ◌∷◌, ◌++◌, map, filter, flat_map, All, Some, None}
 use Rattle.std.specs.List.{list_any, slice_split}
 use Rattle.text_bytes.specs.Names.{space}
 use Rattle.text_words.specs.Texts.{is_empty}

@@ -1,7 +1,7 @@
 -- The words behind `hwdb`.
-use Rattle.std.specs.Prelude.{ℕ, Bool, not, ◌&&◌, ◌||◌, if◌then◌else◌, List, [], ◌∷◌, filter, Option, Some, None, Result, Ok, Err, is_some, codes}
+use Rattle.std.specs.Prelude.{Bool, not, ◌&&◌, ◌||◌, if◌then◌else◌, List, [], ◌∷◌, filter, Option, Some, None, Result, Ok, Err, is_some, codes}
 use Rattle.std.specs.Option.{option_or}
-use Rattle.std.specs.List.{list_all, list_any}
+use Rattle.std.specs.List.{list_any}
 use Rattle.text_bytes.specs.Names.{minus, equals}
 use Rattle.text_words.specs.Texts.{begins_with, split_once}
 use Rattle.text_tables.specs.Texts.{Text, same_text}

@@ -1,4 +1,4 @@
-use Rattle.std.proofs.Common.{◌≡◌, ◌++◌, ◌==◌, [], length, map, ap, sym, ◌∙◌}
+use Rattle.std.proofs.Common.{◌++◌, ◌==◌, [], length, map, ap, sym, ◌∙◌}
 use Rattle.eval_builtins.specs.LookUps.{answer, first_found, found}
 use Rattle.eval_builtins.proofs.Finding.{first_here}
 use Rattle.eval_builtins.proofs.lookups.look_up.Goals as goal

@@ -15,7 +15,7 @@ use Rattle.index_image.proofs.Sounding.{written_accepted}
 
 pub image_accepted : (es : List Entry) → Rising es → KeepsBounds es → AreTyped es → Accepted (image es)
 unfolding image
-image_accepted es rising bounds typed = written_accepted (draft_of es) (writable es rising bounds typed) (sound es rising bounds typed)
+image_accepted es rising bounds typed = written_accepted (draft_of es) (writable es rising bounds typed) (sound es rising bounds)
 
 pub image_len : (es : List Entry) → Rising es → KeepsBounds es → AreTyped es → length (image es) ≡ index_len es
 unfolding image
@@ -26,7 +26,7 @@ image_len es rising bounds typed =
       arith,
       nodes_len es,
       values_len es,
-      few_values es rising bounds typed,
-      sets_len es rising bounds typed,
-      text_len es rising bounds typed,
+      few_values es rising bounds,
+      sets_len es rising bounds,
+      text_len es rising bounds,
     )

@@ -32,7 +32,7 @@ sum_same : {A : Type 0} (f g : A → ℕ) → ((x : A) → f x ≡ g x) → (xs 
 sum_same f g same [] = refl
 sum_same f g same (x ∷ xs) = sum_by-cons f x xs ∙ ap (λ n. n + sum_by f xs) (same x) ∙ ap (λ n. g x + n) (sum_same f g same xs) ∙ sym (sum_by-cons g x xs)
 
-module _ (es : List Entry) (rising : Rising es) (bounds : KeepsBounds es) (typed : AreTyped es) where
+module _ (es : List Entry) (rising : Rising es) (bounds : KeepsBounds es) where
   pub few_values : length (by_nodes es) ≡ length es
   few_values = length_permutation es (by_nodes es) (nodes_permute es)
 
@@ -82,9 +82,10 @@ module _ (es : List Entry) (rising : Rising es) (bounds : KeepsBounds es) (typed
         values = omega (arith, values, every_value, all_values es, few_v);
       }
 
-  short : IsSmall (length (image_text es))
+  pub short : IsSmall (length (image_text es))
   short = omega (arith, text_len, bounds.index)
 
+module _ (es : List Entry) (rising : Rising es) (bounds : KeepsBounds es) (typed : AreTyped es) where
   small_value : All IsSmallValue (draft_of es).values
   small_value j v h =
       let inside : j < length (by_nodes es) = omega (arith, values_len es) in
@@ -94,26 +95,26 @@ module _ (es : List Entry) (rising : Rising es) (bounds : KeepsBounds es) (typed
       let low = all_of (λ (e : Entry). IsSmall e.order) es (told es j) typed.orders (told_in es j inside) in
       let few = all_of (λ (e : Entry). IsSmall e.line) es (told es j) typed.lines (told_in es j inside) in
       record {
-        key = record { place = omega (arith, read.key, short); len = omega (arith, read.key, short) };
-        value = record { place = omega (arith, read.value, short); len = omega (arith, read.value, short) };
+        key = record { place = omega (arith, read.key, short es rising bounds); len = omega (arith, read.key, short es rising bounds) };
+        value = record { place = omega (arith, read.value, short es rising bounds); len = omega (arith, read.value, short es rising bounds) };
         order = omega (arith, order, low);
-        file = record { place = omega (arith, read.file, short); len = omega (arith, read.file, short) };
+        file = record { place = omega (arith, read.file, short es rising bounds); len = omega (arith, read.file, short es rising bounds) };
         line = omega (arith, line, few);
       }
 
   small_sets : All (λ (s : ByteSet). length s.bits ≡ 32) (draft_of es).sets
   small_sets k s h =
-      let inside : k < length (sets_of es) = omega (arith, sets_len) in
+      let inside : k < length (sets_of es) = omega (arith, sets_len es rising bounds) in
       let is : get_or (map as_set (sets_of es)) k s ≡ as_set (get_or (sets_of es) k []) = get_or-map as_set (sets_of es) k [] s inside in
       ap (λ (t : ByteSet). length t.bits) is ∙ All-get_or (λ (bits : List ℕ). length bits ≡ 32) (sets_of es) k [] inside typed.sets
 
   pub writable : IsWritable (draft_of es)
   writable = record {
-    nodes = small_node;
+    nodes = small_node es rising bounds;
     values = small_value;
     sets = small_sets;
-    few_nodes = omega (arith, sound.nodes);
-    few_values = omega (arith, sound.values);
-    few_sets = omega (arith, sound.sets);
-    short = short;
+    few_nodes = omega (arith, (sound es rising bounds).nodes);
+    few_values = omega (arith, (sound es rising bounds).values);
+    few_sets = omega (arith, (sound es rising bounds).sets);
+    short = short es rising bounds;
   }

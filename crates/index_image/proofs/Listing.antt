@@ -202,7 +202,7 @@ module _ (es : List Entry) where
 module _ (es : List Entry) (rising : Rising es) (bounds : KeepsBounds es) (typed : AreTyped es) where
   says : contents (image es) ≡ said (draft_of es)
   unfolding image
-  says = written_contents (draft_of es) (writable es rising bounds typed) (sound es rising bounds typed)
+  says = written_contents (draft_of es) (writable es rising bounds typed) (sound es rising bounds)
 
   shaped : Shape (said (draft_of es)).nodes
   shaped = tree (image es) (said (draft_of es)) says (image_accepted es rising bounds typed)

@@ -104,7 +104,7 @@ module _ (es : List Entry) where
   by_path (suc i) (x ∷ q) among root first = own_label (suc i) x q (omega arith) among (last_label (x ∷ q)) refl
 
   -- the paths behind the first have a label
-  behind_root : (i : ℕ) → 0 < i → i < length all_paths → 0 < length (get_or all_paths i [])
+  pub behind_root : (i : ℕ) → 0 < i → i < length all_paths → 0 < length (get_or all_paths i [])
   behind_root zero h k = absurd (omega arith)
   behind_root (suc i) h k =
       let rises : Rises path_cmp ([] ∷ drop 1 all_paths) = subst (Rises path_cmp) levels.first (paths_tree (patterns_of es)).rises in

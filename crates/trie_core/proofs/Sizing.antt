@@ -70,7 +70,7 @@ once old first sorted new e p up f =
     subst (λ l. IsIn z (shown l)) (sym f) (dedup_has sorted z (moved first sorted z p all)))
 
 -- the last label of a node's path is the node's own
-own_label : (nodes : List Node) → Shape nodes → (i : ℕ) → i < length nodes → (node_at nodes i).label ≡ last_label (path nodes i)
+pub own_label : (nodes : List Node) → Shape nodes → (i : ℕ) → i < length nodes → (node_at nodes i).label ≡ last_label (path nodes i)
 own_label nodes s zero h = s.root ∙ sym (ap last_label (path_root nodes))
 own_label nodes s (suc i) h =
     let front : List Item = path nodes (up nodes (suc i)) in
@@ -99,10 +99,10 @@ pub over : (ts : List Text) (i left room : ℕ) (d : Text) → i < length ts →
     → sum_by (λ t. length t.now) ts ≤ room → ⊥
 over ts i left room d h so_far long all = let more : sum_by (λ t. length t.now) (take i ts) + length (get_or ts i d).now ≤ sum_by (λ t. length t.now) ts = sum_by_more_le (λ (t : Text). length t.now) ts i d h in omega (arith, more, so_far, long, all)
 
+-- the sets of the nodes are those of the entries
+pub sets_are : (t : Content) → IsTrie t → node_sets t.nodes ≡ sets_of t.entries
+sets_are t is = ap (distinct text_cmp) (same_sets t.nodes (paths_of t.entries) is.count (λ i h. own_label t.nodes is.shape i h ∙ ap last_label (is.paths i h)))
+
 -- the index that is measured is that of the entries
 pub measured : (t : Content) → IsTrie t → index_len_by t.nodes t.entries ≡ index_len t.entries
-measured t is =
-    let sets : node_sets t.nodes ≡ sets_of t.entries =
-    ap (distinct text_cmp) (same_sets t.nodes (paths_of t.entries) is.count (λ i h. own_label t.nodes is.shape i h ∙ ap last_label (is.paths i h))) in
-    let len : length (node_sets t.nodes) ≡ length (sets_of t.entries) = ap length sets in
-    omega (arith, is.count, len)
+measured t is = let len : length (node_sets t.nodes) ≡ length (sets_of t.entries) = ap length (sets_are t is) in omega (arith, is.count, len)

@@ -36,20 +36,20 @@ fn push_set<'a>(sets: &mut Vec<&'a [u8]>, label: &'a Item) -> Result<(), AllocEr
     Ok(())
 }
 
-/// How many sets the labels of nodes have, each counted once.
-fn set_count(alloc: Global, nodes: &[Node]) -> Result<usize, AllocError>
-    ensures { IfOk result (λ count. count ≡ length (node_sets nodes.now)) }
+/// The bytes of the sets that the labels of nodes have, each once, sorted.
+pub(crate) fn sets_of(alloc: Global, nodes: &[Node]) -> Result<Vec<&[u8]>, AllocError>
+    ensures { IfOk result (λ sets. shown sets.items ≡ node_sets nodes.now) }
 {
     let mut sets = Vec::new(alloc);
     for node in nodes {
         push_set(&mut sets, &node.label)?;
     }
     keep_distinct(&mut sets);
-    Ok(sets.len())
+    Ok(sets)
 }
 
 /// The names of the files that entries come from, each once, sorted.
-fn names_of(alloc: Global, entries: &[Entry]) -> Result<Vec<&[u8]>, AllocError>
+pub(crate) fn names_of(alloc: Global, entries: &[Entry]) -> Result<Vec<&[u8]>, AllocError>
     ensures { IfOk result (λ names. shown names.items ≡ names_of entries.now) }
 {
     let mut names = Vec::with_capacity(alloc, entries.len())?;
@@ -109,9 +109,12 @@ pub(crate) fn index_fits(
     requires few { length entries.now ≤ max_entries }
     ensures { IfOk result (λ fits. IsTrue fits ↔ (index_len_by nodes.now entries.now ≤ max_index_len)) }
 {
-    let sets = set_count(alloc, nodes)?;
+    let sets = sets_of(alloc, nodes)?;
     let names = names_of(alloc, entries)?;
-    let records = 32 + 24 * nodes.len() as u128 + 32 * entries.len() as u128 + 32 * sets as u128;
+    let records = 32
+        + 24 * nodes.len() as u128
+        + 32 * entries.len() as u128
+        + 32 * sets.len() as u128;
     if records > MAX_INDEX_LEN {
         return Ok(false);
     }

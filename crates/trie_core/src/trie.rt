@@ -8,12 +8,13 @@ ghost use Rattle.hwdb_lookup.specs.Orders.{Rising};
 ghost use Rattle.trie_core.specs.Content.{IsTrie, active_count, active_nodes, all_values};
 ghost use Rattle.trie_core.specs.declared.fault.TrieFault.TheVariants.{TooLarge};
 ghost use Rattle.trie_paths.specs.Paths.{paths_of};
-ghost use Rattle.trie_paths.specs.Sizes.{KeepsBounds, max_nodes};
+ghost use Rattle.trie_paths.specs.Sizes.{KeepsBounds, max_nodes, names_of, sets_of};
+ghost use Rattle.trie_core.specs.Shown.{shown};
 
 use crate::TrieFault;
 use crate::build::nodes_of;
 use crate::rows::{Sorted, numbers_of, shared_fronts, sorted_rows};
-use crate::size::index_fits;
+use crate::size::{index_fits, names_of, sets_of};
 use hwdb_lookup::{Entry, Lookup, MAX_ENTRIES, Sourced};
 use std::alloc::{AllocError, Global};
 use std::marker::Model;
@@ -103,6 +104,46 @@ impl Trie {
             numbers,
             nodes,
         })
+    }
+
+    /// Lends the entries, in order.
+    pub fn entries(&self) -> &[Entry]
+        ensures value { result.now ≡ self.now.entries }
+        ensures trie { IsTrie self.now }
+        ensures bounds { KeepsBounds self.now.entries }
+    {
+        &self.entries
+    }
+
+    /// Lends the numbers of the entries that the values of the nodes are, in the order of the values.
+    pub fn numbers(&self) -> &[u32]
+        ensures { result.now ≡ self.now.numbers }
+    {
+        &self.numbers
+    }
+
+    /// Lends the nodes, by number.
+    pub fn nodes(&self) -> &[Node]
+        ensures { result.now ≡ self.now.nodes }
+    {
+        &self.nodes
+    }
+
+    /// The bytes of the sets in its patterns, each set once, sorted. Fails only where there is no memory
+    /// for the list.
+    pub fn sets(&self, alloc: Global) -> Result<Vec<&[u8]>, AllocError>
+        ensures { IfOk result (λ sets. shown sets.items ≡ sets_of self.now.entries) }
+    {
+        let sets = sets_of(alloc, &self.nodes)?;
+        Ok(sets)
+    }
+
+    /// The names of the files that its entries come from, each once, sorted. Fails only where there is
+    /// no memory for the list.
+    pub fn names(&self, alloc: Global) -> Result<Vec<&[u8]>, AllocError>
+        ensures { IfOk result (λ names. shown names.items ≡ names_of self.now.entries) }
+    {
+        names_of(alloc, &self.entries)
     }
 
     /// The nodes that are active at the end of a modalias, rising, and how many are active after each

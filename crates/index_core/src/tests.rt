@@ -1,0 +1,143 @@
+//! Indexes of few entries, byte by byte, and what is asked of them.
+
+use crate::{Index, write_index};
+use hwdb_lookup::{Entry, Lookup, rising};
+use std::alloc::{AllocError, AllocFailed, Global};
+use std::test::Fail;
+use text_core::{Bytes, GlobFault, Pattern};
+use trie_core::{Trie, TrieFault};
+
+/// The index of no entry: the root alone.
+const EMPTY: &[u8; 56] = b"devdryhw\x02\0\0\0\x01\0\0\0\0\0\0\0\0\0\0\0\0\0\0\0\0\0\0\0\
+    \0\0\0\0\0\0\0\0\x01\0\0\0\0\0\0\0\0\0\0\0\0\0\0\0";
+
+/// The index of ` K=V` for `a*`, in line 2 of t.hwdb.
+const ONE_ENTRY: &[u8; 144] = b"devdryhw\x02\0\0\0\x03\0\0\0\x01\0\0\0\0\0\0\0\x08\0\0\0\0\0\0\0\
+    \0\0\0\0\0\0\0\0\x01\0\0\0\x01\0\0\0\0\0\0\0\0\0\0\0\
+    \x01a\0\0\0\0\0\0\x02\0\0\0\x01\0\0\0\0\0\0\0\0\0\0\0\
+    \x03\0\0\0\0\0\0\0\x03\0\0\0\0\0\0\0\0\0\0\0\x01\0\0\0\
+    \0\0\0\0\x01\0\0\0\x01\0\0\0\x01\0\0\0\0\0\0\0\x02\0\0\0\x06\0\0\0\x02\0\0\0KVt.hwdb";
+
+/// Why there is no index.
+#[derive(Clone, Copy, Debug, PartialEq, Eq, Drop)]
+enum NoIndex {
+    Pattern(GlobFault),
+    Trie(TrieFault),
+    Memory,
+}
+
+impl From<GlobFault> for NoIndex {
+    fn from(fault: GlobFault) -> NoIndex {
+        NoIndex::Pattern(fault)
+    }
+}
+
+impl From<TrieFault> for NoIndex {
+    fn from(fault: TrieFault) -> NoIndex {
+        NoIndex::Trie(fault)
+    }
+}
+
+impl From<AllocError> for NoIndex {
+    fn from(_: AllocError) -> NoIndex {
+        NoIndex::Memory
+    }
+}
+
+impl<T: Drop> From<AllocFailed<T>> for NoIndex {
+    fn from(_: AllocFailed<T>) -> NoIndex {
+        NoIndex::Memory
+    }
+}
+
+fn entry(
+    alloc: Global,
+    pattern: &[u8],
+    value: &[u8],
+    file: &[u8],
+    order: u32,
+) -> Result<Entry, NoIndex> {
+    Ok(Entry {
+        pattern: Pattern::read(alloc, pattern)?,
+        key: Bytes::copy_of(alloc, b"K")?,
+        value: Bytes::copy_of(alloc, value)?,
+        order,
+        file: Bytes::copy_of(alloc, file)?,
+        line: 2,
+    })
+}
+
+/// The index of entries; of none, where they are in no order.
+fn index_of(alloc: Global, entries: Vec<Entry>) -> Result<Vec<u8>, NoIndex> {
+    let listed = if rising(&entries) {
+        entries
+    } else {
+        Vec::new(alloc)
+    };
+    if !rising(&listed) {
+        return Err(NoIndex::Memory);
+    }
+    let trie = Trie::build(alloc, listed)?;
+    Ok(write_index(alloc, &trie)?)
+}
+
+#[test]
+fn no_entry_is_a_root(rt: HostRuntime) -> Result<(), Fail> {
+    let alloc = rt.alloc();
+    match index_of(alloc, Vec::new(alloc)) {
+        Ok(bytes) => assert!(rt; bytes.as_slice() == EMPTY.as_slice()),
+        Err(fault) => assert!(rt; fault != fault),
+    }
+    Ok(())
+}
+
+fn one_entry(alloc: Global) -> Result<Vec<u8>, NoIndex> {
+    let mut entries = Vec::new(alloc);
+    entries.push(entry(alloc, b"a*", b"V", b"t.hwdb", 0)?)?;
+    index_of(alloc, entries)
+}
+
+#[test]
+fn one_entry_byte_by_byte(rt: HostRuntime) -> Result<(), Fail> {
+    match one_entry(rt.alloc()) {
+        Ok(bytes) => assert!(rt; bytes.as_slice() == ONE_ENTRY.as_slice()),
+        Err(fault) => assert!(rt; fault != fault),
+    }
+    Ok(())
+}
+
+/// Two patterns with a set, one of them with two entries, of two files.
+fn four_entries(alloc: Global) -> Result<Vec<u8>, NoIndex> {
+    let mut entries = Vec::new(alloc);
+    entries.push(entry(alloc, b"b[xy]", b"1", b"z.hwdb", 0)?)?;
+    entries.push(entry(alloc, b"a?", b"2", b"z.hwdb", 1)?)?;
+    entries.push(entry(alloc, b"b[xy]", b"3", b"y.hwdb", 2)?)?;
+    entries.push(entry(alloc, b"b?", b"4", b"z.hwdb", 3)?)?;
+    index_of(alloc, entries)
+}
+
+/// Whether an index has so many bytes, and answers a modalias by one property of a file.
+fn tells(alloc: Global, bytes: &[u8], modalias: &[u8], value: &[u8], file: &[u8]) -> bool {
+    let Ok(index) = Index::open(bytes) else {
+        return false;
+    };
+    match index.query_sources(alloc, modalias) {
+        Ok(found) => found.len() == 1 && found[0].value == value && found[0].file == file,
+        Err(_) => false,
+    }
+}
+
+#[test]
+fn entries_are_found_again(rt: HostRuntime) -> Result<(), Fail> {
+    let alloc = rt.alloc();
+    match four_entries(alloc) {
+        Ok(bytes) => {
+            assert_eq!(rt; bytes.len(), 32 + 24 * 6 + 32 * 4 + 32 + 8 + 12);
+            assert!(rt; tells(alloc, &bytes, b"bx", b"4", b"z.hwdb"));
+            assert!(rt; tells(alloc, &bytes, b"ay", b"2", b"z.hwdb"));
+            assert!(rt; bytes.ends_with(b"K2K4K1K3y.hwdbz.hwdb"));
+        }
+        Err(fault) => assert!(rt; fault != fault),
+    }
+    Ok(())
+}

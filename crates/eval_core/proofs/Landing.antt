@@ -1,6 +1,5 @@
 -- A label that is sought is found at the next rule that has it.
-use Rattle.std.proofs.Common.{◌≡◌, ℕ, zero, suc, Bool, true, false, cond, not, List, [], ◌∷◌, ◌++◌, Option, Some, None, refl, ap, sym, ◌∙◌, arith}
-use Rattle.std.specs.List.{Any}
+use Rattle.std.proofs.Common.{◌≡◌, suc, Bool, true, false, cond, not, List, [], ◌∷◌, ◌++◌, Option, Some, None, refl, ap, ◌∙◌, arith}
 use Rattle.std.specs.Cmp.Lexicographic.{bytes_decides}
 use Rattle.text_tables.specs.Texts.{Text, same_text}
 use Rattle.hwdb_lookup.specs.declared.entry.Entry.{Entry}
@@ -8,7 +7,7 @@ use Rattle.rule_core.specs.Outcomes.{HasLabel}
 use Rattle.rule_core.specs.Rules.{Rule}
 use Rattle.eval_scene.specs.declared.scene.Scene.{Scene}
 use Rattle.eval_core.specs.Steps.{apply}
-use Rattle.eval_core.specs.Jumps.{is_label, is_passed, run, sought_after}
+use Rattle.eval_core.specs.Jumps.{is_label, run, sought_after}
 
 bears : (name : Text) (label : Option Text) → label ≡ Some name → is_label name label ≡ true
 bears name label h = ap (is_label name) h ∙ (bytes_decides name name).1 refl

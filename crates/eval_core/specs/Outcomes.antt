@@ -1,5 +1,5 @@
 -- What an event comes to.
-use Rattle.std.specs.Prelude.{ℕ, List, [], ◌∷◌, ◌++◌, None, option_map, flat_map, fold}
+use Rattle.std.specs.Prelude.{List, [], ◌∷◌, ◌++◌, None, option_map, flat_map, fold}
 use Rattle.text_files.specs.Insertion.{put_by}
 use Rattle.text_tables.specs.Pairs.{Pair}
 use Rattle.hwdb_lookup.specs.declared.entry.Entry.{Entry}

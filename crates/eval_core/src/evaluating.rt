@@ -73,8 +73,9 @@ fn render_runs(
     Ok(commands)
 }
 
-/// What a scene comes to when no rule is left.
-fn finish(alloc: Global, mut scene: Scene<'_>) -> Result<Outcome, AllocError>
+/// What a scene comes to when no rule is left: what is to be run is rendered, and properties are sorted.
+/// The error comes where memory is refused.
+pub fn finish(alloc: Global, mut scene: Scene<'_>) -> Result<Outcome, AllocError>
     ensures { IfOk result (λ outcome. outcome ≡ outcome_of scene.entry) }
 {
     let runs = mem::replace(&mut scene.runs, Runs::new(alloc));

@@ -114,7 +114,7 @@ fn set_all<'a>(
 /// one device, what acts, the matches of the result, the assignments. Where one of them stops the rule,
 /// what was changed until then stays. The error comes where memory is refused.
 #[tactic(auto, unfolding(crate::specs::Steps::apply))]
-pub(crate) fn apply<'a, L: Lookup>(
+pub fn apply<'a, L: Lookup>(
     alloc: Global,
     rule: &'a Rule,
     lookup: &L,

@@ -1,4 +1,4 @@
-use Rattle.std.proofs.Common.{◌∙◌, Bor, List, ℕ, ap, drop, map, subst, sym}
+use Rattle.std.proofs.Common.{◌∙◌, Bor, List, ℕ, ap, map, subst, sym}
 use Rattle.std.proofs.lemmas.List.{drop_all}
 use Rattle.text_tables.specs.Pairs.{value_of}
 use Rattle.eval_state.specs.Texts.{or_empty}

@@ -1,4 +1,4 @@
-use Rattle.std.proofs.Common.{◌≡◌, List, map, rules}
+use Rattle.std.proofs.Common.{◌≡◌, map, rules}
 use Rattle.text_tables.specs.Pairs.{names}
 use Rattle.eval_core.proofs.ByName.{are_sorted}
 use Rattle.eval_core.proofs.sorting.sorted_names.Goals as goal

@@ -1,0 +1,3 @@
+mod Staying
+mod Ruling
+mod Skipping

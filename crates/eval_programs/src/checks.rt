@@ -1,0 +1,145 @@
+//! The check of a rule: by what is seen of an event it can be passed over.
+//!
+//! Most rules begin with a match that asks for one text of something that no rule changes: the action,
+//! the kernel's name, the subsystem, the driver or an attribute of the event device. Where the event has
+//! another text there, told by its sketch, the rule changes nothing, and need not be looked at. Of a
+//! pattern for the kernel's name the first byte is known, nearly always.
+ghost use Rattle.std.specs.Prelude.{◌≡◌, ◌<◌, length, position, map, IfOk, IfSome};
+ghost use Rattle.text_tables.specs.Texts.{same_text};
+ghost use Rattle.eval_programs.specs.Checks.{attribute_slot, check_by, check_of, check_with, first_check, head_slot, slot_of};
+
+use rule_core::{PlainKey, PlainMatch, Rule};
+use rule_layout::{exact_head, exact_sketch};
+use std::alloc::{AllocError, Global};
+use text_bytes::Bytes;
+
+/// How many attributes are looked up for each event, at most.
+const MOST_NAMES: usize = 60;
+
+/// What has to be seen of an event, or else a rule can be passed over.
+#[derive(Clone, Copy, Debug)]
+pub struct Check {
+    /// Where it stands among what is seen of an event.
+    pub slot: usize,
+    /// The sketch of the text that the rule asks for.
+    pub sketch: u64,
+}
+
+/// The place of a name among others, if it is there.
+fn place_of(names: &[Bytes], name: &[u8]) -> Option<usize>
+    ensures value { result ≡ position (same_text name.now) names.now }
+    ensures within { IfSome result (λ place. place < length names.now) }
+{
+    names.iter().position(|known| name == known.as_slice())
+}
+
+/// Where an attribute stands among what is seen of an event: behind five others.
+fn attribute_slot(names: &[Bytes], name: &[u8]) -> Option<usize>
+    ensures { result ≡ attribute_slot names.now name.now }
+{
+    match place_of(names, name) {
+        Some(place) => Some(place + 5),
+        None => None,
+    }
+}
+
+/// Where what a key looks at stands among what is seen of an event, if it is there.
+fn slot_of(names: &[Bytes], key: &PlainKey) -> Option<usize>
+    ensures { result ≡ slot_of names.now key.now }
+{
+    match key {
+        PlainKey::Action => Some(0),
+        PlainKey::Kernel => Some(1),
+        PlainKey::Subsystem => Some(2),
+        PlainKey::Driver => Some(3),
+        PlainKey::Attr(name) => attribute_slot(names, name.as_slice()),
+        _ => None,
+    }
+}
+
+/// A check, where both its parts are known.
+fn check_by(slot: Option<usize>, sketch: Option<u64>) -> Option<Check>
+    ensures { result ≡ check_by slot sketch }
+{
+    match (slot, sketch) {
+        (Some(slot), Some(sketch)) => Some(Check { slot, sketch }),
+        _ => None,
+    }
+}
+
+/// Where the first byte of what a key looks at stands among what is seen of an event, if it is there.
+fn head_slot(key: &PlainKey) -> Option<usize>
+    ensures { result ≡ head_slot key.now }
+{
+    match key {
+        PlainKey::Kernel => Some(4),
+        _ => None,
+    }
+}
+
+/// The first of two checks that is there.
+fn first_check(check: Option<Check>, other: Option<Check>) -> Option<Check>
+    ensures { result ≡ first_check check other }
+{
+    match check {
+        Some(check) => Some(check),
+        None => other,
+    }
+}
+
+/// The check of a match: by its text, or by the first byte of its pattern.
+fn check_with(names: &[Bytes], part: &PlainMatch) -> Option<Check>
+    ensures { result ≡ check_with names.now part.now }
+{
+    first_check(
+        check_by(slot_of(names, &part.key), exact_sketch(&part.wanted)),
+        check_by(head_slot(&part.key), exact_head(&part.wanted)),
+    )
+}
+
+/// The check of a rule, by its first match.
+fn check_of(names: &[Bytes], rule: &Rule) -> Option<Check>
+    ensures { result ≡ check_of names.now rule.now }
+{
+    match rule.plain().first() {
+        Some(part) => check_with(names, part),
+        None => None,
+    }
+}
+
+/// The check of each rule. The error comes where memory is refused.
+pub(crate) fn checks(
+    alloc: Global,
+    names: &[Bytes],
+    rules: &[Rule],
+) -> Result<Vec<Option<Check>>, AllocError>
+    ensures { IfOk result (λ checks. checks.items ≡ map (check_of names.now) rules.now) }
+{
+    rules
+        .iter()
+        .map(|rule| check_of(names, rule))
+        .collect(alloc)
+}
+
+/// The name of the attribute that a rule looks at first, if it does.
+fn first_attribute(rule: &Rule) -> Option<&[u8]> {
+    match rule.plain().first() {
+        Some(part) => match &part.key {
+            PlainKey::Attr(name) => Some(name.as_slice()),
+            _ => None,
+        },
+        None => None,
+    }
+}
+
+/// The names of the attributes that rules look at first, as many as are looked up for each event. The
+/// error comes where memory is refused.
+pub(crate) fn first_attributes(alloc: Global, rules: &[Rule]) -> Result<Vec<Bytes>, AllocError> {
+    let mut names = Vec::new(alloc);
+    for name in rules.iter().filter_map(first_attribute) {
+        if names.len() < MOST_NAMES && place_of(&names, name).is_none() {
+            names.push(Bytes::copy_of(alloc, name)?)?;
+        }
+    }
+    Ok(names)
+}

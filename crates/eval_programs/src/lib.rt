@@ -1,0 +1,13 @@
+//! Programs: rules laid out for evaluation, which answer as the rules that were read, sooner.
+//!
+//! What is decided once is decided when rules are laid out: for each rule how many rules its jump passes
+//! over, and the check by which it can be passed over without a look at it. What rules can't change of an
+//! event is looked up once for each event.
+#![tactic(auto)]
+
+mod checks;
+mod program;
+mod running;
+mod seen;
+
+pub use program::{Program, compile};

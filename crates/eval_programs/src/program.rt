@@ -1,0 +1,99 @@
+//! Rules that are laid out, as one value.
+ghost use Rattle.std.specs.Prelude.{◌≡◌, IfOk};
+ghost use Rattle.eval_core.specs.Outcomes.{outcome};
+ghost use Rattle.eval_programs.specs.Layout.{IsLaidOut};
+
+use crate::checks::{Check, checks, first_attributes};
+use crate::running::{Layout, run};
+use device_core::Event;
+use eval_core::{Outcome, finish};
+use eval_scene::Scene;
+use hwdb_lookup::Lookup;
+use rule_core::{Rule, RuleSet};
+use rule_layout::passed_over;
+use std::alloc::{AllocError, Global};
+use std::marker::Model;
+use text_bytes::Bytes;
+
+/// Rules that are laid out for evaluation. `compile` alone makes it.
+#[derive(Drop)]
+pub struct Program {
+    rules: Vec<Rule>,
+    passes: Vec<usize>,
+    names: Vec<Bytes>,
+    checks: Vec<Option<Check>>,
+}
+
+impl Model for Program {
+    ghost use Rattle.std.specs.Prelude.{List};
+    ghost use Rattle.rule_core.specs.Rules.{Rule};
+    ghost use Rattle.eval_programs.specs.Layout.{IsLaidOut};
+
+    ghost Value = { List Rule };
+
+    ghost view = { λ p. p.rules.items };
+
+    ghost invariant = { λ p. IsLaidOut p.rules.items p.passes.items p.names.items p.checks.items };
+}
+
+/// Lays the rules of a set out for evaluation; its messages are dropped.
+///
+/// The error comes where memory is refused; the rules are dropped then.
+pub fn compile(alloc: Global, rules: RuleSet) -> Result<Program, AllocError>
+    ensures { IfOk result (λ program. program ≡ rules.rules) }
+{
+    let rules = rules.into_rules();
+    let passes = passed_over(alloc, &rules)?;
+    let names = first_attributes(alloc, &rules)?;
+    let checks = checks(alloc, &names, &rules)?;
+    Ok(Program {
+        rules,
+        passes,
+        names,
+        checks,
+    })
+}
+
+/// What an event comes to, where the rules and it are lent for one time.
+fn evaluate<'a, L: Lookup>(
+    alloc: Global,
+    layout: Layout<'a>,
+    event: &'a Event<'_>,
+    lookup: &L,
+) -> Result<Outcome, AllocError>
+    requires { IsLaidOut layout.rules.now layout.passes.now layout.names.now layout.checks.now }
+    ensures { IfOk result (λ answer. answer ≡ outcome layout.entry.rules.now (L.entries lookup.now) event.now) }
+{
+    let mut scene = Scene::new(alloc, event)?;
+    run(alloc, layout, lookup, &mut scene)?;
+    finish(alloc, scene)
+}
+
+impl Program {
+    /// The rules as they are laid out, lent.
+    fn layout(&self) -> Layout<'_>
+        ensures rules { result.rules.now ≡ self.now }
+        ensures laid_out { IsLaidOut result.rules.now result.passes.now result.names.now result.checks.now }
+    {
+        Layout {
+            rules: &self.rules,
+            passes: &self.passes,
+            names: &self.names,
+            checks: &self.checks,
+        }
+    }
+
+    /// What an event comes to by the rules, as `evaluate_plain` has it.
+    ///
+    /// The error comes where memory is refused.
+    pub fn evaluate<L: Lookup>(
+        &self,
+        alloc: Global,
+        event: &Event<'_>,
+        lookup: &L,
+    ) -> Result<Outcome, AllocError>
+        ensures { IfOk result (λ answer. answer ≡ outcome self.now (L.entries lookup.now) event.now) }
+    {
+        evaluate(alloc, self.layout(), event, lookup)
+    }
+}

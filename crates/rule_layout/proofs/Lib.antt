@@ -1,0 +1,4 @@
+mod Counting
+pub mod Heading
+pub mod Placing
+pub mod Sketching

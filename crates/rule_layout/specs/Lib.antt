@@ -1,0 +1,3 @@
+pub mod Jumps
+pub mod Passes
+pub mod Sketches

@@ -141,3 +141,40 @@ fn entries_are_found_again(rt: HostRuntime) -> Result<(), Fail> {
     }
     Ok(())
 }
+
+/// The index of one entry, for a pattern that is a text so many times.
+fn repeated(alloc: Global, text: &[u8], times: usize) -> Result<Vec<u8>, NoIndex> {
+    let mut pattern = Vec::new(alloc);
+    for _ in 0..times {
+        pattern.extend_from_slice(text)?;
+    }
+    let mut entries = Vec::new(alloc);
+    entries.push(entry(alloc, &pattern, b"V", b"t.hwdb", 0)?)?;
+    index_of(alloc, entries)
+}
+
+/// How many nodes of an index are active at the end of a modalias, and how many along it.
+fn visited(alloc: Global, bytes: &[u8], modalias: &[u8]) -> Option<(usize, u128)> {
+    let Ok(index) = Index::open(bytes) else {
+        return None;
+    };
+    match index.visits(alloc, modalias) {
+        Ok((active, sum)) => Some((active.len(), sum)),
+        Err(_) => None,
+    }
+}
+
+#[test]
+fn forty_stars_are_walked_in_line_with_the_text(rt: HostRuntime) -> Result<(), Fail> {
+    let alloc = rt.alloc();
+    let mut modalias = vec![in alloc; b'a'; 200]?;
+    modalias.push(b'b')?;
+    match repeated(alloc, b"*a", 40) {
+        Ok(bytes) => {
+            assert_eq!(rt; bytes.len(), 32 + 24 * 81 + 32 + 8);
+            assert_eq!(rt; visited(alloc, &bytes, &modalias), Some((40, 14521)));
+        }
+        Err(fault) => assert!(rt; fault != fault),
+    }
+    Ok(())
+}

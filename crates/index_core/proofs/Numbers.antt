@@ -14,7 +14,7 @@ use Rattle.trie_paths.specs.Sizes.{text_cmp}
 use Rattle.trie_paths.proofs.Distinguishing.{in_get}
 use Rattle.trie_paths.proofs.Orders.{texts_order}
 use Rattle.index_image.proofs.Members.{number_found, number_within}
-use Rattle.trie_core.specs.Shown.{shown}
+use Rattle.trie_core.specs.Content.{shown}
 use Rattle.index_core.proofs.Lists.{rises_apart}
 
 -- what holds of the text behind the reference at i holds of the text at i

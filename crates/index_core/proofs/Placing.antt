@@ -8,7 +8,7 @@ use Rattle.std.proofs.lemmas.List.Folds.{length-flat_map-take}
 use Rattle.std.proofs.lemmas.List.FromFn.{get_or-map-range_with_len, length-map-range_with_len}
 use Rattle.std.specs.Borrow.{Bor}
 use Rattle.hwdb_lookup.specs.declared.entry.Entry.{Entry}
-use Rattle.trie_core.specs.Content.{entry_at, no_entry}
+use Rattle.trie_core.specs.Content.{entry_at, no_entry, shown}
 use Rattle.trie_paths.specs.Distinct.{IsIn, number_in}
 use Rattle.trie_paths.specs.Sizes.{text_cmp}
 use Rattle.trie_paths.proofs.Distinguishing.{get_in, in_get}
@@ -16,7 +16,6 @@ use Rattle.trie_paths.proofs.Orders.{texts_order}
 use Rattle.index_layout.specs.declared.records.ValueRecord.{ValueRecord}
 use Rattle.index_image.specs.Image.{all_names, own_text}
 use Rattle.index_image.proofs.Members.{number_within}
-use Rattle.trie_core.specs.Shown.{shown}
 use Rattle.index_core.specs.Writing.{name_before, name_places, named, place_before, value_record}
 use Rattle.index_core.proofs.Lists.{taken_more}
 

@@ -4,7 +4,7 @@ ghost use Rattle.text_core.specs.declared.item.Item.TheVariants.{Among};
 ghost use Rattle.trie_paths.specs.Distinct.{IsIn};
 ghost use Rattle.text_core.specs.declared.byte_set.ByteSet.{ByteSet};
 ghost use Rattle.index_image.specs.Image.{label_byte, label_kind, label_set};
-ghost use Rattle.trie_core.specs.Shown.{shown};
+ghost use Rattle.trie_core.specs.Content.{shown};
 ghost use Rattle.index_core.specs.Writing.{AreTexts};
 
 use crate::texts::number_of;

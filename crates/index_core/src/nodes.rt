@@ -6,7 +6,7 @@ ghost use Rattle.trie_nodes.specs.Tree.{node_at};
 ghost use Rattle.trie_paths.specs.Distinct.{IsIn};
 ghost use Rattle.index_layout.specs.Numbers.{IsSmall};
 ghost use Rattle.index_layout.specs.Records.{node_bytes};
-ghost use Rattle.trie_core.specs.Shown.{shown};
+ghost use Rattle.trie_core.specs.Content.{shown};
 ghost use Rattle.index_core.specs.Writing.{AreTexts, node_records, record_of};
 
 use crate::labels::{byte_of, kind_of, set_of};

@@ -3,7 +3,7 @@ ghost use Rattle.std.specs.Prelude.{◌≡◌, ◌++◌, IfOk, OnOk, length};
 ghost use Rattle.trie_paths.specs.Distinct.{IsIn, number_in};
 ghost use Rattle.trie_paths.specs.Sizes.{text_cmp};
 ghost use Rattle.index_image.specs.Image.{all_names};
-ghost use Rattle.trie_core.specs.Shown.{shown};
+ghost use Rattle.trie_core.specs.Content.{shown};
 ghost use Rattle.index_core.specs.Writing.{AreTexts};
 
 use std::alloc::AllocError;

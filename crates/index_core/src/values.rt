@@ -4,13 +4,12 @@
 ghost use Rattle.std.specs.Prelude.{◌≡◌, ◌+◌, ◌<◌, ◌++◌, All, IfOk, OnOk, flat_map, length, map, slice_index, take};
 ghost use Rattle.std.specs.List.{range_with_len};
 ghost use Rattle.hwdb_lookup.specs.declared.entry.Entry.{Entry};
-ghost use Rattle.trie_core.specs.Content.{entry_at};
+ghost use Rattle.trie_core.specs.Content.{entry_at, shown};
 ghost use Rattle.trie_paths.specs.Distinct.{IsIn, number_in};
 ghost use Rattle.trie_paths.specs.Sizes.{text_cmp};
 ghost use Rattle.index_layout.specs.Numbers.{IsSmall};
 ghost use Rattle.index_layout.specs.Records.{value_bytes};
 ghost use Rattle.index_image.specs.Image.{all_names, own_text};
-ghost use Rattle.trie_core.specs.Shown.{shown};
 ghost use Rattle.index_core.specs.Writing.{AreTexts, name_places, named, value_records};
 
 use crate::texts::number_of;

@@ -19,8 +19,8 @@ use Rattle.trie_paths.specs.Paths.{paths_of}
 use Rattle.trie_paths.specs.Sizes.{index_len, last_label, set_in, sets_of, text_cmp}
 use Rattle.trie_paths.proofs.Distinguishing.{distinct_is, in_map, map_in, one_list}
 use Rattle.trie_paths.proofs.Orders.{texts_order}
-use Rattle.trie_core.specs.Content.{Content, IsTrie}
-use Rattle.trie_core.specs.Shown.{index_len_by, node_sets, shown}
+use Rattle.trie_core.specs.Content.{Content, IsTrie, shown}
+use Rattle.trie_core.specs.Shown.{index_len_by, node_sets}
 use Rattle.trie_core.proofs.Answering.{contains_of, in_of}
 
 abbrev pub Text : Type 0

@@ -1,5 +1,6 @@
 -- What a trie holds: its entries, as they were given, and its nodes with their values.
 use Rattle.std.specs.Prelude.{ℕ, ◌≡◌, ◌↔◌, ◌+◌, ◌<◌, ◌≤◌, List, [], length, map, filter, sum_by, take, slice_index_or}
+use Rattle.std.specs.Borrow.{Bor}
 use Rattle.std.specs.List.{range_with_len}
 use Rattle.std.specs.List.Sorted.{IsPermutation}
 use Rattle.text_core.specs.Fits.{fits}
@@ -64,3 +65,7 @@ active_nodes es t = filter (λ i. fits (slice_index_or (paths_of es) i []) t) (r
 -- how many nodes are active after each length of a text from 0 on, summed
 abbrev pub active_count : List Entry → List ℕ → ℕ
 active_count es m = sum_by length (map (λ j. active_nodes es (take j m)) (range_with_len 0 (length m + 1)))
+
+-- the texts that references lead to
+abbrev pub shown : List (Bor (List ℕ)) → List (List ℕ)
+shown texts = map (λ t. t.now) texts

@@ -1,14 +1,9 @@
 -- Serves inner proofs only: the length of an index, by the nodes that are made for it.
-use Rattle.std.specs.Prelude.{ℕ, ◌+◌, ◌*◌, List, flat_map, length, map}
-use Rattle.std.specs.Borrow.{Bor}
+use Rattle.std.specs.Prelude.{ℕ, ◌+◌, ◌*◌, List, flat_map, length}
 use Rattle.hwdb_lookup.specs.declared.entry.Entry.{Entry}
 use Rattle.trie_nodes.specs.declared.node.Node.{Node}
 use Rattle.trie_paths.specs.Distinct.{distinct}
 use Rattle.trie_paths.specs.Sizes.{header_len, node_len, set_in, set_len, text_cmp, text_len, value_len}
-
--- the texts that references lead to
-abbrev pub shown : List (Bor (List ℕ)) → List (List ℕ)
-shown texts = map (λ t. t.now) texts
 
 -- how many bytes the key and the value of an entry have
 abbrev pub own_len : Entry → ℕ

@@ -4,7 +4,8 @@
 //! writing one can't fail for its length.
 ghost use Rattle.std.specs.Prelude.{◌≡◌, ◌+◌, ◌<◌, ◌≤◌, ◌++◌, ◌↔◌, IfOk, IsTrue, MatchOption, OnOk, length, sum_by};
 ghost use Rattle.hwdb_lookup.specs.Bounds.{max_entries};
-ghost use Rattle.trie_core.specs.Shown.{index_len_by, node_sets, own_len, shown};
+ghost use Rattle.trie_core.specs.Content.{shown};
+ghost use Rattle.trie_core.specs.Shown.{index_len_by, node_sets, own_len};
 ghost use Rattle.trie_paths.specs.Distinct.{distinct};
 ghost use Rattle.trie_paths.specs.Sizes.{max_index_len, names_of, set_in, text_cmp};
 

@@ -5,11 +5,10 @@
 ghost use Rattle.std.specs.Prelude.{◌≡◌, ◌*◌, ◌+◌, ◌<◌, ◌≤◌, IfOk, MatchResult, length};
 ghost use Rattle.hwdb_lookup.specs.Bounds.{max_entries};
 ghost use Rattle.hwdb_lookup.specs.Orders.{Rising};
-ghost use Rattle.trie_core.specs.Content.{IsTrie, active_count, active_nodes, all_values};
+ghost use Rattle.trie_core.specs.Content.{IsTrie, active_count, active_nodes, all_values, shown};
 ghost use Rattle.trie_core.specs.declared.fault.TrieFault.TheVariants.{TooLarge};
 ghost use Rattle.trie_paths.specs.Paths.{paths_of};
 ghost use Rattle.trie_paths.specs.Sizes.{KeepsBounds, max_nodes, names_of, sets_of};
-ghost use Rattle.trie_core.specs.Shown.{shown};
 
 use crate::TrieFault;
 use crate::build::nodes_of;

@@ -6,7 +6,7 @@ use Rattle.trie_nodes.specs.declared.node.Node.{Node}
 use Rattle.index_layout.specs.Records.{node_bytes}
 use Rattle.index_layout.specs.declared.records.NodeRecord.{NodeRecord}
 use Rattle.index_reading.proofs.Sums.{sum_front}
-use Rattle.trie_core.specs.Shown.{shown}
+use Rattle.trie_core.specs.Content.{shown}
 use Rattle.index_core.specs.Writing.{node_record, record_of}
 use Rattle.index_core.proofs.Lists.{one_more, pieces_more}
 use Rattle.index_core.proofs.nodes.push_nodes.Goals as goal

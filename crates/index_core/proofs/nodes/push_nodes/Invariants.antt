@@ -1,7 +1,7 @@
 use Rattle.std.proofs.Common.{◌≡◌, ◌++◌, flat_map, map, take}
 use Rattle.std.specs.List.{range_with_len, sum_by}
 use Rattle.index_layout.specs.Records.{node_bytes}
-use Rattle.trie_core.specs.Shown.{shown}
+use Rattle.trie_core.specs.Content.{shown}
 use Rattle.index_core.specs.Writing.{node_record}
 use Rattle.index_core.proofs.nodes.push_nodes.Given as goal
 

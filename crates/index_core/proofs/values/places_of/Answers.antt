@@ -2,7 +2,7 @@ use Rattle.std.proofs.Common.{◌≡◌, ℕ, ◌+◌, ◌<◌, ◌++◌, ◌∷
 use Rattle.std.specs.Borrow.{Bor}
 use Rattle.std.specs.List.{range_with_len}
 use Rattle.index_image.specs.Image.{all_names}
-use Rattle.trie_core.specs.Shown.{shown}
+use Rattle.trie_core.specs.Content.{shown}
 use Rattle.index_core.proofs.Lists.{mapped_more}
 use Rattle.index_core.proofs.Placing.{length_shown, name_within, names_more, text_at}
 use Rattle.index_core.proofs.values.places_of.Goals as goal

@@ -1,7 +1,7 @@
 use Rattle.std.proofs.Common.{◌≡◌, ◌+◌, length, map, take}
 use Rattle.std.specs.List.{range_with_len}
 use Rattle.index_image.specs.Image.{all_names}
-use Rattle.trie_core.specs.Shown.{shown}
+use Rattle.trie_core.specs.Content.{shown}
 use Rattle.index_core.proofs.values.places_of.Given as goal
 
 abbrev pub invariant-loop-k : goal.invariant-loop-k

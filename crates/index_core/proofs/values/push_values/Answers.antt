@@ -1,12 +1,11 @@
 use Rattle.std.proofs.Common.{◌≡◌, ℕ, ◌+◌, ◌++◌, List, length, map, flat_map, sym, subst, ◌∙◌, ap, arith}
 use Rattle.hwdb_lookup.specs.declared.entry.Entry.{Entry}
-use Rattle.trie_core.specs.Content.{entry_at}
+use Rattle.trie_core.specs.Content.{entry_at, shown}
 use Rattle.std.specs.List.{range_with_len}
 use Rattle.trie_paths.specs.Distinct.{IsIn}
 use Rattle.index_image.specs.Image.{own_text}
 use Rattle.index_layout.specs.Records.{value_bytes}
 use Rattle.index_layout.specs.declared.records.ValueRecord.{ValueRecord}
-use Rattle.trie_core.specs.Shown.{shown}
 use Rattle.index_core.specs.Writing.{named, value_record}
 use Rattle.index_core.proofs.Lists.{one_more, pieces_more}
 use Rattle.index_core.proofs.Placing.{in_named, length_named, length_places, length_shown, member_short, texts_more, texts_within, value_told}

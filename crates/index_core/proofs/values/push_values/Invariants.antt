@@ -1,7 +1,7 @@
 use Rattle.std.proofs.Common.{◌≡◌, ◌++◌, flat_map, map}
 use Rattle.std.specs.List.{range_with_len}
 use Rattle.index_layout.specs.Records.{value_bytes}
-use Rattle.trie_core.specs.Shown.{shown}
+use Rattle.trie_core.specs.Content.{shown}
 use Rattle.index_core.specs.Writing.{named, place_before, value_record}
 use Rattle.index_core.proofs.values.push_values.Given as goal
 

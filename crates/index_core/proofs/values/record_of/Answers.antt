@@ -3,7 +3,7 @@ use Rattle.trie_paths.specs.Distinct.{IsIn, number_in}
 use Rattle.trie_paths.specs.Sizes.{text_cmp}
 use Rattle.trie_paths.proofs.Orders.{texts_order}
 use Rattle.index_image.proofs.Members.{number_within}
-use Rattle.trie_core.specs.Shown.{shown}
+use Rattle.trie_core.specs.Content.{shown}
 use Rattle.index_core.proofs.Placing.{length_shown}
 use Rattle.index_core.proofs.values.record_of.Goals as goal
 

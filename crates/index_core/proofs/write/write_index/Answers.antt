@@ -2,8 +2,7 @@ use Rattle.std.proofs.Common.{◌≡◌, ℕ, ◌+◌, ◌++◌, List, length, m
 use Rattle.std.proofs.lemmas.List.FromFn.{length-map-range_with_len}
 use Rattle.std.specs.List.{range_with_len}
 use Rattle.hwdb_lookup.specs.declared.entry.Entry.{Entry}
-use Rattle.trie_core.specs.Content.{Content, IsTrie}
-use Rattle.trie_core.specs.Shown.{shown}
+use Rattle.trie_core.specs.Content.{Content, IsTrie, shown}
 use Rattle.trie_paths.specs.Sizes.{KeepsBounds, names_of, sets_of}
 use Rattle.index_layout.specs.Header.{header_bytes}
 use Rattle.index_layout.specs.Records.{node_bytes, value_bytes}

@@ -1,7 +1,8 @@
 use Rattle.std.proofs.Common.{◌≡◌, ◌∙◌, arith, ap, sym, length}
 use Rattle.std.proofs.lemmas.List.{length-map}
 use Rattle.std.specs.List.{sum_by}
-use Rattle.trie_core.specs.Shown.{node_sets, shown}
+use Rattle.trie_core.specs.Content.{shown}
+use Rattle.trie_core.specs.Shown.{node_sets}
 use Rattle.trie_core.proofs.Sizing.{Text, shown_len}
 use Rattle.trie_paths.specs.Sizes.{names_of}
 use Rattle.trie_core.proofs.size.index_fits.Goals as goal

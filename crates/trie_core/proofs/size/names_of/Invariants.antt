@@ -1,5 +1,5 @@
 use Rattle.std.proofs.Common.{◌≡◌, map, take}
-use Rattle.trie_core.specs.Shown.{shown}
+use Rattle.trie_core.specs.Content.{shown}
 use Rattle.trie_core.proofs.size.names_of.Given as goal
 
 abbrev pub invariant-loop-entry : goal.invariant-loop-entry

@@ -1,5 +1,5 @@
 use Rattle.std.proofs.Common.{◌≡◌, flat_map, take}
-use Rattle.trie_core.specs.Shown.{shown}
+use Rattle.trie_core.specs.Content.{shown}
 use Rattle.trie_paths.specs.Sizes.{set_in}
 use Rattle.trie_core.proofs.size.sets_of.Given as goal
 

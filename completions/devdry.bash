@@ -29,15 +29,16 @@ _devdry() {
     local options suffix
     COMPREPLY=()
     if [ "$COMP_CWORD" -eq 1 ]; then
-        _devdry_words verify query update help --help --version -h -V
+        _devdry_words verify query update events help --help --version -h -V
         return
     fi
     case $command in
         verify) suffix=.rules options='-r --root --no-summary --no-style -h --help -V --version' ;;
         query) suffix=.hwdb options='-r --root --sources -h --help -V --version' ;;
         update) suffix=.hwdb options='-r --root -s --strict -h --help -V --version' ;;
+        events) suffix=.rules options='-r --root -h --help -V --version' ;;
         help)
-            [ "$COMP_CWORD" -gt 2 ] || _devdry_words verify query update help
+            [ "$COMP_CWORD" -gt 2 ] || _devdry_words verify query update events help
             return
             ;;
         *) return ;;

@@ -7,14 +7,15 @@ complete -c devdry -s V -l version -d 'Print version'
 complete -c devdry -n __fish_use_subcommand -a verify -d 'Check rules files'
 complete -c devdry -n __fish_use_subcommand -a query -d 'Print what the hardware database has for a device'
 complete -c devdry -n __fish_use_subcommand -a update -d 'Check the files of the hardware database'
+complete -c devdry -n __fish_use_subcommand -a events -d 'Answer the event blocks of the standard input'
 complete -c devdry -n __fish_use_subcommand -a help -d 'Print help'
-complete -c devdry -n '__fish_seen_subcommand_from help' -a 'verify query update help'
+complete -c devdry -n '__fish_seen_subcommand_from help' -a 'verify query update events help'
 
-complete -c devdry -n '__fish_seen_subcommand_from verify query update' -s r -l root -r -a '(__fish_complete_directories)' -d 'Folder to put before each folder that is read'
+complete -c devdry -n '__fish_seen_subcommand_from verify query update events' -s r -l root -r -a '(__fish_complete_directories)' -d 'Folder to put before each folder that is read'
 
 complete -c devdry -n '__fish_seen_subcommand_from verify' -l no-summary -d 'Do not count the good and the bad files'
 complete -c devdry -n '__fish_seen_subcommand_from verify' -l no-style -d 'Give no messages about style'
-complete -c devdry -n '__fish_seen_subcommand_from verify' -k -a '(__fish_complete_suffix .rules)'
+complete -c devdry -n '__fish_seen_subcommand_from verify events' -k -a '(__fish_complete_suffix .rules)'
 
 complete -c devdry -n '__fish_seen_subcommand_from query' -l sources -d 'Say where each property comes from'
 complete -c devdry -n '__fish_seen_subcommand_from update' -s s -l strict -d 'Exit with status 1 if there is a message'

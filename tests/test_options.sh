@@ -12,7 +12,7 @@ helps() {
 
 # The commands, by the help of the program.
 commands=$("$program" --help | sed -n '/^Commands:/,/^$/s/^  \([a-z]*\) .*/\1/p' | sort)
-verbs=$(grep -vxe help -e events <<< "$commands")
+verbs=$(grep -vx help <<< "$commands")
 
 # The options that the section OPTIONS of a page lists.
 pages() {

@@ -4,9 +4,11 @@ use Rattle.clap.specs.Words.{fault_of, subcommand_of}
 use Rattle.text_files.specs.declared.source_file.SourceFile.{SourceFile}
 use Rattle.engine_line.specs.declared.Line.{Line}
 use Rattle.engine_line.specs.declared.LineFault.{LineFault}
+use Rattle.engine_streams.specs.Sources.{SourceState}
 use Rattle.engine_streams.specs.Sinks.{SinkState}
-use Rattle.engine_core.specs.Delivery.{Delivers}
+use Rattle.engine_turns.specs.Serves.{Serves}
 use Rattle.engine_core.specs.Outcomes.{outcome}
+use Rattle.engine_core.specs.Runs.{RunsBy}
 use Rattle.devdry_files.specs.Answers.{Answer}
 use Rattle.devdry_files.specs.Faults.{HasPath, IsFaultyWanted}
 use Rattle.devdry_files.specs.Found.{AreWanted}
@@ -27,38 +29,41 @@ abbrev pub IsFaultOf : (Answer → Type 0) → Line → ReadFault → Type 0
 IsFaultOf may line fault = (fault ≡ Memory)
     ⊎ ((wanted : Wanted) × Wants line wanted × HasPath (IsFaultyWanted may wanted) fault)
 
--- The files of the line were read, and what is said of them is delivered.
-pub record RunsOverFiles (may : Answer → Type 0) (line : Line) (status : ℕ) (out out_now err err_now : SinkState) : Type 0 where
+-- The files of the line were read, and its outcome over them and the input is served.
+pub record RunsOverFiles (may : Answer → Type 0) (line : Line) (status : ℕ) (input input_now : SourceState) (out out_now err err_now : SinkState) : Type 0 where
   pub files : List SourceFile
   pub are_files : AreFilesOf may line files
-  pub delivers : Delivers (outcome line files) status out out_now err err_now
+  pub serves : Serves (outcome line files) status input input_now out out_now err err_now
+  pub steps : RunsBy line.verb line files status input input_now out out_now err err_now
 
--- Files of the line could not be read, and that is told; the output stays as it is.
-pub record FailsToRead (may : Answer → Type 0) (line : Line) (status : ℕ) (out out_now err err_now : SinkState) : Type 0 where
+-- Files of the line could not be read, and that is told; no input is read, and the output stays as it is.
+pub record FailsToRead (may : Answer → Type 0) (line : Line) (status : ℕ) (input input_now : SourceState) (out out_now err err_now : SinkState) : Type 0 where
   pub fault : ReadFault
   pub is_fault : IsFaultOf may line fault
   pub tells : TellsReadFault fault status err err_now
+  pub unread : input_now ≡ input
   pub untouched : out_now ≡ out
 
 -- what a line does
-abbrev pub RunsLine : (Answer → Type 0) → Line → ℕ → SinkState → SinkState → SinkState → SinkState → Type 0
-RunsLine may line status out out_now err err_now =
-    RunsOverFiles may line status out out_now err err_now ⊎ FailsToRead may line status out out_now err err_now
+abbrev pub RunsLine : (Answer → Type 0) → Line → ℕ → SourceState → SourceState → SinkState → SinkState → SinkState → SinkState → Type 0
+RunsLine may line status input input_now out out_now err err_now =
+    RunsOverFiles may line status input input_now out out_now err err_now ⊎ FailsToRead may line status input input_now out out_now err err_now
 
 -- The words are a line, which is run.
-pub record RunsWords (may : Answer → Type 0) (words : List (List ℕ)) (status : ℕ) (out out_now err err_now : SinkState) : Type 0 where
+pub record RunsWords (may : Answer → Type 0) (words : List (List ℕ)) (status : ℕ) (input input_now : SourceState) (out out_now err err_now : SinkState) : Type 0 where
   pub line : Line
   pub is_line : IsLineOf (subcommand_of devdry words) line
   pub faultless : fault_of devdry words ≡ []
-  pub runs : RunsLine may line status out out_now err err_now
+  pub runs : RunsLine may line status input input_now out out_now err err_now
 
--- The words are no line, and that is told.
-pub record RefusesWords (words : List (List ℕ)) (status : ℕ) (out out_now err err_now : SinkState) : Type 0 where
+-- The words are no line, and that is told; no input is read.
+pub record RefusesWords (words : List (List ℕ)) (status : ℕ) (input input_now : SourceState) (out out_now err err_now : SinkState) : Type 0 where
   pub fault : LineFault
   pub answers : AnswersOneOf (fault_of devdry words) fault
   pub tells : TellsLineFault fault status out out_now err err_now
+  pub unread : input_now ≡ input
 
 -- what words do
-abbrev pub Runs : (Answer → Type 0) → List (List ℕ) → ℕ → SinkState → SinkState → SinkState → SinkState → Type 0
-Runs may words status out out_now err err_now =
-    RunsWords may words status out out_now err err_now ⊎ RefusesWords words status out out_now err err_now
+abbrev pub Runs : (Answer → Type 0) → List (List ℕ) → ℕ → SourceState → SourceState → SinkState → SinkState → SinkState → SinkState → Type 0
+Runs may words status input input_now out out_now err err_now =
+    RunsWords may words status input input_now out out_now err err_now ⊎ RefusesWords words status input input_now out out_now err err_now

@@ -4,7 +4,7 @@ use Rattle.text_bytes.specs.Names.{newline}
 use Rattle.engine_line.specs.declared.LineFault.{LineFault}
 use Rattle.engine_line.specs.declared.LineFault.TheVariants.{Help, Usage, Memory}
 use Rattle.engine_streams.specs.Sinks.{SinkState}
-use Rattle.engine_core.specs.Delivery.{Delivers, Tells, out_of_memory}
+use Rattle.engine_delivery.specs.Delivery.{Delivers, Tells, out_of_memory}
 use Rattle.devdry_files.specs.declared.fault.ReadFault.{ReadFault}
 use Rattle.devdry_files.specs.declared.fault.ReadFault.TheVariants as read
 

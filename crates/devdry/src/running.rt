@@ -21,7 +21,7 @@ pub(crate) fn run_words<D: Disk, I: Source, W: Sink, E: Sink>(
     output: &mut W,
     error: &mut E,
 ) -> u8
-    ensures { Runs (D.may_answer disk.now) (map string_bytes words.now) result
+    ensures { Runs (D.may_answer disk.now) (map string_bytes words.now) result (I.shown input.old) (I.shown input.new)
         (W.shown output.old) (W.shown output.new) (E.shown error.old) (E.shown error.new) }
 {
     match parse_line(alloc, words) {
@@ -40,7 +40,7 @@ fn run_line<D: Disk, I: Source, W: Sink, E: Sink>(
     output: &mut W,
     error: &mut E,
 ) -> u8
-    ensures { RunsLine (D.may_answer disk.now) line.now result
+    ensures { RunsLine (D.may_answer disk.now) line.now result (I.shown input.old) (I.shown input.new)
         (W.shown output.old) (W.shown output.new) (E.shown error.old) (E.shown error.new) }
 {
     match read_wanted(alloc, disk, line) {

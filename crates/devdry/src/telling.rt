@@ -3,7 +3,7 @@
 //! Nothing here takes memory: a line on a failure is written from the texts that are there.
 ghost use Rattle.std.specs.IoError.{error_kind};
 ghost use Rattle.std.specs.Prelude.{◌≡◌};
-ghost use Rattle.engine_core.specs.Delivery.{Tells, out_of_memory};
+ghost use Rattle.engine_delivery.specs.Delivery.{Tells, out_of_memory};
 ghost use Rattle.devdry.specs.Telling.{TellsLineFault, TellsReadFault, cannot_read, not_text};
 
 use devdry_files::ReadFault;

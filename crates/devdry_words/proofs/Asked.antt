@@ -12,7 +12,7 @@ use Rattle.clap.specs.Walk.{Held, Names, Row, Text, answers_to, finished, nothin
 use Rattle.clap.specs.Simple.{Shape, built, entered, is_simple, label_of, names_of, rows_at, subcommand_of}
 use Rattle.devdry_words.specs.Commands.{devdry}
 use Rattle.devdry_words.specs.Lines.{IsVerbName, NamesVerb}
-use Rattle.engine_line.specs.declared.Verb.TheVariants.{Update, Query, Verify}
+use Rattle.engine_line.specs.declared.Verb.TheVariants.{Update, Query, Verify, Events}
 use Rattle.devdry_words.proofs.Stops.{StopsWell, neither, walk_stops}
 
 pub devdry_is_simple : is_simple devdry ≡ true
@@ -93,4 +93,4 @@ names_a_verb words e =
     go : (stop : Option (Text × List Text)) → StopsWell stop → is_some (entered (built devdry) stop) ≡ true → NamesVerb (entered (built devdry) stop)
     go None well f = absurd (cc)
     go (Some p) well f = found_named p.0 p.1 (built devdry).subs
-        ((λ _. (Update, refl)), ((λ _. (Query, refl)), ((λ _. (Verify, refl)), (not_help p.0 well, tt)))) f
+        ((λ _. (Update, refl)), ((λ _. (Query, refl)), ((λ _. (Verify, refl)), ((λ _. (Events, refl)), (not_help p.0 well, tt))))) f

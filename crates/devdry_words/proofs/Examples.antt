@@ -33,6 +33,10 @@ verify_is_taken : takes devdry (codes "verify" ∷ codes "--no-style" ∷ codes 
 unfolding clap_on_literals devdry
 verify_is_taken = refl
 
+events_is_taken : takes devdry (codes "events" ∷ codes "-r" ∷ codes "none" ∷ codes "a.rules" ∷ []) ≡ true
+unfolding clap_on_literals devdry
+events_is_taken = refl
+
 no_words : fault_of devdry [] ≡ kind.DisplayHelpOnMissingArgumentOrSubcommand ∷ []
 unfolding clap_on_literals devdry
 no_words = refl

@@ -68,6 +68,10 @@ abbrev pub verify_shape : Shape
 verify_shape = with_rules (codes "verify")
     (root_rule ∷ no_summary_rule ∷ no_style_rule ∷ files_rule ∷ [])
 
+-- `events [-r DIR] [FILE]..`
+abbrev pub events_shape : Shape
+events_shape = with_rules (codes "events") (root_rule ∷ files_rule ∷ [])
+
 -- the program without its subcommands: the words come without its name, one subcommand has to be
 -- there, and each has the program's version
 abbrev pub program : App
@@ -84,8 +88,8 @@ program = record {
 
 -- `devdry` with its subcommands
 unfoldable pub devdry : App
-devdry = with_subcommand (with_subcommand (with_subcommand program update_shape) query_shape)
-    verify_shape
+devdry = with_subcommand (with_subcommand (with_subcommand (with_subcommand program update_shape) query_shape) verify_shape)
+    events_shape
 
 -- the command has this shape, and none of its arguments is global
 pub record IsCommand (shape : Shape) (c : Command) : Type 0 where

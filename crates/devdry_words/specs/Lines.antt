@@ -10,13 +10,14 @@ use Rattle.engine_line.specs.declared.Line.{Line}
 use Rattle.engine_line.specs.declared.LineFault.{LineFault}
 use Rattle.engine_line.specs.declared.LineFault.TheVariants.{Help, Usage, Memory}
 use Rattle.engine_line.specs.declared.Verb.{Verb}
-use Rattle.engine_line.specs.declared.Verb.TheVariants.{Update, Query, Verify}
+use Rattle.engine_line.specs.declared.Verb.TheVariants.{Update, Query, Verify, Events}
 
 -- the subcommand of a verb
 abbrev pub name_of : Verb → Text
 name_of Update = codes "update"
 name_of Query = codes "query"
 name_of Verify = codes "verify"
+name_of Events = codes "events"
 
 -- a name is that of a subcommand
 abbrev pub IsVerbName : Text → Type 0

@@ -4,7 +4,7 @@
 //! in each. `clap` wraps no text here, so that the texts of the help are broken by hand.
 ghost use Rattle.std.specs.Prelude.{◌≡◌, IfOk, false};
 ghost use Rattle.clap.specs.Words.{app_of, rule_of};
-ghost use Rattle.devdry_words.specs.Commands.{IsCommand, devdry, files_rule, flag_rule, modalias_rule};
+ghost use Rattle.devdry_words.specs.Commands.{IsCommand, devdry, events_shape, files_rule, flag_rule, modalias_rule};
 ghost use Rattle.devdry_words.specs.Commands.{no_style_rule, no_summary_rule, program as program_app};
 ghost use Rattle.devdry_words.specs.Commands.{query_shape, root_rule, sources_rule, strict_rule};
 ghost use Rattle.devdry_words.specs.Commands.{update_shape, verify_shape};
@@ -15,7 +15,8 @@ use std::alloc::{AllocError, Global};
 const STATUSES: &str = "Status:
   0  all went well, or help was asked for
   1  verify found a bad file, or there was a message and
-     --strict was given, or there are too many rules or entries
+     --strict was given, or an event block is faulty, or there
+     are too many rules or entries
   2  the words of the command are not understood
   3  a file, the input or an output failed
   4  out of memory
@@ -23,6 +24,7 @@ const STATUSES: &str = "Status:
 Examples:
   devdry verify 60-mine.rules
   devdry query usb:v1D6Bp0002 20-usb.hwdb
+  devdry events 60-mine.rules < disk.block
 ";
 
 const DATABASE_FILES: &str = "Database files to read in place of the folders";
@@ -122,6 +124,15 @@ fn verify_command<'a>(alloc: Global) -> Result<Command<'a>, AllocError>
         .arg(files_argument(alloc, RULES_FILES))
 }
 
+fn events_command<'a>(alloc: Global) -> Result<Command<'a>, AllocError>
+    ensures { IfOk result (IsCommand events_shape) }
+{
+    Command::new(alloc, "events")
+        .about("Answers the event blocks of the standard input")
+        .arg(root_option(alloc))?
+        .arg(files_argument(alloc, RULES_FILES))
+}
+
 fn program<'a>(alloc: Global) -> Result<Command<'a>, AllocError>
     ensures { IfOk result (λ c. app_of c ≡ program_app) }
 {
@@ -143,5 +154,6 @@ pub fn devdry_command<'a>(alloc: Global) -> Result<Command<'a>, AllocError>
     program(alloc)?
         .subcommand(update_command(alloc)?)?
         .subcommand(query_command(alloc)?)?
-        .subcommand(verify_command(alloc)?)
+        .subcommand(verify_command(alloc)?)?
+        .subcommand(events_command(alloc)?)
 }

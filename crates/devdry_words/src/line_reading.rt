@@ -16,7 +16,8 @@ pub fn verb_of(name: &str) -> Verb
     match name {
         "update" => Verb::Update,
         "query" => Verb::Query,
-        _ => Verb::Verify,
+        "verify" => Verb::Verify,
+        _ => Verb::Events,
     }
 }
 

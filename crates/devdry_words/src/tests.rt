@@ -13,6 +13,7 @@ Commands:
   update  Checks the files of the hardware database
   query   Prints the properties that the hardware database has for a device
   verify  Checks rules files
+  events  Answers the event blocks of the standard input
   help    Print this message or the help of the given subcommand(s)
 
 Options:
@@ -22,7 +23,8 @@ Options:
 Status:
   0  all went well, or help was asked for
   1  verify found a bad file, or there was a message and
-     --strict was given, or there are too many rules or entries
+     --strict was given, or an event block is faulty, or there
+     are too many rules or entries
   2  the words of the command are not understood
   3  a file, the input or an output failed
   4  out of memory
@@ -30,6 +32,7 @@ Status:
 Examples:
   devdry verify 60-mine.rules
   devdry query usb:v1D6Bp0002 20-usb.hwdb
+  devdry events 60-mine.rules < disk.block
 ";
 
 const UPDATE_HELP: &str = "Checks the files of the hardware database
@@ -72,6 +75,19 @@ Options:
   -r, --root <DIR>  Folder to put before each folder that is read
       --no-summary  Do not count the good and the bad files
       --no-style    Give no messages about style
+  -h, --help        Print help
+  -V, --version     Print version
+";
+
+const EVENTS_HELP: &str = "Answers the event blocks of the standard input
+
+Usage: devdry events [OPTIONS] [FILE]...
+
+Arguments:
+  [FILE]...  Rules files to read in place of the folders
+
+Options:
+  -r, --root <DIR>  Folder to put before each folder that is read
   -h, --help        Print help
   -V, --version     Print version
 ";
@@ -119,6 +135,16 @@ fn reads_a_verify(rt: HostRuntime) -> Result<(), Fail> {
     Ok(())
 }
 
+#[test]
+fn reads_an_events(rt: HostRuntime) -> Result<(), Fail> {
+    let words = words_of(rt.alloc(), "events -r none b.rules a.rules")?;
+    let line = parse_line(rt.alloc(), &words)?;
+    assert_eq!(rt; line.verb, Verb::Events);
+    assert_eq!(rt; line.root, "none");
+    assert_eq!(rt; line.files.as_slice(), ["b.rules", "a.rules"].as_slice());
+    Ok(())
+}
+
 // The fault of a text's words, if they have one.
 fn fault_at(alloc: Global, text: &str) -> Result<Option<LineFault>, AllocError> {
     let words = words_of(alloc, text)?;
@@ -138,6 +164,7 @@ fn gives_the_help_that_was_asked_for(rt: HostRuntime) -> Result<(), Fail> {
         ("update -h", UPDATE_HELP),
         ("query --help", QUERY_HELP),
         ("verify --help", VERIFY_HELP),
+        ("events --help", EVENTS_HELP),
         ("--version", "devdry 0.1.0\n"),
         ("-V", "devdry 0.1.0\n"),
         ("query --version", "devdry-query 0.1.0\n"),

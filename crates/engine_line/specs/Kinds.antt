@@ -2,7 +2,7 @@
 use Rattle.std.specs.Prelude.{Bool, true, false, ◌&&◌, ◌==◌, not, List, [], ◌∷◌, vec_len}
 use Rattle.engine_line.specs.declared.Line.{Line}
 use Rattle.engine_line.specs.declared.Verb.{Verb}
-use Rattle.engine_line.specs.declared.Verb.TheVariants.{Update, Query, Verify}
+use Rattle.engine_line.specs.declared.Verb.TheVariants.{Update, Query, Verify, Events}
 use Rattle.text_files.specs.declared.source_file.FileKind.{FileKind}
 use Rattle.text_files.specs.declared.source_file.FileKind.TheVariants.{Hwdb, Rules}
 
@@ -11,12 +11,14 @@ abbrev pub kind_named : Verb → FileKind
 kind_named Update = Hwdb
 kind_named Query = Hwdb
 kind_named Verify = Rules
+kind_named Events = Rules
 
 -- the kinds of files that a subcommand reads
 abbrev pub kinds_read : Verb → List FileKind
 kinds_read Update = Hwdb ∷ []
 kinds_read Query = Hwdb ∷ []
 kinds_read Verify = Rules ∷ []
+kinds_read Events = Rules ∷ Hwdb ∷ []
 
 -- whether two kinds are the same
 abbrev pub same_kind : FileKind → FileKind → Bool

@@ -15,7 +15,7 @@ impl Verb {
     {
         match self {
             Verb::Update | Verb::Query => FileKind::Hwdb,
-            Verb::Verify => FileKind::Rules,
+            Verb::Verify | Verb::Events => FileKind::Rules,
         }
     }
 
@@ -26,6 +26,7 @@ impl Verb {
         match self {
             Verb::Update | Verb::Query => &[FileKind::Hwdb],
             Verb::Verify => &[FileKind::Rules],
+            Verb::Events => &[FileKind::Rules, FileKind::Hwdb],
         }
     }
 }

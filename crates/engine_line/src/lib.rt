@@ -20,6 +20,8 @@ pub enum Verb {
     Query,
     /// Checks rules files.
     Verify,
+    /// Answers events.
+    Events,
 }
 
 /// What a command line asks for.

@@ -77,7 +77,7 @@ long_goes_on answer text later e =
     ap (answers_to answer) first.is ∙ answers_to-faulty answer (rest ++ first.more) first.others _ gives ∙ sym (answers_to-faulty answer rest [] _ (too_long_gives rest long))
 
 -- the answers of a longer input, where those before the rest are well
-behind_well : (answer : EventValue → Text) (text later : Text) (texts : List Text) → answers_to answer (complete_runs text) ≡ well texts → answers_of answer (text ++ later) ≡ with_texts texts (answers_of answer (rest_of text ++ later))
+pub behind_well : (answer : EventValue → Text) (text later : Text) (texts : List Text) → answers_to answer (complete_runs text) ≡ well texts → answers_of answer (text ++ later) ≡ with_texts texts (answers_of answer (rest_of text ++ later))
 behind_well answer text later texts e = ap (answers_to answer) (runs-append text later) ∙ answers_to-append answer (complete_runs text) (runs (rest_of text ++ later)) texts e
 
 differ : (texts others : List Text) (fault : BlockFault) → well texts ≡ until others fault → ⊥
@@ -94,8 +94,12 @@ known_well answer text texts true e h None f =
     absurd (differ texts _ _ (sym h ∙ whole))
 known_well answer text texts false e h None f = ap (answers_to answer) (sym (append-nil (complete_runs text))) ∙ h
 
+-- the answers to the complete runs, where those to the blocks known are well
+pub complete_well : (answer : EventValue → Text) (text : Text) (texts : List Text) → answers_to answer (known_blocks true text) ≡ well texts → answers_to answer (complete_runs text) ≡ well texts
+complete_well answer text texts h = known_well answer text texts (is_too_long (rest_of text)) refl h (answers_to answer (complete_runs text)).fault refl
+
 pub stays_well : (answer : EventValue → Text) (text later : Text) (texts : List Text) → answers_to answer (known_blocks true text) ≡ well texts → answers_of answer (text ++ later) ≡ with_texts texts (answers_of answer (rest_of text ++ later))
-stays_well answer text later texts h = behind_well answer text later texts (known_well answer text texts (is_too_long (rest_of text)) refl h (answers_to answer (complete_runs text)).fault refl)
+stays_well answer text later texts h = behind_well answer text later texts (complete_well answer text texts h)
 
 known_faulty : (answer : EventValue → Text) (text later : Text) (texts : List Text) (fault : BlockFault) (long : Bool) → is_too_long (rest_of text) ≡ long → answers_to answer (complete_runs text ++ cond long (rest_of text ∷ []) []) ≡ until texts fault
     → (given : Option BlockFault) → (answers_to answer (complete_runs text)).fault ≡ given → answers_of answer (text ++ later) ≡ until texts fault
@@ -115,6 +119,16 @@ known_faulty answer text later texts fault false e h None f =
 
 pub stays_faulty : (answer : EventValue → Text) (text later : Text) (texts : List Text) (fault : BlockFault) → answers_to answer (known_blocks true text) ≡ until texts fault → answers_of answer (text ++ later) ≡ until texts fault
 stays_faulty answer text later texts fault h = known_faulty answer text later texts fault (is_too_long (rest_of text)) refl h (answers_to answer (complete_runs text)).fault refl
+
+-- the first answers to an input are those to the blocks known of its first bytes
+pub first_answers : (answer : EventValue → Text) (text later : Text) → (behind : List Text) × ((answers_of answer (text ++ later)).texts ≡ (answers_to answer (known_blocks true text)).texts ++ behind)
+first_answers answer text later = by_fault (answers_to answer (known_blocks true text)).fault refl
+  where
+    by_fault : (given : Option BlockFault) → (answers_to answer (known_blocks true text)).fault ≡ given → (behind : List Text) × ((answers_of answer (text ++ later)).texts ≡ (answers_to answer (known_blocks true text)).texts ++ behind)
+    by_fault None f = ((answers_of answer (rest_of text ++ later)).texts, ap (λ a. a.texts) (stays_well answer text later (answers_to answer (known_blocks true text)).texts (well_texts (answers_to answer (known_blocks true text)) f)))
+    by_fault (Some fault) f =
+        let known : answers_to answer (known_blocks true text) ≡ until (answers_to answer (known_blocks true text)).texts fault = ap (λ (x : Option BlockFault). record { texts = (answers_to answer (known_blocks true text)).texts; fault = x }) f in
+        ([], ap (λ a. a.texts) (stays_faulty answer text later (answers_to answer (known_blocks true text)).texts fault known) ∙ sym (append-nil (answers_to answer (known_blocks true text)).texts))
 
 -- what calls in a row give, behind a text that was answered before
 pub record Given {A : Type 0} (answer : EventValue → Text) (text : Text) (texts : List Text) (now : Held A) : Type 0 where

@@ -1,0 +1,12 @@
+use Rattle.std.proofs.Common.{rules, codes}
+use Rattle.std.proofs.lemmas.Result.{IfOk-weaker}
+use Rattle.clap.specs.Simple.{new_shape}
+use Rattle.devdry_words.specs.Commands.{IsCommand}
+use Rattle.devdry_words.proofs.Chains.{one_more}
+use Rattle.devdry_words.proofs.commands.events_command.Goals as goal
+
+pub returns : goal.returns
+returns c =
+    let start : IsCommand (new_shape (codes "events")) c.about.result = search rules in
+    let first = one_more _ _ _ _ _ start c.root_option.ensures c.in_ok-arg.ensures in
+    IfOk-weaker c.arg-2.result _ _ (λ m h. one_more _ _ _ _ _ first c.files_argument.ensures h) c.arg-2.ensures

@@ -1,0 +1,119 @@
+-- The tests of the bounds, and the bounds as the reading of files states them.
+use Rattle.std.proofs.Common.{◌≡◌, ℕ, ◌-◌, ◌^◌, ◌<◌, ◌≤◌, Bool, true, false, ◌&&◌, List, Ok, Err, length, refl, sum_by, subst, arith}
+use Rattle.std.proofs.lemmas.Bool.{leb-true, le-leb, false_from_ne_true}
+use Rattle.std.proofs.Math.Dec.{leb}
+use Rattle.text_files.specs.declared.source_file.SourceFile.{SourceFile}
+use Rattle.text_files.specs.declared.message.Message.{Message}
+use Rattle.hwdb_lookup.specs.declared.entry.Entry.{Entry}
+use Rattle.hwdb_core.specs.Sources.{WithinBounds, entries_of, match_bytes_of, messages_of, properties_of, text_len}
+use Rattle.hwdb_core.specs.declared.fault.HwdbFault.{HwdbFault}
+use Rattle.hwdb_core.specs.declared.fault.HwdbFault.TheVariants as hwdb
+use Rattle.rule_core.specs.Rules.{set_of, tokens_in}
+use Rattle.rule_core.specs.declared.fault.RulesFault.{RulesFault}
+use Rattle.rule_core.specs.declared.fault.RulesFault.TheVariants as rules
+use Rattle.engine_line.specs.declared.Line.{Line}
+use Rattle.engine_reports.specs.Checks.{said_of, told}
+use Rattle.engine_delivery.specs.Delivery.{Outcome}
+use Rattle.engine_reports.specs.Outcomes.{are_few, database_outcome, rules_outcome, too_many_entries, too_many_rules}
+use Rattle.engine_reports.specs.declared.refusal.Refusal.{Refusal}
+use Rattle.engine_reports.specs.declared.refusal.Refusal.TheVariants.{TooManyEntries, TooManyRules}
+use Rattle.engine_reports.specs.Openings.{opening_of, opening_within}
+use Rattle.engine_reports.specs.Reports.{IsRefused, IsSaid, refused_entries, refused_rules}
+
+both : (x y : Bool) → (x && y) ≡ true → (x ≡ true) × (y ≡ true)
+both true y e = (refl, e)
+both false y e = absurd (cc)
+
+all_four : (x y z w : Bool) → (((x && y) && z) && w) ≡ true → (x ≡ true) × (y ≡ true) × (z ≡ true) × (w ≡ true)
+all_four x y z w e =
+    let last = both ((x && y) && z) w e in
+    let third = both (x && y) z last.0 in
+    let first = both x y third.0 in
+    (first.0, first.1, third.1, last.1)
+
+-- files within the bounds pass the test
+few_within : (files : List SourceFile) → WithinBounds files → are_few files ≡ true
+unfolding are_few
+few_within files w =
+    rw (
+      le-leb (length (properties_of files)) (2 ^ 24) w.entries,
+      le-leb (match_bytes_of files) (2 ^ 25 - 1) w.match_bytes,
+      le-leb (sum_by text_len (properties_of files)) (2 ^ 30) w.text_bytes,
+      le-leb (sum_by (λ (f : SourceFile). length f.name) files) (2 ^ 28) w.name_bytes,
+    )
+    refl
+
+-- files that pass the test are within the bounds
+within_few : (files : List SourceFile) → are_few files ≡ true → WithinBounds files
+unfolding are_few
+within_few files e =
+    let each = all_four (leb (length (properties_of files)) (2 ^ 24)) (leb (match_bytes_of files) (2 ^ 25 - 1)) (leb (sum_by text_len (properties_of files)) (2 ^ 30)) (leb (sum_by (λ (f : SourceFile). length f.name) files) (2 ^ 28)) e in
+    record {
+      entries = leb-true (length (properties_of files)) (2 ^ 24) each.0;
+      match_bytes = leb-true (match_bytes_of files) (2 ^ 25 - 1) each.1;
+      text_bytes = leb-true (sum_by text_len (properties_of files)) (2 ^ 30) each.2;
+      name_bytes = leb-true (sum_by (λ (f : SourceFile). length f.name) files) (2 ^ 28) each.3;
+    }
+
+-- files past a bound don't pass it
+few_beyond : (files : List SourceFile) → (WithinBounds files → ⊥) → are_few files ≡ false
+few_beyond files beyond = false_from_ne_true (are_few files) (λ e. beyond (within_few files e))
+
+pub outcome_few : (say : List Entry → List Message → Outcome) (files : List SourceFile) → WithinBounds files → database_outcome say files ≡ say (entries_of files) (messages_of files)
+unfolding database_outcome
+outcome_few say files w = rw (few_within files w) refl
+
+outcome_many : (say : List Entry → List Message → Outcome) (files : List SourceFile) → (WithinBounds files → ⊥) → database_outcome say files ≡ too_many_entries
+unfolding database_outcome
+outcome_many say files beyond = rw (few_beyond files beyond) refl
+
+-- what becomes of a fault of the database is what is said of its files
+pub entries_refused : (say : List Entry → List Message → Outcome) (files : List SourceFile) (fault : HwdbFault) → (fault ≡ hwdb.TooMany → WithinBounds files → ⊥) → IsSaid (refused_entries fault) (database_outcome say files)
+entries_refused say files hwdb.TooMany beyond = outcome_many say files (beyond refl)
+entries_refused say files hwdb.Memory beyond = tt
+
+pub rules_few : (line : Line) (files : List SourceFile) → tokens_in (set_of files).rules ≤ 2 ^ 24 → rules_outcome line files ≡ said_of line.summary files (told line.style (set_of files).messages)
+unfolding rules_outcome
+rules_few line files w = rw (le-leb (tokens_in (set_of files).rules) (2 ^ 24) w) refl
+
+beyond : (n m : ℕ) → m < n → leb n m ≡ false
+beyond n m h = false_from_ne_true (leb n m) (λ e. not_both n m h (leb-true n m e))
+  where
+    not_both : (n m : ℕ) → m < n → n ≤ m → ⊥
+    not_both n m h k = omega (arith, h, k)
+
+rules_many : (line : Line) (files : List SourceFile) → 2 ^ 24 < tokens_in (set_of files).rules → rules_outcome line files ≡ too_many_rules
+unfolding rules_outcome
+rules_many line files h = rw (beyond (tokens_in (set_of files).rules) (2 ^ 24) h) refl
+
+-- what becomes of a fault of rules is what is said of their files
+pub rules_refused : (line : Line) (files : List SourceFile) (fault : RulesFault) → (fault ≡ rules.TooMany → 2 ^ 24 < tokens_in (set_of files).rules) → IsSaid (refused_rules fault) (rules_outcome line files)
+rules_refused line files rules.TooMany h = rules_many line files (h refl)
+rules_refused line files rules.Memory h = tt
+
+pub entries_said : (refusal : Refusal) (outcome : Outcome) → refusal ≡ TooManyEntries → IsSaid refusal outcome → outcome ≡ too_many_entries
+entries_said refusal outcome e said = subst (λ r. IsSaid r outcome) e said
+
+pub rules_said : (refusal : Refusal) (outcome : Outcome) → refusal ≡ TooManyRules → IsSaid refusal outcome → outcome ≡ too_many_rules
+rules_said refusal outcome e said = subst (λ r. IsSaid r outcome) e said
+
+-- what comes before the first answer, by the bounds of rules and of a database
+pub opening_few : (files database : List SourceFile) → tokens_in (set_of files).rules ≤ 2 ^ 24 → WithinBounds database → opening_within files database ≡ Ok (opening_of files database)
+unfolding opening_within
+opening_few files database w few = rw (few_within database few, le-leb (tokens_in (set_of files).rules) (2 ^ 24) w) refl
+
+opening_many_entries : (files database : List SourceFile) → (WithinBounds database → ⊥) → opening_within files database ≡ Err too_many_entries
+unfolding opening_within
+opening_many_entries files database many = rw (few_beyond database many) refl
+
+opening_many_rules : (files database : List SourceFile) → WithinBounds database → 2 ^ 24 < tokens_in (set_of files).rules → opening_within files database ≡ Err too_many_rules
+unfolding opening_within
+opening_many_rules files database few h = rw (few_within database few, beyond (tokens_in (set_of files).rules) (2 ^ 24) h) refl
+
+pub opening_entries_refused : (files database : List SourceFile) (fault : HwdbFault) → (fault ≡ hwdb.TooMany → WithinBounds database → ⊥) → IsRefused (refused_entries fault) (opening_within files database)
+opening_entries_refused files database hwdb.TooMany beyond = opening_many_entries files database (beyond refl)
+opening_entries_refused files database hwdb.Memory beyond = tt
+
+pub opening_rules_refused : (files database : List SourceFile) (fault : RulesFault) → WithinBounds database → (fault ≡ rules.TooMany → 2 ^ 24 < tokens_in (set_of files).rules) → IsRefused (refused_rules fault) (opening_within files database)
+opening_rules_refused files database rules.TooMany few h = opening_many_rules files database few (h refl)
+opening_rules_refused files database rules.Memory few h = tt

@@ -1,0 +1,8 @@
+use Rattle.engine_reports.proofs.Bounds.{entries_said, rules_said}
+use Rattle.engine_reports.proofs.delivery.deliver_refusal.Goals as goal
+
+pub returns-in-TooManyEntries-clause-delivers : goal.returns-in-TooManyEntries-clause-delivers
+returns-in-TooManyEntries-clause-delivers g c outcome said = rw (entries_said c.args.refusal outcome c.in-TooManyEntries.is said) c.deliver.ensures
+
+pub returns-in-TooManyRules-clause-delivers : goal.returns-in-TooManyRules-clause-delivers
+returns-in-TooManyRules-clause-delivers g c outcome said = rw (rules_said c.args.refusal outcome c.in-TooManyRules.is said) c.deliver-in-TooManyRules.ensures

@@ -1,0 +1,18 @@
+use Rattle.std.proofs.Common.{refl}
+use Rattle.std.proofs.lemmas.Result.{err_from_is_err_and}
+use Rattle.engine_reports.proofs.Bounds.{opening_few, opening_rules_refused, opening_entries_refused}
+use Rattle.engine_reports.proofs.opening.open_these.Goals as goal
+
+pub returns-in_err-database-clause-refused : goal.returns-in_err-database-clause-refused
+returns-in_err-database-clause-refused c =
+    let p = err_from_is_err_and c.from_residual.result c.from_residual.ensures.1 in
+    rw (p.1, p.2) (opening_entries_refused c.args.rules.now c.args.database.now c.in_err-database.field-0.0 c.in_err-database.ensures.too_many)
+
+pub returns-in_err-rules-clause-refused : goal.returns-in_err-rules-clause-refused
+returns-in_err-rules-clause-refused c =
+    let p = err_from_is_err_and c.from_residual-in_err-rules.result c.from_residual-in_err-rules.ensures.1 in
+    rw (p.1, p.2) (opening_rules_refused c.args.rules.now c.args.database.now c.in_err-rules.field-0.0 c.in_ok-database.ensures.within c.in_err-rules.ensures.too_many)
+
+pub returns-clause-opening : goal.returns-clause-opening
+returns-clause-opening c =
+    rw (opening_few c.args.rules.now c.args.database.now c.in_ok-rules.ensures.within c.in_ok-database.ensures.within, c.in_ok-messages.ensures, c.messages.ensures, c.as_slice.ensures.value, ← c.in_ok-rules.ensures.set, ← c.in_ok-database.ensures.entries, ← c.in_ok-database.ensures.messages) refl

@@ -1,0 +1,43 @@
+-- What comes before the first answer to an event: the messages, and what events are answered by.
+use Rattle.std.specs.Prelude.{◌^◌, false, if◌then◌else◌, List, ◌++◌, Result, Ok, Err, nat_le}
+use Rattle.text_tables.specs.Texts.{Text}
+use Rattle.text_files.specs.declared.message.Message.{Message}
+use Rattle.text_files.specs.declared.source_file.SourceFile.{SourceFile}
+use Rattle.text_files.specs.declared.source_file.FileKind.TheVariants.{Hwdb, Rules}
+use Rattle.hwdb_lookup.specs.declared.entry.Entry.{Entry}
+use Rattle.hwdb_core.specs.Sources.{entries_of, messages_of}
+use Rattle.rule_core.specs.Rules.{Rule, set_of, tokens_in}
+use Rattle.engine_line.specs.declared.Line.{Line}
+use Rattle.engine_reports.specs.Checks.{told}
+use Rattle.engine_delivery.specs.Delivery.{Outcome}
+use Rattle.engine_reports.specs.FilesRead.{files_read}
+use Rattle.engine_reports.specs.Messages.{message_lines}
+use Rattle.engine_reports.specs.Outcomes.{are_few, too_many_entries, too_many_rules}
+
+-- the messages, and the rules and entries that events are answered by
+pub record OpeningValue : Type 0 where
+  pub messages : Text
+  pub rules : List Rule
+  pub entries : List Entry
+
+-- the lines of the messages about rules that are not about style, and then of those about a database
+abbrev pub opening_messages : List Message → List Message → Text
+opening_messages rules database = message_lines (told false rules) ++ message_lines database
+
+-- what comes of rules files and of files of a database
+abbrev pub opening_of : List SourceFile → List SourceFile → OpeningValue
+opening_of rules database = record {
+  messages = opening_messages (set_of rules).messages (messages_of database);
+  rules = (set_of rules).rules;
+  entries = entries_of database;
+}
+
+-- the same where these hold no more than they may, and else what is said of that: of the database first
+unfoldable pub opening_within : List SourceFile → List SourceFile → Result OpeningValue Outcome
+opening_within rules database =
+    if are_few database then (if nat_le (tokens_in (set_of rules).rules) (2 ^ 24) then Ok (opening_of rules database) else Err too_many_rules)
+    else Err too_many_entries
+
+-- what comes of the files handed in
+abbrev pub opening : Line → List SourceFile → Result OpeningValue Outcome
+opening line files = opening_within (files_read Rules line files) (files_read Hwdb line files)

@@ -1,0 +1,65 @@
+-- What a run says: its outcome, as a function of the command line and of the files handed in.
+use Rattle.std.specs.Prelude.{ℕ, ◌^◌, Bool, ◌==◌, ◌&&◌, nat_le, not, if◌then◌else◌, List, [], length, sum_by, codes}
+use Rattle.text_files.specs.declared.source_file.SourceFile.{SourceFile}
+use Rattle.text_files.specs.declared.source_file.FileKind.TheVariants.{Rules}
+use Rattle.text_files.specs.declared.message.Message.{Message}
+use Rattle.hwdb_lookup.specs.Bounds.{max_entries, max_match_bytes, max_name_bytes, max_text_bytes}
+use Rattle.hwdb_lookup.specs.declared.entry.Entry.{Entry}
+use Rattle.hwdb_core.specs.Sources.{entries_of, match_bytes_of, messages_of, properties_of, text_len}
+use Rattle.rule_core.specs.Rules.{set_of, tokens_in}
+use Rattle.engine_line.specs.declared.Line.{Line}
+use Rattle.engine_reports.specs.Answers.{answer_lines}
+use Rattle.engine_reports.specs.Checks.{said_of, told}
+use Rattle.engine_delivery.specs.Delivery.{Outcome}
+use Rattle.engine_reports.specs.FilesRead.{files_read}
+use Rattle.engine_reports.specs.Messages.{message_lines}
+
+-- whether the files hold no more than a database may
+unfoldable pub are_few : List SourceFile → Bool
+are_few files =
+    nat_le (length (properties_of files)) max_entries
+    && nat_le (match_bytes_of files) max_match_bytes
+    && nat_le (sum_by text_len (properties_of files)) max_text_bytes
+    && nat_le (sum_by (λ f. length f.name) files) max_name_bytes
+
+-- the status of `update`: 1 where it is strict and there is a message
+abbrev pub update_status : Bool → ℕ → ℕ
+update_status strict count = if strict && not (count == 0) then 1 else 0
+
+-- what `query` says of the entries of the database and of the messages about its files
+abbrev pub query_outcome : Line → List Entry → List Message → Outcome
+query_outcome line entries messages = record {
+  output = answer_lines line.sources entries line.modalias.now;
+  messages = message_lines messages;
+  status = 0;
+}
+
+-- what `update` says of the messages about the files of the database
+abbrev pub update_outcome : Line → List Entry → List Message → Outcome
+update_outcome line entries messages = record {
+  output = [];
+  messages = message_lines messages;
+  status = update_status line.strict (length messages);
+}
+
+-- what is said of files that hold more than a database may
+abbrev pub too_many_entries : Outcome
+too_many_entries = record { output = []; messages = codes "devdry: hwdb: too many\n"; status = 1 }
+
+-- what is said of rules with too many tokens
+abbrev pub too_many_rules : Outcome
+too_many_rules = record { output = []; messages = codes "devdry: rules: too many\n"; status = 1 }
+
+-- what is said of the files of a database, where it is said so of its entries and messages
+unfoldable pub database_outcome : (List Entry → List Message → Outcome) → List SourceFile → Outcome
+database_outcome say files = if are_few files then say (entries_of files) (messages_of files) else too_many_entries
+
+-- what `verify` says of rules files
+unfoldable pub rules_outcome : Line → List SourceFile → Outcome
+rules_outcome line files =
+    if nat_le (tokens_in (set_of files).rules) (2 ^ 24) then said_of line.summary files (told line.style (set_of files).messages)
+    else too_many_rules
+
+-- what `verify` says of the files handed in
+abbrev pub verify_outcome : Line → List SourceFile → Outcome
+verify_outcome line files = rules_outcome line (files_read Rules line files)

@@ -1,0 +1,49 @@
+-- Serves the contracts inside this crate alone; no reader of `serve` has to believe it.
+-- What a report holds, as an outcome, and what is said where there is none.
+use Rattle.std.specs.Prelude.{◌≡◌, IfOk, IfErr, Result, Err}
+use Rattle.hwdb_core.specs.declared.fault.HwdbFault as hwdb
+use Rattle.hwdb_core.specs.declared.fault.HwdbFault.TheVariants as database
+use Rattle.rule_core.specs.declared.fault.RulesFault.{RulesFault}
+use Rattle.rule_core.specs.declared.fault.RulesFault.TheVariants as rules
+use Rattle.engine_delivery.specs.Delivery.{Outcome}
+use Rattle.engine_reports.specs.Outcomes.{too_many_entries, too_many_rules}
+use Rattle.engine_reports.specs.Openings.{OpeningValue}
+use Rattle.engine_reports.specs.declared.opening.Opening.{Opening}
+use Rattle.engine_reports.specs.declared.report.Report.{Report}
+use Rattle.engine_reports.specs.declared.refusal.Refusal.{Refusal}
+use Rattle.engine_reports.specs.declared.refusal.Refusal.TheVariants.{TooManyEntries, TooManyRules, Memory}
+
+-- what a report says
+abbrev pub said : Report → Outcome
+said report = record { output = report.output.items; messages = report.messages.items; status = report.status }
+
+-- what becomes of a fault of the database
+abbrev pub refused_entries : hwdb.HwdbFault → Refusal
+refused_entries database.TooMany = TooManyEntries
+refused_entries database.Memory = Memory
+
+-- what becomes of a fault of rules
+abbrev pub refused_rules : RulesFault → Refusal
+refused_rules rules.TooMany = TooManyRules
+refused_rules rules.Memory = Memory
+
+-- A refusal is what is to be said; of want of memory nothing is told here.
+abbrev pub IsSaid : Refusal → Outcome → Type 0
+IsSaid TooManyEntries outcome = outcome ≡ too_many_entries
+IsSaid TooManyRules outcome = outcome ≡ too_many_rules
+IsSaid Memory outcome = Unit {0}
+
+-- A report says this outcome, or its refusal does.
+pub record IsReport (outcome : Outcome) (report : Result Report Refusal) : Type 0 where
+  pub says : IfOk report (λ r. said r ≡ outcome)
+  pub refused : IfErr report (λ e. IsSaid e outcome)
+
+-- what a contract sees of what comes before the first answer
+abbrev pub shown_opening : Opening → OpeningValue
+shown_opening opening = record { messages = opening.messages.items; rules = opening.rules.rules; entries = opening.entries.items }
+
+-- A refusal is what is to be said in place of an opening; of want of memory nothing is told here.
+abbrev pub IsRefused : Refusal → Result OpeningValue Outcome → Type 0
+IsRefused Memory opening = Unit {0}
+IsRefused TooManyEntries opening = opening ≡ Err too_many_entries
+IsRefused TooManyRules opening = opening ≡ Err too_many_rules

@@ -1,0 +1,61 @@
+//! Writing a report, or why there is none.
+ghost use Rattle.std.specs.Prelude.{◌≡◌, ◌<◌, IfOk};
+ghost use Rattle.engine_delivery.specs.Delivery.{Delivers, Outcome, Tells, TellsFaults, out_of_memory};
+ghost use Rattle.engine_reports.specs.Reports.{IsReport, IsSaid};
+
+use crate::refusal::Refusal;
+use crate::report::Report;
+use engine_delivery::{deliver, tell_out_of_memory};
+use engine_streams::Sink;
+
+/// The line on files that hold more than a database may.
+const TOO_MANY_ENTRIES: &[u8] = b"devdry: hwdb: too many\n";
+
+/// The line on rules that have too many tokens.
+const TOO_MANY_RULES: &[u8] = b"devdry: rules: too many\n";
+
+/// Writes a report, or what there is to say where there is none, and gives the status, or 3 where a
+/// device failed. The status of a report is under 3.
+pub fn deliver_report<W: Sink, E: Sink>(
+    report: Result<Report, Refusal>,
+    output: &mut W,
+    error: &mut E,
+) -> u8
+    requires { IfOk report (λ r. r.status < 3) }
+    ensures delivers { (outcome : Outcome) → IsReport outcome report
+        → Delivers outcome result (W.shown output.old) (W.shown output.new) (E.shown error.old) (E.shown error.new) }
+    ensures faults { TellsFaults result
+        (W.shown output.old) (W.shown output.new) (E.shown error.old) (E.shown error.new) }
+{
+    match report {
+        Ok(
+            Report {
+                output: answer,
+                messages,
+                status,
+            },
+        ) => deliver(&messages, &answer, status, output, error),
+        Err(refusal) => deliver_refusal(refusal, output, error),
+    }
+}
+
+/// Writes why there is nothing to say of the files, and gives the status: 1 where they hold more than
+/// they may, 4 where memory was refused, or 3 where the error output failed.
+pub fn deliver_refusal<W: Sink, E: Sink>(
+    refusal: Refusal,
+    output: &mut W,
+    error: &mut E,
+) -> u8
+    ensures delivers { (outcome : Outcome) → IsSaid refusal outcome
+        → Delivers outcome result (W.shown output.old) (W.shown output.new) (E.shown error.old) (E.shown error.new) }
+    ensures memory { refusal ≡ Refusal.Memory
+        → Tells out_of_memory 4 result (E.shown error.old) (E.shown error.new) × (W.shown output.new ≡ W.shown output.old) }
+    ensures faults { TellsFaults result
+        (W.shown output.old) (W.shown output.new) (E.shown error.old) (E.shown error.new) }
+{
+    match refusal {
+        Refusal::TooManyEntries => deliver(TOO_MANY_ENTRIES, b"", 1, output, error),
+        Refusal::TooManyRules => deliver(TOO_MANY_RULES, b"", 1, output, error),
+        Refusal::Memory => tell_out_of_memory(error),
+    }
+}

@@ -1,0 +1,82 @@
+//! Messages as lines.
+//!
+//! The texts stand here and not beside the kinds of messages, since they are needed only where the
+//! lines are written.
+ghost use Rattle.std.specs.Prelude.{◌≡◌, ◌++◌, false, IfOk, OnOk};
+ghost use Rattle.engine_reports.specs.Messages.{heading_of, message_line, message_lines};
+ghost use Rattle.engine_reports.specs.Checks.{told};
+
+use crate::checks::is_style;
+use engine_places::{push_place, push_word};
+use std::alloc::{AllocError, Global};
+use text_files::{Message, MessageKind};
+
+/// The lines of messages, in the order given.
+pub(crate) fn message_lines(alloc: Global, messages: &[Message]) -> Result<Vec<u8>, AllocError>
+    ensures { IfOk result (λ text. text.items ≡ message_lines messages.now) }
+{
+    let mut text = Vec::new(alloc);
+    for message in messages {
+        push_message(alloc, &mut text, message)?;
+    }
+    Ok(text)
+}
+
+/// The lines of those messages that are not about style, in the order given.
+#[tactic(auto, unfolding(crate::specs::Checks::told))]
+pub(crate) fn plain_message_lines(
+    alloc: Global,
+    messages: &[Message],
+) -> Result<Vec<u8>, AllocError>
+    ensures { IfOk result (λ text. text.items ≡ message_lines (told false messages.now)) }
+{
+    let mut text = Vec::new(alloc);
+    for message in messages {
+        if !is_style(message.kind) {
+            push_message(alloc, &mut text, message)?;
+        }
+    }
+    Ok(text)
+}
+
+/// Puts a message's line behind a text.
+#[tactic(auto, unfolding(crate::specs::Messages::message_line))]
+fn push_message(alloc: Global, text: &mut Vec<u8>, message: &Message) -> Result<(), AllocError>
+    ensures { OnOk result (text.new.items ≡ text.old.items ++ message_line message.now) }
+{
+    push_place(alloc, text, message.file.as_slice(), message.line)?;
+    text.extend_from_slice(heading(message.kind))?;
+    push_word(alloc, text, message.word.as_slice())?;
+    text.push(b'\n')?;
+    Ok(())
+}
+
+/// The code of a kind of message, and what it says.
+fn heading(kind: MessageKind) -> &'static [u8]
+    ensures { result.now ≡ heading_of kind }
+{
+    match kind {
+        MessageKind::PropertyWithoutMatch => b"H1 property without a match",
+        MessageKind::MatchWithoutProperty => b"H2 match without a property",
+        MessageKind::UnindentedLine => b"H3 unindented line after properties",
+        MessageKind::NoEquals => b"H4 no =",
+        MessageKind::EmptyKey => b"H5 empty key",
+        MessageKind::PatternNotSupported => b"H6 pattern not supported",
+        MessageKind::BadSyntax => b"V1 bad syntax",
+        MessageKind::UnknownKey => b"V2 unknown key",
+        MessageKind::OperatorNotAllowed => b"V3 operator not allowed",
+        MessageKind::WrongAttribute => b"V4 attribute missing or not allowed",
+        MessageKind::BadValue => b"V5 bad value",
+        MessageKind::BadSubstitution => b"V6 bad substitution",
+        MessageKind::NoLaterLabel => b"V7 no later label",
+        MessageKind::GivenTwice => b"V8 label or goto given twice",
+        MessageKind::LineTooLong => b"V9 line too long",
+        MessageKind::BadPrefix => b"V10 bad quote prefix",
+        MessageKind::SetNotSupported => b"V11 set not supported",
+        MessageKind::OpenAtEnd => b"V12 line continuation at the file's end",
+        MessageKind::CommaExpected => b"S1 one comma expected",
+        MessageKind::BlankExpected => b"S2 blank after a comma expected",
+        MessageKind::ReadAsAssign => b"S3 operator read as =",
+        MessageKind::LabelUnused => b"S4 label unused",
+    }
+}

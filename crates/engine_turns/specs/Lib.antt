@@ -1,0 +1,4 @@
+pub mod BlockFaults
+pub mod Inputs
+pub mod Outcomes
+pub mod Serves

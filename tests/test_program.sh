@@ -34,6 +34,25 @@ ends "a folder" 3 "" "devdry: cannot read ." verify .
 ends "-" 3 "" "devdry: cannot read -" verify -
 ends "an absent root" 0 "0 files checked, 0 good, 0 bad" "" verify -r none
 
+# A block is answered before the next one is there.
+block=$'C: add\nP: /devices/x\nU: block\nN: sda\n'
+mkfifo blocks answers
+"$program" events -r none disk.rules < blocks > answers 2> err &
+exec 3> blocks 4< answers
+printf '%s\n' "$block" >&3
+read -r -t 10 first <&4 || first="nothing in 10 seconds"
+same "an answer before the next block" "event add /devices/x" "$first"
+printf 'C: change\n' >&3
+exec 3>&-
+rest=$(cat <&4)
+exec 4<&-
+status=0
+wait $! || status=$?
+same "a faulty block behind it" "1|block 2, line 1: no device|env SUBSYSTEM=block" "$status|$(cat err)|$(tail -n 1 <<< "$rest")"
+ends "events without a file that is there" 3 "" "devdry: cannot read none.rules" events -r none none.rules
+ends "events without a block" 0 "" "" events -r none disk.rules
+ends "a rule that is dropped" 0 "" "mistakes.rules:2: V2 unknown key: SUBSYSTEMM" events -r none mistakes.rules
+
 # A reader that closes early.
 {
     sleep 0.2

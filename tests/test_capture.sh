@@ -161,6 +161,11 @@ same "all devices" "$(find "$sys/devices" -name uevent | sed "s|^$sys|P: |; s|^P
     "$(awk 'BEGIN { RS = ""; FS = "\n" } { print $2 }' <<< "$all" | LC_ALL=C sort)"
 same "of all, a block is that of its device" "$of_card" "$(awk -v RS='' -v path="P: $card/net/eth0" 'index($0, path "\n")' <<< "$all")"
 
+: > "$work/none.rules"
+answers=$("$program" events -r "$work/none" "$work/none.rules" <<< "$all" 2>&1; echo "status $?")
+same "devdry events answers each block" "$(grep -c '^C: ' <<< "$all") answers, status 0" \
+    "$(grep -c '^event add ' <<< "$answers") answers, ${answers##*$'\n'}"
+
 for shell in dash 'bash --posix' 'busybox sh'; do
     if has "${shell%% *}"; then
         # shellcheck disable=SC2086

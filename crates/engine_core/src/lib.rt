@@ -8,8 +8,8 @@
 mod events;
 mod serving;
 
-pub use engine_line::{Line, LineFault, Verb};
 pub use engine_delivery::{deliver, tell, tell_in_pieces, tell_out_of_memory};
+pub use engine_line::{Line, LineFault, Verb};
 pub use engine_sessions::{Answering, Session, SessionFault, Step, TurnFault, turn};
 pub use engine_streams::{
     DeviceFault, MemorySink, MemorySource, Sink, SinkOver, Source, SourceOver, hand_on,

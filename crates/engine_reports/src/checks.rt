@@ -35,11 +35,7 @@ pub fn report_on_rules(
 }
 
 /// The same of the files that are read.
-fn report_on_these(
-    alloc: Global,
-    line: &Line<'_>,
-    files: &[SourceFile],
-) -> Result<Report, Refusal>
+fn report_on_these(alloc: Global, line: &Line<'_>, files: &[SourceFile]) -> Result<Report, Refusal>
     ensures said { IfOk result (λ r. said r ≡ rules_outcome line.now files.now) }
     ensures status { IfOk result (λ r. r.status < 3) }
     ensures refused { IfErr result (λ e. IsSaid e (rules_outcome line.now files.now)) }

@@ -34,11 +34,7 @@ pub fn report_on_query(
 }
 
 /// The same of the files that are read.
-fn query_these(
-    alloc: Global,
-    line: &Line<'_>,
-    files: &[SourceFile],
-) -> Result<Report, Refusal>
+fn query_these(alloc: Global, line: &Line<'_>, files: &[SourceFile]) -> Result<Report, Refusal>
     ensures said { IfOk result (λ r. said r ≡ database_outcome (query_outcome line.now) files.now) }
     ensures status { IfOk result (λ r. r.status < 3) }
     ensures refused { IfErr result (λ e. IsSaid e (database_outcome (query_outcome line.now) files.now)) }
@@ -82,11 +78,7 @@ pub fn report_on_update(
 }
 
 /// The same of the files that are read.
-fn update_these(
-    alloc: Global,
-    line: &Line<'_>,
-    files: &[SourceFile],
-) -> Result<Report, Refusal>
+fn update_these(alloc: Global, line: &Line<'_>, files: &[SourceFile]) -> Result<Report, Refusal>
     ensures said { IfOk result (λ r. said r ≡ database_outcome (update_outcome line.now) files.now) }
     ensures status { IfOk result (λ r. r.status < 3) }
     ensures refused { IfErr result (λ e. IsSaid e (database_outcome (update_outcome line.now) files.now)) }

@@ -41,11 +41,7 @@ pub fn deliver_report<W: Sink, E: Sink>(
 
 /// Writes why there is nothing to say of the files, and gives the status: 1 where they hold more than
 /// they may, 4 where memory was refused, or 3 where the error output failed.
-pub fn deliver_refusal<W: Sink, E: Sink>(
-    refusal: Refusal,
-    output: &mut W,
-    error: &mut E,
-) -> u8
+pub fn deliver_refusal<W: Sink, E: Sink>(refusal: Refusal, output: &mut W, error: &mut E) -> u8
     ensures delivers { (outcome : Outcome) → IsSaid refusal outcome
         → Delivers outcome result (W.shown output.old) (W.shown output.new) (E.shown error.old) (E.shown error.new) }
     ensures memory { refusal ≡ Refusal.Memory

@@ -46,9 +46,11 @@ begun-first : (before now : SinkState) (first second : Text) → HasBegun before
 begun-first before now first second b = (b.0, omega (arith, b.1, length-append first second), b.2 ∙ ap (followed_by before.taken) (sym (take-append-le b.0 first second b.1)))
 
 begun-behind : (before told now : SinkState) (first second : Text) → told.taken ≡ followed_by before.taken first → HasBegun told second now → HasBegun before (first ++ second) now
-begun-behind before told now first second e b =
-    (length first + b.0, omega (arith, b.1, length-append first second),
-    b.2 ∙ ap (λ t. followed_by t (take b.0 second)) e ∙ followed_by-append before.taken first (take b.0 second) ∙ ap (followed_by before.taken) (sym (take-append-add first second b.0)))
+begun-behind before told now first second e b = (
+  length first + b.0,
+  omega (arith, b.1, length-append first second),
+  b.2 ∙ ap (λ t. followed_by t (take b.0 second)) e ∙ followed_by-append before.taken first (take b.0 second) ∙ ap (followed_by before.taken) (sym (take-append-add first second b.0)),
+)
 
 tells_begun : (line : Text) (wanted status : ℕ) (told now : SinkState) → Tells line wanted status told now → HasBegun told line now
 tells_begun line wanted status told now (inl p) = begun-taken told now line p.1.taken

@@ -6,7 +6,7 @@ ghost use Rattle.eval_core.specs.Outcomes.{outcome};
 use device_core::Event;
 use engine_answers::answer;
 use engine_sessions::Answering;
-use eval_core::evaluate_plain;
+use eval_programs::{Program, compile};
 use hwdb_lookup::Lookup;
 use rule_core::RuleSet;
 use std::alloc::{AllocError, Global};
@@ -16,7 +16,7 @@ use text_bytes::Bytes;
 /// Rules and a database, by which events are answered.
 #[derive(Drop)]
 pub struct Tables<L: Lookup> {
-    rules: RuleSet,
+    program: Program,
     lookup: L,
 }
 
@@ -25,30 +25,34 @@ impl<L: Lookup> Model for Tables<L> {
 
     ghost Value = { TablesValue };
 
-    ghost view = { λ t. record { rules = t.rules.rules; entries = L.entries t.lookup } };
+    ghost view = { λ t. record { rules = t.program; entries = L.entries t.lookup } };
 }
 
-impl<L: Lookup> Tables<L> {
-    /// The rules and the database that events are answered by.
+impl<L: Lookup + Drop> Tables<L> {
+    /// The rules and the database that events are answered by; the rules are laid out once, as a
+    /// program.
     ///
     /// The error comes where memory is refused; what was handed in is dropped then.
-    pub fn new(_alloc: Global, rules: RuleSet, lookup: L) -> Result<Tables<L>, AllocError>
+    pub fn new(alloc: Global, rules: RuleSet, lookup: L) -> Result<Tables<L>, AllocError>
         ensures { IfOk result (λ tables. tables ≡ record { rules = rules.rules; entries = L.entries lookup }) }
     {
-        Ok(Tables { rules, lookup })
+        Ok(Tables {
+            program: compile(alloc, rules)?,
+            lookup,
+        })
     }
 }
 
 /// The answer to an event by rules and a database.
 fn answer_by<L: Lookup>(
     alloc: Global,
-    rules: &RuleSet,
+    program: &Program,
     lookup: &L,
     event: &Event<'_>,
 ) -> Result<Bytes, AllocError>
-    ensures { IfOk result (λ text. text ≡ answer event.now (outcome rules.now.rules (L.entries lookup.now) event.now)) }
+    ensures { IfOk result (λ text. text ≡ answer event.now (outcome program.now (L.entries lookup.now) event.now)) }
 {
-    let outcome = evaluate_plain(alloc, rules, event, lookup)?;
+    let outcome = program.evaluate(alloc, event, lookup)?;
     answer(alloc, event, &outcome)
 }
 
@@ -58,6 +62,6 @@ impl<L: Lookup> Answering for Tables<L> {
     ghost answers = { answer_by };
 
     fn answer(&self, alloc: Global, event: &Event<'_>) -> Result<Bytes, AllocError> {
-        answer_by(alloc, &self.rules, &self.lookup, event)
+        answer_by(alloc, &self.program, &self.lookup, event)
     }
 }

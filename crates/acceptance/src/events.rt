@@ -1,13 +1,8 @@
-//! Rules over one event, from the texts of both to the lines of the answer.
-use crate::running::files_of;
-use device_core::{Event, read_block};
-use engine_answers::answer;
-use eval_core::evaluate_plain;
-use hwdb_core::{PlainDb, read_sources};
-use rule_core::{RuleSet, read_rules};
+//! Rules over one event: lines of the answer that the program gives.
+use crate::running::{files_of, line, run_on};
+use engine_core::Verb;
 use std::alloc::Global;
 use std::test::Fail;
-use text_bytes::Bytes;
 use text_files::FileKind;
 
 /// A disk.
@@ -64,59 +59,33 @@ const PROGRAM: &str = "PROGRAM==\"/bin/id %k\", RESULT==\"a*\", ENV{R}=\"$result
 const FINAL: &str =
     "OWNER:=\"a\"\nOWNER=\"b\"\nOPTIONS:=\"link_priority=5\"\nOPTIONS=\"link_priority=7\"\n";
 
-/// The rules of two files.
-fn rules_of(alloc: Global, first: &str, second: &str) -> Result<RuleSet, Fail> {
-    let files = files_of(
-        alloc,
-        &[
-            (FileKind::Rules, 0, "10-a.rules", first),
-            (FileKind::Rules, 0, "20-b.rules", second),
-        ],
-    )?;
-    Ok(read_rules(alloc, &files).map_err(|_fault| "no rules")?)
-}
-
-/// The database of one file.
-fn database_of(alloc: Global, text: &str) -> Result<PlainDb, Fail> {
-    let files = files_of(alloc, &[(FileKind::Hwdb, 0, "a.hwdb", text)])?;
-    let sources = read_sources(alloc, &files).map_err(|_fault| "no database")?;
-    Ok(PlainDb::new(sources.entries))
-}
-
-/// The answer to an event.
-fn on_event(
-    alloc: Global,
-    rules: &RuleSet,
-    lookup: &PlainDb,
-    event: &Event<'_>,
-) -> Result<Bytes, Fail> {
-    let outcome = evaluate_plain(alloc, rules, event, lookup)?;
-    Ok(answer(alloc, event, &outcome)?)
-}
-
-/// The answer to the event of a block.
-fn on_block(alloc: Global, rules: &RuleSet, lookup: &PlainDb, block: &[u8]) -> Result<Bytes, Fail> {
-    let event = read_block(alloc, block).map_err(|_fault| "no event")?;
-    on_event(alloc, rules, lookup, &event)
-}
-
-/// The answer by the rules of two files and a database file.
+/// The answer to a block by the rules of two files and a database file.
 fn answer_by(
     alloc: Global,
     first: &str,
     second: &str,
     database: &str,
     block: &str,
-) -> Result<Bytes, Fail> {
-    let rules = rules_of(alloc, first, second)?;
-    let lookup = database_of(alloc, database)?;
-    on_block(alloc, &rules, &lookup, block.as_bytes())
+) -> Result<Vec<u8>, Fail> {
+    let files = files_of(
+        alloc,
+        &[
+            (FileKind::Rules, 0, "10-a.rules", first),
+            (FileKind::Rules, 0, "20-b.rules", second),
+            (FileKind::Hwdb, 0, "a.hwdb", database),
+        ],
+    )?;
+    let events = line(alloc, Verb::Events, "");
+    let done = run_on(alloc, &events, files, block.as_bytes())?;
+    if done.status != 0 {
+        Err("the run does not go well")?;
+    }
+    Ok(done.output)
 }
 
 /// Whether an answer has a line.
-fn has_line(answer: &Bytes, wanted: &str) -> bool {
+fn has_line(answer: &[u8], wanted: &str) -> bool {
     answer
-        .as_slice()
         .split(|byte| *byte == b'\n')
         .any(|line| line == wanted.as_bytes())
 }
@@ -310,5 +279,18 @@ fn texts_that_are_too_long_are_left_out(rt: HostRuntime) -> Result<(), Fail> {
     let (fits, too_long) = (block_with(rt.alloc(), 8192)?, block_with(rt.alloc(), 8193)?);
     assert!(rt; !tells(rt.alloc(), rules, fits.as_str(), note)?);
     assert!(rt; tells(rt.alloc(), rules, too_long.as_str(), note)?);
+    Ok(())
+}
+
+#[test]
+fn a_note_names_a_command_as_it_is_written(rt: HostRuntime) -> Result<(), Fail> {
+    let rules = "RUN{program}+=\"$env{X}$env{X}\"\nRUN+=\"$env{X}-$env{X}\"\n";
+    let block = block_with(rt.alloc(), 8193)?;
+    for note in [
+        "note 10-a.rules:1: text too long: RUN{program}",
+        "note 10-a.rules:2: text too long: RUN",
+    ] {
+        assert!(rt; tells(rt.alloc(), rules, block.as_str(), note)?);
+    }
     Ok(())
 }

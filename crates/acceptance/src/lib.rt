@@ -11,6 +11,8 @@ mod events;
 #[cfg(test)]
 mod failures;
 #[cfg(test)]
+mod inputs;
+#[cfg(test)]
 mod rules;
 #[cfg(test)]
 mod running;

@@ -63,11 +63,37 @@ pub(crate) fn one_file(alloc: Global, name: &str, text: &str) -> Result<Vec<Sour
     Ok(files)
 }
 
-/// Runs a line with room enough.
+/// An input of a text that comes in pieces of so many bytes.
+pub(crate) fn input_of(alloc: Global, text: &[u8], each: usize) -> Result<MemorySource, Fail> {
+    let bytes = Vec::from_slice(alloc, text)?;
+    let reads = text.len() + 2;
+    Ok(MemorySource::new(alloc, bytes, reads, each, text.len())?)
+}
+
+/// Runs a line with room enough, over no input.
 pub(crate) fn run(alloc: Global, line: &Line<'_>, files: Vec<SourceFile>) -> Result<Outcome, Fail> {
-    let mut output = MemorySink::new(alloc, 4096, 4096)?;
+    run_on(alloc, line, files, b"")
+}
+
+/// Runs a line with room enough over an input.
+pub(crate) fn run_on(
+    alloc: Global,
+    line: &Line<'_>,
+    files: Vec<SourceFile>,
+    text: &[u8],
+) -> Result<Outcome, Fail> {
+    let mut input = input_of(alloc, text, 4096)?;
+    let mut output = MemorySink::new(alloc, 70_000, 4096)?;
     let mut error = MemorySink::new(alloc, 4096, 4096)?;
-    let status = run_over(alloc, line, files, &mut output, &mut error)?;
+    let status = serve(
+        alloc,
+        line,
+        files,
+        None,
+        &mut input,
+        &mut output,
+        &mut error,
+    );
     Ok(Outcome {
         output: Vec::from_slice(alloc, output.bytes_flushed())?,
         messages: Vec::from_slice(alloc, error.bytes_flushed())?,
@@ -99,7 +125,7 @@ pub(crate) fn assert_bytes(
     assert_eq!(rt; done.status, status);
 }
 
-/// Runs a line over these sinks.
+/// Runs a line over these sinks and no input.
 pub(crate) fn run_over(
     alloc: Global,
     line: &Line<'_>,
@@ -107,6 +133,6 @@ pub(crate) fn run_over(
     output: &mut MemorySink,
     error: &mut MemorySink,
 ) -> Result<u8, Fail> {
-    let mut input = MemorySource::new(alloc, Vec::new(alloc), 1, 1, 0)?;
+    let mut input = input_of(alloc, b"", 1)?;
     Ok(serve(alloc, line, files, None, &mut input, output, error))
 }

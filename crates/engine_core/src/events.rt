@@ -9,9 +9,10 @@ use engine_reports::{Opening, Refusal, deliver_refusal, open_files};
 use engine_streams::{Sink, Source};
 use engine_tables::Tables;
 use engine_turns::answer_behind;
-use hwdb_lookup::PlainDb;
 use std::alloc::Global;
 use text_files::SourceFile;
+use trie_core::Trie;
+use trie_sources::trie_of;
 
 /// Reads what events are answered by, writes the messages about it, answers the input, and gives the
 /// status to exit with.
@@ -37,7 +38,7 @@ fn open_tables(
     alloc: Global,
     line: &Line<'_>,
     files: Vec<SourceFile>,
-) -> Result<(Vec<u8>, Tables<PlainDb>), Refusal>
+) -> Result<(Vec<u8>, Tables<Trie>), Refusal>
     ensures opening { IfOk result (λ r. opening line.now files.items ≡ Ok (record { messages = r.0.items; rules = r.1.rules; entries = r.1.entries })) }
     ensures refused { IfErr result (λ e. IsRefused e (opening line.now files.items)) }
 {
@@ -46,6 +47,7 @@ fn open_tables(
         rules,
         entries,
     } = open_files(alloc, line, files)?;
-    let tables = Tables::new(alloc, rules, PlainDb::new(entries))?;
+    let database = trie_of(alloc, entries)?;
+    let tables = Tables::new(alloc, rules, database)?;
     Ok((messages, tables))
 }

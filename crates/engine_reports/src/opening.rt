@@ -1,6 +1,7 @@
 //! What comes before the first answer to an event.
 ghost use Rattle.std.specs.Prelude.{◌≡◌, Ok, IfOk, IfErr};
 ghost use Rattle.hwdb_lookup.specs.Orders.{Rising};
+ghost use Rattle.trie_paths.specs.Sizes.{KeepsBounds};
 ghost use Rattle.engine_reports.specs.Openings.{opening, opening_messages, opening_within};
 ghost use Rattle.engine_reports.specs.Reports.{IsRefused, shown_opening};
 
@@ -21,7 +22,7 @@ pub struct Opening {
     pub messages: Vec<u8>,
     /// The rules.
     pub rules: RuleSet,
-    /// The entries of the database, by order.
+    /// The entries of the database, by order. They are never too many for a trie.
     pub entries: Vec<Entry>,
 }
 
@@ -36,6 +37,7 @@ pub fn open_files(
 ) -> Result<Opening, Refusal>
     ensures opening { IfOk result (λ o. opening line.now files.items ≡ Ok (shown_opening o)) }
     ensures rising { IfOk result (λ o. Rising o.entries.items) }
+    ensures bounds { IfOk result (λ o. KeepsBounds o.entries.items) }
     ensures refused { IfErr result (λ e. IsRefused e (opening line.now files.items)) }
 {
     let (rules, database) = both_read(alloc, line, files)?;
@@ -50,6 +52,7 @@ fn open_these(
 ) -> Result<Opening, Refusal>
     ensures opening { IfOk result (λ o. opening_within rules.now database.now ≡ Ok (shown_opening o)) }
     ensures rising { IfOk result (λ o. Rising o.entries.items) }
+    ensures bounds { IfOk result (λ o. KeepsBounds o.entries.items) }
     ensures refused { IfErr result (λ e. IsRefused e (opening_within rules.now database.now)) }
 {
     let database = read_sources(alloc, database)?;

@@ -1,5 +1,7 @@
-use Rattle.std.proofs.Common.{refl}
+use Rattle.std.proofs.Common.{refl, subst, sym}
 use Rattle.std.proofs.lemmas.Result.{err_from_is_err_and}
+use Rattle.trie_paths.specs.Sizes.{KeepsBounds}
+use Rattle.trie_sources.proofs.Bounding.{never_too_large}
 use Rattle.engine_reports.proofs.Bounds.{opening_few, opening_rules_refused, opening_entries_refused}
 use Rattle.engine_reports.proofs.opening.open_these.Goals as goal
 
@@ -16,3 +18,6 @@ returns-in_err-rules-clause-refused c =
 pub returns-clause-opening : goal.returns-clause-opening
 returns-clause-opening c =
     rw (opening_few c.args.rules.now c.args.database.now c.in_ok-rules.ensures.within c.in_ok-database.ensures.within, c.in_ok-messages.ensures, c.messages.ensures, c.as_slice.ensures.value, ← c.in_ok-rules.ensures.set, ← c.in_ok-database.ensures.entries, ← c.in_ok-database.ensures.messages) refl
+
+pub returns-clause-bounds : goal.returns-clause-bounds
+returns-clause-bounds c = subst KeepsBounds (sym c.in_ok-database.ensures.entries) (never_too_large c.args.database.now c.in_ok-database.ensures.within)

@@ -1,20 +1,25 @@
 -- How long an answer is.
-use Rattle.std.proofs.Common.{◌≡◌, ◌+◌, ◌*◌, ◌^◌, ◌≤◌, [], ◌∷◌, ◌++◌, length, IfSome, Ok, codes, unsigned_abs, arith}
+use Rattle.std.proofs.Common.{◌≡◌, ◌+◌, ◌*◌, ◌^◌, ◌≤◌, List, [], ◌∷◌, ◌++◌, length, IfSome, Ok, codes, unsigned_abs, arith}
 use Rattle.std.proofs.lemmas.List.{length-append}
 use Rattle.std.proofs.lemmas.List.Sums.{sum_by-cons}
 use Rattle.text_bytes.specs.Names.{newline, space}
 use Rattle.text_files.specs.Escapes.{escape_text}
+use Rattle.text_files.specs.declared.source_file.SourceFile.{SourceFile}
 use Rattle.text_tables.specs.Texts.{Text}
+use Rattle.hwdb_lookup.specs.declared.entry.Entry.{Entry}
+use Rattle.rule_core.specs.Rules.{set_of}
 use Rattle.device_core.specs.Faults.{block_gives}
 use Rattle.device_core.specs.Values.{DeviceValue, EventValue}
 use Rattle.device_core.specs.Weights.{device_weight, event_weight, pair_weight, text_weight}
 use Rattle.device_core.proofs.Weighing.{event_within}
+use Rattle.eval_core.specs.Outcomes.{outcome}
 use Rattle.eval_core.specs.declared.outcome.Outcome.{Outcome}
 use Rattle.eval_weight.specs.Weights.{command_weight, note_weight, outcome_weight}
 use Rattle.engine_answers.specs.Lines.{event_line, note_line, pair_line, run_line, shown_line, text_line}
 use Rattle.engine_answers.specs.Answers.{answer}
 use Rattle.engine_bounds.proofs.Lines.{escape_short, line_length, lines_short, note_line_short, pair_line_short, run_line_short, shown_line_short, text_line_short}
 use Rattle.engine_bounds.proofs.Nodes.{behind, node_short}
+use Rattle.engine_bounds.proofs.Priorities.{outcome_small}
 
 path_light : (d : DeviceValue) → text_weight d.path ≤ device_weight d
 unfolding device_weight
@@ -53,3 +58,7 @@ block_answer_short block event o given fits =
     let a = answer_short event o fits in
     let b = event_within block event given in
     omega (arith, a, b)
+
+pub files_answer_short : (files : List SourceFile) (entries : List Entry) (block : Text) (event : EventValue) → block_gives block ≡ Ok event
+    → length (answer event (outcome (set_of files).rules entries event)) ≤ 8 * outcome_weight (outcome (set_of files).rules entries event) + 4 * length block + 64
+files_answer_short files entries block event given = block_answer_short block event (outcome (set_of files).rules entries event) given (outcome_small files entries event)

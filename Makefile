@@ -13,7 +13,8 @@ BASHDIR ?= $(PREFIX)/share/bash-completion/completions
 ZSHDIR ?= $(PREFIX)/share/zsh/site-functions
 FISHDIR ?= $(PREFIX)/share/fish/vendor_completions.d
 
-# The program that is installed and packed. It is built first, unless one that is there is named.
+# The program that is installed and packed. It is built first, unless another that is there is named, by its
+# whole path.
 PROGRAM ?= build/devdry
 
 # The toolchain: `rt` on PATH, or else where it is installed.

@@ -37,22 +37,24 @@ def run(words, blocks):
 with tempfile.TemporaryDirectory() as work:
     blocks = os.path.join(work, "blocks")
 
-    def input_of(text):
+    # (written block by block, since the peak of this program would count for the one that it starts)
+    def input_of(block, count):
         with open(blocks, "w") as file:
-            file.write(text)
+            for _ in range(count):
+                file.write(block)
         return blocks
 
-    start = min(run(["-r", root], input_of(""))[0] for _ in range(5))
+    start = min(run(["-r", root], input_of("", 0))[0] for _ in range(5))
     print(f"start: {start:.3f} s", flush=True)
     for count in (100, 1000, 10000):
-        seconds, peak, size = run(["-r", root], input_of(f"C: add\n{CHAIN}\n" * count))
+        seconds, peak, size = run(["-r", root], input_of(f"C: add\n{CHAIN}\n", count))
         print(f"{count} events: {(seconds - start) / count * 1000:.3f} ms each, peak {peak:.1f} MB, {size} bytes answered", flush=True)
     rules = os.path.join(work, "none.rules")
     with open(rules, "w") as file:
         file.writelines(f'KERNEL=="none{n}", TAG+="none"\n' for n in range(10))
     block = "C: add\nP: /devices/x\n" + "".join(f"E: NAME{n}=a value of some length\n" for n in range(30)) + "\n"
     for times in (1, 10, 100):
-        text = block * (times * 1_000_000 // len(block))
-        seconds, peak, _ = run(["-r", "none", rules], input_of(text))
-        print(f"{len(text) / 1e6:.0f} MB of blocks: {len(text) / 1e6 / seconds:.0f} MB/s, peak {peak:.1f} MB", flush=True)
+        count = times * 1_000_000 // len(block)
+        seconds, peak, _ = run(["-r", "none", rules], input_of(block, count))
+        print(f"{times} MB of blocks: {times / seconds:.0f} MB/s, peak {peak:.1f} MB", flush=True)
 P

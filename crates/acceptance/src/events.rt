@@ -294,3 +294,25 @@ fn a_note_names_a_command_as_it_is_written(rt: HostRuntime) -> Result<(), Fail> 
     }
     Ok(())
 }
+
+#[test]
+fn a_text_is_doubled_until_it_would_be_too_long(rt: HostRuntime) -> Result<(), Fail> {
+    let mut rules = String::from_str(rt.alloc(), "")?;
+    for _line in 0..30 {
+        rules.push_str("ENV{X}=\"$env{X}$env{X}\"\n")?;
+    }
+    let block = block_with(rt.alloc(), 1000)?;
+    let answer = answer_by(rt.alloc(), rules.as_str(), "", "", block.as_str())?;
+    assert_eq!(rt; lines_with(&answer, b"note "), 26);
+    assert!(rt; has_line(&answer, "note 10-a.rules:5: text too long: ENV{X}"));
+    assert!(rt; answer.len() > 16_000);
+    Ok(())
+}
+
+/// How many lines of an answer begin so.
+fn lines_with(answer: &[u8], first: &[u8]) -> usize {
+    answer
+        .split(|byte| *byte == b'\n')
+        .filter(|line| line.starts_with(first))
+        .count()
+}

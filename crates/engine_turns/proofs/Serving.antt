@@ -1,8 +1,8 @@
 -- From the steps of a run to what it serves.
-use Rattle.std.proofs.Common.{◌≡◌, ℕ, ◌+◌, ◌-◌, ◌^◌, ◌≤◌, ◌<◌, ◌⊎◌, inl, inr, length, take, drop, Option, None, Some, List, [], ◌∷◌, ◌++◌, refl, Result, Ok, Err, append_assoc, length-append, ap, sym, ◌∙◌, subst, arith}
+use Rattle.std.proofs.Common.{◌≡◌, ℕ, ◌+◌, ◌≤◌, ◌<◌, ◌⊎◌, inl, inr, length, take, Option, None, Some, List, [], ◌∷◌, ◌++◌, refl, Result, Ok, Err, length-append, ap, sym, ◌∙◌, subst, arith}
 use Rattle.std.proofs.lemmas.Bool.{cases_lt}
 use Rattle.std.proofs.lemmas.List.{append-nil, take-append-le}
-use Rattle.std.proofs.lemmas.Grind.{common_steps, flat_map-append}
+use Rattle.std.proofs.lemmas.Grind.{flat_map-append}
 use Rattle.std.proofs.Math.Seq.{take-append-add, take-length}
 use Rattle.text_tables.specs.Texts.{Text}
 use Rattle.device_runs.specs.Runs.{complete_runs, rest_of, not_empty}
@@ -13,18 +13,18 @@ use Rattle.engine_streams.specs.Faults.{CountsOne, HasFailed}
 use Rattle.engine_streams.specs.Sources.{SourceState}
 use Rattle.engine_streams.specs.Sinks.{BreaksOff, HandsOn, SinkState}
 use Rattle.engine_streams.proofs.Told.{followed_by-append, followed_by-nil}
-use Rattle.engine_sessions.specs.Answers.{Answers, answers_to, answers_of, well, number_behind}
+use Rattle.engine_sessions.specs.Answers.{answers_to, answers_of, well, number_behind}
 use Rattle.engine_sessions.specs.Turns.{Sends, joined}
 use Rattle.engine_sessions.specs.declared.session.SessionFault.TheVariants.{Block, Memory, Ended}
 use Rattle.engine_sessions.specs.declared.turning.TurnFault.{TurnFault}
 use Rattle.engine_sessions.specs.declared.turning.TurnFault.TheVariants.{Read, Write, Session}
-use Rattle.engine_sessions.proofs.AnswerLemmas.{with_texts, answers_to-append}
+use Rattle.engine_sessions.proofs.AnswerLemmas.{answers_to-append}
 use Rattle.engine_sessions.proofs.LawLemmas.{until}
-use Rattle.engine_delivery.specs.Delivery.{Delivers, Outcome, Tells, FailsAtMessages, FailsAtOutput, IsRefused, out_of_memory, write_failed}
+use Rattle.engine_delivery.specs.Delivery.{Delivers, Outcome, Tells, out_of_memory, write_failed}
 use Rattle.engine_turns.specs.BlockFaults.{block_line}
-use Rattle.engine_turns.specs.Inputs.{AnswersInput, most_turns}
+use Rattle.engine_turns.specs.Inputs.{AnswersInput}
 use Rattle.engine_turns.specs.Outcomes.{answered, answered_until, input_outcome}
-use Rattle.engine_turns.specs.Serves.{read_failed, WritesOut, HasBegun, IsWhole, IsStatusLine, IsCutShort, TellsFailures, Serves, Concludes, AnswersBehind, StopsBefore, AnswersAll, Reports}
+use Rattle.engine_turns.specs.Serves.{read_failed, WritesOut, HasBegun, IsWhole, IsStatusLine, IsCutShort, TellsFailures, Serves, Concludes, StopsBefore, AnswersAll, Reports}
 
 counts_failed : (before now : ℕ) → CountsOne before now → HasFailed before now
 counts_failed before now (inl e) = inl (omega (arith, e))

@@ -1,9 +1,9 @@
 -- Turn after turn.
-use Rattle.std.proofs.Common.{◌≡◌, ℕ, ◌+◌, ◌-◌, ◌≤◌, ◌<◌, ◌⊎◌, inl, inr, length, take, drop, Bool, true, false, Option, None, Some, List, [], ◌∷◌, ◌++◌, refl, Result, Ok, Err, append_assoc, length-append, ap, sym, ◌∙◌, subst, arith}
-use Rattle.std.proofs.lemmas.List.{append-nil, take-append-drop}
+use Rattle.std.proofs.Common.{◌≡◌, ℕ, ◌+◌, inl, inr, length, Bool, true, false, Option, None, Some, List, [], ◌∷◌, ◌++◌, refl, Ok, Err, append_assoc, length-append, ap, sym, ◌∙◌, subst, arith}
+use Rattle.std.proofs.lemmas.List.{append-nil}
 use Rattle.std.proofs.lemmas.Grind.{common_steps, flat_map-append}
 use Rattle.text_tables.specs.Texts.{Text}
-use Rattle.device_runs.specs.Runs.{complete_runs, rest_of, runs}
+use Rattle.device_runs.specs.Runs.{complete_runs, rest_of}
 use Rattle.device_runs.proofs.Law.{complete_runs-append, rest_of-append}
 use Rattle.device_core.specs.Values.{EventValue}
 use Rattle.device_core.specs.declared.faults.BlockFault.{BlockFault}
@@ -13,16 +13,15 @@ use Rattle.engine_streams.specs.Sources.{SourceState}
 use Rattle.engine_streams.specs.Sinks.{SinkState}
 use Rattle.engine_streams.proofs.Told.{followed_by-append, followed_by-nil}
 use Rattle.engine_sessions.specs.Answers.{Answers, answers_to, answers_of, well, counted, number_behind}
-use Rattle.engine_sessions.specs.Known.{known_blocks}
 use Rattle.engine_sessions.specs.Sessions.{Held, opened}
-use Rattle.engine_sessions.specs.Turns.{Sends, joined, Reads, SendsDue, SendsUntil, due, Refuses, BreaksOffIn, SendsSome, Turns, FailsBy, FailsBehindRead}
+use Rattle.engine_sessions.specs.Turns.{Sends, joined, Reads, SendsDue, due, Refuses, Turns, FailsBy}
 use Rattle.engine_sessions.specs.declared.session.SessionFault.TheVariants.{Block, Memory, Ended}
 use Rattle.engine_sessions.specs.declared.turning.TurnFault.{TurnFault}
 use Rattle.engine_sessions.specs.declared.turning.TurnFault.TheVariants.{Read, Write, Session}
 use Rattle.engine_sessions.proofs.AnswerLemmas.{with_texts, answers_to-append, counted-add}
 use Rattle.engine_sessions.proofs.SendLemmas.{sends-none, sends-more}
 use Rattle.engine_sessions.proofs.LawLemmas.{Given, until, complete_well, behind_well, first_answers, stays_faulty}
-use Rattle.engine_turns.specs.Inputs.{most_turns, all_but_last, HasSentDue, StopsAtBlock, StopsInAnswer, StopsBetween, IsAnswered, EndsBy, CountsBy, AnswersInput}
+use Rattle.engine_turns.specs.Inputs.{most_turns, all_but_last, HasSentDue, StopsAtBlock, AnswersInput}
 
 -- All that is due behind some turns is sent.
 pub record Served {A : Type 0} (answer : EventValue → Text) (first : Held A) (input now : SourceState) (output sink : SinkState) (session : Held A) (turns : ℕ) : Type 0 where

@@ -1,5 +1,5 @@
 -- The line on a faulty block: `block N, line L: TEXT`.
-use Rattle.std.specs.Prelude.{ℕ, List, [], ◌∷◌, ◌++◌, codes, decimal}
+use Rattle.std.specs.Prelude.{ℕ, [], ◌∷◌, ◌++◌, codes, decimal}
 use Rattle.text_bytes.specs.Names.{newline}
 use Rattle.text_tables.specs.Texts.{Text}
 use Rattle.device_core.specs.declared.faults.BlockFault.{BlockFault}

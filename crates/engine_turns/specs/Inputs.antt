@@ -1,5 +1,5 @@
 -- What is read of an input, what is sent of its answers, and how that ends.
-use Rattle.std.specs.Prelude.{◌≡◌, ℕ, ◌-◌, ◌^◌, ◌⊎◌, List, [], ◌∷◌, ◌++◌, Option, Some, Result, Ok, Err, length, take}
+use Rattle.std.specs.Prelude.{◌≡◌, ℕ, ◌-◌, ◌^◌, ◌⊎◌, List, ◌∷◌, ◌++◌, Option, Some, Result, Ok, Err, length, take}
 use Rattle.text_tables.specs.Texts.{Text}
 use Rattle.device_runs.specs.Runs.{complete_runs}
 use Rattle.device_core.specs.Values.{EventValue}

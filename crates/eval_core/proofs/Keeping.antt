@@ -38,7 +38,7 @@ use Rattle.eval_core.specs.Steps.{Went, apply, onward, plain_step, result_step, 
 use Rattle.eval_core.specs.Jumps.{is_passed, run, sought_after}
 
 -- nothing that a key may make final differs: neither what is collected nor which keys are final
-abbrev Same : Scene → Scene → Type 0
+abbrev pub Same : Scene → Scene → Type 0
 Same s t = t ≡ record s { state = record s.state { selected = t.state.selected; result = t.state.result; env = t.state.env }; notes = t.notes }
 
 through : (s t u : Scene) → Same s t → Same t u → Same s u
@@ -152,14 +152,14 @@ walk_same step h [] s = refl
 walk_same step h (p ∷ ps) s = onward_same (walk step ps) (walk_same step h ps) s (step p s) (h p s)
 
 -- what a rule has come to before its assignments
-abbrev before_sets : List Entry → Rule → Scene → Went
+abbrev pub before_sets : List Entry → Rule → Scene → Went
 before_sets es r s =
     onward (walk result_step r.results)
     (onward (walk (act_step es r) r.acts)
     (onward (search r.up)
     (walk (plain_step r) r.plain s)))
 
-before_same : (es : List Entry) (r : Rule) (s : Scene) → Same s (before_sets es r s).0
+pub before_same : (es : List Entry) (r : Rule) (s : Scene) → Same s (before_sets es r s).0
 before_same es r s =
     onward_same (walk result_step r.results) (walk_same result_step result_same r.results) s _
     (onward_same (walk (act_step es r) r.acts) (walk_same (act_step es r) (act_same es r) r.acts) s _

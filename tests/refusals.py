@@ -1,0 +1,246 @@
+#!/usr/bin/env python3
+"""Runs the program with its Nth growth of memory refused, for N = 1, 2, .. until a run meets no refusal.
+
+usage: tests/refusals.py PROGRAM LIBRARY
+
+LIBRARY is tests/refusing.c, built. A run that met a refusal has to end in status 4, with the beginning of what its row
+writes, and with the beginning of the row's messages and then the line on memory. Each is made again with all growths
+from the Nth on refused, so that what a failed run still does is seen to take no memory.
+
+A list that is collected asks for room ahead of its need; where that is refused, it asks at once for what it needs. A
+run that goes on so has to do all that the row does, and is made again with that second growth refused, too, which has
+to end in status 4.
+
+For each row a line `ok ROW (N growths, M ahead of need)`, or `not ok ROW` with the first run that does otherwise.
+"""
+import os
+import subprocess
+import sys
+import tempfile
+from concurrent.futures import ThreadPoolExecutor
+
+OUT_OF_MEMORY = b"devdry: out of memory\n"
+ALL = 2**63
+
+DISK_RULE = 'SUBSYSTEM=="block", KERNEL=="sd[a-z]", SYMLINK+="disk/%k"\n'
+DISK = "C: add\nP: /devices/pci0/block/sda\nU: block\nN: sda\nD: 8:0\n"
+DISK_ANSWER = """\
+event add /devices/pci0/block/sda
+link disk/sda
+env ACTION=add
+env DEVNAME=/dev/sda
+env DEVPATH=/devices/pci0/block/sda
+env MAJOR=8
+env MINOR=0
+env SUBSYSTEM=block
+
+"""
+
+DOUBLING = 'ENV{X}="$env{X}$env{X}"\n' * 30
+DOUBLED = (
+    "event add /devices/x\nenv ACTION=add\nenv DEVPATH=/devices/x\nenv X=" + "v" * 16000 + "\n"
+    + "".join(f"note d.rules:{line}: text too long: ENV{{X}}\n" for line in range(5, 31)) + "\n"
+)
+
+BELOW_USB = "C: add\nP: /a/b\nP: /a\nU: usb\nE: MODALIAS=usb:v1D6Bp0002\n"
+BELOW_USB_ANSWER = """\
+event add /a/b
+env ACTION=add
+env DEVPATH=/a/b
+env ID_VENDOR=Linux
+note h.rules:1: builtin not run: kmod
+
+"""
+
+PROGRAM_RULE = 'PROGRAM=="/bin/id %k", RESULT=="a*", ENV{R}="$result{2+}"\n'
+ANSWERED = "C: add\nP: /a/sda\nQ: /bin/id sda\nR: 0 ab cd ef\n\nC: add\nP: /a/sda\n"
+ANSWERED_ANSWER = """\
+event add /a/sda
+env ACTION=add
+env DEVPATH=/a/sda
+env R=cd ef
+
+event add /a/sda
+env ACTION=add
+env DEVPATH=/a/sda
+note p.rules:1: no answer for program: /bin/id sda
+
+"""
+
+FAULTY_RULES = """\
+KERNEL=="a" FOO="b"
+SUBSYSTEM=="x",ACTION-="y"
+ENV{A}:="1",TAG+="t"
+OPTIONS="link_priority=x"
+KERNEL=="[[:alpha:]]"
+ENV{B}="$nope"
+ATTR=="x"
+"""
+FAULTY_RULES_TOLD = """\
+v.rules:1: V2 unknown key: FOO
+v.rules:2: V3 operator not allowed: ACTION
+v.rules:3: S3 operator read as =: ENV
+v.rules:3: S2 blank after a comma expected: TAG
+v.rules:4: V5 bad value: link_priority=x
+v.rules:5: V11 set not supported: [[:alpha:]]
+v.rules:6: V6 bad substitution: $nope
+v.rules:7: V4 attribute missing or not allowed: ATTR
+"""
+
+FAULTY_SOURCE = " A=1\n\nm1\n\nm2\n =x\n B\nm3\n C=1\n\n[[.a.]]\n D=1\n"
+FAULTY_SOURCE_TOLD = """\
+s.hwdb:1: H1 property without a match: A=1
+s.hwdb:3: H2 match without a property: m1
+s.hwdb:6: H5 empty key: =x
+s.hwdb:7: H4 no =: B
+s.hwdb:8: H3 unindented line after properties: m3
+s.hwdb:11: H6 pattern not supported: [[.a.]]
+"""
+
+FIRST, SECOND = "usr/lib/udev/hwdb.d", "etc/udev/hwdb.d"
+
+
+def as_bytes(text):
+    return text.encode() if isinstance(text, str) else text
+
+
+class Row:
+    """A run: its words, the files that stand around it, its input, and what it comes to with ample memory.
+
+    `line` is what the error output ends in where the run fails. An output or a line of None is that of the run itself.
+    """
+
+    def __init__(self, name, words, files=(), events="", output="", messages="", line="", status=0):
+        self.name, self.words, self.files = name, words, dict(files)
+        self.events, self.output, self.messages, self.line = map(as_bytes, (events, output, messages, line))
+        self.status = status
+
+
+ROWS = [
+    Row(
+        "two files of one rank", ["query", "-r", ".", "mx"],
+        {f"{FIRST}/60-a.hwdb": "m*\n A=1\n", f"{FIRST}/70-b.hwdb": "m*\n A=2\n", f"{FIRST}/80-c.txt": "m*\n A=3\n"},
+        output="A=2\n"),
+    Row(
+        "two files of one name", ["query", "--sources", "-r", ".", "mx"],
+        {
+            f"{FIRST}/60-a.hwdb": "m*\n A=1\n",
+            f"{FIRST}/70-b.hwdb": "m*\n A=2\n",
+            f"{SECOND}/70-b.hwdb": "z\n A=2\n",
+            # a folder whose name counts is passed over, and is no file that can't be read
+            f"{SECOND}/75-c.hwdb/inner": "",
+        },
+        output="60-a.hwdb:2: A=1\n"),
+    Row("a disk", ["events", "-r", "none", "r.rules"], {"r.rules": DISK_RULE}, DISK, DISK_ANSWER),
+    Row("rules of a folder", ["events", "-r", "."], {"run/udev/rules.d/r.rules": DISK_RULE}, DISK, DISK_ANSWER),
+    Row(
+        "a text doubled thirty times", ["events", "-r", "none", "d.rules"], {"d.rules": DOUBLING},
+        "C: add\nP: /devices/x\nE: X=" + "v" * 1000 + "\n", DOUBLED),
+    Row(
+        "builtins", ["events", "-r", ".", "u.rules", "h.rules"],
+        {
+            f"{SECOND}/usb.hwdb": "usb:v1D6B*\n ID_VENDOR=Linux\n",
+            "u.rules": 'IMPORT{builtin}="hwdb --subsystem=usb"\n',
+            "h.rules": 'IMPORT{builtin}="kmod load"\n',
+        },
+        BELOW_USB, BELOW_USB_ANSWER),
+    Row("a program", ["events", "-r", "none", "p.rules"], {"p.rules": PROGRAM_RULE}, ANSWERED, ANSWERED_ANSWER),
+    Row(
+        "a faulty block", ["events", "-r", "none", "v.rules"], {"v.rules": 'FOO=="x"\n'},
+        "C: add\nP: /a\n\nC: add\nP: /a\nP: /b\n", "event add /a\nenv ACTION=add\nenv DEVPATH=/a\n\n",
+        "v.rules:1: V2 unknown key: FOO\n", "block 2, line 3: path\n", 1),
+    Row(
+        "faulty rules", ["verify", "v.rules"], {"v.rules": FAULTY_RULES},
+        output="1 files checked, 0 good, 1 bad\n", messages=FAULTY_RULES_TOLD, status=1),
+    Row(
+        "a faulty source", ["update", "-s", "s.hwdb"], {"s.hwdb": FAULTY_SOURCE},
+        messages=FAULTY_SOURCE_TOLD, status=1),
+    Row("an absent file", ["verify", "none.rules"], line="devdry: cannot read none.rules\n", status=3),
+    Row("help", ["query", "--help"], output=None),
+    Row("unknown words", ["verify", "--none"], line=None, status=2),
+]
+
+
+def run(program, library, row, folder, first, last):
+    """A run with the growths from `first` to `last` refused: its status, its outputs, and whether it met one."""
+    mark = f"{folder}/refused"
+    environment = {"LD_PRELOAD": library, "REFUSE_FROM": str(first), "REFUSE_TO": str(last), "REFUSED": mark}
+    done = subprocess.run(
+        [program, *row.words], cwd=f"{folder}/here", env=environment, input=row.events, capture_output=True, timeout=20)
+    met = os.path.exists(mark)
+    if met:
+        os.remove(mark)
+    return done, met
+
+
+def is_whole(done, row):
+    """Whether a run came to all that its row does."""
+    return (done.returncode, done.stdout, done.stderr) == (row.status, row.output, row.messages + row.line)
+
+
+def wrong(done, row):
+    """What a run that was refused memory did otherwise, or nothing."""
+    if done.returncode != 4:
+        return f"status {done.returncode}"
+    if not row.output.startswith(done.stdout):
+        return "the output is no beginning of the row's"
+    if not done.stderr.endswith(OUT_OF_MEMORY):
+        return "nothing is said of memory"
+    if not row.messages.startswith(done.stderr.removesuffix(OUT_OF_MEMORY)):
+        return "the messages are no beginning of the row's"
+    return None
+
+
+def refused_in_turn(run, row):
+    """How many growths there were, how many of them were ahead of need, and what went otherwise, if anything did."""
+    growth, ahead = 0, 0
+    while True:
+        growth += 1
+        done, met = run(growth, growth)
+        if not met:
+            return growth - 1, ahead, None if is_whole(done, row) else "without a refusal: it comes to something else"
+        refused = f"growth {growth}"
+        if is_whole(done, row):
+            ahead += 1
+            refused = f"growths {growth} and {growth + 1}"
+            done, _met = run(growth, growth + 1)
+        fault = wrong(done, row)
+        if not fault:
+            refused = f"each growth from {growth} on"
+            done, _met = run(growth, ALL)
+            fault = wrong(done, row)
+        if fault:
+            return growth, ahead, f"{refused} refused: {fault}, it said {done.stderr!r}"
+
+
+def lay_out(row, folder):
+    """Puts a row's files into a folder, and the empty folder `none` beside them."""
+    os.makedirs(f"{folder}/here/none")
+    for name, text in row.files.items():
+        path = f"{folder}/here/{name}"
+        os.makedirs(os.path.dirname(path), exist_ok=True)
+        with open(path, "wb") as file:
+            file.write(as_bytes(text))
+
+
+def tried(program, library, row):
+    """The lines about a row."""
+    with tempfile.TemporaryDirectory() as folder:
+        lay_out(row, folder)
+        whole, _met = run(program, library, row, folder, 0, 0)
+        row.output = whole.stdout if row.output is None else row.output
+        row.line = whole.stderr if row.line is None else row.line
+        growths, ahead, fault = refused_in_turn(lambda *which: run(program, library, row, folder, *which), row)
+    if growths == 0:
+        fault = fault or "no growth was seen"
+    return f"not ok {row.name}\n    {fault}" if fault else f"ok {row.name} ({growths} growths, {ahead} ahead of need)"
+
+
+def main(program, library):
+    with ThreadPoolExecutor(os.cpu_count()) as pool:
+        for said in pool.map(lambda row: tried(program, library, row), ROWS):
+            print(said)
+
+
+if __name__ == "__main__":
+    main(os.path.realpath(sys.argv[1]), os.path.realpath(sys.argv[2]))

@@ -1,0 +1,14 @@
+#!/usr/bin/env bash
+# Each growth of memory refused in turn, in runs of each command: the status is 4, and what was written until then is
+# the beginning of the right answer.
+set -uo pipefail
+# shellcheck source=lib.sh
+. "$(dirname "$0")/lib.sh"
+if ! { has cc && has python3 && has ldd; }; then
+    skipped "each growth refused" "it takes cc, python3 and ldd"
+    exit
+fi
+# A program that is linked for good asks no library for memory.
+goes_well "the program asks the C library for memory" grep -q 'libc\.so' <(ldd "$program")
+goes_well "the refusing library is built" cc -shared -fPIC -O2 -o "$work/refusing.so" "$top/tests/refusing.c" -ldl
+python3 "$top/tests/refusals.py" "$program" "$work/refusing.so"

@@ -1,25 +1,34 @@
 #!/usr/bin/env python3
-"""Runs the program with its Nth growth of memory refused, for N = 1, 2, .. until a run meets no refusal.
+"""Runs the program where what it asks of its system is refused.
 
 usage: tests/refusals.py PROGRAM LIBRARY
 
-LIBRARY is tests/refusing.c, built. A run that met a refusal has to end in status 4, with the beginning of what its row
-writes, and with the beginning of the row's messages and then the line on memory. Each is made again with all growths
-from the Nth on refused, so that what a failed run still does is seen to take no memory.
+LIBRARY is tests/refusing.c, built. Each row is run with its Nth growth of memory refused, for N = 1, 2, .. until a run
+meets no refusal; the first growths are those for its words. A run that met one has to end in status 4, with the
+beginning of what its row writes, and with the beginning of the row's messages and then the line on memory. Each is made
+again with all growths from the Nth on refused, so that what a failed run still does is seen to take no memory.
 
 A list that is collected asks for room ahead of its need; where that is refused, it asks at once for what it needs. A
 run that goes on so has to do all that the row does, and is made again with that second growth refused, too, which has
 to end in status 4.
 
-For each row a line `ok ROW (N growths, M ahead of need)`, or `not ok ROW` with the first run that does otherwise.
+Likewise with the Nth call that opens, looks at, lists, reads or writes, alone and with all from there on: status 3, the
+beginning of the output, and the beginning of the messages with a line on what failed, as far as the error output takes
+it. A name in a folder that can't be looked at is read as a file. Last, each read and write moves a single byte, which
+changes nothing.
+
+For each row a line `ok ROW`, with how many growths were refused, how many of them were ahead of need, and how many
+calls; or `not ok ROW` with the first run that does otherwise.
 """
 import os
+import re
 import subprocess
 import sys
 import tempfile
 from concurrent.futures import ThreadPoolExecutor
 
 OUT_OF_MEMORY = b"devdry: out of memory\n"
+FAILED = re.compile(rb"devdry: (write failed|read failed|cannot read [^\n]*)\n$")
 ALL = 2**63
 
 DISK_RULE = 'SUBSYSTEM=="block", KERNEL=="sd[a-z]", SYMLINK+="disk/%k"\n'
@@ -161,16 +170,35 @@ ROWS = [
 ]
 
 
-def run(program, library, row, folder, first, last):
-    """A run with the growths from `first` to `last` refused: its status, its outputs, and whether it met one."""
-    mark = f"{folder}/refused"
-    environment = {"LD_PRELOAD": library, "REFUSE_FROM": str(first), "REFUSE_TO": str(last), "REFUSED": mark}
-    done = subprocess.run(
-        [program, *row.words], cwd=f"{folder}/here", env=environment, input=row.events, capture_output=True, timeout=20)
-    met = os.path.exists(mark)
-    if met:
-        os.remove(mark)
-    return done, met
+class Runs:
+    """The runs of a row, in a folder of its own."""
+
+    def __init__(self, program, library, row, folder):
+        self.program, self.row, self.folder = program, row, folder
+        self.environment = {"LD_PRELOAD": library, "REFUSED": f"{folder}/refused"}
+
+    def run(self, **refused):
+        """A run with this refused, and the name of the first call that was, or nothing."""
+        environment = {**self.environment, **{name: str(at) for name, at in refused.items()}}
+        done = subprocess.run(
+            [self.program, *self.row.words], cwd=f"{self.folder}/here", env=environment, input=self.row.events,
+            capture_output=True, timeout=20)
+        mark, met = self.environment["REFUSED"], None
+        if os.path.exists(mark):
+            with open(mark, encoding="utf-8") as file:
+                met = file.read()
+            os.remove(mark)
+        return done, met
+
+    def without_growths(self, first, last):
+        return self.run(GROWTHS_FROM=first, GROWTHS_TO=last)
+
+    def without_calls(self, first, last):
+        return self.run(CALLS_FROM=first, CALLS_TO=last)
+
+
+class Wrong(Exception):
+    """What a run did otherwise."""
 
 
 def is_whole(done, row):
@@ -178,39 +206,62 @@ def is_whole(done, row):
     return (done.returncode, done.stdout, done.stderr) == (row.status, row.output, row.messages + row.line)
 
 
-def wrong(done, row):
-    """What a run that was refused memory did otherwise, or nothing."""
-    if done.returncode != 4:
-        return f"status {done.returncode}"
-    if not row.output.startswith(done.stdout):
-        return "the output is no beginning of the row's"
-    if not done.stderr.endswith(OUT_OF_MEMORY):
-        return "nothing is said of memory"
-    if not row.messages.startswith(done.stderr.removesuffix(OUT_OF_MEMORY)):
-        return "the messages are no beginning of the row's"
-    return None
+def check(which, done, is_right, what):
+    if not is_right:
+        raise Wrong(f"{which}: {what}: status {done.returncode}, it said {done.stderr!r}")
 
 
-def refused_in_turn(run, row):
-    """How many growths there were, how many of them were ahead of need, and what went otherwise, if anything did."""
-    growth, ahead = 0, 0
+def check_refused(which, done, row):
+    """Looks at a run that was refused memory."""
+    check(which, done, done.returncode == 4, "another status than 4")
+    check(which, done, row.output.startswith(done.stdout), "the output is no beginning of the row's")
+    check(which, done, done.stderr.endswith(OUT_OF_MEMORY), "nothing is said of memory")
+    told = done.stderr.removesuffix(OUT_OF_MEMORY)
+    check(which, done, row.messages.startswith(told), "the messages are no beginning of the row's")
+
+
+def check_failed(which, done, row, call):
+    """Looks at a run in which a call failed."""
+    check(which, done, done.returncode == 3, "another status than 3")
+    check(which, done, row.output.startswith(done.stdout), "the output is no beginning of the row's")
+    line = FAILED.search(done.stderr)
+    check(which, done, line or call == "write", "nothing is said of a failure")
+    told = done.stderr[:line.start()] if line else done.stderr
+    check(which, done, (row.messages + row.line).startswith(told), "the messages are no beginning of the row's")
+
+
+def refuse_growths(runs, row):
+    """How many growths there were, and how many of them were ahead of need."""
+    growth, ahead = 1, 0
     while True:
-        growth += 1
-        done, met = run(growth, growth)
+        done, met = runs.without_growths(growth, growth)
         if not met:
-            return growth - 1, ahead, None if is_whole(done, row) else "without a refusal: it comes to something else"
-        refused = f"growth {growth}"
+            check("no growth refused", done, is_whole(done, row), "it comes to something else")
+            return growth - 1, ahead
+        which = f"growth {growth}"
         if is_whole(done, row):
             ahead += 1
-            refused = f"growths {growth} and {growth + 1}"
-            done, _met = run(growth, growth + 1)
-        fault = wrong(done, row)
-        if not fault:
-            refused = f"each growth from {growth} on"
-            done, _met = run(growth, ALL)
-            fault = wrong(done, row)
-        if fault:
-            return growth, ahead, f"{refused} refused: {fault}, it said {done.stderr!r}"
+            which = f"growths {growth} and {growth + 1}"
+            done, met = runs.without_growths(growth, growth + 1)
+        check_refused(which, done, row)
+        done, met = runs.without_growths(growth, ALL)
+        check_refused(f"each growth from {growth} on", done, row)
+        growth += 1
+
+
+def refuse_calls(runs, row):
+    """How many calls there were."""
+    call = 1
+    while True:
+        done, met = runs.without_calls(call, call)
+        if not met:
+            check("no call refused", done, is_whole(done, row), "it comes to something else")
+            return call - 1
+        if not (met == "look" and is_whole(done, row)):
+            check_failed(f"call {call} ({met})", done, row, met)
+        done, met = runs.without_calls(call, ALL)
+        check_failed(f"each call from {call} on", done, row, "write")
+        call += 1
 
 
 def lay_out(row, folder):
@@ -227,13 +278,19 @@ def tried(program, library, row):
     """The lines about a row."""
     with tempfile.TemporaryDirectory() as folder:
         lay_out(row, folder)
-        whole, _met = run(program, library, row, folder, 0, 0)
+        runs = Runs(program, library, row, folder)
+        whole, _met = runs.run()
         row.output = whole.stdout if row.output is None else row.output
         row.line = whole.stderr if row.line is None else row.line
-        growths, ahead, fault = refused_in_turn(lambda *which: run(program, library, row, folder, *which), row)
-    if growths == 0:
-        fault = fault or "no growth was seen"
-    return f"not ok {row.name}\n    {fault}" if fault else f"ok {row.name} ({growths} growths, {ahead} ahead of need)"
+        try:
+            growths, ahead = refuse_growths(runs, row)
+            calls = refuse_calls(runs, row)
+            done, _met = runs.run(SHORT=1)
+            check("a byte in each call", done, is_whole(done, row), "it comes to something else")
+            check("in all", done, growths and calls, "nothing was seen")
+        except Wrong as wrong:
+            return f"not ok {row.name}\n    {wrong}"
+    return f"ok {row.name} ({growths} growths, {ahead} of them ahead of need, {calls} calls)"
 
 
 def main(program, library):

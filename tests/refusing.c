@@ -1,18 +1,28 @@
-/* Refuses memory to a program. Loaded before the C library (LD_PRELOAD), it counts the growths that the program's own
- * code asks for, from 1 on, and refuses those from REFUSE_FROM to REFUSE_TO. At the first that it refuses it makes the
- * file REFUSED. What the C library asks for on its own account, as for a listing, is neither counted nor refused: a
- * call counts where it returns into the program. Built by: cc -shared -fPIC -O2 -o refusing.so refusing.c -ldl */
+/* Refuses what a program asks of its system. Loaded before the C library (LD_PRELOAD), it counts the growths of memory
+ * that the program's own code asks for, from 1 on, and refuses those from GROWTHS_FROM to GROWTHS_TO; likewise its
+ * calls that open, look at, list, read and write, from CALLS_FROM to CALLS_TO. The name of the first that it refuses
+ * goes into the file REFUSED. Where SHORT is set, each read and write moves a byte. What the C library does on its own
+ * account is neither counted nor refused: a call counts where it returns into the program.
+ * Built by: cc -shared -fPIC -O2 -o refusing.so refusing.c -ldl */
 #define _GNU_SOURCE
+#include <dirent.h>
 #include <dlfcn.h>
 #include <errno.h>
 #include <fcntl.h>
 #include <link.h>
-#include <stddef.h>
+#include <stdarg.h>
 #include <stdint.h>
 #include <stdlib.h>
+#include <string.h>
+#include <sys/stat.h>
 #include <unistd.h>
 
-static unsigned long asked, first, last;
+struct kind {
+    unsigned long seen, from, to;
+    int fault;
+};
+static struct kind growths = {.fault = ENOMEM}, calls = {.fault = EIO};
+static int moves_a_byte;
 static uintptr_t begin, end;
 
 /* The first object that is told of is the program. */
@@ -28,51 +38,110 @@ static int note_program(struct dl_phdr_info *info, size_t size, void *data) {
     return 1;
 }
 
+static unsigned long number(const char *name) {
+    const char *text = getenv(name);
+    return text ? strtoul(text, NULL, 10) : 0;
+}
+
 __attribute__((constructor)) static void prepare(void) {
-    const char *from = getenv("REFUSE_FROM"), *to = getenv("REFUSE_TO");
-    first = from ? strtoul(from, NULL, 10) : 0;
-    last = to ? strtoul(to, NULL, 10) : 0;
+    growths.from = number("GROWTHS_FROM"), growths.to = number("GROWTHS_TO");
+    calls.from = number("CALLS_FROM"), calls.to = number("CALLS_TO");
+    moves_a_byte = getenv("SHORT") != NULL;
     dl_iterate_phdr(note_program, NULL);
 }
 
-static int is_refused(void *caller) {
+static void tell(const char *name) {
+    const char *path = getenv("REFUSED");
+    int file = path ? open(path, O_WRONLY | O_CREAT, 0600) : -1;
+    if (file < 0) return;
+    if (write(file, name, strlen(name)) < 0) abort();
+    close(file);
+}
+
+static int is_refused(struct kind *kind, const char *name, void *caller) {
     uintptr_t at = (uintptr_t)caller;
     if (at < begin || at >= end) return 0;
-    asked++;
-    if (asked < first || asked > last) return 0;
-    const char *told = getenv("REFUSED");
-    int file = asked == first && told ? open(told, O_WRONLY | O_CREAT, 0600) : -1;
-    if (file >= 0) close(file);
-    errno = ENOMEM;
+    kind->seen++;
+    if (kind->seen < kind->from || kind->seen > kind->to) return 0;
+    if (kind->seen == kind->from) tell(name);
+    errno = kind->fault;
     return 1;
 }
 
 #define REAL(name) \
     static __typeof__(&name) real; \
     if (!real) real = (__typeof__(&name))dlsym(RTLD_NEXT, #name)
-#define REFUSED is_refused(__builtin_return_address(0))
+#define REFUSED(kind, name) is_refused(&kind, name, __builtin_return_address(0))
+#define MOVED(len) (moves_a_byte && (len) > 1 ? 1 : (len))
 
 void *malloc(size_t size) {
     REAL(malloc);
-    return REFUSED ? NULL : real(size);
+    return REFUSED(growths, "malloc") ? NULL : real(size);
 }
 
 void *calloc(size_t count, size_t size) {
     REAL(calloc);
-    return REFUSED ? NULL : real(count, size);
+    return REFUSED(growths, "calloc") ? NULL : real(count, size);
 }
 
 void *realloc(void *block, size_t size) {
     REAL(realloc);
-    return REFUSED ? NULL : real(block, size);
+    return REFUSED(growths, "realloc") ? NULL : real(block, size);
 }
 
 void *aligned_alloc(size_t alignment, size_t size) {
     REAL(aligned_alloc);
-    return REFUSED ? NULL : real(alignment, size);
+    return REFUSED(growths, "aligned_alloc") ? NULL : real(alignment, size);
 }
 
 int posix_memalign(void **block, size_t alignment, size_t size) {
     REAL(posix_memalign);
-    return REFUSED ? ENOMEM : real(block, alignment, size);
+    return REFUSED(growths, "posix_memalign") ? ENOMEM : real(block, alignment, size);
+}
+
+/* The mode stands behind the flags, where they ask for one. */
+#define MODE(flags) \
+    mode_t mode = 0; \
+    if ((flags) & (O_CREAT | __O_TMPFILE)) { \
+        va_list rest; \
+        va_start(rest, flags); \
+        mode = va_arg(rest, mode_t); \
+        va_end(rest); \
+    }
+
+int open(const char *path, int flags, ...) {
+    REAL(open);
+    MODE(flags);
+    return REFUSED(calls, "open") ? -1 : real(path, flags, mode);
+}
+
+int openat(int folder, const char *path, int flags, ...) {
+    REAL(openat);
+    MODE(flags);
+    return REFUSED(calls, "open") ? -1 : real(folder, path, flags, mode);
+}
+
+int statx(int folder, const char *restrict path, int flags, unsigned mask, struct statx *restrict into) {
+    REAL(statx);
+    return REFUSED(calls, "look") ? -1 : real(folder, path, flags, mask, into);
+}
+
+ssize_t getdents64(int folder, void *into, size_t len) {
+    REAL(getdents64);
+    return REFUSED(calls, "list") ? -1 : real(folder, into, len);
+}
+
+ssize_t read(int file, void *into, size_t len) {
+    REAL(read);
+    return REFUSED(calls, "read") ? -1 : real(file, into, MOVED(len));
+}
+
+ssize_t write(int file, const void *from, size_t len) {
+    REAL(write);
+    return REFUSED(calls, "write") ? -1 : real(file, from, MOVED(len));
+}
+
+ssize_t __write(int file, const void *from, size_t len) {
+    REAL(write);
+    return REFUSED(calls, "write") ? -1 : real(file, from, MOVED(len));
 }

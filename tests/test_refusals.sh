@@ -1,11 +1,11 @@
 #!/usr/bin/env bash
-# Each growth of memory refused in turn, in runs of each command: the status is 4, and what was written until then is
-# the beginning of the right answer.
+# Each growth of memory refused in turn, and then each call that opens, looks at, lists, reads or writes, in runs of
+# each command: the status is 4 or 3, and what was written until then is the beginning of the right answer.
 set -uo pipefail
 # shellcheck source=lib.sh
 . "$(dirname "$0")/lib.sh"
 if ! { has cc && has python3 && has ldd; }; then
-    skipped "each growth refused" "it takes cc, python3 and ldd"
+    skipped "each growth and each call refused" "it takes cc, python3 and ldd"
     exit
 fi
 # A program that is linked for good asks no library for memory.

@@ -6,8 +6,9 @@
 set -euo pipefail
 root=$(cd "${1:?usage: bench/events.sh DIR}" && pwd)
 top=$(cd "$(dirname "$0")/.." && pwd)
-exec python3 - "$top/build/devdry" "$root" <<'P'
-import os, sys, tempfile, time
+PYTHONPATH=$top/bench exec python3 - "$top/build/devdry" "$root" <<'P'
+import os, sys, tempfile
+from feeding import feed
 
 program, root = sys.argv[1:]
 
@@ -21,40 +22,20 @@ CHAIN = "".join(
     )
 )
 
-
-def run(words, blocks):
-    """The seconds and the peak memory in MB of a run over an input, and the bytes of its answer."""
-    with tempfile.TemporaryFile() as answer:
-        begin = time.monotonic()
-        child = os.posix_spawn(program, [program, "events", *words], os.environ, file_actions=[
-            (os.POSIX_SPAWN_OPEN, 0, blocks, os.O_RDONLY, 0), (os.POSIX_SPAWN_DUP2, answer.fileno(), 1)])
-        _, status, usage = os.wait4(child, 0)
-        if status:
-            sys.exit(f"status {os.waitstatus_to_exitcode(status)}")
-        return time.monotonic() - begin, usage.ru_maxrss / 1024, answer.seek(0, os.SEEK_END)
-
-
 with tempfile.TemporaryDirectory() as work:
-    blocks = os.path.join(work, "blocks")
-
-    # (written block by block, since the peak of this program would count for the one that it starts)
-    def input_of(block, count):
-        with open(blocks, "w") as file:
-            for _ in range(count):
-                file.write(block)
-        return blocks
-
-    start = min(run(["-r", root], input_of("", 0))[0] for _ in range(5))
+    answers = os.path.join(work, "answers")
+    command = [program, "events", "-r", root]
+    start = min(feed(command, b"\n", 0)[0] for _ in range(5))
     print(f"start: {start:.3f} s", flush=True)
     for count in (100, 1000, 10000):
-        seconds, peak, size = run(["-r", root], input_of(f"C: add\n{CHAIN}\n", count))
+        seconds, peak = feed(command, f"C: add\n{CHAIN}\n".encode(), count, answers)
+        size = os.path.getsize(answers)
         print(f"{count} events: {(seconds - start) / count * 1000:.3f} ms each, peak {peak:.1f} MB, {size} bytes answered", flush=True)
     rules = os.path.join(work, "none.rules")
     with open(rules, "w") as file:
         file.writelines(f'KERNEL=="none{n}", TAG+="none"\n' for n in range(10))
-    block = "C: add\nP: /devices/x\n" + "".join(f"E: NAME{n}=a value of some length\n" for n in range(30)) + "\n"
+    block = ("C: add\nP: /devices/x\n" + "".join(f"E: NAME{n}=a value of some length\n" for n in range(30)) + "\n").encode()
     for times in (1, 10, 100):
-        count = times * 1_000_000 // len(block)
-        seconds, peak, _ = run(["-r", "none", rules], input_of(block, count))
+        seconds, peak = feed([program, "events", "-r", "none", rules], block, times * 1_000_000 // len(block))
         print(f"{times} MB of blocks: {times / seconds:.0f} MB/s, peak {peak:.1f} MB", flush=True)
 P

@@ -1,6 +1,7 @@
 #!/usr/bin/env bash
 # What the program does with a pipe, with a folder whose names are no text, with a folder that it may
-# not enter and with an output that is full: a test of a crate can make none of them. Says which case goes wrong, and then ends in 1.
+# not enter, and with files, inputs and outputs that fail half way: a test of a crate can make none of them. Says which
+# case goes wrong, and then ends in 1.
 # usage: bench/odd_files.sh [PROGRAM]    PROGRAM is build/devdry unless one is given; as root it needs setpriv
 set -euo pipefail
 top=$(cd "$(dirname "$0")/.." && pwd)
@@ -46,4 +47,34 @@ chmod 755 "$folder"
 
 to_full() { "$@" >/dev/full; }
 expect "help to an output that is full" 3 "devdry: write failed" to_full "$program" --help
+
+# A file that can be opened and not read, a link to nothing, a folder that is none.
+expect "a file that fails when it is read" 3 "devdry: cannot read /proc/self/mem" "$program" verify /proc/self/mem
+ln -s nothing "$folder/a.hwdb"
+expect "a link to nothing in a folder" 3 "devdry: cannot read $folder/a.hwdb" "$program" query -r "$work" m
+rm "$folder/a.hwdb"
+
+# Inputs and outputs of `events` that fail, at once or half way.
+rules=$work/a.rules
+echo 'TAG+="a"' >"$rules"
+block=$'C: add\nP: /devices/x\n'
+answer=$'event add /devices/x\ntag a\nenv ACTION=add\nenv DEVPATH=/devices/x'
+from_folder() { "$@" <"$work"; }
+from_nothing() { "$@" <&-; }
+from_half() { printf '%s' "${block%$'\n'}" | "$@"; }
+to_nothing() { printf '%s\n' "$block" | "$@" >&-; }
+blocks_to_full() { printf '%s\n' "$block" | "$@" >/dev/full; }
+# to_reader COMMAND..: more blocks than a pipe holds, whose answers are read up to the tenth byte
+to_reader() {
+    { for _ in {1..10000}; do printf '%s\n' "$block"; done | { "$@"; echo $? >"$work/status"; } 2>"$work/errors"; } | head -c 10 >"$work/head"
+    cat "$work/errors" "$work/head"
+    return "$(cat "$work/status")"
+}
+events=("$program" events -r none "$rules")
+expect "an input that fails when it is read" 3 "devdry: read failed" from_folder "${events[@]}"
+expect "an input that is closed" 3 "devdry: read failed" from_nothing "${events[@]}"
+expect "an input that ends in the middle of a line" 0 "$answer" from_half "${events[@]}"
+expect "an output that is closed" 3 "devdry: write failed" to_nothing "${events[@]}"
+expect "answers to an output that is full" 3 "devdry: write failed" blocks_to_full "${events[@]}"
+expect "a reader that goes away" 3 $'devdry: write failed\nevent add ' to_reader "${events[@]}"
 exit $failed

@@ -27,6 +27,7 @@ gzip -9n "$root"/usr/share/man/man1/*
 mkdir -p "$doc"
 gzip -9nc "$top/CHANGELOG.md" > "$doc/CHANGELOG.md.gz"
 cp "$top/README.md" "$top/docs/behaviour.md" "$top/docs/messages.md" "$top/docs/differences.md" "$doc"
+cp -r --no-preserve=mode "$top/examples" "$doc"
 gzip -9nc > "$doc/changelog.gz" << END
 devdry ($version) unstable; urgency=low
 

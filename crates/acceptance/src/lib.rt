@@ -11,6 +11,8 @@ mod events;
 #[cfg(test)]
 mod failures;
 #[cfg(test)]
+mod indexes;
+#[cfg(test)]
 mod inputs;
 #[cfg(test)]
 mod rules;

@@ -82,14 +82,25 @@ pub(crate) fn run_on(
     files: Vec<SourceFile>,
     text: &[u8],
 ) -> Result<Outcome, Fail> {
+    run_by(alloc, line, files, None, text)
+}
+
+/// Runs a line with room enough over an input, with an index in place of the database's files.
+pub(crate) fn run_by(
+    alloc: Global,
+    line: &Line<'_>,
+    files: Vec<SourceFile>,
+    index: Option<&[u8]>,
+    text: &[u8],
+) -> Result<Outcome, Fail> {
     let mut input = input_of(alloc, text, 4096)?;
-    let mut output = MemorySink::new(alloc, 70_000, 4096)?;
+    let mut output = MemorySink::new(alloc, 1_000_000, 4096)?;
     let mut error = MemorySink::new(alloc, 4096, 4096)?;
     let status = serve(
         alloc,
         line,
         files,
-        None,
+        index,
         &mut input,
         &mut output,
         &mut error,

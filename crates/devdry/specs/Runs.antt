@@ -1,14 +1,12 @@
 -- What a run of the program does with its words, at a disk that may give these answers.
-use Rattle.std.specs.Prelude.{◌≡◌, ℕ, ◌⊎◌, List, []}
+use Rattle.std.specs.Prelude.{◌≡◌, ℕ, ◌⊎◌, List, [], None}
 use Rattle.clap.specs.Words.{fault_of, subcommand_of}
 use Rattle.text_files.specs.declared.source_file.SourceFile.{SourceFile}
 use Rattle.engine_line.specs.declared.Line.{Line}
 use Rattle.engine_line.specs.declared.LineFault.{LineFault}
 use Rattle.engine_streams.specs.Sources.{SourceState}
 use Rattle.engine_streams.specs.Sinks.{SinkState}
-use Rattle.engine_turns.specs.Serves.{Serves}
-use Rattle.engine_core.specs.Outcomes.{outcome}
-use Rattle.engine_core.specs.Runs.{RunsBy}
+use Rattle.engine_core.specs.Runs.{RunsOver}
 use Rattle.devdry_files.specs.Answers.{Answer}
 use Rattle.devdry_files.specs.Faults.{HasPath, IsFaultyWanted}
 use Rattle.devdry_files.specs.Found.{AreWanted}
@@ -33,8 +31,7 @@ IsFaultOf may line fault = (fault ≡ Memory)
 pub record RunsOverFiles (may : Answer → Type 0) (line : Line) (status : ℕ) (input input_now : SourceState) (out out_now err err_now : SinkState) : Type 0 where
   pub files : List SourceFile
   pub are_files : AreFilesOf may line files
-  pub serves : Serves (outcome line files) status input input_now out out_now err err_now
-  pub steps : RunsBy line.verb line files status input input_now out out_now err err_now
+  pub over : RunsOver line files None status input input_now out out_now err err_now
 
 -- Files of the line could not be read, and that is told; no input is read, and the output stays as it is.
 pub record FailsToRead (may : Answer → Type 0) (line : Line) (status : ℕ) (input input_now : SourceState) (out out_now err err_now : SinkState) : Type 0 where

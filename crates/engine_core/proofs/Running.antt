@@ -5,10 +5,11 @@ use Rattle.engine_streams.specs.Sources.{SourceState}
 use Rattle.engine_streams.specs.Sinks.{SinkState}
 use Rattle.engine_delivery.specs.Delivery.{Outcome, Delivers, Tells, TellsFaults, out_of_memory}
 use Rattle.engine_reports.specs.Openings.{OpeningValue}
+use Rattle.engine_reports.specs.Indexes.{refused_index}
 use Rattle.engine_reports.specs.Outcomes.{too_many_entries, too_many_rules}
 use Rattle.engine_reports.specs.Reports.{IsRefused, IsSaid}
 use Rattle.engine_reports.specs.declared.refusal.Refusal.{Refusal}
-use Rattle.engine_reports.specs.declared.refusal.Refusal.TheVariants.{TooManyEntries, TooManyRules, Memory}
+use Rattle.engine_reports.specs.declared.refusal.Refusal.TheVariants.{TooManyEntries, TooManyRules, Index, Memory}
 use Rattle.engine_turns.specs.Serves.{Serves}
 use Rattle.engine_turns.proofs.Serving.{answers_serve, reports_serve}
 use Rattle.engine_core.specs.Outcomes.{answer_with, events_outcome}
@@ -25,5 +26,6 @@ pub refused_runs : (refusal : Refusal) (opened : Result OpeningValue Outcome) (s
     → (refusal ≡ Memory → Tells out_of_memory 4 status err err_now × (out_now ≡ out)) → RunsEvents opened status input input out out_now err err_now
 refused_runs TooManyEntries opened status input out out_now err err_now is delivers faults memory = rw is (record { delivers = delivers too_many_entries refl; faults = faults; unread = refl })
 refused_runs TooManyRules opened status input out out_now err err_now is delivers faults memory = rw is (record { delivers = delivers too_many_rules refl; faults = faults; unread = refl })
+refused_runs (Index fault) opened status input out out_now err err_now is delivers faults memory = rw is (record { delivers = delivers (refused_index fault) refl; faults = faults; unread = refl })
 refused_runs Memory (Ok opening) status input out out_now err err_now is delivers faults memory = inl (record { unread = refl; unanswered = (memory refl).1; tells = inr (memory refl).0 })
 refused_runs Memory (Err refused) status input out out_now err err_now is delivers faults memory = record { delivers = delivers refused tt; faults = faults; unread = refl }

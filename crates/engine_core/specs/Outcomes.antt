@@ -1,8 +1,10 @@
--- What a run says: its outcome, as a function of the command line, of the files handed in and of the input.
-use Rattle.std.specs.Prelude.{List, Result, Ok, Err}
+-- What a run says: its outcome, as a function of the command line, of the files handed in, of what comes of an index and of the input.
+use Rattle.std.specs.Prelude.{List, Option, Result, Ok, Err}
 use Rattle.text_tables.specs.Texts.{Text}
 use Rattle.text_files.specs.declared.source_file.SourceFile.{SourceFile}
 use Rattle.text_files.specs.declared.source_file.FileKind.TheVariants.{Hwdb}
+use Rattle.index_checks.specs.declared.fault.IndexFault.{IndexFault}
+use Rattle.index_reading.specs.Contents.{Contents}
 use Rattle.device_core.specs.Values.{EventValue}
 use Rattle.engine_line.specs.declared.Line.{Line}
 use Rattle.engine_line.specs.declared.Verb.{Verb}
@@ -10,7 +12,7 @@ use Rattle.engine_line.specs.declared.Verb.TheVariants.{Update, Query, Verify, E
 use Rattle.engine_delivery.specs.Delivery.{Outcome}
 use Rattle.engine_reports.specs.FilesRead.{files_read}
 use Rattle.engine_reports.specs.Openings.{OpeningValue, opening}
-use Rattle.engine_reports.specs.Outcomes.{database_outcome, query_outcome, update_outcome, verify_outcome}
+use Rattle.engine_reports.specs.Outcomes.{database_outcome, query_over, update_outcome, verify_outcome}
 use Rattle.engine_tables.specs.Answering.{answer_by}
 use Rattle.engine_turns.specs.Outcomes.{input_outcome}
 
@@ -23,13 +25,14 @@ abbrev pub events_outcome : Result OpeningValue Outcome → Text → Outcome
 events_outcome (Ok opening) input = input_outcome opening.messages (answer_with opening) input
 events_outcome (Err refused) input = refused
 
--- the outcome of a command over the files handed in and an input, at which `events` alone looks
-abbrev pub outcome_by : Verb → Line → List SourceFile → Text → Outcome
-outcome_by Query line files input = database_outcome (query_outcome line) (files_read Hwdb line files)
-outcome_by Update line files input = database_outcome (update_outcome line) (files_read Hwdb line files)
-outcome_by Verify line files input = verify_outcome line files
-outcome_by Events line files input = events_outcome (opening line files) input
+-- the outcome of a command over the files handed in, what comes of an index and an input: at an index `query` and `events` alone
+-- look, at the input `events`
+abbrev pub outcome_by : Verb → Line → List SourceFile → Option (Result Contents IndexFault) → Text → Outcome
+outcome_by Query line files opened input = query_over line files opened
+outcome_by Update line files opened input = database_outcome (update_outcome line) (files_read Hwdb line files)
+outcome_by Verify line files opened input = verify_outcome line files
+outcome_by Events line files opened input = events_outcome (opening line files opened) input
 
 -- the outcome of a run
-abbrev pub outcome : Line → List SourceFile → Text → Outcome
-outcome line files input = outcome_by line.verb line files input
+abbrev pub outcome : Line → List SourceFile → Option (Result Contents IndexFault) → Text → Outcome
+outcome line files opened input = outcome_by line.verb line files opened input

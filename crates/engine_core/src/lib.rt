@@ -1,7 +1,8 @@
-//! The whole run over what was read: a command line, files and an input in, bytes and a status out.
+//! The whole run over what was read: a command line, files, an index and an input in, bytes and a
+//! status out.
 //!
-//! Nothing here opens a file or knows a terminal: the files come as bytes, the input as a source and
-//! the outputs as sinks, so that the contract of `serve` can say what is written, to the byte. What
+//! Nothing here opens a file or knows a terminal: files and index come as bytes, the input as a source
+//! and the outputs as sinks, so that the contract of `serve` can say what is written, to the byte. What
 //! is said of files is built below; here stands how `events` goes from its messages to its answers.
 #![tactic(auto)]
 
@@ -16,4 +17,5 @@ pub use engine_streams::{
     hand_on_each, write_all,
 };
 pub use engine_tables::Tables;
+pub use index_core::{Index, IndexFault};
 pub use serving::serve;

@@ -1,29 +1,35 @@
 //! The whole run.
-ghost use Rattle.std.specs.Prelude.{◌≡◌};
+ghost use Rattle.std.specs.Prelude.{◌≡◌, option_map};
 ghost use Rattle.engine_core.specs.Outcomes.{outcome};
-ghost use Rattle.engine_core.specs.Runs.{RunsBy};
+ghost use Rattle.engine_core.specs.Runs.{RunsBy, RunsOver};
 ghost use Rattle.engine_turns.specs.Serves.{Serves};
 
 use crate::events::serve_events;
 use engine_line::{Line, Verb};
-use engine_reports::{deliver_report, report_on_query, report_on_rules, report_on_update};
+use engine_reports::{
+    deliver_report, open_index, report_on_query, report_on_rules, report_on_update,
+};
 use engine_streams::{Sink, Source};
+use index_core::{Index, IndexFault};
 use std::alloc::Global;
 use text_files::SourceFile;
 
 /// Runs a command over files that were read, writes what it says, and gives the status to exit with.
 ///
 /// Messages about the files go to `error`; the answer to `output`: for `query` the lines of the
-/// properties as systemd-hwdb(8) gives them, for `verify`, as in udevadm(8), how many files are bad,
-/// and for `events` the answer to each block of `input`, written and flushed before the next read.
-/// Where `line` names files of the kind that the command reads, those handed in are read in their
-/// order, and else those whose names end in `.hwdb` or `.rules`, of each name the one of least rank,
-/// sorted by name. The index is not looked at, and the input by `events` alone.
+/// properties as systemd-hwdb(8) gives them, for `update` the index of the database, messages or not,
+/// for `verify`, as in udevadm(8), how many files are bad, and for `events` the answer to each block of
+/// `input`, written and flushed before the next read. Where `line` names files of the kind that the
+/// command reads, those handed in are read in their order, and else those whose names end in `.hwdb`
+/// or `.rules`, of each name the one of least rank, sorted by name. Where `index` is handed in, `query`
+/// and `events` answer from it and read no file of the database. The input is looked at by `events`
+/// alone.
 ///
 /// The status is 0; 1 where `update` is strict and there is a message, where `verify` finds a bad
-/// file, where a block is faulty, or where the files hold more than they may; 3 where the input or an
-/// output failed, or the input did not end within 2^48 reads, and only there; 4 where memory was
-/// refused. Under 3 all was written and flushed.
+/// file, where a block is faulty, where the files hold more than they may, or where `query` or `events`
+/// is handed an index that fails a check; 3 where the input or an output failed, or the input did not
+/// end within 2^48 reads, and only there; 4 where memory was refused. Under 3 all was written and
+/// flushed.
 pub fn serve<R: Source, W: Sink, E: Sink>(
     alloc: Global,
     line: &Line<'_>,
@@ -33,18 +39,34 @@ pub fn serve<R: Source, W: Sink, E: Sink>(
     output: &mut W,
     error: &mut E,
 ) -> u8
-    // What is written and answered is one function of the line, the files and the input.
-    ensures serves { Serves (outcome line.now files.items) result (R.shown input.old) (R.shown input.new)
+    // What is written and answered is one function of the line, the files, the index and the input; and the same step by step.
+    ensures runs { RunsOver line.now files.items (option_map (λ bytes. bytes.now) index.entry) result (R.shown input.old) (R.shown input.new)
         (W.shown output.old) (W.shown output.new) (E.shown error.old) (E.shown error.new) }
-    // Step by step.
-    ensures runs { RunsBy line.now.verb line.now files.items result (R.shown input.old) (R.shown input.new)
+    ensures untouched { (line.now.verb ≡ Verb.Events → ⊥) → input.new ≡ input.old }
+{
+    serve_opened(alloc, line, files, open_index(index), input, output, error)
+}
+
+/// The same, by what came of the index.
+fn serve_opened<R: Source, W: Sink, E: Sink>(
+    alloc: Global,
+    line: &Line<'_>,
+    files: Vec<SourceFile>,
+    opened: Option<Result<Index<'_>, IndexFault>>,
+    input: &mut R,
+    output: &mut W,
+    error: &mut E,
+) -> u8
+    ensures serves { Serves (outcome line.now files.items opened.entry) result (R.shown input.old) (R.shown input.new)
+        (W.shown output.old) (W.shown output.new) (E.shown error.old) (E.shown error.new) }
+    ensures runs { RunsBy line.now.verb line.now files.items opened.entry result (R.shown input.old) (R.shown input.new)
         (W.shown output.old) (W.shown output.new) (E.shown error.old) (E.shown error.new) }
     ensures untouched { (line.now.verb ≡ Verb.Events → ⊥) → input.new ≡ input.old }
 {
     match line.verb {
-        Verb::Query => deliver_report(report_on_query(alloc, line, files), output, error),
+        Verb::Query => deliver_report(report_on_query(alloc, line, files, opened), output, error),
         Verb::Update => deliver_report(report_on_update(alloc, line, files), output, error),
         Verb::Verify => deliver_report(report_on_rules(alloc, line, files), output, error),
-        Verb::Events => serve_events(alloc, line, files, input, output, error),
+        Verb::Events => serve_events(alloc, line, files, opened, input, output, error),
     }
 }

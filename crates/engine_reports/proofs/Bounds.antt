@@ -11,13 +11,15 @@ use Rattle.hwdb_core.specs.declared.fault.HwdbFault.TheVariants as hwdb
 use Rattle.rule_core.specs.Rules.{set_of, tokens_in}
 use Rattle.rule_core.specs.declared.fault.RulesFault.{RulesFault}
 use Rattle.rule_core.specs.declared.fault.RulesFault.TheVariants as rules
+use Rattle.index_checks.specs.declared.fault.IndexFault.{IndexFault}
 use Rattle.engine_line.specs.declared.Line.{Line}
 use Rattle.engine_reports.specs.Checks.{said_of, told}
 use Rattle.engine_delivery.specs.Delivery.{Outcome}
 use Rattle.engine_reports.specs.Outcomes.{are_few, database_outcome, rules_outcome, too_many_entries, too_many_rules}
+use Rattle.engine_reports.specs.Indexes.{refused_index}
 use Rattle.engine_reports.specs.declared.refusal.Refusal.{Refusal}
-use Rattle.engine_reports.specs.declared.refusal.Refusal.TheVariants.{TooManyEntries, TooManyRules}
-use Rattle.engine_reports.specs.Openings.{opening_of, opening_within}
+use Rattle.engine_reports.specs.declared.refusal.Refusal.TheVariants.{TooManyEntries, TooManyRules, Index}
+use Rattle.engine_reports.specs.Openings.{opening_by, opening_messages, opening_within}
 use Rattle.engine_reports.specs.Reports.{IsRefused, IsSaid, refused_entries, refused_rules}
 
 both : (x y : Bool) → (x && y) ≡ true → (x ≡ true) × (y ≡ true)
@@ -94,26 +96,34 @@ rules_refused line files rules.Memory h = tt
 pub entries_said : (refusal : Refusal) (outcome : Outcome) → refusal ≡ TooManyEntries → IsSaid refusal outcome → outcome ≡ too_many_entries
 entries_said refusal outcome e said = subst (λ r. IsSaid r outcome) e said
 
+pub index_said : (refusal : Refusal) (fault : IndexFault) (outcome : Outcome) → refusal ≡ Index fault → IsSaid refusal outcome → outcome ≡ refused_index fault
+index_said refusal fault outcome e said = subst (λ r. IsSaid r outcome) e said
+
 pub rules_said : (refusal : Refusal) (outcome : Outcome) → refusal ≡ TooManyRules → IsSaid refusal outcome → outcome ≡ too_many_rules
 rules_said refusal outcome e said = subst (λ r. IsSaid r outcome) e said
 
--- what comes before the first answer, by the bounds of rules and of a database
-pub opening_few : (files database : List SourceFile) → tokens_in (set_of files).rules ≤ 2 ^ 24 → WithinBounds database → opening_within files database ≡ Ok (opening_of files database)
+-- what comes of rules files beside a database, by the bound of rules
+pub rules_opened : (files : List SourceFile) (messages : List Message) (entries : List Entry) → tokens_in (set_of files).rules ≤ 2 ^ 24 → opening_by files messages entries ≡ Ok (record { messages = opening_messages (set_of files).messages messages; rules = (set_of files).rules; entries = entries })
+unfolding opening_by
+rules_opened files messages entries w = rw (le-leb (tokens_in (set_of files).rules) (2 ^ 24) w) refl
+
+rules_unopened : (files : List SourceFile) (messages : List Message) (entries : List Entry) → 2 ^ 24 < tokens_in (set_of files).rules → opening_by files messages entries ≡ Err too_many_rules
+unfolding opening_by
+rules_unopened files messages entries h = rw (beyond (tokens_in (set_of files).rules) (2 ^ 24) h) refl
+
+pub opening_rules_refused : (files : List SourceFile) (messages : List Message) (entries : List Entry) (fault : RulesFault) → (fault ≡ rules.TooMany → 2 ^ 24 < tokens_in (set_of files).rules) → IsRefused (refused_rules fault) (opening_by files messages entries)
+opening_rules_refused files messages entries rules.TooMany h = rules_unopened files messages entries (h refl)
+opening_rules_refused files messages entries rules.Memory h = tt
+
+-- what comes of both, by the bounds of a database
+pub opening_few : (files database : List SourceFile) → WithinBounds database → opening_within files database ≡ opening_by files (messages_of database) (entries_of database)
 unfolding opening_within
-opening_few files database w few = rw (few_within database few, le-leb (tokens_in (set_of files).rules) (2 ^ 24) w) refl
+opening_few files database few = rw (few_within database few) refl
 
 opening_many_entries : (files database : List SourceFile) → (WithinBounds database → ⊥) → opening_within files database ≡ Err too_many_entries
 unfolding opening_within
 opening_many_entries files database many = rw (few_beyond database many) refl
 
-opening_many_rules : (files database : List SourceFile) → WithinBounds database → 2 ^ 24 < tokens_in (set_of files).rules → opening_within files database ≡ Err too_many_rules
-unfolding opening_within
-opening_many_rules files database few h = rw (few_within database few, beyond (tokens_in (set_of files).rules) (2 ^ 24) h) refl
-
 pub opening_entries_refused : (files database : List SourceFile) (fault : HwdbFault) → (fault ≡ hwdb.TooMany → WithinBounds database → ⊥) → IsRefused (refused_entries fault) (opening_within files database)
 opening_entries_refused files database hwdb.TooMany beyond = opening_many_entries files database (beyond refl)
 opening_entries_refused files database hwdb.Memory beyond = tt
-
-pub opening_rules_refused : (files database : List SourceFile) (fault : RulesFault) → WithinBounds database → (fault ≡ rules.TooMany → 2 ^ 24 < tokens_in (set_of files).rules) → IsRefused (refused_rules fault) (opening_within files database)
-opening_rules_refused files database rules.TooMany few h = opening_many_rules files database few (h refl)
-opening_rules_refused files database rules.Memory few h = tt

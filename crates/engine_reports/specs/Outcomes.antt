@@ -1,17 +1,21 @@
 -- What a run says: its outcome, as a function of the command line and of the files handed in.
-use Rattle.std.specs.Prelude.{ℕ, ◌^◌, Bool, ◌==◌, ◌&&◌, nat_le, not, if◌then◌else◌, List, [], length, sum_by, codes}
+use Rattle.std.specs.Prelude.{ℕ, ◌^◌, Bool, ◌==◌, ◌&&◌, nat_le, not, if◌then◌else◌, List, [], Option, Some, None, Result, Ok, Err, length, sum_by, codes}
 use Rattle.text_files.specs.declared.source_file.SourceFile.{SourceFile}
-use Rattle.text_files.specs.declared.source_file.FileKind.TheVariants.{Rules}
+use Rattle.text_files.specs.declared.source_file.FileKind.TheVariants.{Hwdb, Rules}
 use Rattle.text_files.specs.declared.message.Message.{Message}
 use Rattle.hwdb_lookup.specs.Bounds.{max_entries, max_match_bytes, max_name_bytes, max_text_bytes}
 use Rattle.hwdb_lookup.specs.declared.entry.Entry.{Entry}
 use Rattle.hwdb_core.specs.Sources.{entries_of, match_bytes_of, messages_of, properties_of, text_len}
 use Rattle.rule_core.specs.Rules.{set_of, tokens_in}
+use Rattle.index_checks.specs.declared.fault.IndexFault.{IndexFault}
+use Rattle.index_image.specs.Image.{image}
+use Rattle.index_reading.specs.Contents.{Contents}
 use Rattle.engine_line.specs.declared.Line.{Line}
 use Rattle.engine_reports.specs.Answers.{answer_lines}
 use Rattle.engine_reports.specs.Checks.{said_of, told}
 use Rattle.engine_delivery.specs.Delivery.{Outcome}
 use Rattle.engine_reports.specs.FilesRead.{files_read}
+use Rattle.engine_reports.specs.Indexes.{entries_in, refused_index}
 use Rattle.engine_reports.specs.Messages.{message_lines}
 
 -- whether the files hold no more than a database may
@@ -34,10 +38,10 @@ query_outcome line entries messages = record {
   status = 0;
 }
 
--- what `update` says of the messages about the files of the database
+-- what `update` says of the entries of the database and of the messages about its files: the entries as an index
 abbrev pub update_outcome : Line → List Entry → List Message → Outcome
 update_outcome line entries messages = record {
-  output = [];
+  output = image entries;
   messages = message_lines messages;
   status = update_status line.strict (length messages);
 }
@@ -53,6 +57,12 @@ too_many_rules = record { output = []; messages = codes "devdry: rules: too many
 -- what is said of the files of a database, where it is said so of its entries and messages
 unfoldable pub database_outcome : (List Entry → List Message → Outcome) → List SourceFile → Outcome
 database_outcome say files = if are_few files then say (entries_of files) (messages_of files) else too_many_entries
+
+-- what `query` says of the files handed in, or in their place of what comes of an index
+abbrev pub query_over : Line → List SourceFile → Option (Result Contents IndexFault) → Outcome
+query_over line files None = database_outcome (query_outcome line) (files_read Hwdb line files)
+query_over line files (Some (Ok contents)) = query_outcome line (entries_in contents) []
+query_over line files (Some (Err fault)) = refused_index fault
 
 -- what `verify` says of rules files
 unfoldable pub rules_outcome : Line → List SourceFile → Outcome

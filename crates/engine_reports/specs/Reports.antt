@@ -1,17 +1,20 @@
 -- Serves the contracts inside this crate alone; no reader of `serve` has to believe it.
 -- What a report holds, as an outcome, and what is said where there is none.
-use Rattle.std.specs.Prelude.{◌≡◌, IfOk, IfErr, Result, Err}
+use Rattle.std.specs.Prelude.{◌≡◌, IfOk, IfErr, List, Result, Err}
+use Rattle.hwdb_lookup.specs.declared.entry.Entry.{Entry}
 use Rattle.hwdb_core.specs.declared.fault.HwdbFault as hwdb
 use Rattle.hwdb_core.specs.declared.fault.HwdbFault.TheVariants as database
 use Rattle.rule_core.specs.declared.fault.RulesFault.{RulesFault}
 use Rattle.rule_core.specs.declared.fault.RulesFault.TheVariants as rules
 use Rattle.engine_delivery.specs.Delivery.{Outcome}
+use Rattle.engine_reports.specs.Indexes.{refused_index}
 use Rattle.engine_reports.specs.Outcomes.{too_many_entries, too_many_rules}
 use Rattle.engine_reports.specs.Openings.{OpeningValue}
 use Rattle.engine_reports.specs.declared.opening.Opening.{Opening}
+use Rattle.engine_reports.specs.declared.opening.RulesRead.{RulesRead}
 use Rattle.engine_reports.specs.declared.report.Report.{Report}
 use Rattle.engine_reports.specs.declared.refusal.Refusal.{Refusal}
-use Rattle.engine_reports.specs.declared.refusal.Refusal.TheVariants.{TooManyEntries, TooManyRules, Memory}
+use Rattle.engine_reports.specs.declared.refusal.Refusal.TheVariants.{TooManyEntries, TooManyRules, Index, Memory}
 
 -- what a report says
 abbrev pub said : Report → Outcome
@@ -31,6 +34,7 @@ refused_rules rules.Memory = Memory
 abbrev pub IsSaid : Refusal → Outcome → Type 0
 IsSaid TooManyEntries outcome = outcome ≡ too_many_entries
 IsSaid TooManyRules outcome = outcome ≡ too_many_rules
+IsSaid (Index fault) outcome = outcome ≡ refused_index fault
 IsSaid Memory outcome = Unit {0}
 
 -- A report says this outcome, or its refusal does.
@@ -42,8 +46,13 @@ pub record IsReport (outcome : Outcome) (report : Result Report Refusal) : Type 
 abbrev pub shown_opening : Opening → OpeningValue
 shown_opening opening = record { messages = opening.messages.items; rules = opening.rules.rules; entries = opening.entries.items }
 
+-- what a contract sees of it, by the rules that were read and the entries beside them
+abbrev pub shown_rules : RulesRead → List Entry → OpeningValue
+shown_rules read entries = record { messages = read.messages.items; rules = read.rules.rules; entries = entries }
+
 -- A refusal is what is to be said in place of an opening; of want of memory nothing is told here.
 abbrev pub IsRefused : Refusal → Result OpeningValue Outcome → Type 0
 IsRefused Memory opening = Unit {0}
 IsRefused TooManyEntries opening = opening ≡ Err too_many_entries
 IsRefused TooManyRules opening = opening ≡ Err too_many_rules
+IsRefused (Index fault) opening = opening ≡ Err (refused_index fault)

@@ -1,7 +1,13 @@
-//! What `query` and `update` say of the files of the database.
+//! What `query` and `update` say of the database.
+//!
+//! `query` asks an index where one is handed in, and else a list of the entries that were read: one
+//! look-up in a list takes less time than making a trie of it. `update` makes the trie, of which the
+//! index is written.
 ghost use Rattle.std.specs.Prelude.{◌≡◌, ◌<◌, length, IfOk, IfErr};
 ghost use Rattle.hwdb_lookup.specs.Orders.{Rising};
-ghost use Rattle.engine_reports.specs.Outcomes.{database_outcome, query_outcome, update_outcome, update_status};
+ghost use Rattle.trie_paths.specs.Sizes.{KeepsBounds};
+ghost use Rattle.index_image.specs.Image.{image};
+ghost use Rattle.engine_reports.specs.Outcomes.{database_outcome, query_outcome, query_over, update_outcome, update_status};
 ghost use Rattle.engine_reports.specs.FilesRead.{files_read};
 ghost use Rattle.engine_reports.specs.Reports.{IsSaid, said};
 
@@ -12,19 +18,35 @@ use crate::refusal::Refusal;
 use crate::report::Report;
 use engine_line::Line;
 use hwdb_core::{Database, read_sources};
-use hwdb_lookup::PlainDb;
+use hwdb_lookup::{Entry, Lookup, PlainDb};
+use index_core::{Index, IndexFault, write_index};
 use std::alloc::{AllocError, Global};
 use text_files::{FileKind, Message, SourceFile};
+use trie_sources::trie_of;
 
-/// What `query` says of the files of the database.
+/// What `query` says of the files of the database, or of the index that was opened in their place.
 ///
-/// `TooManyEntries` comes exactly where the files hold more than a database may, `Memory` where memory
-/// is refused.
+/// `Index` comes exactly where the index was refused. Without one, `TooManyEntries` comes exactly where
+/// the files hold more than a database may. `Memory` comes where memory is refused.
 pub fn report_on_query(
     alloc: Global,
     line: &Line<'_>,
     files: Vec<SourceFile>,
+    opened: Option<Result<Index<'_>, IndexFault>>,
 ) -> Result<Report, Refusal>
+    ensures said { IfOk result (λ r. said r ≡ query_over line.now files.items opened.entry) }
+    ensures status { IfOk result (λ r. r.status < 3) }
+    ensures refused { IfErr result (λ e. IsSaid e (query_over line.now files.items opened.entry)) }
+{
+    match opened {
+        None => query_files(alloc, line, files),
+        Some(Ok(index)) => Ok(answered(alloc, line, &index, &[])?),
+        Some(Err(fault)) => Err(Refusal::Index(fault)),
+    }
+}
+
+/// What `query` says of the files handed in.
+fn query_files(alloc: Global, line: &Line<'_>, files: Vec<SourceFile>) -> Result<Report, Refusal>
     ensures said { IfOk result (λ r. said r ≡ database_outcome (query_outcome line.now) (files_read FileKind.Hwdb line.now files.items)) }
     ensures status { IfOk result (λ r. r.status < 3) }
     ensures refused { IfErr result (λ e. IsSaid e (database_outcome (query_outcome line.now) (files_read FileKind.Hwdb line.now files.items))) }
@@ -40,19 +62,23 @@ fn query_these(alloc: Global, line: &Line<'_>, files: &[SourceFile]) -> Result<R
     ensures refused { IfErr result (λ e. IsSaid e (database_outcome (query_outcome line.now) files.now)) }
 {
     let database = read_sources(alloc, files)?;
-    let report = answered(alloc, line, database)?;
+    let entries = PlainDb::new(database.entries);
+    let report = answered(alloc, line, &entries, &database.messages)?;
     Ok(report)
 }
 
 /// The answer to the line's modalias, and the messages about the files.
-fn answered(alloc: Global, line: &Line<'_>, database: Database) -> Result<Report, AllocError>
-    requires { Rising database.entries.items }
-    ensures said { IfOk result (λ r. said r ≡ query_outcome line.now database.entries.items database.messages.items) }
+fn answered<L: Lookup>(
+    alloc: Global,
+    line: &Line<'_>,
+    entries: &L,
+    messages: &[Message],
+) -> Result<Report, AllocError>
+    ensures said { IfOk result (λ r. said r ≡ query_outcome line.now (L.entries entries.now) messages.now) }
     ensures status { IfOk result (λ r. r.status < 3) }
 {
-    let messages = message_lines(alloc, &database.messages)?;
-    let entries = PlainDb::new(database.entries);
-    let output = answer_lines(alloc, &entries, line.modalias.as_bytes(), line.sources)?;
+    let messages = message_lines(alloc, messages)?;
+    let output = answer_lines(alloc, entries, line.modalias.as_bytes(), line.sources)?;
     Ok(Report {
         output,
         messages,
@@ -60,7 +86,7 @@ fn answered(alloc: Global, line: &Line<'_>, database: Database) -> Result<Report
     })
 }
 
-/// What `update` says of the files of the database.
+/// What `update` says of the files of the database: their entries as an index, messages or not.
 ///
 /// `TooManyEntries` comes exactly where the files hold more than a database may, `Memory` where memory
 /// is refused.
@@ -84,20 +110,35 @@ fn update_these(alloc: Global, line: &Line<'_>, files: &[SourceFile]) -> Result<
     ensures refused { IfErr result (λ e. IsSaid e (database_outcome (update_outcome line.now) files.now)) }
 {
     let database = read_sources(alloc, files)?;
-    let report = updated(alloc, line, &database)?;
+    let report = updated(alloc, line, database)?;
     Ok(report)
 }
 
-/// The messages about the files, which make a strict run fail.
-fn updated(alloc: Global, line: &Line<'_>, database: &Database) -> Result<Report, AllocError>
-    ensures said { IfOk result (λ r. said r ≡ update_outcome line.now database.now.entries.items database.now.messages.items) }
+/// The index of the entries, and the messages about the files, which make a strict run fail.
+fn updated(alloc: Global, line: &Line<'_>, database: Database) -> Result<Report, AllocError>
+    requires rising { Rising database.entries.items }
+    requires bounds { KeepsBounds database.entries.items }
+    ensures said { IfOk result (λ r. said r ≡ update_outcome line.now database.entries.items database.messages.items) }
     ensures status { IfOk result (λ r. r.status < 3) }
 {
+    let messages = message_lines(alloc, &database.messages)?;
+    let status = update_status(line.strict, &database.messages);
+    let output = index_of(alloc, database.entries)?;
     Ok(Report {
-        output: Vec::new(alloc),
-        messages: message_lines(alloc, &database.messages)?,
-        status: update_status(line.strict, &database.messages),
+        output,
+        messages,
+        status,
     })
+}
+
+/// The index of entries.
+fn index_of(alloc: Global, entries: Vec<Entry>) -> Result<Vec<u8>, AllocError>
+    requires rising { Rising entries.items }
+    requires bounds { KeepsBounds entries.items }
+    ensures { IfOk result (λ index. index.items ≡ image entries.items) }
+{
+    let trie = trie_of(alloc, entries)?;
+    write_index(alloc, &trie)
 }
 
 /// The status of `update`: 1 where it is strict and there is a message.

@@ -3,6 +3,7 @@ ghost use Rattle.std.specs.Prelude.{◌≡◌, ◌<◌, IfOk};
 ghost use Rattle.engine_delivery.specs.Delivery.{Delivers, Outcome, Tells, TellsFaults, out_of_memory};
 ghost use Rattle.engine_reports.specs.Reports.{IsReport, IsSaid};
 
+use crate::indexes::index_line;
 use crate::refusal::Refusal;
 use crate::report::Report;
 use engine_delivery::{deliver, tell_out_of_memory};
@@ -40,7 +41,7 @@ pub fn deliver_report<W: Sink, E: Sink>(
 }
 
 /// Writes why there is nothing to say of the files, and gives the status: 1 where they hold more than
-/// they may, 4 where memory was refused, or 3 where the error output failed.
+/// they may or where the index is none, 4 where memory was refused, or 3 where the error output failed.
 pub fn deliver_refusal<W: Sink, E: Sink>(refusal: Refusal, output: &mut W, error: &mut E) -> u8
     ensures delivers { (outcome : Outcome) → IsSaid refusal outcome
         → Delivers outcome result (W.shown output.old) (W.shown output.new) (E.shown error.old) (E.shown error.new) }
@@ -52,6 +53,7 @@ pub fn deliver_refusal<W: Sink, E: Sink>(refusal: Refusal, output: &mut W, error
     match refusal {
         Refusal::TooManyEntries => deliver(TOO_MANY_ENTRIES, b"", 1, output, error),
         Refusal::TooManyRules => deliver(TOO_MANY_RULES, b"", 1, output, error),
+        Refusal::Index(fault) => deliver(index_line(fault), b"", 1, output, error),
         Refusal::Memory => tell_out_of_memory(error),
     }
 }

@@ -1,11 +1,13 @@
 //! What comes before the first answer to an event.
-ghost use Rattle.std.specs.Prelude.{◌≡◌, Ok, IfOk, IfErr};
+ghost use Rattle.std.specs.Prelude.{◌≡◌, List, [], None, Ok, IfOk, IfErr};
 ghost use Rattle.hwdb_lookup.specs.Orders.{Rising};
 ghost use Rattle.trie_paths.specs.Sizes.{KeepsBounds};
-ghost use Rattle.engine_reports.specs.Openings.{opening, opening_messages, opening_within};
-ghost use Rattle.engine_reports.specs.Reports.{IsRefused, shown_opening};
+ghost use Rattle.hwdb_lookup.specs.declared.entry.Entry.{Entry};
+ghost use Rattle.engine_reports.specs.FilesRead.{files_read};
+ghost use Rattle.engine_reports.specs.Openings.{opening, opening_by, opening_messages, opening_within};
+ghost use Rattle.engine_reports.specs.Reports.{IsRefused, shown_opening, shown_rules};
 
-use crate::files_read::both_read;
+use crate::files_read::{both_read, files_read};
 use crate::messages::{message_lines, plain_message_lines};
 use crate::refusal::Refusal;
 use engine_line::Line;
@@ -13,7 +15,7 @@ use hwdb_core::read_sources;
 use hwdb_lookup::Entry;
 use rule_core::{RuleSet, read_rules};
 use std::alloc::{AllocError, Global};
-use text_files::{Message, SourceFile};
+use text_files::{FileKind, Message, SourceFile};
 
 /// What comes before the first answer to an event.
 #[derive(Drop)]
@@ -26,6 +28,15 @@ pub struct Opening {
     pub entries: Vec<Entry>,
 }
 
+/// What rules files come to.
+#[derive(Drop)]
+pub struct RulesRead {
+    /// The messages about them, without those about style.
+    pub messages: Vec<u8>,
+    /// The rules.
+    pub rules: RuleSet,
+}
+
 /// Reads what events are answered by from the files handed in.
 ///
 /// `TooManyEntries` comes exactly where the files of the database hold more than they may, else
@@ -35,10 +46,10 @@ pub fn open_files(
     line: &Line<'_>,
     files: Vec<SourceFile>,
 ) -> Result<Opening, Refusal>
-    ensures opening { IfOk result (λ o. opening line.now files.items ≡ Ok (shown_opening o)) }
+    ensures opening { IfOk result (λ o. opening line.now files.items None ≡ Ok (shown_opening o)) }
     ensures rising { IfOk result (λ o. Rising o.entries.items) }
     ensures bounds { IfOk result (λ o. KeepsBounds o.entries.items) }
-    ensures refused { IfErr result (λ e. IsRefused e (opening line.now files.items)) }
+    ensures refused { IfErr result (λ e. IsRefused e (opening line.now files.items None)) }
 {
     let (rules, database) = both_read(alloc, line, files)?;
     open_these(alloc, &rules, &database)
@@ -56,13 +67,43 @@ fn open_these(
     ensures refused { IfErr result (λ e. IsRefused e (opening_within rules.now database.now)) }
 {
     let database = read_sources(alloc, database)?;
-    let rules = read_rules(alloc, rules)?;
-    let messages = all_message_lines(alloc, rules.messages(), database.messages.as_slice())?;
+    let read = open_these_rules(alloc, rules, &database.messages)?;
     Ok(Opening {
-        messages,
-        rules,
+        messages: read.messages,
+        rules: read.rules,
         entries: database.entries,
     })
+}
+
+/// Reads the rules that events are answered by beside an index, from the files handed in. No file of
+/// a database is read, and so there are no messages about one.
+///
+/// `TooManyRules` comes exactly where the rules have more than 2^24 tokens; `Memory` where memory is
+/// refused.
+pub fn open_rules(
+    alloc: Global,
+    line: &Line<'_>,
+    files: Vec<SourceFile>,
+) -> Result<RulesRead, Refusal>
+    ensures opening { IfOk result (λ r. (entries : List Entry) → opening_by (files_read FileKind.Rules line.now files.items) [] entries ≡ Ok (shown_rules r entries)) }
+    ensures refused { IfErr result (λ e. (entries : List Entry) → IsRefused e (opening_by (files_read FileKind.Rules line.now files.items) [] entries)) }
+{
+    let rules = files_read(alloc, FileKind::Rules, line, files)?;
+    open_these_rules(alloc, &rules, &[])
+}
+
+/// The rules of the files that are read, and the messages about them and about a database.
+fn open_these_rules(
+    alloc: Global,
+    files: &[SourceFile],
+    messages: &[Message],
+) -> Result<RulesRead, Refusal>
+    ensures opening { IfOk result (λ r. (entries : List Entry) → opening_by files.now messages.now entries ≡ Ok (shown_rules r entries)) }
+    ensures refused { IfErr result (λ e. (entries : List Entry) → IsRefused e (opening_by files.now messages.now entries)) }
+{
+    let rules = read_rules(alloc, files)?;
+    let messages = all_message_lines(alloc, rules.messages(), messages)?;
+    Ok(RulesRead { messages, rules })
 }
 
 /// The lines of the messages about rules that are not about style, and then of those about a

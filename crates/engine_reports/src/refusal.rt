@@ -1,17 +1,20 @@
-//! Why a run has nothing to say of its files.
+//! Why a run has nothing to say of its files, or of its index.
 ghost use Rattle.std.specs.Prelude.{◌≡◌};
 
 use hwdb_core::HwdbFault;
+use index_core::IndexFault;
 use rule_core::RulesFault;
 use std::alloc::{AllocError, AllocFailed};
 
-/// Why a run has nothing to say of its files.
+/// Why a run has nothing to say of its files, or of its index.
 #[derive(Clone, Copy, Debug, PartialEq, Eq, Drop)]
 pub enum Refusal {
     /// They hold more than a database may.
     TooManyEntries,
     /// Their rules have too many tokens.
     TooManyRules,
+    /// The index handed in is none: the first check that it fails.
+    Index(IndexFault),
     /// Want of memory.
     Memory,
 }

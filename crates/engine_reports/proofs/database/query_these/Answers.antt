@@ -11,4 +11,4 @@ returns-in_err-database-clause-refused c =
 pub returns-clause-said : goal.returns-clause-said
 returns-clause-said c =
     let few = outcome_few (query_outcome c.args.line.now) c.args.files.now c.in_ok-database.ensures.within in
-    rw (few, ← c.in_ok-database.ensures.entries, ← c.in_ok-database.ensures.messages) c.in_ok-report.ensures.said
+    rw (few, ← c.in_ok-database.ensures.entries, ← c.in_ok-database.ensures.messages, ← c.deref.ensures.value, ← c.new-entries.ensures) c.in_ok-report.ensures.said

@@ -1,4 +1,7 @@
+use Rattle.std.proofs.Common.{subst, sym}
 use Rattle.std.proofs.lemmas.Result.{err_from_is_err_and}
+use Rattle.trie_paths.specs.Sizes.{KeepsBounds}
+use Rattle.trie_sources.proofs.Bounding.{never_too_large}
 use Rattle.engine_reports.specs.Outcomes.{update_outcome}
 use Rattle.engine_reports.proofs.Bounds.{entries_refused, outcome_few}
 use Rattle.engine_reports.proofs.database.update_these.Goals as goal
@@ -11,4 +14,7 @@ returns-in_err-database-clause-refused c =
 pub returns-clause-said : goal.returns-clause-said
 returns-clause-said c =
     let few = outcome_few (update_outcome c.args.line.now) c.args.files.now c.in_ok-database.ensures.within in
-    rw (few, ← c.in_ok-database.ensures.messages) c.in_ok-report.ensures.said
+    rw (few, ← c.in_ok-database.ensures.entries, ← c.in_ok-database.ensures.messages) c.in_ok-report.ensures.said
+
+pub updated-requires-clause-bounds : goal.updated-requires-clause-bounds
+updated-requires-clause-bounds c = subst KeepsBounds (sym c.in_ok-database.ensures.entries) (never_too_large c.args.files.now c.in_ok-database.ensures.within)

@@ -1,0 +1,35 @@
+-- What comes of an index file that is handed in, and what is said of one that is refused.
+use Rattle.std.specs.Prelude.{◌≡◌, ◌⊎◌, List, [], Option, Some, None, Result, Ok, Err, codes}
+use Rattle.text_tables.specs.Texts.{Text}
+use Rattle.hwdb_lookup.specs.declared.entry.Entry.{Entry}
+use Rattle.trie_nodes.specs.Values.{listed}
+use Rattle.index_checks.specs.Accepted.{Accepted, FailsFirst}
+use Rattle.index_checks.specs.declared.fault.IndexFault.{IndexFault}
+use Rattle.index_checks.specs.declared.fault.IndexFault.TheVariants.{Short, Magic, Version, Size, Shape, Label, Text as TextFault, Order}
+use Rattle.index_reading.specs.Contents.{Contents, contents}
+use Rattle.engine_delivery.specs.Delivery.{Outcome}
+
+-- What comes of an index: nothing where none is handed in; what its bytes hold where they are accepted, and else the first check
+-- that they fail.
+abbrev pub Opens : Option Text → Option (Result Contents IndexFault) → Type 0
+Opens None opened = opened ≡ None
+Opens (Some bytes) opened = (Accepted bytes × (opened ≡ Some (Ok (contents bytes)))) ⊎ ((fault : IndexFault) × FailsFirst bytes fault × (opened ≡ Some (Err fault)))
+
+-- the entries that an index lists, node by node and value by value
+abbrev pub entries_in : Contents → List Entry
+entries_in contents = listed contents.nodes contents.values
+
+-- the line on an index that fails a check
+abbrev pub index_line : IndexFault → Text
+index_line Short = codes "devdry: index: short\n"
+index_line Magic = codes "devdry: index: magic\n"
+index_line Version = codes "devdry: index: version\n"
+index_line Size = codes "devdry: index: size\n"
+index_line Shape = codes "devdry: index: shape\n"
+index_line Label = codes "devdry: index: label\n"
+index_line TextFault = codes "devdry: index: text\n"
+index_line Order = codes "devdry: index: order\n"
+
+-- what is said of an index that fails a check
+abbrev pub refused_index : IndexFault → Outcome
+refused_index fault = record { output = []; messages = index_line fault; status = 1 }

@@ -1,0 +1,13 @@
+//! Why an index has one meaning.
+ghost use Rattle.std.specs.Prelude.{◌≡◌, Option, Result};
+ghost use Rattle.text_tables.specs.Texts.{Text};
+ghost use Rattle.index_checks.specs.declared.fault.IndexFault.{IndexFault};
+ghost use Rattle.index_reading.specs.Contents.{Contents};
+ghost use Rattle.engine_reports.specs.Indexes.{Opens};
+
+/// The law of what comes of an index; it does nothing when it is called.
+///
+/// No two different things come of the same bytes, so that what is said of them is a function of them.
+pub fn an_index_opens_to_one_thing()
+    ensures { (index : Option Text) (one other : Option (Result Contents IndexFault)) → Opens index one → Opens index other → one ≡ other }
+{}

@@ -4,9 +4,9 @@
 //! they keep is the count of failed calls, by which a status can be shown to rest on a failure. Where
 //! a reader or writer of std does say what a call gave or took, so does the call here.
 ghost use Rattle.std.specs.Prelude.{◌≡◌, ◌<◌, ◌≤◌, length, take, IfOk, OnOk, OnErr};
-ghost use Rattle.std.specs.Io.KnownBytes.{ReadConsumes, WriteAppends};
+ghost use Rattle.std.specs.Io.KnownBytes.{Keeps, ReadConsumes, WriteAppends};
 ghost use Rattle.engine_streams.specs.Told.{NoneLeft};
-ghost use Rattle.engine_streams.specs.Sinks.{SinkState, SinkFails, Takes, untold_sink};
+ghost use Rattle.engine_streams.specs.Sinks.{Flushes, SinkState, SinkFails, Takes, untold_sink};
 ghost use Rattle.engine_streams.specs.Sources.{SourceState, Gives, SourceFails, untold_source};
 
 use crate::{DeviceFault, Sink, Source};
@@ -89,7 +89,11 @@ impl<W: Write> Sink for SinkOver<W> {
         }
     }
 
-    fn flush(&mut self) -> Result<(), DeviceFault> {
+    fn flush(&mut self) -> Result<(), DeviceFault>
+        ensures flushes { OnOk result (Flushes (untold_sink self.old.faults) (untold_sink self.new.faults)) }
+        ensures fails { OnErr result (SinkFails (untold_sink self.old.faults) (untold_sink self.new.faults)) }
+        ensures bytes { Keeps (W.contents self.old.writer) (W.contents self.new.writer) }
+    {
         match self.writer.flush() {
             Ok(()) => Ok(()),
             Err(_) => {

@@ -106,6 +106,18 @@ s.hwdb:8: H3 unindented line after properties: m3
 s.hwdb:11: H6 pattern not supported: [[.a.]]
 """
 
+# as docs/format.md prints them
+INDEX = bytes.fromhex("""\
+6465766472796877 02000000 03000000 01000000 00000000 08000000 00000000
+00000000 00000000 01000000 01000000 00000000 00000000
+01610000 00000000 02000000 01000000 00000000 00000000
+03000000 00000000 03000000 00000000 00000000 01000000
+00000000 01000000 01000000 01000000 00000000 02000000 06000000 02000000
+4b56742e68776462""")
+EMPTY_INDEX = bytes.fromhex("""\
+6465766472796877 02000000 01000000 00000000 00000000 00000000 00000000
+00000000 00000000 01000000 00000000 00000000 00000000""")
+
 FIRST, SECOND = "usr/lib/udev/hwdb.d", "etc/udev/hwdb.d"
 
 
@@ -163,7 +175,8 @@ ROWS = [
         output="1 files checked, 0 good, 1 bad\n", messages=FAULTY_RULES_TOLD, status=1),
     Row(
         "a faulty source", ["update", "-s", "s.hwdb"], {"s.hwdb": FAULTY_SOURCE},
-        messages=FAULTY_SOURCE_TOLD, status=1),
+        output=EMPTY_INDEX, messages=FAULTY_SOURCE_TOLD, status=1),
+    Row("an index written", ["update", "t.hwdb"], {"t.hwdb": "a*\n K=V\n"}, output=INDEX),
     Row("an absent file", ["verify", "none.rules"], line="devdry: cannot read none.rules\n", status=3),
     Row("help", ["query", "--help"], output=None),
     Row("unknown words", ["verify", "--none"], line=None, status=2),

@@ -1,10 +1,11 @@
 #!/usr/bin/env bash
-# How long one event takes: rules of which most fail at their first match, over 2,000 blocks and over one,
-# and the difference for each event, for 4,600 rules, half of them and twice as many; by each first key
-# alone, and what a rule costs where all of them stay in the processor's cache; the same rules where every
-# tenth one changes a property, so that one sees what a rule costs whose end is reached; then the rules of a
-# distribution, copied to about 200 files, with events as a machine has them. Reading rules and blocks counts
-# in both, and so falls out.
+# How long one event takes, by the rules as they are read and by their program: rules of which most fail at
+# their first match, over 2,000 blocks and over one, and the difference for each event, for 4,600 rules, half
+# of them and twice as many; by each first key alone, and what a rule costs where all of them stay in the
+# processor's cache; the same rules where every tenth one changes a property, so that one sees what a rule
+# costs whose end is reached; then the rules of a distribution, once and copied to about 200 files, with events
+# as a machine has them. Reading rules and blocks counts in both, and so falls out. Times are the processor's,
+# as the program uses it.
 # usage: bench/event.sh [DIR]    DIR holds usr/lib/udev/rules.d, as tools that unpack packages leave it
 set -euo pipefail
 root=$(cd "${1:-/nonexistent}" 2> /dev/null && pwd || true)
@@ -13,7 +14,7 @@ program=$top/crates/bench_event/out/bench_event
 (cd "$top/crates/bench_event" && rt run > /dev/null)
 PYTHONPATH=$top/bench exec python3 - "$program" "$root" <<'P'
 import glob, os, sys, tempfile
-from timing import best_of_five
+from timing import user_time_of_five
 
 program, root = sys.argv[1:]
 EVENTS = 2000
@@ -66,18 +67,26 @@ def rule(number, firsts, changing):
     return f'{firsts[number % len(firsts)]}, ATTRS{{idVendor}}=="{number:04x}", SYMLINK+="x/{number}"'
 
 
-def measure(name, rules, block):
-    """The time of one event, by the least of five runs over many and over one."""
+def time_of(way, rules, block):
+    """The processor time of one event, by the least of five runs over many and over one, and what they told."""
     times = []
     for events in (1, EVENTS):
         with tempfile.NamedTemporaryFile(mode="w") as file:
-            file.write(rules + block * events)
+            file.write(way + "\n" + rules + block * events)
             file.flush()
-            best, answer = best_of_five([program], file.name)
+            best, answer = user_time_of_five([program], file.name)
             times.append(best)
-    each = (times[1] - times[0]) / (EVENTS - 1)
+    return (times[1] - times[0]) / (EVENTS - 1), answer
+
+
+def measure(name, rules, block):
+    """The time of one event, as the rules are read and by their program; gives the first."""
+    each, answer = time_of("plain", rules, block)
+    compiled, again = time_of("compiled", rules, block)
+    assert answer == again, (answer, again)
     count = int(answer.split()[0])
-    print(f"{name}: {answer}, {each * 1000:.3f} ms an event, {each / count * 1e9:.0f} ns a rule", flush=True)
+    print(f"{name}: {answer}, {each * 1000:.3f} ms an event, {each / count * 1e9:.0f} ns a rule; "
+          f"compiled {compiled * 1000:.3f} ms, {each / compiled:.1f} times as fast", flush=True)
     return each
 
 
@@ -103,7 +112,8 @@ for first in FIRST:
 measure("every tenth rule changes a property", made(4600, changing=True), BLOCK)
 if root:
     for name, lines in REAL.items():
-        measure(f"rules of a distribution, {name}", distribution(3), "\n".join(lines) + "\n\n")
+        for copies, said in ((1, "rules of a distribution"), (3, "three copies of them")):
+            measure(f"{said}, {name}", distribution(copies), "\n".join(lines) + "\n\n")
     name, lines = next(iter(REAL.items()))
     measure(f"twice as many, {name}", distribution(6), "\n".join(lines) + "\n\n")
 P

@@ -1,5 +1,6 @@
 //! Evaluates the rules of its input over each event block behind them, and prints what the events come
-//! to together. The rules are the lines up to the first that begins with `C:`; an empty line ends a
+//! to together. The first line says how: `plain`, by the rules as they are read, or `compiled`, by their
+//! program. The rules are the lines from there to the first that begins with `C:`; an empty line ends a
 //! file.
 //!
 //! `bench/event.sh` runs it over many rules. It stands in a crate of its own since `devdry` has no
@@ -8,6 +9,7 @@
 
 use device_core::{Event, SplitFault, Splitter, read_block};
 use eval_core::{Outcome, evaluate_plain};
+use eval_programs::{Program, compile};
 use hwdb_lookup::PlainDb;
 use rule_core::{RuleSet, RulesFault, read_rules};
 use std::alloc::{AllocError, Global};
@@ -33,6 +35,33 @@ impl Counts {
             links: self.links.wrapping_add(outcome.links.as_slice().len()),
             notes: self.notes.wrapping_add(outcome.notes.as_slice().len()),
         }
+    }
+}
+
+/// Rules, by which events are evaluated.
+#[derive(Drop)]
+enum Rules {
+    Plain(RuleSet),
+    Compiled(Program),
+}
+
+impl Rules {
+    fn evaluate(&self, alloc: Global, event: &Event<'_>) -> Result<Outcome, AllocError> {
+        let lookup = PlainDb::new(Vec::new(alloc));
+        match self {
+            Rules::Plain(rules) => evaluate_plain(alloc, rules, event, &lookup),
+            Rules::Compiled(program) => program.evaluate(alloc, event, &lookup),
+        }
+    }
+}
+
+/// A text up to its first newline, and behind that.
+fn first_line(text: &[u8]) -> (&[u8], &[u8]) {
+    let len = text.iter().take_while(|byte| **byte != b'\n').count();
+    let (line, rest) = text.split_at(len.min(text.len()));
+    match rest.split_first() {
+        Some((_, rest)) => (line, rest),
+        None => (line, rest),
     }
 }
 
@@ -74,28 +103,33 @@ fn files_of(alloc: Global, text: &[u8]) -> Result<Vec<SourceFile>, AllocError> {
     Ok(files)
 }
 
-/// The rules of a text.
-fn rules_of(alloc: Global, text: &[u8]) -> Result<RuleSet, RulesFault> {
+/// The rules of a text, and how many there are.
+fn rules_of(alloc: Global, way: &[u8], text: &[u8]) -> Result<(usize, Rules), RulesFault> {
     let files = files_of(alloc, text)?;
-    read_rules(alloc, &files)
+    let rules = read_rules(alloc, &files)?;
+    let count = rules.rules().len();
+    if way == b"plain".as_slice() {
+        Ok((count, Rules::Plain(rules)))
+    } else {
+        Ok((count, Rules::Compiled(compile(alloc, rules)?)))
+    }
 }
 
 /// The counts with one event.
 fn with_event(
     alloc: Global,
-    rules: &RuleSet,
+    rules: &Rules,
     event: &Event<'_>,
     counts: Counts,
 ) -> Result<Counts, AllocError> {
-    let lookup = PlainDb::new(Vec::new(alloc));
-    let outcome = evaluate_plain(alloc, rules, event, &lookup)?;
+    let outcome = rules.evaluate(alloc, event)?;
     Ok(counts.with_outcome(&outcome))
 }
 
 /// The counts with the event of a block; a faulty block is none.
 fn with_block(
     alloc: Global,
-    rules: &RuleSet,
+    rules: &Rules,
     block: &[u8],
     counts: Counts,
 ) -> Result<Counts, AllocError> {
@@ -108,7 +142,7 @@ fn with_block(
 /// The counts with all events of a text, each with an empty line behind it.
 fn take_all(
     alloc: Global,
-    rules: &RuleSet,
+    rules: &Rules,
     splitter: &mut Splitter,
     text: &[u8],
 ) -> Result<Counts, SplitFault> {
@@ -135,17 +169,14 @@ fn main(rt: HostRuntime) -> io::Result<()> {
     let alloc = rt.alloc();
     let mut text = Vec::new(alloc);
     rt.stdin().read_to_end(&mut text)?;
-    let (rules, blocks) = rules_and_blocks(&text);
+    let (way, rest) = first_line(&text);
+    let (rules, blocks) = rules_and_blocks(rest);
     let mut splitter = Splitter::new(alloc)?;
-    match rules_of(alloc, rules) {
-        Ok(rules) => match take_all(alloc, &rules, &mut splitter, blocks) {
+    match rules_of(alloc, way, rules) {
+        Ok((count, rules)) => match take_all(alloc, &rules, &mut splitter, blocks) {
             Ok(counts) => println!(rt;
                 "{} rules, {} events, {} properties, {} links, {} notes",
-                rules.rules().len(),
-                counts.events,
-                counts.properties,
-                counts.links,
-                counts.notes
+                count, counts.events, counts.properties, counts.links, counts.notes
             )?,
             Err(_) => println!(rt; "a block is too long")?,
         },

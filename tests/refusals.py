@@ -249,7 +249,6 @@ def refuse_growths(runs, row):
     while True:
         done, met = runs.without_growths(growth, growth)
         if not met:
-            check("no growth refused", done, is_whole(done, row), "it comes to something else")
             return growth - 1, ahead
         which = f"growth {growth}"
         if is_whole(done, row):
@@ -268,7 +267,6 @@ def refuse_calls(runs, row):
     while True:
         done, met = runs.without_calls(call, call)
         if not met:
-            check("no call refused", done, is_whole(done, row), "it comes to something else")
             return call - 1
         if not (met == "look" and is_whole(done, row)):
             check_failed(f"call {call} ({met})", done, row, met)
@@ -296,6 +294,7 @@ def tried(program, library, row):
         row.output = whole.stdout if row.output is None else row.output
         row.line = whole.stderr if row.line is None else row.line
         try:
+            check("nothing refused", whole, is_whole(whole, row), "it comes to something else")
             growths, ahead = refuse_growths(runs, row)
             calls = refuse_calls(runs, row)
             done, _met = runs.run(SHORT=1)

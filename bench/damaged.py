@@ -83,6 +83,7 @@ usb:v1D6B*d[0-9]*
 
 mouse:*:name:*[tT]rack[bB]all*:*
  ID_INPUT_TRACKBALL=1
+
 mouse:[!a-z]?[]x]:*
  MOUSE_DPI=1600@125
  =none
@@ -122,7 +123,7 @@ def damage(chance, text):
 
 def damaged_number(chance, index):
     """A copy of an index in which one number or byte is another."""
-    at = chance.randrange(len(index) // 4) * 4
+    at = chance.randrange(max(1, len(index) // 4)) * 4
     number = int.from_bytes(index[at:at + 4], "little")
     number = chance.choice((0, 2 ** 32 - 1, number + 1, number - 1, chance.randrange(8), chance.randrange(2 ** 32)))
     return index[:at] + (number % 2 ** 32).to_bytes(4, "little") + index[at + 4:]

@@ -80,6 +80,16 @@ fn change_number(chance: &mut Chance, index: &[u8], bytes: &mut Vec<u8>) {
     set_number(bytes, at, changed);
 }
 
+/// Writes a number of a node or a value into another node or value, at the same place: two values get one order, or
+/// share a text.
+fn copy_number(chance: &mut Chance, index: &[u8], bytes: &mut Vec<u8>) {
+    let records = records_of(index, chance.below(2));
+    let at = chance.below(records.len / 4).wrapping_mul(4);
+    let from = some_record(chance, records).wrapping_add(at);
+    let to = some_record(chance, records).wrapping_add(at);
+    set_number(bytes, to, number_at(bytes, from));
+}
+
 /// Changes how long the text is that the header tells of.
 fn tell_text(bytes: &mut Vec<u8>, index: &[u8]) {
     let len = (number_at(index, 24) as usize)
@@ -143,13 +153,14 @@ fn mend_shape(bytes: &mut Vec<u8>, nodes: Records) {
 
 /// Does one thing to a file that was made of an index.
 fn damage(chance: &mut Chance, index: &[u8], bytes: &mut Vec<u8>) -> Result<(), AllocError> {
-    match chance.below(16) {
+    match chance.below(20) {
         0 => change_length(chance, bytes)?,
         1 | 2 => change_text(chance, index, bytes)?,
         3 | 4 => swap_records(chance, index, bytes, false),
         5 | 6 => swap_records(chance, index, bytes, true),
         7 | 8 | 9 => move_between(chance, index, bytes),
         10 | 11 | 12 => change_number(chance, index, bytes),
+        13 | 14 | 15 | 16 => copy_number(chance, index, bytes),
         _ => {
             let at = chance.below(bytes.len());
             set_byte(bytes, at, chance.byte());

@@ -206,7 +206,7 @@ def share(job):
         runs = Runs(program, folder)
         if kind == "indexes":
             text = runs.write("whole.hwdb", HWDB)
-            runs.write("index", subprocess.run([program, "update", text], stdout=subprocess.PIPE, check=True).stdout)
+            runs.write("index", subprocess.run([program, "update", text], stdout=subprocess.PIPE, stderr=subprocess.DEVNULL, check=True).stdout)
         chance = random.Random(f"{seed} {kind}")
         for number in range(0, count, batch):
             make(runs, chance, f"{kind}, share {seed}, number {number}")

@@ -5,6 +5,8 @@
 #![tactic(auto)]
 
 #[cfg(test)]
+mod bounds;
+#[cfg(test)]
 mod database;
 #[cfg(test)]
 mod events;
@@ -14,6 +16,10 @@ mod failures;
 mod indexes;
 #[cfg(test)]
 mod inputs;
+#[cfg(test)]
+mod lengths;
+#[cfg(test)]
+mod refusals;
 #[cfg(test)]
 mod rules;
 #[cfg(test)]

@@ -1,0 +1,215 @@
+//! Blocks, chains and rules as large as they may be, and one more.
+use crate::running::{files_of, line, run_on};
+use device_core::BlockFaultKind;
+use engine_core::{Session, SessionFault, Tables, Verb};
+use hwdb_core::{PlainDb, read_sources};
+use rule_core::read_rules;
+use std::alloc::Global;
+use std::test::Fail;
+use text_files::FileKind;
+
+/// No rules and no database.
+fn nothing(alloc: Global) -> Result<Tables<PlainDb>, Fail> {
+    let rules = read_rules(alloc, &Vec::new(alloc)).map_err(|_fault| "no rules")?;
+    let database = read_sources(alloc, &Vec::new(alloc)).map_err(|_fault| "no database")?;
+    Ok(Tables::new(alloc, rules, PlainDb::new(database.entries))?)
+}
+
+/// Hands a piece to a session, call by call, and adds how many bytes it answers.
+fn feed(
+    alloc: Global,
+    session: &mut Session<'_, Tables<PlainDb>>,
+    piece: &[u8],
+    answered: &mut usize,
+) -> Result<(), SessionFault> {
+    let mut rest = piece;
+    for _call in 0..piece.len() {
+        let step = session.take(alloc, rest)?;
+        rest = rest.get(step.used..).unwrap_or(b"");
+        if let Some(answer) = step.answer {
+            *answered = answered.saturating_add(answer.as_slice().len());
+        }
+        if rest.is_empty() {
+            return Ok(());
+        }
+    }
+    Ok(())
+}
+
+/// Hands an input to a session in pieces of so many bytes.
+fn feed_in_pieces(
+    alloc: Global,
+    session: &mut Session<'_, Tables<PlainDb>>,
+    input: &[u8],
+    size: usize,
+    answered: &mut usize,
+) -> Result<(), SessionFault> {
+    let mut rest = input;
+    for _piece in 0..input.len() {
+        let (piece, behind) = rest.split_at(size.min(rest.len()));
+        feed(alloc, session, piece, answered)?;
+        rest = behind;
+    }
+    Ok(())
+}
+
+/// A block with a property `X` of so many letters, and the empty line behind it.
+fn block_with(alloc: Global, letters: usize) -> Result<Vec<u8>, Fail> {
+    let mut block = Vec::from_slice(alloc, b"C: add\nP: /devices/x\nE: X=")?;
+    block.extend_from_slice(vec![in alloc; b'v'; letters]?.as_slice())?;
+    block.extend_from_slice(b"\n\n")?;
+    Ok(block)
+}
+
+#[test]
+fn a_block_of_65536_bytes_is_answered_in_any_pieces(rt: HostRuntime) -> Result<(), Fail> {
+    let alloc = rt.alloc();
+    let tables = nothing(alloc)?;
+    let block = block_with(alloc, 65_509)?;
+    for size in [1, 4096, 65_537] {
+        let mut session = Session::new(alloc, &tables)?;
+        let mut answered = 0;
+        let fed = feed_in_pieces(alloc, &mut session, &block, size, &mut answered);
+        assert!(rt; fed.is_ok());
+        // event add /devices/x, env ACTION=add, env DEVPATH=/devices/x, env X= and the letters, and an empty line
+        assert_eq!(rt; answered, 21 + 15 + 23 + 6 + 65_509 + 1 + 1);
+    }
+    Ok(())
+}
+
+/// Whether a fault is the one of a first block whose third line goes past the room.
+fn is_too_long(fault: &SessionFault) -> bool {
+    match fault {
+        SessionFault::Block(number, fault) => {
+            *number == 1 && fault.line == 3 && fault.kind == BlockFaultKind::TooLong
+        }
+        _ => false,
+    }
+}
+
+#[test]
+fn a_block_of_65537_bytes_ends_a_session_in_any_pieces(rt: HostRuntime) -> Result<(), Fail> {
+    let alloc = rt.alloc();
+    let tables = nothing(alloc)?;
+    let block = block_with(alloc, 65_510)?;
+    for size in [1, 4096, 65_537] {
+        let mut session = Session::new(alloc, &tables)?;
+        let mut answered = 0;
+        let fed = feed_in_pieces(alloc, &mut session, &block, size, &mut answered);
+        assert!(rt; fed.is_err_and(|fault| is_too_long(&fault)) && answered == 0);
+        assert!(rt;
+            session
+                .take(alloc, b"x")
+                .is_err_and(|fault| fault == SessionFault::Ended)
+        );
+        assert!(rt;
+            session
+                .end(alloc)
+                .is_err_and(|fault| fault == SessionFault::Ended)
+        );
+    }
+    Ok(())
+}
+
+/// A block of so many devices, each the parent of the one before, whose path is the last of them.
+fn chain_of(alloc: Global, count: usize) -> Result<Vec<u8>, Fail> {
+    let mut block = Vec::from_slice(alloc, b"C: add\n")?;
+    for above in 0..count {
+        block.extend_from_slice(b"P: ")?;
+        let path = vec![in alloc; b"/a"; count.saturating_sub(above)]?;
+        for name in path {
+            block.extend_from_slice(name)?;
+        }
+        block.push(b'\n')?;
+    }
+    Ok(block)
+}
+
+#[test]
+fn a_chain_has_at_most_64_devices(rt: HostRuntime) -> Result<(), Fail> {
+    let alloc = rt.alloc();
+    for (count, written, told, status) in [
+        (64, 10 + 128 + 1 + 15 + 12 + 128 + 1 + 1, "", 0),
+        (65, 0, "block 1, line 66: too deep\n", 1),
+    ] {
+        let events = line(alloc, Verb::Events, "");
+        let done = run_on(alloc, &events, Vec::new(alloc), &chain_of(alloc, count)?)?;
+        assert_eq!(rt; done.output.len(), written);
+        assert_eq!(rt; done.messages.as_slice(), told.as_bytes());
+        assert_eq!(rt; done.status, status);
+    }
+    Ok(())
+}
+
+/// The answer to a block by one rules file, which goes well.
+fn answer_by(alloc: Global, rules: &str, block: &str) -> Result<Vec<u8>, Fail> {
+    let events = line(alloc, Verb::Events, "");
+    let files = files_of(alloc, &[(FileKind::Rules, 0, "r.rules", rules)])?;
+    let done = run_on(alloc, &events, files, block.as_bytes())?;
+    if done.status != 0 || !done.messages.is_empty() {
+        Err("the run does not go well")?;
+    }
+    Ok(done.output)
+}
+
+/// How many lines of an answer begin so.
+fn lines_with(answer: &[u8], first: &[u8]) -> usize {
+    answer
+        .split(|byte| *byte == b'\n')
+        .filter(|line| line.starts_with(first))
+        .count()
+}
+
+/// A rule that matches the properties P000 to P999 with `1`.
+fn thousand_matches(alloc: Global) -> Result<String, Fail> {
+    let mut rule = String::new(alloc);
+    for number in 0..1000u32 {
+        rule.push_str(format!(in alloc; "ENV{{P{number:03}}}==\"1\", ")?.as_str())?;
+    }
+    rule.push_str("ENV{HIT}=\"1\"\n")?;
+    Ok(rule)
+}
+
+/// A block with these properties, `1` but for the last.
+fn thousand_properties(alloc: Global, last: &str) -> Result<String, Fail> {
+    let mut block = String::from_str(alloc, "C: add\nP: /x\n")?;
+    for number in 0..999u32 {
+        block.push_str(format!(in alloc; "E: P{number:03}=1\n")?.as_str())?;
+    }
+    block.push_str(last)?;
+    Ok(block)
+}
+
+#[test]
+fn a_rule_matches_a_thousand_properties(rt: HostRuntime) -> Result<(), Fail> {
+    let alloc = rt.alloc();
+    let rule = thousand_matches(alloc)?;
+    for (last, hits) in [("E: P999=1\n", 1), ("E: P999=2\n", 0), ("", 0)] {
+        let block = thousand_properties(alloc, last)?;
+        let answer = answer_by(alloc, rule.as_str(), block.as_str())?;
+        assert_eq!(rt; lines_with(&answer, b"env HIT=1"), hits);
+    }
+    Ok(())
+}
+
+/// A rule of the longest line but some, which adds so many links: 000, 001, .. of hexadecimal digits.
+fn links_rule(alloc: Global, count: u32) -> Result<String, Fail> {
+    let mut rule = String::from_str(alloc, "SYMLINK+=\"")?;
+    for number in 0..count {
+        rule.push_str(format!(in alloc; "{number:03x} ")?.as_str())?;
+    }
+    rule.push_str("\"\n")?;
+    Ok(rule)
+}
+
+#[test]
+fn a_rule_adds_4000_links(rt: HostRuntime) -> Result<(), Fail> {
+    let alloc = rt.alloc();
+    let rule = links_rule(alloc, 4000)?;
+    let answer = answer_by(alloc, rule.as_str(), "C: add\nP: /x\n")?;
+    assert_eq!(rt; lines_with(&answer, b"link "), 4000);
+    assert_eq!(rt; lines_with(&answer, b"link f9f"), 1);
+    // event add /x, the links, env ACTION=add, env DEVPATH=/x and an empty line
+    assert_eq!(rt; answer.len(), 13 + 4000 * 9 + 15 + 15 + 1);
+    Ok(())
+}

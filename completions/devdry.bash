@@ -6,22 +6,30 @@ _devdry_files() {
     mapfile -t COMPREPLY < <(compgen -d -- "$word"; [ -z "$1" ] || compgen -f -X "!*$1" -- "$word")
 }
 
+# _devdry_any_files: the current word may become any file or folder.
+_devdry_any_files() {
+    compopt -o filenames 2> /dev/null
+    mapfile -t COMPREPLY < <(compgen -f -- "$word")
+}
+
 # _devdry_words WORD..: those of the words that the current one begins.
 _devdry_words() {
     mapfile -t COMPREPLY < <(compgen -W "$*" -- "$word")
 }
 
-# Whether a word that is neither an option nor a folder of one stands between the command and the current word.
-_devdry_has_argument() {
-    local at
+# Whether query takes a database file as the current word: behind a modalias, a word that is neither an option nor the
+# folder of one, and not beside an index.
+_devdry_takes_database() {
+    local at takes=1
     for ((at = 2; at < COMP_CWORD; at++)); do
         case ${COMP_WORDS[at]} in
             -r | --root) at=$((at + 1)) ;;
+            --index) return 1 ;;
             -*) ;;
-            *) return 0 ;;
+            *) takes=0 ;;
         esac
     done
-    return 1
+    return $takes
 }
 
 _devdry() {
@@ -34,9 +42,9 @@ _devdry() {
     fi
     case $command in
         verify) suffix=.rules options='-r --root --no-summary --no-style -h --help -V --version' ;;
-        query) suffix=.hwdb options='-r --root --sources -h --help -V --version' ;;
+        query) suffix=.hwdb options='-r --root --sources --index -h --help -V --version' ;;
         update) suffix=.hwdb options='-r --root -s --strict -h --help -V --version' ;;
-        events) suffix=.rules options='-r --root -h --help -V --version' ;;
+        events) suffix=.rules options='-r --root --index -h --help -V --version' ;;
         help)
             [ "$COMP_CWORD" -gt 2 ] || _devdry_words verify query update events help
             return
@@ -45,8 +53,9 @@ _devdry() {
     esac
     case $before:$word in
         -r:* | --root:*) _devdry_files '' ;;
+        --index:*) _devdry_any_files ;;
         *:-*) _devdry_words "$options" ;;
-        *) if [ "$command" != query ] || _devdry_has_argument; then _devdry_files "$suffix"; fi ;;
+        *) if [ "$command" != query ] || _devdry_takes_database; then _devdry_files "$suffix"; fi ;;
     esac
 }
 

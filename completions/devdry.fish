@@ -6,12 +6,14 @@ complete -c devdry -s V -l version -d 'Print version'
 
 complete -c devdry -n __fish_use_subcommand -a verify -d 'Check rules files'
 complete -c devdry -n __fish_use_subcommand -a query -d 'Print what the hardware database has for a device'
-complete -c devdry -n __fish_use_subcommand -a update -d 'Check the files of the hardware database'
+complete -c devdry -n __fish_use_subcommand -a update -d 'Check the files of the hardware database and write its index'
 complete -c devdry -n __fish_use_subcommand -a events -d 'Answer the event blocks of the standard input'
 complete -c devdry -n __fish_use_subcommand -a help -d 'Print help'
 complete -c devdry -n '__fish_seen_subcommand_from help' -a 'verify query update events help'
 
 complete -c devdry -n '__fish_seen_subcommand_from verify query update events' -s r -l root -r -a '(__fish_complete_directories)' -d 'Folder to put before each folder that is read'
+
+complete -c devdry -n '__fish_seen_subcommand_from query events' -l index -r -F -d 'Index to read in place of the database\'s folders'
 
 complete -c devdry -n '__fish_seen_subcommand_from verify' -l no-summary -d 'Do not count the good and the bad files'
 complete -c devdry -n '__fish_seen_subcommand_from verify' -l no-style -d 'Give no messages about style'

@@ -177,6 +177,13 @@ ROWS = [
         "a faulty source", ["update", "-s", "s.hwdb"], {"s.hwdb": FAULTY_SOURCE},
         output=EMPTY_INDEX, messages=FAULTY_SOURCE_TOLD, status=1),
     Row("an index written", ["update", "t.hwdb"], {"t.hwdb": "a*\n K=V\n"}, output=INDEX),
+    Row("an index", ["query", "--index", "a.index", "abc"], {"a.index": INDEX}, output="K=V\n"),
+    Row(
+        "an index beside rules", ["events", "--index", "a.index", "r.rules"], {"a.index": INDEX, "r.rules": DISK_RULE},
+        DISK, DISK_ANSWER),
+    Row(
+        "a file that is no index", ["query", "--index", "r.rules", "abc"], {"r.rules": DISK_RULE},
+        line="devdry: index: magic\n", status=1),
     Row("an absent file", ["verify", "none.rules"], line="devdry: cannot read none.rules\n", status=3),
     Row("help", ["query", "--help"], output=None),
     Row("unknown words", ["verify", "--none"], line=None, status=2),

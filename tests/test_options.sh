@@ -69,6 +69,9 @@ done
     same "bash offers folders behind -r" "folder" "$(bash_offers devdry query -r '' | paste -s -d " " -)"
     same "bash offers no file for a modalias" "" "$(bash_offers devdry query '' | paste -s -d " " -)"
     same "bash offers database files behind a modalias" "b.hwdb folder" "$(bash_offers devdry query -r folder m '' | paste -s -d " " -)"
+    same "bash offers all files behind --index" "a.rules b.hwdb c.txt folder" "$(bash_offers devdry query --index '' | paste -s -d " " -)"
+    same "bash offers no database file beside an index" "" "$(bash_offers devdry query --index c.txt m '' | paste -s -d " " -)"
+    same "bash offers rules files beside an index" "a.rules folder" "$(bash_offers devdry events --index c.txt '' | paste -s -d " " -)"
 )
 
 if has zsh; then

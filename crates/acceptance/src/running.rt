@@ -20,6 +20,7 @@ pub(crate) fn line<'a>(alloc: Global, verb: Verb, modalias: &'a str) -> Line<'a>
         verb,
         root: "",
         files: Vec::new(alloc),
+        index: None,
         strict: false,
         sources: false,
         modalias,

@@ -1,5 +1,5 @@
 -- What a run of the program does with its words, at a disk that may give these answers.
-use Rattle.std.specs.Prelude.{◌≡◌, ℕ, ◌⊎◌, List, [], None}
+use Rattle.std.specs.Prelude.{◌≡◌, ℕ, ◌⊎◌, List, [], Option, false}
 use Rattle.clap.specs.Words.{fault_of, subcommand_of}
 use Rattle.text_files.specs.declared.source_file.SourceFile.{SourceFile}
 use Rattle.engine_line.specs.declared.Line.{Line}
@@ -8,32 +8,46 @@ use Rattle.engine_streams.specs.Sources.{SourceState}
 use Rattle.engine_streams.specs.Sinks.{SinkState}
 use Rattle.engine_core.specs.Runs.{RunsOver}
 use Rattle.devdry_files.specs.Answers.{Answer}
-use Rattle.devdry_files.specs.Faults.{HasPath, IsFaultyWanted}
-use Rattle.devdry_files.specs.Found.{AreWanted}
+use Rattle.devdry_files.specs.Faults.{HasPath, IsFaultyIndex, IsFaultyWanted}
+use Rattle.devdry_files.specs.Found.{AreWanted, IsIndexWanted}
 use Rattle.devdry_files.specs.Places.{Wants}
 use Rattle.devdry_files.specs.declared.fault.ReadFault.{ReadFault}
 use Rattle.devdry_files.specs.declared.fault.ReadFault.TheVariants.{Memory}
 use Rattle.devdry_files.specs.declared.places.Wanted.{Wanted}
 use Rattle.devdry_words.specs.Commands.{devdry}
-use Rattle.devdry_words.specs.Lines.{AnswersOneOf, IsLineOf}
+use Rattle.devdry_words.specs.Lines.{AnswersWords, IsLineOf, names_two}
 use Rattle.devdry.specs.Telling.{TellsLineFault, TellsReadFault}
 
--- the files are those that the line asks for
-abbrev pub AreFilesOf : (Answer → Type 0) → Line → List SourceFile → Type 0
-AreFilesOf may line files = (wanted : Wanted) × Wants line wanted × AreWanted may wanted files
+-- the files and the bytes of the index are those that the line asks for
+pub record AreReadFor (may : Answer → Type 0) (line : Line) (files : List SourceFile) (index : Option (List ℕ)) : Type 0 where
+  pub wanted : Wanted
+  pub wants : Wants line wanted
+  pub are_files : AreWanted may wanted files
+  pub is_index : IsIndexWanted may wanted index
+
+-- the path is that of the index, which the disk may say that it can't read; all files were read before it
+pub record IsFaultyLast (may : Answer → Type 0) (w : Wanted) (path : List ℕ) : Type 0 where
+  pub files : List SourceFile
+  pub were_read : AreWanted may w files
+  pub faulty : IsFaultyIndex may w path
+
+-- the first of what is wanted that can't be read: one of the files and folders, or, behind all of them, the index
+abbrev pub IsFaultyRead : (Answer → Type 0) → Wanted → List ℕ → Type 0
+IsFaultyRead may w path = IsFaultyWanted may w path ⊎ IsFaultyLast may w path
 
 -- the fault is about something that the line asks for, or memory ran out
 abbrev pub IsFaultOf : (Answer → Type 0) → Line → ReadFault → Type 0
 IsFaultOf may line fault = (fault ≡ Memory)
-    ⊎ ((wanted : Wanted) × Wants line wanted × HasPath (IsFaultyWanted may wanted) fault)
+    ⊎ ((wanted : Wanted) × Wants line wanted × HasPath (IsFaultyRead may wanted) fault)
 
--- The files of the line were read, and its outcome over them and the input is served.
+-- What the line asks for was read, and the line is run over that and the input.
 pub record RunsOverFiles (may : Answer → Type 0) (line : Line) (status : ℕ) (input input_now : SourceState) (out out_now err err_now : SinkState) : Type 0 where
   pub files : List SourceFile
-  pub are_files : AreFilesOf may line files
-  pub over : RunsOver line files None status input input_now out out_now err err_now
+  pub index : Option (List ℕ)
+  pub are_read : AreReadFor may line files index
+  pub over : RunsOver line files index status input input_now out out_now err err_now
 
--- Files of the line could not be read, and that is told; no input is read, and the output stays as it is.
+-- What the line asks for could not be read, and that is told; no input is read, and the output stays as it is.
 pub record FailsToRead (may : Answer → Type 0) (line : Line) (status : ℕ) (input input_now : SourceState) (out out_now err err_now : SinkState) : Type 0 where
   pub fault : ReadFault
   pub is_fault : IsFaultOf may line fault
@@ -51,12 +65,13 @@ pub record RunsWords (may : Answer → Type 0) (words : List (List ℕ)) (status
   pub line : Line
   pub is_line : IsLineOf (subcommand_of devdry words) line
   pub faultless : fault_of devdry words ≡ []
+  pub one_database : names_two line ≡ false
   pub runs : RunsLine may line status input input_now out out_now err err_now
 
 -- The words are no line, and that is told; no input is read.
 pub record RefusesWords (words : List (List ℕ)) (status : ℕ) (input input_now : SourceState) (out out_now err err_now : SinkState) : Type 0 where
   pub fault : LineFault
-  pub answers : AnswersOneOf (fault_of devdry words) fault
+  pub answers : AnswersWords (fault_of devdry words) (subcommand_of devdry words) fault
   pub tells : TellsLineFault fault status out out_now err err_now
   pub unread : input_now ≡ input
 

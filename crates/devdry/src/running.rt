@@ -1,13 +1,23 @@
 //! The way from words to a status.
 ghost use Rattle.std.specs.Prelude.{IfErr, IfOk, map, string_bytes};
-ghost use Rattle.devdry.specs.Runs.{AreFilesOf, IsFaultOf, Runs, RunsLine};
+ghost use Rattle.devdry.specs.Runs.{AreReadFor, IsFaultOf, Runs, RunsLine};
 
 use crate::telling::{tell_line_fault, tell_read_fault};
-use devdry_files::{Disk, ReadFault, read_all, wanted};
+use devdry_files::{Disk, ReadFault, read_all, read_index, wanted};
 use devdry_words::parse_line;
 use engine_core::{Line, Sink, Source, serve};
 use std::alloc::Global;
+use text_bytes::Bytes;
 use text_files::SourceFile;
+
+/// What a line asks for, as it was read.
+#[derive(Drop)]
+struct Inputs {
+    /// The files.
+    files: Vec<SourceFile>,
+    /// The bytes of the index, if the line names one.
+    index: Option<Bytes>,
+}
 
 /// Runs the words that stand behind the program's name, and gives the status to exit with.
 ///
@@ -30,8 +40,8 @@ pub(crate) fn run_words<D: Disk, I: Source, W: Sink, E: Sink>(
     }
 }
 
-/// Runs a line over the files that it asks for. A file or folder that can't be read is told of on
-/// `error`, and the status is 3.
+/// Runs a line over the files and the index that it asks for. What can't be read of them is told of
+/// on `error`, and the status is 3.
 fn run_line<D: Disk, I: Source, W: Sink, E: Sink>(
     alloc: Global,
     disk: &D,
@@ -44,20 +54,22 @@ fn run_line<D: Disk, I: Source, W: Sink, E: Sink>(
         (W.shown output.old) (W.shown output.new) (E.shown error.old) (E.shown error.new) }
 {
     match read_wanted(alloc, disk, line) {
-        Ok(files) => serve(alloc, line, files, None, input, output, error),
+        Ok(Inputs { files, index }) => {
+            let index = index.as_ref().map(Bytes::as_slice);
+            serve(alloc, line, files, index, input, output, error)
+        }
         Err(fault) => tell_read_fault(&fault, error),
     }
 }
 
-/// Reads the files that a line asks for.
-fn read_wanted<D: Disk>(
-    alloc: Global,
-    disk: &D,
-    line: &Line<'_>,
-) -> Result<Vec<SourceFile>, ReadFault>
-    ensures files { IfOk result (λ files. AreFilesOf (D.may_answer disk.now) line.now files.items) }
+/// Reads the files that a line asks for, and last its index.
+fn read_wanted<D: Disk>(alloc: Global, disk: &D, line: &Line<'_>) -> Result<Inputs, ReadFault>
+    ensures inputs { IfOk result (λ inputs.
+        AreReadFor (D.may_answer disk.now) line.now inputs.files.items inputs.index) }
     ensures fault { IfErr result (λ fault. IsFaultOf (D.may_answer disk.now) line.now fault) }
 {
     let wanted = wanted(alloc, line)?;
-    read_all(alloc, disk, &wanted)
+    let files = read_all(alloc, disk, &wanted)?;
+    let index = read_index(alloc, disk, &wanted)?;
+    Ok(Inputs { files, index })
 }

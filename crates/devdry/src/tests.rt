@@ -10,8 +10,20 @@ use std::test::Fail;
 /// What the sinks of a run take before they fail.
 const ROOM: usize = 4096;
 
-/// A database, one with a mistake, a rules file with one, and a folder that can't be listed.
-const PLACES: [MemoryPlace; 4] = [
+/// The index of one record, ` K=V` of `a*`, as version 1 has it.
+const ONE_RECORD: &[u8] = b"devdryhw\x01\0\0\0\x03\0\0\0\x01\0\0\0\0\0\0\0\x02\0\0\0\0\0\0\0\
+    \0\0\0\0\0\0\0\0\x01\0\0\0\x01\0\0\0\0\0\0\0\0\0\0\0\
+    \x01a\0\0\0\0\0\0\x02\0\0\0\x01\0\0\0\0\0\0\0\0\0\0\0\
+    \x03\0\0\0\0\0\0\0\x03\0\0\0\0\0\0\0\0\0\0\0\x01\0\0\0\
+    \0\0\0\0\x01\0\0\0\x01\0\0\0\x01\0\0\0\0\0\0\0KV";
+
+/// The index of no entry.
+const NO_RECORD: &str = "devdryhw\x02\0\0\0\x01\0\0\0\0\0\0\0\0\0\0\0\0\0\0\0\0\0\0\0\
+    \0\0\0\0\0\0\0\0\x01\0\0\0\0\0\0\0\0\0\0\0\0\0\0\0";
+
+/// A database, one with a mistake, an index, a rules file with a mistake, and folders that can't be
+/// listed.
+const PLACES: [MemoryPlace; 6] = [
     MemoryPlace {
         path: "t.hwdb",
         stands: Stands::File(b"m*\n A=1\n"),
@@ -21,11 +33,19 @@ const PLACES: [MemoryPlace; 4] = [
         stands: Stands::File(b" A=1\n"),
     },
     MemoryPlace {
+        path: "a.index",
+        stands: Stands::File(ONE_RECORD),
+    },
+    MemoryPlace {
         path: "v.rules",
         stands: Stands::File(b"FOO==\"x\"\n"),
     },
     MemoryPlace {
         path: "/mnt/etc/udev/rules.d",
+        stands: Stands::Unreadable,
+    },
+    MemoryPlace {
+        path: "/db/etc/udev/hwdb.d",
         stands: Stands::Unreadable,
     },
 ];
@@ -104,7 +124,13 @@ fn an_unknown_command_is_told(rt: HostRuntime) -> Result<(), Fail> {
 
 #[test]
 fn usage_goes_to_the_error_output(rt: HostRuntime) -> Result<(), Fail> {
-    for text in ["", "query", "verify --strict"] {
+    for text in [
+        "",
+        "query",
+        "verify --strict",
+        "update --index a.index",
+        "query --index a.index abc t.hwdb",
+    ] {
         let done = run(&rt, text)?;
         assert!(rt; done.output.is_empty());
         assert!(rt; !done.messages.is_empty());
@@ -120,7 +146,7 @@ fn lines_are_run_over_their_files(rt: HostRuntime) -> Result<(), Fail> {
         ("query -r /mnt mx", "", "", 0),
         (
             "update --strict s.hwdb",
-            "",
+            NO_RECORD,
             "s.hwdb:1: H1 property without a match: A=1\n",
             1,
         ),
@@ -138,9 +164,49 @@ fn lines_are_run_over_their_files(rt: HostRuntime) -> Result<(), Fail> {
 }
 
 #[test]
+fn an_index_answers_in_place_of_the_folders(rt: HostRuntime) -> Result<(), Fail> {
+    for (text, output, messages, status) in [
+        ("query -r /db --index a.index abc", "K=V\n", "", 0),
+        ("query --index a.index abc --sources", "-: K=V\n", "", 0),
+        ("query --index a.index xbc", "", "", 0),
+        ("query --index t.hwdb abc", "", "devdry: index: short\n", 1),
+        ("events -r /db --index a.index", "", "", 0),
+        (
+            "events --index a.index v.rules",
+            "",
+            "v.rules:1: V2 unknown key: FOO\n",
+            0,
+        ),
+        (
+            "events --index v.rules v.rules",
+            "",
+            "devdry: index: short\n",
+            1,
+        ),
+    ] {
+        let done = run(&rt, text)?;
+        assert_done(&rt, &done, output, messages, status);
+    }
+    Ok(())
+}
+
+#[test]
 fn what_cannot_be_read_is_told(rt: HostRuntime) -> Result<(), Fail> {
     for (text, messages) in [
         ("query mx no/t.hwdb", "devdry: cannot read no/t.hwdb\n"),
+        (
+            "query mx -r /db",
+            "devdry: cannot read /db/etc/udev/hwdb.d\n",
+        ),
+        ("query mx --index b.index", "devdry: cannot read b.index\n"),
+        (
+            "events --index b.index v.rules",
+            "devdry: cannot read b.index\n",
+        ),
+        (
+            "events --index b.index b.rules",
+            "devdry: cannot read b.rules\n",
+        ),
         (
             "verify -r /mnt",
             "devdry: cannot read /mnt/etc/udev/rules.d\n",

@@ -1,5 +1,6 @@
 -- What the fault of a reading speaks of.
-use Rattle.std.specs.Prelude.{◌≡◌, ◌++◌, ◌∷◌, ◌⊎◌, ⊤, ℕ, List, String, map, string_bytes}
+use Rattle.std.specs.Prelude.{◌≡◌, ◌++◌, ◌∷◌, ◌⊎◌, ⊤, ℕ, List, Some, String, map, string_bytes}
+use Rattle.std.specs.Option.{option_copied}
 use Rattle.std.specs.declared.alloc.Global.{Global}
 use Rattle.text_files.specs.declared.source_file.FileKind.{FileKind}
 use Rattle.text_files.specs.declared.source_file.SourceFile.{SourceFile}
@@ -79,3 +80,7 @@ pub record IsFaultyFound (may : Answer → Type 0) (w : Wanted) (path : List ℕ
 -- named file, of a folder, or of a name in one.
 abbrev pub IsFaultyWanted : (Answer → Type 0) → Wanted → List ℕ → Type 0
 IsFaultyWanted may w path = IsFaultyNamed may w.kind (map (λ f. f.now) w.files.now) path ⊎ IsFaultyFound may w path
+
+-- the path is that of the index that is wanted, which the disk may say that it can't read
+abbrev pub IsFaultyIndex : (Answer → Type 0) → Wanted → List ℕ → Type 0
+IsFaultyIndex may w path = (option_copied w.index ≡ Some path) × IsUnread may path

@@ -1,7 +1,8 @@
--- The files that were read, as they come from the answers that a disk may give.
-use Rattle.std.specs.Prelude.{◌≡◌, ◌++◌, ◌∷◌, ◌⊎◌, ◌&&◌, ℕ, Bool, All, IsPermutation, IsSorted, List, [], String, filter, map, nat_eq, not}
+-- The files and the index that were read, as they come from the answers that a disk may give.
+use Rattle.std.specs.Prelude.{◌≡◌, ◌++◌, ◌∷◌, ◌⊎◌, ◌&&◌, ⊤, ℕ, Bool, All, IsPermutation, IsSorted, List, [], None, Option, Some, String, filter, map, nat_eq, not}
 use Rattle.std.specs.Prelude.{string_bytes}
 use Rattle.std.specs.List.{ends_with}
+use Rattle.std.specs.Option.{option_copied}
 use Rattle.std.specs.String.{string_cmp}
 use Rattle.std.specs.declared.alloc.Global.{Global}
 use Rattle.text_files.specs.Kinds.{suffix_of}
@@ -79,3 +80,14 @@ pub record AreWanted (may : Answer → Type 0) (w : Wanted) (files : List Source
   pub cut : files ≡ named ++ found
   pub are_named : AreNamed may w.kind (map (λ f. f.now) w.files.now) named
   pub are_found : AreInFolders may w.folders.items found
+
+-- the bytes that the disk may say are at the path, if there is a path, and none where there isn't
+abbrev pub IsContentAt : (Answer → Type 0) → Option (List ℕ) → Option (List ℕ) → Type 0
+IsContentAt may (Some path) (Some bytes) = may (Content path bytes)
+IsContentAt may (Some path) None = ⊥
+IsContentAt may None (Some bytes) = ⊥
+IsContentAt may None None = ⊤
+
+-- the bytes of the index that is wanted, and none where none is wanted
+abbrev pub IsIndexWanted : (Answer → Type 0) → Wanted → Option (List ℕ) → Type 0
+IsIndexWanted may w index = IsContentAt may (option_copied w.index) index

@@ -1,7 +1,8 @@
--- The files and folders that a line asks for.
+-- The files, the folders and the index that a line asks for.
 use Rattle.std.specs.Prelude.{◌≡◌, ◌++◌, ℕ, List, [], ◌∷◌, codes, if◌then◌else◌, map, string_bytes}
 use Rattle.std.specs.List.{flat_map}
-use Rattle.engine_line.specs.Kinds.{kind_named, kinds_read, names_files_of}
+use Rattle.std.specs.Option.{option_copied}
+use Rattle.engine_line.specs.Kinds.{kind_named, kinds_read, reads_folders_of}
 use Rattle.engine_line.specs.declared.Line.{Line}
 use Rattle.text_files.specs.declared.source_file.FileKind.{FileKind}
 use Rattle.text_files.specs.declared.source_file.FileKind.TheVariants.{Hwdb, Rules}
@@ -35,16 +36,17 @@ folders_of Rules root = place Rules 0 root (codes "/etc/udev/rules.d")
     ∷ place Rules 2 root (codes "/usr/local/lib/udev/rules.d")
     ∷ place Rules 3 root (codes "/usr/lib/udev/rules.d") ∷ []
 
--- the folders of a kind that a line asks for: none where it names the files of that kind
+-- the folders of a kind that a line asks for: none where it names what stands in their place
 abbrev pub folders_of_kind : Line → FileKind → List Place
-folders_of_kind line kind = if names_files_of line kind then [] else folders_of kind line.root.now
+folders_of_kind line kind = if reads_folders_of line kind then folders_of kind line.root.now else []
 
 -- the folders that a line asks for: those of each kind that its subcommand reads
 abbrev pub folders_for : Line → List Place
 folders_for line = flat_map (folders_of_kind line) (kinds_read line.verb)
 
--- what the line asks for: the files that it names, in their order, what they hold, and the folders
+-- what the line asks for: the files that it names, in their order, what they hold, the folders, and the index that it names
 pub record Wants (line : Line) (w : Wanted) : Type 0 where
   pub files : map (λ f. f.now) w.files.now ≡ map (λ f. f.now) line.files.items
   pub kind : w.kind ≡ kind_named line.verb
   pub folders : places_of w.folders.items ≡ folders_for line
+  pub index : option_copied w.index ≡ option_copied line.index

@@ -1,4 +1,4 @@
-//! The files and folders that a line asks for.
+//! The files, the folders and the index that a line asks for.
 ghost use Rattle.std.specs.Prelude.{◌≡◌, IfOk};
 ghost use Rattle.devdry_files.specs.Places.{Wants, folders_for, folders_of, place, place_of, places_of};
 
@@ -57,22 +57,23 @@ fn folders_of_kind(alloc: Global, kind: FileKind, root: &str) -> Result<Vec<Fold
     }
 }
 
-// The folders of the kinds that the line reads and names no files of.
+// The folders of the kinds that the line reads from folders.
 fn asked_folders(alloc: Global, line: &Line<'_>) -> Result<Vec<Folder>, AllocError>
     ensures { IfOk result (λ folders. places_of folders.items ≡ folders_for line.now) }
 {
     let mut folders = Vec::new(alloc);
     for kind in line.verb.kinds_read() {
-        if !line.names_files_of(*kind) {
+        if line.reads_folders_of(*kind) {
             folders.append(&mut folders_of_kind(alloc, *kind, line.root)?)?;
         }
     }
     Ok(folders)
 }
 
-/// The files and folders that a line asks for.
+/// The files, the folders and the index that a line asks for.
 ///
-/// Named files stand in place of the folders of their kind, as with `udevadm verify`. `update` and
+/// Named files stand in place of the folders of their kind, as with `udevadm verify`, and an index in
+/// place of those of the database. `update` and
 /// `query` ask for files of the database, and their folders are those of hwdb(7):
 /// `/etc/udev/hwdb.d` with rank 0 and `/usr/lib/udev/hwdb.d` with rank 1. `verify` asks for files of
 /// rules, and its folders are those of udev(7): `/etc/udev/rules.d` with rank 0,
@@ -85,5 +86,6 @@ pub fn wanted<'b, 'a>(alloc: Global, line: &'b Line<'a>) -> Result<Wanted<'b, 'a
         kind: line.verb.kind_named(),
         files: line.files.as_slice(),
         folders: asked_folders(alloc, line)?,
+        index: line.index,
     })
 }

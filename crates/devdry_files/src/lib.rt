@@ -1,4 +1,4 @@
-//! The files and folders that a command line asks for, and their reading.
+//! The files, the folders and the index that a command line asks for, and their reading.
 //!
 //! Below this crate nothing opens a file: what stands in one is handed on whole and in memory. So
 //! all that can fail outside the program before its input and output begin fails here, and a fault
@@ -21,5 +21,5 @@ pub use disk::{Disk, DiskFault, Entry};
 pub use fault::ReadFault;
 pub use memory_disk::{MemoryDisk, MemoryEntry, MemoryPlace, Stands};
 pub use places::{Folder, Wanted};
-pub use reading::read_all;
+pub use reading::{read_all, read_index};
 pub use real_disk::RealDisk;

@@ -1,4 +1,4 @@
-//! What is to be read: the files that are named, and folders.
+//! What is to be read: the files that are named, folders, and an index.
 
 use text_files::FileKind;
 
@@ -22,4 +22,6 @@ pub struct Wanted<'b, 'a> {
     pub files: &'b [&'a str],
     /// The folders, in the order in which they are read.
     pub folders: Vec<Folder>,
+    /// The path of the index, if one is named. It is read last.
+    pub index: Option<&'a str>,
 }

@@ -1,9 +1,9 @@
 //! Reads what a line asks for.
 ghost use Rattle.std.specs.Prelude.{◌≡◌, ◌++◌, ◌∷◌, IfErr, IfOk, map, string_bytes};
 ghost use Rattle.text_bytes.specs.Names.{slash};
-ghost use Rattle.devdry_files.specs.Answers.Answer.{NoContent};
-ghost use Rattle.devdry_files.specs.Faults.{HasPath, IsFaultyIn, IsFaultyInOneOf, IsFaultyNamed, IsFaultyWanted, IsUnread};
-ghost use Rattle.devdry_files.specs.Found.{AreInFolder, AreInFolders, AreNamed, AreWanted, IsFileAt, path_in};
+ghost use Rattle.devdry_files.specs.Answers.Answer.{Content, NoContent};
+ghost use Rattle.devdry_files.specs.Faults.{HasPath, IsFaultyIn, IsFaultyInOneOf, IsFaultyIndex, IsFaultyNamed, IsFaultyWanted, IsUnread};
+ghost use Rattle.devdry_files.specs.Found.{AreInFolder, AreInFolders, AreNamed, AreWanted, IsFileAt, IsIndexWanted, path_in};
 
 use crate::disk::{Disk, DiskFault};
 use crate::fault::{ReadFault, fault_at};
@@ -12,6 +12,21 @@ use crate::places::{Folder, Wanted};
 use std::alloc::{AllocError, Global};
 use text_bytes::Bytes;
 use text_files::{FileKind, SourceFile};
+
+// The bytes of the file at a path.
+fn bytes_at<D: Disk>(alloc: Global, disk: &D, path: String) -> Result<Bytes, ReadFault>
+    ensures bytes { IfOk result (λ bytes.
+        D.may_answer disk.now (Content (string_bytes path) bytes)) }
+    ensures fault { IfErr result (HasPath (λ p. (p ≡ string_bytes path)
+        × IsUnread (D.may_answer disk.now) p)) }
+    ensures memory { IfErr result (λ fault. fault ≡ ReadFault.Memory
+        → D.may_answer disk.now (NoContent (string_bytes path) DiskFault.OutOfMemory)) }
+{
+    match disk.read(alloc, path.as_str()) {
+        Ok(bytes) => Ok(bytes),
+        Err(fault) => Err(fault_at(path, fault)),
+    }
+}
 
 // The file at a path, told of by a name.
 fn file_at<D: Disk>(
@@ -29,14 +44,14 @@ fn file_at<D: Disk>(
     ensures memory { IfErr result (λ fault. fault ≡ ReadFault.Memory
         → D.may_answer disk.now (NoContent (string_bytes path) DiskFault.OutOfMemory)) }
 {
-    match disk.read(alloc, path.as_str()) {
+    match bytes_at(alloc, disk, path) {
         Ok(bytes) => Ok(SourceFile {
             kind,
             rank,
             name,
             bytes,
         }),
-        Err(fault) => Err(fault_at(path, fault)),
+        Err(fault) => Err(fault),
     }
 }
 
@@ -159,4 +174,33 @@ pub fn read_all<D: Disk>(
     let mut files = named_files(alloc, disk, wanted.kind, wanted.files)?;
     files.append(&mut files_of_folders(alloc, disk, wanted.folders.as_slice())?)?;
     Ok(files)
+}
+
+// The bytes of the file at a path that is named.
+fn named_bytes<D: Disk>(alloc: Global, disk: &D, path: &str) -> Result<Bytes, ReadFault>
+    ensures bytes { IfOk result (λ bytes. D.may_answer disk.now (Content path.now bytes)) }
+    ensures fault { IfErr result (HasPath (λ p. (p ≡ path.now)
+        × IsUnread (D.may_answer disk.now) p)) }
+{
+    let path = String::from_str(alloc, path)?;
+    bytes_at(alloc, disk, path)
+}
+
+/// Reads the index that is wanted, if one is: all bytes of the file at its path.
+///
+/// `ReadFault::Path` comes where the file can't be read, or where there is none, with the path as it
+/// is named; `ReadFault::Memory` where an allocation was refused. Whether the bytes are an index is
+/// not looked at.
+pub fn read_index<D: Disk>(
+    alloc: Global,
+    disk: &D,
+    wanted: &Wanted<'_, '_>,
+) -> Result<Option<Bytes>, ReadFault>
+    ensures index { IfOk result (IsIndexWanted (D.may_answer disk.now) wanted.now) }
+    ensures fault { IfErr result (HasPath (IsFaultyIndex (D.may_answer disk.now) wanted.now)) }
+{
+    match wanted.index {
+        Some(path) => Ok(Some(named_bytes(alloc, disk, path)?)),
+        None => Ok(None),
+    }
 }

@@ -1,6 +1,7 @@
 -- What the definitions say of words that are written out.
-use Rattle.std.proofs.Common.{◌≡◌, Bool, refl, true, false, List, [], ◌∷◌, Some, codes, option_map}
+use Rattle.std.proofs.Common.{◌≡◌, Bool, refl, true, false, List, [], ◌∷◌, Option, Some, codes, option_map}
 use Rattle.clap.specs.Walk.{Text}
+use Rattle.clap.specs.Words.{first_of}
 use Rattle.clap.specs.Simple.{subcommand_of}
 use Rattle.clap.specs.Takes.{takes}
 use Rattle.clap.specs.Faults.{fault_of}
@@ -24,6 +25,18 @@ query_has_its_files = refl
 query_has_its_flag : option_map {U = Bool × Bool} (λ p. (is_set (codes "sources") p.1, is_set (codes "strict") p.1)) (subcommand_of devdry query_words) ≡ Some (true, false)
 unfolding clap_on_literals devdry
 query_has_its_flag = refl
+
+abbrev index_words : List Text
+index_words = codes "query" ∷ codes "--index" ∷ codes "hwdb.index" ∷ codes "usb:v1" ∷ []
+
+query_has_its_index : option_map {U = Text × (Option Text × List Text)} (λ p. (p.0, (first_of (codes "index") p.1, texts_of (codes "FILE") p.1))) (subcommand_of devdry index_words)
+    ≡ Some (codes "query", (Some (codes "hwdb.index"), []))
+unfolding clap_on_literals devdry
+query_has_its_index = refl
+
+index_of_update : fault_of devdry (codes "update" ∷ codes "--index" ∷ codes "hwdb.index" ∷ []) ≡ kind.UnknownArgument ∷ []
+unfolding clap_on_literals devdry
+index_of_update = refl
 
 update_is_taken : takes devdry (codes "update" ∷ codes "-s" ∷ codes "--root" ∷ codes "none" ∷ codes "a.hwdb" ∷ []) ≡ true
 unfolding clap_on_literals devdry

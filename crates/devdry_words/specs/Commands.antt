@@ -34,6 +34,10 @@ strict_rule = record (flag_rule (codes "strict")) { short = Some letter_s }
 abbrev pub sources_rule : Rule
 sources_rule = flag_rule (codes "sources")
 
+-- `--index FILE`
+abbrev pub index_rule : Rule
+index_rule = record (new_rule (codes "index")) { long = Some (codes "index"); value_names = 1 }
+
 -- `MODALIAS`, which has to be there
 abbrev pub modalias_rule : Rule
 modalias_rule = record (new_rule (codes "MODALIAS")) { required = true }
@@ -58,19 +62,19 @@ with_rules name rules = record (new_shape name) { rules = rules }
 abbrev pub update_shape : Shape
 update_shape = with_rules (codes "update") (root_rule ∷ strict_rule ∷ files_rule ∷ [])
 
--- `query [-r DIR] [--sources] MODALIAS [FILE]..`
+-- `query [-r DIR] [--sources] [--index FILE] MODALIAS [FILE]..`
 abbrev pub query_shape : Shape
 query_shape = with_rules (codes "query")
-    (root_rule ∷ sources_rule ∷ modalias_rule ∷ files_rule ∷ [])
+    (root_rule ∷ sources_rule ∷ index_rule ∷ modalias_rule ∷ files_rule ∷ [])
 
 -- `verify [-r DIR] [--no-summary] [--no-style] [FILE]..`
 abbrev pub verify_shape : Shape
 verify_shape = with_rules (codes "verify")
     (root_rule ∷ no_summary_rule ∷ no_style_rule ∷ files_rule ∷ [])
 
--- `events [-r DIR] [FILE]..`
+-- `events [-r DIR] [--index FILE] [FILE]..`
 abbrev pub events_shape : Shape
-events_shape = with_rules (codes "events") (root_rule ∷ files_rule ∷ [])
+events_shape = with_rules (codes "events") (root_rule ∷ index_rule ∷ files_rule ∷ [])
 
 -- the program without its subcommands: the words come without its name, one subcommand has to be
 -- there, and each has the program's version

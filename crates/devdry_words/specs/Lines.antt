@@ -1,7 +1,7 @@
 -- The line that a user's words stand for, and what a fault says of them.
-use Rattle.std.specs.Prelude.{◌≡◌, ◌⊎◌, ⊤, List, [], Bool, Option, IsSomeAnd, not}
-use Rattle.std.specs.Prelude.{map, unwrap_or, codes, false}
-use Rattle.std.specs.Option.{option_map_or}
+use Rattle.std.specs.Prelude.{◌≡◌, ◌==◌, ◌&&◌, ◌⊎◌, ⊤, List, [], Bool, Option, IsSomeAnd, is_some, not}
+use Rattle.std.specs.Prelude.{map, unwrap_or, codes, true, false, string_bytes, vec_len}
+use Rattle.std.specs.Option.{option_map, option_map_or}
 use Rattle.std.specs.Str.{bytes_eq}
 use Rattle.clap.specs.Words.{IsAmong, Kinds, Row, Text, all_of, first_of}
 use Rattle.clap.specs.declared.error.kind.ErrorKind.{ErrorKind}
@@ -39,6 +39,7 @@ is_set id rows = option_map_or (λ t. bytes_eq t (codes "true")) (first_of id ro
 pub record Reads (rows : List Row) (line : Line) : Type 0 where
   pub root : line.root.now ≡ text_of (codes "root") rows
   pub files : map (λ f. f.now) line.files.items ≡ texts_of (codes "FILE") rows
+  pub index : option_map (λ i. i.now) line.index ≡ first_of (codes "index") rows
   pub strict : line.strict ≡ is_set (codes "strict") rows
   pub sources : line.sources ≡ is_set (codes "sources") rows
   pub modalias : line.modalias.now ≡ text_of (codes "MODALIAS") rows
@@ -52,6 +53,21 @@ NamesVerb asked = IsSomeAnd asked (λ p. IsVerbName p.0)
 -- the line is that of the subcommand, named with its matches
 abbrev pub IsLineOf : Option (Text × List Row) → Line → Type 0
 IsLineOf asked line = IsSomeAnd asked (λ p. (name_of line.verb ≡ p.0) × Reads p.1 line)
+
+-- the verb is that of `query`
+abbrev pub is_query : Verb → Bool
+is_query Query = true
+is_query Update = false
+is_query Verify = false
+is_query Events = false
+
+-- whether the line is a query that names two databases: files and an index
+abbrev pub names_two : Line → Bool
+names_two line = is_query line.verb && is_some line.index && not (vec_len line.files == 0)
+
+-- what is said of a query that names two databases
+abbrev pub two_databases : Text
+two_databases = codes "error: the argument '--index <FILE>' cannot be used with '[FILE]...'\n\nUsage: devdry query --index <FILE> <MODALIAS>\n\nFor more information, try '--help'.\n"
 
 -- the kind of clap's answer is a request for help or for the version
 abbrev pub IsRequest : ErrorKind → Type 0
@@ -67,3 +83,20 @@ IsAnswer Memory k = ⊤
 abbrev pub AnswersOneOf : Kinds → LineFault → Type 0
 AnswersOneOf kinds fault =
     (fault ≡ Memory) ⊎ ((k : ErrorKind) × IsAmong k kinds × IsAnswer fault k)
+
+-- it is usage with this text, or memory ran out
+abbrev pub IsUsageOf : Text → LineFault → Type 0
+IsUsageOf said (Help text) = ⊥
+IsUsageOf said (Usage text) = string_bytes text ≡ said
+IsUsageOf said Memory = ⊤
+
+-- the subcommand, named with its matches, is a query that names two databases, and the fault says so
+pub record NamesTwo (asked : Option (Text × List Row)) (fault : LineFault) : Type 0 where
+  pub line : Line
+  pub is_line : IsLineOf asked line
+  pub two : names_two line ≡ true
+  pub said : IsUsageOf two_databases fault
+
+-- the fault answers one of clap's kinds; or there are none, and it says that a query names two databases
+abbrev pub AnswersWords : Kinds → Option (Text × List Row) → LineFault → Type 0
+AnswersWords kinds asked fault = AnswersOneOf kinds fault ⊎ ((kinds ≡ []) × NamesTwo asked fault)

@@ -4,8 +4,8 @@
 //! in each. `clap` wraps no text here, so that the texts of the help are broken by hand.
 ghost use Rattle.std.specs.Prelude.{◌≡◌, IfOk, false};
 ghost use Rattle.clap.specs.Words.{app_of, rule_of};
-ghost use Rattle.devdry_words.specs.Commands.{IsCommand, devdry, events_shape, files_rule, flag_rule, modalias_rule};
-ghost use Rattle.devdry_words.specs.Commands.{no_style_rule, no_summary_rule, program as program_app};
+ghost use Rattle.devdry_words.specs.Commands.{IsCommand, devdry, events_shape, files_rule, flag_rule, index_rule};
+ghost use Rattle.devdry_words.specs.Commands.{modalias_rule, no_style_rule, no_summary_rule, program as program_app};
 ghost use Rattle.devdry_words.specs.Commands.{query_shape, root_rule, sources_rule, strict_rule};
 ghost use Rattle.devdry_words.specs.Commands.{update_shape, verify_shape};
 
@@ -16,7 +16,7 @@ const STATUSES: &str = "Status:
   0  all went well, or help was asked for
   1  verify found a bad file, or there was a message and
      --strict was given, or an event block is faulty, or there
-     are too many rules or entries
+     are too many rules or entries, or the index is refused
   2  the words of the command are not understood
   3  a file, the input or an output failed
   4  out of memory
@@ -25,6 +25,8 @@ Examples:
   devdry verify 60-mine.rules
   devdry query usb:v1D6Bp0002 20-usb.hwdb
   devdry events 60-mine.rules < disk.block
+  devdry update 20-usb.hwdb > hwdb.index
+  devdry query --index hwdb.index usb:v1D6Bp0002
 ";
 
 const DATABASE_FILES: &str = "Database files to read in place of the folders";
@@ -62,6 +64,15 @@ fn sources_flag<'a>(alloc: Global) -> Arg<'a>
     flag(alloc, "sources", "Say where each property comes from")
 }
 
+fn index_option<'a>(alloc: Global) -> Arg<'a>
+    ensures { (rule_of result ≡ index_rule) × (result.global ≡ false) }
+{
+    Arg::new(alloc, "index")
+        .long("index")
+        .value_name("FILE")
+        .help("Index to read in place of the database's folders")
+}
+
 fn no_summary_flag<'a>(alloc: Global) -> Arg<'a>
     ensures { (rule_of result ≡ no_summary_rule) × (result.global ≡ false) }
 {
@@ -96,7 +107,7 @@ fn update_command<'a>(alloc: Global) -> Result<Command<'a>, AllocError>
     ensures { IfOk result (IsCommand update_shape) }
 {
     Command::new(alloc, "update")
-        .about("Checks the files of the hardware database")
+        .about("Checks the files of the hardware database and writes its index")
         .arg(root_option(alloc))?
         .arg(strict_flag(alloc))?
         .arg(files_argument(alloc, DATABASE_FILES))
@@ -109,6 +120,7 @@ fn query_command<'a>(alloc: Global) -> Result<Command<'a>, AllocError>
         .about("Prints the properties that the hardware database has for a device")
         .arg(root_option(alloc))?
         .arg(sources_flag(alloc))?
+        .arg(index_option(alloc))?
         .arg(modalias_argument(alloc))?
         .arg(files_argument(alloc, DATABASE_FILES))
 }
@@ -130,6 +142,7 @@ fn events_command<'a>(alloc: Global) -> Result<Command<'a>, AllocError>
     Command::new(alloc, "events")
         .about("Answers the event blocks of the standard input")
         .arg(root_option(alloc))?
+        .arg(index_option(alloc))?
         .arg(files_argument(alloc, RULES_FILES))
 }
 

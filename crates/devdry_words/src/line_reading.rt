@@ -3,7 +3,7 @@ ghost use Rattle.std.specs.Prelude.{◌≡◌, IfOk};
 ghost use Rattle.clap.specs.Words.{found_of, rows_of};
 ghost use Rattle.devdry_words.specs.Lines.{IsVerbName, Reads, name_of};
 
-use crate::values::{files, is_given, text};
+use crate::values::{files, is_given, text, value};
 use clap::ArgMatches;
 use engine_line::{Line, Verb};
 use std::alloc::{AllocError, Global};
@@ -34,6 +34,7 @@ pub fn line_with<'a>(
         verb,
         root: text(matches, "root"),
         files: files(alloc, matches)?,
+        index: value(matches, "index"),
         strict: is_given(matches, "strict"),
         sources: is_given(matches, "sources"),
         modalias: text(matches, "MODALIAS"),

@@ -10,7 +10,7 @@ const HELP: &str = "A dry run of udev's rules and hardware database
 Usage: devdry <COMMAND>
 
 Commands:
-  update  Checks the files of the hardware database
+  update  Checks the files of the hardware database and writes its index
   query   Prints the properties that the hardware database has for a device
   verify  Checks rules files
   events  Answers the event blocks of the standard input
@@ -24,7 +24,7 @@ Status:
   0  all went well, or help was asked for
   1  verify found a bad file, or there was a message and
      --strict was given, or an event block is faulty, or there
-     are too many rules or entries
+     are too many rules or entries, or the index is refused
   2  the words of the command are not understood
   3  a file, the input or an output failed
   4  out of memory
@@ -33,9 +33,11 @@ Examples:
   devdry verify 60-mine.rules
   devdry query usb:v1D6Bp0002 20-usb.hwdb
   devdry events 60-mine.rules < disk.block
+  devdry update 20-usb.hwdb > hwdb.index
+  devdry query --index hwdb.index usb:v1D6Bp0002
 ";
 
-const UPDATE_HELP: &str = "Checks the files of the hardware database
+const UPDATE_HELP: &str = "Checks the files of the hardware database and writes its index
 
 Usage: devdry update [OPTIONS] [FILE]...
 
@@ -58,10 +60,11 @@ Arguments:
   [FILE]...   Database files to read in place of the folders
 
 Options:
-  -r, --root <DIR>  Folder to put before each folder that is read
-      --sources     Say where each property comes from
-  -h, --help        Print help
-  -V, --version     Print version
+  -r, --root <DIR>    Folder to put before each folder that is read
+      --sources       Say where each property comes from
+      --index <FILE>  Index to read in place of the database's folders
+  -h, --help          Print help
+  -V, --version       Print version
 ";
 
 const VERIFY_HELP: &str = "Checks rules files
@@ -87,9 +90,17 @@ Arguments:
   [FILE]...  Rules files to read in place of the folders
 
 Options:
-  -r, --root <DIR>  Folder to put before each folder that is read
-  -h, --help        Print help
-  -V, --version     Print version
+  -r, --root <DIR>    Folder to put before each folder that is read
+      --index <FILE>  Index to read in place of the database's folders
+  -h, --help          Print help
+  -V, --version       Print version
+";
+
+const TWO_DATABASES: &str = "error: the argument '--index <FILE>' cannot be used with '[FILE]...'
+
+Usage: devdry query --index <FILE> <MODALIAS>
+
+For more information, try '--help'.
 ";
 
 // The words of a text, cut at its blanks.
@@ -110,6 +121,24 @@ fn reads_a_query(rt: HostRuntime) -> Result<(), Fail> {
     assert_eq!(rt; line.files.as_slice(), ["a.hwdb", "-b"].as_slice());
     assert_eq!(rt; line.modalias, "usb:v1");
     assert!(rt; line.sources && !line.strict);
+    assert_eq!(rt; line.index, None);
+    Ok(())
+}
+
+#[test]
+fn reads_an_index(rt: HostRuntime) -> Result<(), Fail> {
+    for (text, verb, index, files) in [
+        ("query --index a.index m", Verb::Query, "a.index", 0),
+        ("query m --index=- --sources", Verb::Query, "-", 0),
+        ("events --index a.index", Verb::Events, "a.index", 0),
+        ("events a.rules --index i b.rules", Verb::Events, "i", 2),
+    ] {
+        let words = words_of(rt.alloc(), text)?;
+        let line = parse_line(rt.alloc(), &words)?;
+        assert_eq!(rt; line.verb, verb, "{text}");
+        assert_eq!(rt; line.index, Some(index), "{text}");
+        assert_eq!(rt; line.files.len(), files, "{text}");
+    }
     Ok(())
 }
 
@@ -199,6 +228,16 @@ fn says_how_it_is_used(rt: HostRuntime) -> Result<(), Fail> {
             "verify --sources",
             "error: unexpected argument '--sources' found\n",
         ),
+        (
+            "update --index a.index",
+            "error: unexpected argument '--index' found\n",
+        ),
+        (
+            "query m --index",
+            "error: a value is required for '--index <FILE>' but none was supplied\n",
+        ),
+        ("query --index a.index m a.hwdb", TWO_DATABASES),
+        ("query m a.hwdb b.hwdb --index=a.index", TWO_DATABASES),
         (
             "install",
             "error: unrecognized subcommand 'install'\n\nUsage: devdry <COMMAND>\n",

@@ -1,5 +1,5 @@
 -- The kinds of files that a line speaks of.
-use Rattle.std.specs.Prelude.{Bool, true, false, ◌&&◌, ◌==◌, not, List, [], ◌∷◌, vec_len}
+use Rattle.std.specs.Prelude.{Bool, true, false, ◌&&◌, ◌==◌, is_some, not, List, [], ◌∷◌, vec_len}
 use Rattle.engine_line.specs.declared.Line.{Line}
 use Rattle.engine_line.specs.declared.Verb.{Verb}
 use Rattle.engine_line.specs.declared.Verb.TheVariants.{Update, Query, Verify, Events}
@@ -30,3 +30,8 @@ same_kind Rules Rules = true
 -- whether the line names the files of the kind: it names files, and they are of that kind
 abbrev pub names_files_of : Line → FileKind → Bool
 names_files_of line kind = same_kind kind (kind_named line.verb) && not (vec_len line.files == 0)
+
+-- whether files of the kind are read from the folders: the line names none of them, and no index in place of those of the
+-- database
+abbrev pub reads_folders_of : Line → FileKind → Bool
+reads_folders_of line kind = not (names_files_of line kind) && not (same_kind kind Hwdb && is_some line.index)

@@ -1,9 +1,10 @@
 //! The kinds of files that a line speaks of.
 //!
 //! A subcommand may read files of several kinds. The files that its line names are of one of them,
-//! and they stand in place of the folders of that kind alone.
+//! and they stand in place of the folders of that kind alone. An index stands in place of those of
+//! the database.
 ghost use Rattle.std.specs.Prelude.{◌≡◌};
-ghost use Rattle.engine_line.specs.Kinds.{kind_named, kinds_read, names_files_of, same_kind};
+ghost use Rattle.engine_line.specs.Kinds.{kind_named, kinds_read, names_files_of, reads_folders_of, same_kind};
 
 use crate::{Line, Verb};
 use text_files::FileKind;
@@ -33,13 +34,20 @@ impl Verb {
 
 impl Line<'_> {
     /// Whether the line names the files of a kind: it names files, and they are of that kind.
-    ///
-    /// Where it doesn't, a subcommand that reads files of the kind has them from the folders.
     pub fn names_files_of(&self, kind: FileKind) -> bool
         ensures { result ≡ names_files_of self.now kind }
     {
         let is_named = same_kind(kind, self.verb.kind_named());
         is_named & !self.files.is_empty()
+    }
+
+    /// Whether a subcommand that reads files of a kind has them from the folders: the line names none
+    /// of them, and no index in place of those of the database.
+    pub fn reads_folders_of(&self, kind: FileKind) -> bool
+        ensures { result ≡ reads_folders_of self.now kind }
+    {
+        let has_index = same_kind(kind, FileKind::Hwdb) & self.index.is_some();
+        !self.names_files_of(kind) & !has_index
     }
 }
 

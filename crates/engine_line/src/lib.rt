@@ -33,6 +33,9 @@ pub struct Line<'a> {
     pub root: &'a str,
     /// The files that are named, in the order given.
     pub files: Vec<&'a str>,
+    /// The index that is named, if any: it stands in place of the database's folders. `update` and
+    /// `verify` name none.
+    pub index: Option<&'a str>,
     /// Whether a message makes `update` fail.
     pub strict: bool,
     /// Whether `query` says where each property comes from.

@@ -34,6 +34,7 @@ fn read<'a>(
         verb,
         root,
         files: Vec::from_slice(rt.alloc(), names)?,
+        index: None,
         strict: false,
         sources: false,
         modalias: "m",

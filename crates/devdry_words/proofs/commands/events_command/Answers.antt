@@ -9,4 +9,5 @@ pub returns : goal.returns
 returns c =
     let start : IsCommand (new_shape (codes "events")) c.about.result = search rules in
     let first = one_more _ _ _ _ _ start c.root_option.ensures c.in_ok-arg.ensures in
-    IfOk-weaker c.arg-2.result _ _ (λ m h. one_more _ _ _ _ _ first c.files_argument.ensures h) c.arg-2.ensures
+    let second = one_more _ _ _ _ _ first c.index_option.ensures c.in_ok-arg-2.ensures in
+    IfOk-weaker c.arg-3.result _ _ (λ m h. one_more _ _ _ _ _ second c.files_argument.ensures h) c.arg-3.ensures

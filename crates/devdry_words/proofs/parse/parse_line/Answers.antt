@@ -1,12 +1,14 @@
-use Rattle.std.proofs.Common.{◌≡◌, ◌∙◌, ◌⊎◌, inl, inr, List, [], Result, Ok, Err, IfOk, ap, sym, subst, true}
-use Rattle.clap.specs.Words.{App, IsAmong, HasMatchesOf, Text, fault_of, is_simple, is_simple_and_free, subcommand_of, subcommand_rows_of}
+use Rattle.std.proofs.Common.{◌≡◌, ◌∙◌, ◌⊎◌, inl, inr, List, [], Option, Result, Ok, Err, IfErr, IfOk, ap, sym, subst, true}
+use Rattle.std.proofs.lemmas.Result.{IfErr-weaker}
+use Rattle.clap.specs.Words.{App, IsAmong, HasMatchesOf, Kinds, Row, Text, fault_of, is_simple, is_simple_and_free, subcommand_of, subcommand_rows_of}
 use Rattle.clap.specs.declared.parser.matches.ArgMatches.{ArgMatches}
 use Rattle.clap.specs.declared.error.kind.ErrorKind.{ErrorKind}
 use Rattle.clap.specs.declared.error.kind.ErrorKind.TheVariants as kind
+use Rattle.engine_line.specs.declared.Line.{Line}
 use Rattle.engine_line.specs.declared.LineFault.{LineFault}
 use Rattle.engine_line.specs.declared.LineFault.TheVariants.{Memory}
 use Rattle.devdry_words.specs.Commands.{devdry}
-use Rattle.devdry_words.specs.Lines.{AnswersOneOf, IsAnswer, IsLineOf, NamesVerb}
+use Rattle.devdry_words.specs.Lines.{AnswersOneOf, AnswersWords, IsAnswer, IsLineOf, NamesTwo, NamesVerb}
 use Rattle.devdry_words.proofs.Asked.{devdry_is_simple, devdry_is_simple_and_free, names_a_verb}
 use Rattle.devdry_words.proofs.parse.parse_line.Goals as goal
 
@@ -28,10 +30,18 @@ answered a words k f is fails memory said = elim (fails (ap is_simple_and_free i
   | inr among ↦ inr (k, subst (λ x. IsAmong k (fault_of x words)) is among, said)
 ]
 
+-- what refuses a line answers words that are not at fault
+refused : (r : Result Line LineFault) (kinds : Kinds) (asked : Option (Text × List Row)) → kinds ≡ [] → IfErr r (λ f. (f ≡ Memory) ⊎ NamesTwo asked f)
+    → IfErr r (AnswersWords kinds asked)
+refused r kinds asked none h = IfErr-weaker r _ _ (λ f why. elim why [
+  | inl memory ↦ inl (inl memory)
+  | inr two ↦ inr (none, two)
+]) h
+
 pub returns-in-Err-try_get_matches_from-clause-fault :
     goal.returns-in-Err-try_get_matches_from-clause-fault
 returns-in-Err-try_get_matches_from-clause-fault c =
-    answered _ _ _ _ c.in-Ok.ensures c.in-Err-try_get_matches_from.ensures.kinds c.fault_from.ensures.memory c.fault_from.ensures.kind
+    inl (answered _ _ _ _ c.in-Ok.ensures c.in-Err-try_get_matches_from.ensures.kinds c.fault_from.ensures.memory c.fault_from.ensures.kind)
 
 pub line_of-requires : goal.line_of-requires
 line_of-requires c =
@@ -48,3 +58,16 @@ pub returns-in-Ok-try_get_matches_from-clause-faultless :
     goal.returns-in-Ok-try_get_matches_from-clause-faultless
 returns-in-Ok-try_get_matches_from-clause-faultless c =
     always c.line_of.result (faultless _ _ c.in-Ok.ensures c.in-Ok-try_get_matches_from.ensures.kinds)
+
+pub returns-in-Ok-try_get_matches_from-clause-fault :
+    goal.returns-in-Ok-try_get_matches_from-clause-fault
+returns-in-Ok-try_get_matches_from-clause-fault c =
+    let parsed = c.in-Ok-try_get_matches_from.ensures in
+    refused _ _ _ (faultless _ _ c.in-Ok.ensures parsed.kinds)
+    (subst (λ asked. IfErr c.line_of.result (λ f. (f ≡ Memory) ⊎ NamesTwo asked f)) (asked_is _ _ _ c.in-Ok.ensures parsed.matches) c.line_of.ensures.refusal)
+
+pub returns-in-Ok-try_get_matches_from-clause-refusal :
+    goal.returns-in-Ok-try_get_matches_from-clause-refusal
+returns-in-Ok-try_get_matches_from-clause-refusal c _ =
+    let parsed = c.in-Ok-try_get_matches_from.ensures in
+    subst (λ asked. IfErr c.line_of.result (λ f. (f ≡ Memory) ⊎ NamesTwo asked f)) (asked_is _ _ _ c.in-Ok.ensures parsed.matches) c.line_of.ensures.refusal

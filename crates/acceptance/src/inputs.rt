@@ -1,6 +1,8 @@
 //! Inputs of `events` that come in pieces, that are faulty, or over devices that fail.
-use crate::running::{Outcome, assert_bytes, assert_outcome, files_of, input_of, line, run_on};
-use engine_core::{MemorySink, MemorySource, Session, Tables, Verb, serve, turn};
+use crate::running::{
+    Outcome, assert_bytes, assert_outcome, files_of, input_of, line, run_on, serve_over,
+};
+use engine_core::{MemorySink, MemorySource, Session, Tables, Verb, turn};
 use hwdb_core::{PlainDb, read_sources};
 use rule_core::read_rules;
 use std::alloc::Global;
@@ -41,7 +43,7 @@ fn run_over(
     error: &mut MemorySink,
 ) -> Result<Outcome, Fail> {
     let events = line(alloc, Verb::Events, "");
-    let status = serve(
+    let status = serve_over(
         alloc,
         &events,
         files_with(alloc, RULE)?,
@@ -263,7 +265,7 @@ fn without_its_messages_nothing_is_answered(rt: HostRuntime) -> Result<(), Fail>
     let mut output = MemorySink::new(alloc, 4096, 4096)?;
     let mut error = MemorySink::new(alloc, 0, 4096)?;
     let files = files_with(alloc, "FOO==\"x\"\n")?;
-    let status = serve(
+    let status = serve_over(
         alloc,
         &events,
         files,

@@ -20,9 +20,9 @@ pub(crate) fn line<'a>(alloc: Global, verb: Verb, modalias: &'a str) -> Line<'a>
         verb,
         root: "",
         files: Vec::new(alloc),
-        index: None,
         strict: false,
         sources: false,
+        index: None,
         modalias,
         summary: true,
         style: true,
@@ -71,6 +71,21 @@ pub(crate) fn input_of(alloc: Global, text: &[u8], each: usize) -> Result<Memory
     Ok(MemorySource::new(alloc, bytes, reads, each, text.len())?)
 }
 
+/// Runs a line over these devices.
+///
+/// All tests come here: a function that calls `serve` itself is slow to check, by its long contract.
+pub(crate) fn serve_over(
+    alloc: Global,
+    line: &Line<'_>,
+    files: Vec<SourceFile>,
+    index: Option<&[u8]>,
+    input: &mut MemorySource,
+    output: &mut MemorySink,
+    error: &mut MemorySink,
+) -> u8 {
+    serve(alloc, line, files, index, input, output, error)
+}
+
 /// Runs a line with room enough, over no input.
 pub(crate) fn run(alloc: Global, line: &Line<'_>, files: Vec<SourceFile>) -> Result<Outcome, Fail> {
     run_on(alloc, line, files, b"")
@@ -97,7 +112,7 @@ pub(crate) fn run_by(
     let mut input = input_of(alloc, text, 4096)?;
     let mut output = MemorySink::new(alloc, 1_000_000, 4096)?;
     let mut error = MemorySink::new(alloc, 4096, 4096)?;
-    let status = serve(
+    let status = serve_over(
         alloc,
         line,
         files,
@@ -146,5 +161,5 @@ pub(crate) fn run_over(
     error: &mut MemorySink,
 ) -> Result<u8, Fail> {
     let mut input = input_of(alloc, b"", 1)?;
-    Ok(serve(alloc, line, files, None, &mut input, output, error))
+    Ok(serve_over(alloc, line, files, None, &mut input, output, error))
 }

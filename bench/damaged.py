@@ -213,19 +213,10 @@ def share(job):
         return runs.ends, runs.faults, runs.slowest
 
 
-def has_index(program):
-    """Whether the program has the option yet."""
-    help_text = subprocess.run([program, "query", "--help"], stdout=subprocess.PIPE, check=True).stdout
-    return b"--index" in help_text
-
-
 def main(program, count, seed):
     faults = []
     with multiprocessing.Pool() as pool:
         for kind in KINDS:
-            if kind == "indexes" and not has_index(program):
-                print("indexes: query has no --index", flush=True)
-                continue
             begin = time.monotonic()
             jobs = [(program, kind, f"{seed}.{n}", min(SHARE, count - n)) for n in range(0, count, SHARE)]
             ends, slowest = collections.Counter(), 0

@@ -14,12 +14,14 @@ to end in status 4.
 
 Likewise with the Nth call that opens, looks at, lists, reads or writes, alone and with all from there on: status 3, the
 beginning of the output, and the beginning of the messages with a line on what failed, as far as the error output takes
-it. A name in a folder that can't be looked at is read as a file. Last, each read and write moves a single byte, which
+it. A name in a folder that can't be looked at is read as a file. Where the system lacks memory for such a call, the
+status is 4, but for the input and the outputs, which have failed. Last, each read and write moves a single byte, which
 changes nothing.
 
 For each row a line `ok ROW`, with how many growths were refused, how many of them were ahead of need, and how many
 calls; or `not ok ROW` with the first run that does otherwise.
 """
+import errno
 import os
 import re
 import subprocess
@@ -29,6 +31,7 @@ from concurrent.futures import ThreadPoolExecutor
 
 OUT_OF_MEMORY = b"devdry: out of memory\n"
 FAILED = re.compile(rb"devdry: (write failed|read failed|cannot read [^\n]*)\n$")
+STREAM_FAILED = re.compile(rb"devdry: (write|read) failed\n$")
 ALL = 2**63
 
 DISK_RULE = 'SUBSYSTEM=="block", KERNEL=="sd[a-z]", SYMLINK+="disk/%k"\n'
@@ -213,8 +216,8 @@ class Runs:
     def without_growths(self, first, last):
         return self.run(GROWTHS_FROM=first, GROWTHS_TO=last)
 
-    def without_calls(self, first, last):
-        return self.run(CALLS_FROM=first, CALLS_TO=last)
+    def without_calls(self, first, last, fault):
+        return self.run(CALLS_FROM=first, CALLS_TO=last, CALLS_FAULT=fault)
 
 
 class Wrong(Exception):
@@ -272,13 +275,18 @@ def refuse_calls(runs, row):
     """How many calls there were."""
     call = 1
     while True:
-        done, met = runs.without_calls(call, call)
+        done, met = runs.without_calls(call, call, errno.EIO)
         if not met:
             return call - 1
         if not (met == "look" and is_whole(done, row)):
             check_failed(f"call {call} ({met})", done, row, met)
-        done, met = runs.without_calls(call, ALL)
+        done, met = runs.without_calls(call, ALL, errno.EIO)
         check_failed(f"each call from {call} on", done, row, "write")
+        done, met = runs.without_calls(call, call, errno.ENOMEM)
+        if STREAM_FAILED.search(done.stderr) or met == "write":
+            check_failed(f"call {call} ({met}) without memory", done, row, met)
+        else:
+            check_refused(f"call {call} ({met}) without memory", done, row)
         call += 1
 
 

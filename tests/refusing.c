@@ -1,7 +1,7 @@
 /* Refuses what a program asks of its system. Loaded before the C library (LD_PRELOAD), it counts the growths of memory
  * that the program's own code asks for, from 1 on, and refuses those from GROWTHS_FROM to GROWTHS_TO; likewise its
- * calls that open, look at, list, read and write, from CALLS_FROM to CALLS_TO. The name of the first that it refuses
- * goes into the file REFUSED. Where SHORT is set, each read and write moves a byte. What the C library does on its own
+ * calls that open, look at, list, read and write, from CALLS_FROM to CALLS_TO, by the fault of the number CALLS_FAULT.
+ * The name of the first that it refuses goes into the file REFUSED. Where SHORT is set, each read and write moves a byte. What the C library does on its own
  * account is neither counted nor refused: a call counts where it returns into the program.
  * Built by: cc -shared -fPIC -O2 -o refusing.so refusing.c -ldl */
 #define _GNU_SOURCE
@@ -21,7 +21,7 @@ struct kind {
     unsigned long seen, from, to;
     int fault;
 };
-static struct kind growths = {.fault = ENOMEM}, calls = {.fault = EIO};
+static struct kind growths = {.fault = ENOMEM}, calls;
 static int moves_a_byte;
 static uintptr_t begin, end;
 
@@ -45,7 +45,7 @@ static unsigned long number(const char *name) {
 
 __attribute__((constructor)) static void prepare(void) {
     growths.from = number("GROWTHS_FROM"), growths.to = number("GROWTHS_TO");
-    calls.from = number("CALLS_FROM"), calls.to = number("CALLS_TO");
+    calls.from = number("CALLS_FROM"), calls.to = number("CALLS_TO"), calls.fault = number("CALLS_FAULT");
     moves_a_byte = getenv("SHORT") != NULL;
     dl_iterate_phdr(note_program, NULL);
 }

@@ -32,11 +32,12 @@ impl<'r, R> RealDisk<'r, R> {
 }
 
 // Whether a folder is at the path, or a symlink to one. What can't be looked at is none, so that
-// reading it says why.
-fn is_folder<R: Files>(rt: &R, path: Path<'_>) -> bool {
-    match fs::metadata(rt, path) {
-        Ok(metadata) => metadata.is_dir(),
-        Err(_) => false,
+// reading it says why; but want of memory for the look itself is told of.
+fn is_folder<R: Files>(rt: &R, path: Path<'_>) -> Result<bool, DiskFault> {
+    match fs::metadata(rt, path).map_err(DiskFault::from) {
+        Ok(metadata) => Ok(metadata.is_dir()),
+        Err(DiskFault::OutOfMemory) => Err(DiskFault::OutOfMemory),
+        Err(_) => Ok(false),
     }
 }
 
@@ -46,7 +47,7 @@ fn entry_of<R: Files>(alloc: Global, rt: &R, found: &DirEntry<R>) -> Result<Entr
 {
     Ok(Entry {
         name: String::from_str(alloc, found.file_name())?,
-        is_folder: is_folder(rt, found.path()),
+        is_folder: is_folder(rt, found.path())?,
     })
 }
 

@@ -3,8 +3,8 @@
 //! program. The rules are the lines from there to the first that begins with `C:`; an empty line ends a
 //! file.
 //!
-//! `bench/event.sh` runs it over many rules. It stands in a crate of its own since `devdry` has no
-//! command yet that reads events.
+//! `bench/event.sh` runs it over many rules. It stands in a crate of its own so that each evaluation is
+//! timed alone, without the start and the lines of `devdry events`.
 #![tactic(auto)]
 
 use device_core::{Event, SplitFault, Splitter, read_block};

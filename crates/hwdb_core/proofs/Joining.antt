@@ -94,6 +94,12 @@ module _ {X : Type 0} (f : X → Found) where
   ends start now xs [] h e = sym (join_nothing now) ∙ h
   ends start now xs (x ∷ more) h e = absurd (omega arith)
 
+  -- what is found in a list up to its last, and in that
+  pub found_in_last : (xs : List X) (x : X) → join (found_in f xs) (f x) ≡ found_in f (xs ++ x ∷ [])
+  unfolding found_in
+  found_in_last [] x = nothing_join (f x) ∙ sym (join_nothing (f x))
+  found_in_last (y ∷ xs) x = join_assoc (f y) (found_in f xs) (f x) ∙ ap (join (f y)) (found_in_last xs x)
+
   -- what is found in a list, list by list
   pub found_in_is : (xs : List X) → found_in f xs ≡ found_as (flat_map (λ x. (f x).properties) xs) (flat_map (λ x. (f x).messages) xs) (sum_by (λ x. (f x).match_bytes) xs)
   unfolding found_in join

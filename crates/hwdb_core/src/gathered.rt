@@ -76,16 +76,16 @@ impl Gathered {
         Ok(())
     }
 
-    /// Adds an entry.
+    /// Adds an entry, which takes the pattern.
     pub fn add_entry(
         &mut self,
         alloc: Global,
         file: &[u8],
-        pattern: &Pattern,
+        pattern: Pattern,
         number: usize,
         pair: &Pair<'_>,
     ) -> Result<(), HwdbFault>
-        ensures { Adds self.old self.new (record { properties = record { pattern = pattern.now; key = pair.now.key.now; value = pair.now.value.now; file = file.now; line = capped number } ∷ []; messages = []; match_bytes = 0 }) result }
+        ensures { Adds self.old self.new (record { properties = record { pattern = pattern; key = pair.now.key.now; value = pair.now.value.now; file = file.now; line = capped number } ∷ []; messages = []; match_bytes = 0 }) result }
     {
         let len = pair.key.len() + pair.value.len();
         if self.entries.len() >= MAX_ENTRIES {
@@ -95,7 +95,7 @@ impl Gathered {
             return Err(HwdbFault::TooMany);
         }
         let entry = Entry {
-            pattern: pattern.copy(alloc)?,
+            pattern,
             key: Bytes::copy_of(alloc, pair.key)?,
             value: Bytes::copy_of(alloc, pair.value)?,
             order: self.entries.len() as u32,

@@ -120,7 +120,7 @@ fn read_match(
     match Pattern::read(alloc, line.text()) {
         Ok(pattern) => {
             found.count_match(used_len(line, properties))?;
-            read_pairs(alloc, found, file, &pattern, properties)
+            read_pairs(alloc, found, file, pattern, properties)
         }
         Err(GlobFault::Memory) => Err(HwdbFault::Memory),
         Err(_) => {
@@ -130,8 +130,28 @@ fn read_match(
     }
 }
 
-/// Adds the entries that properties give a pattern.
+/// Adds the entries that properties give a pattern. The last one takes it and the others a copy, as mostly there is but
+/// one.
 fn read_pairs(
+    alloc: Global,
+    found: &mut Gathered,
+    file: &[u8],
+    pattern: Pattern,
+    properties: &[Line<'_>],
+) -> Result<(), HwdbFault>
+    ensures { Adds found.old found.new (found_in (pair_found file.now pattern) properties.now) result }
+{
+    match properties.split_last() {
+        None => Ok(()),
+        Some((last, others)) => {
+            read_copies(alloc, found, file, &pattern, others)?;
+            read_pair(alloc, found, file, pattern, last)
+        }
+    }
+}
+
+/// Adds the entries that properties give copies of a pattern.
+fn read_copies(
     alloc: Global,
     found: &mut Gathered,
     file: &[u8],
@@ -141,7 +161,8 @@ fn read_pairs(
     ensures { Adds found.old found.new (found_in (pair_found file.now pattern.now) properties.now) result }
 {
     for line in properties {
-        read_pair(alloc, found, file, pattern, line)?;
+        let own = pattern.copy(alloc)?;
+        read_pair(alloc, found, file, own, line)?;
     }
     Ok(())
 }
@@ -151,10 +172,10 @@ fn read_pair(
     alloc: Global,
     found: &mut Gathered,
     file: &[u8],
-    pattern: &Pattern,
+    pattern: Pattern,
     line: &Line<'_>,
 ) -> Result<(), HwdbFault>
-    ensures { Adds found.old found.new (pair_found file.now pattern.now line.now) result }
+    ensures { Adds found.old found.new (pair_found file.now pattern line.now) result }
 {
     match pair_of(line) {
         Ok(pair) => found.add_entry(alloc, file, pattern, line.number(), &pair),

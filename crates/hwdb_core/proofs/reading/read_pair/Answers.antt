@@ -7,9 +7,9 @@ use Rattle.hwdb_core.proofs.reading.read_pair.Goals as goal
 pub returns-in-Ok : goal.returns-in-Ok
 returns-in-Ok c =
     same_part c.args.found.now c.add_entry.new.self _ _ c.add_entry.result
-    (pair_given c.args.file.now c.args.pattern.now c.args.line.now c.number.result (record { key = c.in-Ok.pair.key.now; value = c.in-Ok.pair.value.now }) c.in-Ok.ensures c.number.ensures)
+    (pair_given c.args.file.now c.args.pattern c.args.line.now c.number.result (record { key = c.in-Ok.pair.key.now; value = c.in-Ok.pair.value.now }) c.in-Ok.ensures c.number.ensures)
     c.add_entry.ensures
 
 pub returns-in-Err : goal.returns-in-Err
 returns-in-Err c =
-    sym (join_nothing c.args.found.now) ∙ ap (join c.args.found.now) (sym (pair_missing c.args.file.now c.args.pattern.now c.args.line.now c.in-Err.field-0 c.in-Err.ensures))
+    sym (join_nothing c.args.found.now) ∙ ap (join c.args.found.now) (sym (pair_missing c.args.file.now c.args.pattern c.args.line.now c.in-Err.field-0 c.in-Err.ensures))

@@ -1,21 +1,26 @@
-use Rattle.std.proofs.Common.{◌+◌, drop}
+use Rattle.std.proofs.Common.{◌≡◌, ◌∙◌, ap, refl, sym}
 use Rattle.std.proofs.lemmas.Result.{err_from_is_err_and}
+use Rattle.hwdb_core.specs.Found.{found_in, join}
 use Rattle.hwdb_core.specs.Parts.{pair_found}
-use Rattle.hwdb_core.proofs.Joining.{ends, fails, goes_on, returned}
-use Rattle.hwdb_core.proofs.Showing.{drop_item, nothing_left}
+use Rattle.hwdb_core.proofs.Joining.{ends, first_failed, found_in_last, returned, same_failed, same_part, second_part}
 use Rattle.hwdb_core.proofs.reading.read_pairs.Goals as goal
 
-pub returns-in_err-read_pair : goal.returns-in_err-read_pair
-returns-in_err-read_pair c =
+pub returns-in-None : goal.returns-in-None
+returns-in-None c = ends (pair_found c.args.file.now c.args.pattern) c.args.found.now c.args.found.now c.args.properties.now c.args.properties.now refl c.in-None.ensures.cases
+
+pub returns-in_err-read_copies-in-Some : goal.returns-in_err-read_copies-in-Some
+returns-in_err-read_copies-in-Some c =
     let p = err_from_is_err_and c.from_residual.result c.from_residual.ensures.1 in
-    returned c.args.found.now c.read_pair.new.found _ c.from_residual.result p.0 c.in_err-read_pair.field-0.0 p.1 p.2
-    (fails (pair_found c.args.file.now c.args.pattern.now) c.args.found.now c.loop-line.found c.args.properties.now (drop c.loop-line.line-index c.args.properties.now) c.line-item.result (drop (c.loop-line.line-index + 1) c.args.properties.now) c.in_err-read_pair.field-0.0
-    c.loop-line.invariant (drop_item c.args.properties.now c.loop-line.line-index c.line-item.result c.loop-line-test.true c.line-item.is) c.in_err-read_pair.ensures)
+    let all : join (found_in (pair_found c.args.file.now c.args.pattern) c.in-Some.others.now) (pair_found c.args.file.now c.args.pattern c.in-Some.last.now) ≡ found_in (pair_found c.args.file.now c.args.pattern) c.args.properties.now =
+    found_in_last (pair_found c.args.file.now c.args.pattern) c.in-Some.others.now c.in-Some.last.now ∙ ap (found_in (pair_found c.args.file.now c.args.pattern)) (sym c.in-Some.ensures.cases.0) in
+    returned c.args.found.now c.read_copies.new.found _ c.from_residual.result p.0 c.in_err-read_copies-in-Some.field-0.0 p.1 p.2
+    (same_failed c.args.found.now _ _ c.in_err-read_copies-in-Some.field-0.0 all
+    (first_failed c.args.found.now (found_in (pair_found c.args.file.now c.args.pattern) c.in-Some.others.now) (pair_found c.args.file.now c.args.pattern c.in-Some.last.now) c.in_err-read_copies-in-Some.field-0.0 c.in_err-read_copies-in-Some.ensures))
 
-pub loop-line-preserved : goal.loop-line-preserved
-loop-line-preserved c =
-    goes_on (pair_found c.args.file.now c.args.pattern.now) c.args.found.now c.loop-line.found c.read_pair.new.found c.args.properties.now (drop c.loop-line.line-index c.args.properties.now) c.line-item.result (drop (c.loop-line.line-index + 1) c.args.properties.now)
-    c.loop-line.invariant (drop_item c.args.properties.now c.loop-line.line-index c.line-item.result c.loop-line-test.true c.line-item.is) c.in_ok-read_pair.ensures
-
-pub returns : goal.returns
-returns c = ends (pair_found c.args.file.now c.args.pattern.now) c.args.found.now c.loop-line.found c.args.properties.now (drop c.loop-line.line-index c.args.properties.now) c.loop-line.invariant (nothing_left c.args.properties.now c.loop-line.line-index c.loop-line-test.false)
+pub returns-in_ok-read_copies-in-Some : goal.returns-in_ok-read_copies-in-Some
+returns-in_ok-read_copies-in-Some c =
+    let all : join (found_in (pair_found c.args.file.now c.args.pattern) c.in-Some.others.now) (pair_found c.args.file.now c.args.pattern c.in-Some.last.now) ≡ found_in (pair_found c.args.file.now c.args.pattern) c.args.properties.now =
+    found_in_last (pair_found c.args.file.now c.args.pattern) c.in-Some.others.now c.in-Some.last.now ∙ ap (found_in (pair_found c.args.file.now c.args.pattern)) (sym c.in-Some.ensures.cases.0) in
+    same_part c.args.found.now c.read_pair.new.found _ _ c.read_pair.result all
+    (second_part c.args.found.now c.read_copies.new.found c.read_pair.new.found (found_in (pair_found c.args.file.now c.args.pattern) c.in-Some.others.now) (pair_found c.args.file.now c.args.pattern c.in-Some.last.now) c.read_pair.result
+    c.in_ok-read_copies-in-Some.ensures c.read_pair.ensures)

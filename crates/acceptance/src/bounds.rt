@@ -1,4 +1,5 @@
 //! Blocks, chains and rules as large as they may be, and one more.
+use crate::evaluations::agree;
 use crate::running::{files_of, line, run_on};
 use device_core::BlockFaultKind;
 use engine_core::{Session, SessionFault, Tables, Verb};
@@ -144,11 +145,12 @@ fn a_chain_has_at_most_64_devices(rt: HostRuntime) -> Result<(), Fail> {
 /// The answer to a block by one rules file, which goes well.
 fn answer_by(alloc: Global, rules: &str, block: &str) -> Result<Vec<u8>, Fail> {
     let events = line(alloc, Verb::Events, "");
-    let files = files_of(alloc, &[(FileKind::Rules, 0, "r.rules", rules)])?;
-    let done = run_on(alloc, &events, files, block.as_bytes())?;
+    let rules = [(FileKind::Rules, 0, "r.rules", rules)];
+    let done = run_on(alloc, &events, files_of(alloc, &rules)?, block.as_bytes())?;
     if done.status != 0 || !done.messages.is_empty() {
         Err("the run does not go well")?;
     }
+    agree(alloc, &rules, "", block.as_bytes(), &done.output)?;
     Ok(done.output)
 }
 

@@ -1,5 +1,7 @@
-//! Rules over one event: lines of the answer that the program gives.
-use crate::running::{files_of, line, run_on};
+//! Rules over one event: lines of the answer that the program gives, as both evaluations do.
+use crate::evaluations::agree;
+use crate::rules::{JUMP_BY_JUMP, LABELS};
+use crate::running::{assert_outcome, files_of, line, one_file, run_on};
 use engine_core::Verb;
 use std::alloc::Global;
 use std::test::Fail;
@@ -7,6 +9,9 @@ use text_files::FileKind;
 
 /// A disk.
 const DISK: &str = "C: add\nP: /devices/pci0/block/sda\nU: block\nN: sda\nD: 8:0\n";
+
+/// A device of which nothing is known but its path.
+const BARE: &str = "C: add\nP: /x\n";
 
 /// A terminal below a USB device.
 const BELOW_USB: &str = "C: add\nP: /devices/b/h/d/t0\nU: tty\nP: /devices/b/h/d\nU: usb\n";
@@ -48,9 +53,12 @@ const USB_WITH_SERIAL: &str = "SUBSYSTEMS==\"usb\", ATTRS{serial}==\"7\", ENV{HI
 const SELECTIONS: &str =
     "SUBSYSTEMS==\"usb\", RUN+=\"/bin/x $id\"\nENV{P}=\"$id\"\nSUBSYSTEMS==\"none\", ENV{N}=\"1\"\nENV{Q}=\"$id\"\n";
 
-/// Two rules of one label, and a jump between them.
-const JUMPS: &str =
-    "LABEL=\"x\", ENV{A}=\"1\"\nGOTO=\"x\"\nENV{B}=\"1\"\nLABEL=\"x\", ENV{C}=\"1\"\n";
+/// A jump to a label of its file, and one whose label stands above it alone.
+const JUMPS_DOWN_AND_UP: &str =
+    "GOTO=\"x\"\nENV{A}=\"1\"\nLABEL=\"x\", ENV{B}=\"1\"\nGOTO=\"x\"\nENV{C}=\"1\"\n";
+
+/// A jump to a label of its file, behind a rule.
+const RULE_AND_JUMP: &str = "ENV{D}=\"1\"\nGOTO=\"x\"\nENV{E}=\"1\"\nLABEL=\"x\", ENV{F}=\"1\"\n";
 
 /// A program, its result, and a word of it.
 const PROGRAM: &str = "PROGRAM==\"/bin/id %k\", RESULT==\"a*\", ENV{R}=\"$result{2+}\"\n";
@@ -67,19 +75,18 @@ fn answer_by(
     database: &str,
     block: &str,
 ) -> Result<Vec<u8>, Fail> {
-    let files = files_of(
-        alloc,
-        &[
-            (FileKind::Rules, 0, "10-a.rules", first),
-            (FileKind::Rules, 0, "20-b.rules", second),
-            (FileKind::Hwdb, 0, "a.hwdb", database),
-        ],
-    )?;
+    let rules = [
+        (FileKind::Rules, 0, "10-a.rules", first),
+        (FileKind::Rules, 0, "20-b.rules", second),
+    ];
+    let mut files = files_of(alloc, &rules)?;
+    files.append(&mut one_file(alloc, "a.hwdb", database)?)?;
     let events = line(alloc, Verb::Events, "");
     let done = run_on(alloc, &events, files, block.as_bytes())?;
     if done.status != 0 {
         Err("the run does not go well")?;
     }
+    agree(alloc, &rules, database, block.as_bytes(), &done.output)?;
     Ok(done.output)
 }
 
@@ -216,8 +223,8 @@ fn rules_stand_one_behind_another(rt: HostRuntime) -> Result<(), Fail> {
     for (rules, block, line) in [
         (SELECTIONS, BELOW_USB, "env P=d"),
         (SELECTIONS, BELOW_USB, "run program /bin/x d"),
-        (JUMPS, DISK, "env A=1"),
-        (JUMPS, DISK, "env C=1"),
+        (LABELS, DISK, "env A=1"),
+        (LABELS, DISK, "env C=1"),
         ("GOTO=\"y\", ENV{D}=\"1\"\nENV{E}=\"1\"\n", DISK, "env E=1"),
     ] {
         assert!(rt; tells(rt.alloc(), rules, block, line)?);
@@ -225,7 +232,7 @@ fn rules_stand_one_behind_another(rt: HostRuntime) -> Result<(), Fail> {
     for (rules, block, line) in [
         (SELECTIONS, BELOW_USB, "env N=1"),
         (SELECTIONS, BELOW_USB, "env Q="),
-        (JUMPS, DISK, "env B=1"),
+        (LABELS, DISK, "env B=1"),
     ] {
         assert!(rt; !tells(rt.alloc(), rules, block, line)?);
     }
@@ -233,13 +240,46 @@ fn rules_stand_one_behind_another(rt: HostRuntime) -> Result<(), Fail> {
 }
 
 #[test]
-fn an_answer_is_written_whole(rt: HostRuntime) -> Result<(), Fail> {
-    let rules = "SUBSYSTEM==\"block\", KERNEL==\"sd[a-z]\", SYMLINK+=\"disk/%k\"\n";
-    let wanted =
-        "event add /devices/pci0/block/sda\nlink disk/sda\nenv ACTION=add\nenv DEVNAME=/dev/sda\nenv DEVPATH=/devices/pci0/block/sda\nenv MAJOR=8\nenv MINOR=0\nenv SUBSYSTEM=block\n\n";
-    let answer = answer_by(rt.alloc(), rules, "", "", DISK)?;
-    assert_eq!(rt; answer.as_slice(), wanted.as_bytes());
+fn answers_are_written_whole(rt: HostRuntime) -> Result<(), Fail> {
+    for (rules, block, wanted) in [
+        (
+            "SUBSYSTEM==\"block\", KERNEL==\"sd[a-z]\", SYMLINK+=\"disk/%k\"\n",
+            DISK,
+            "event add /devices/pci0/block/sda\nlink disk/sda\nenv ACTION=add\nenv DEVNAME=/dev/sda\nenv DEVPATH=/devices/pci0/block/sda\nenv MAJOR=8\nenv MINOR=0\nenv SUBSYSTEM=block\n\n",
+        ),
+        (
+            "KERNEL==\"sd*\nENV{X}=\"1\" , TAG-=\"t\"\n",
+            BARE,
+            "event add /x\nenv ACTION=add\nenv DEVPATH=/x\nenv X=1\n\n",
+        ),
+        (
+            JUMP_BY_JUMP,
+            BARE,
+            "event add /x\nenv ACTION=add\nenv C=1\nenv DEVPATH=/x\n\n",
+        ),
+    ] {
+        let answer = answer_by(rt.alloc(), rules, "", "", block)?;
+        assert_eq!(rt; answer.as_slice(), wanted.as_bytes());
+    }
     Ok(())
+}
+
+#[test]
+fn no_jump_leaves_its_file(rt: HostRuntime) -> Result<(), Fail> {
+    let alloc = rt.alloc();
+    let rules = [
+        (FileKind::Rules, 0, "x.rules", JUMPS_DOWN_AND_UP),
+        (FileKind::Rules, 0, "x.rules", RULE_AND_JUMP),
+    ];
+    let mut events = line(alloc, Verb::Events, "");
+    events.files.push("x.rules")?;
+    events.files.push("x.rules")?;
+    let done = run_on(alloc, &events, files_of(alloc, &rules)?, BARE.as_bytes())?;
+    let wanted =
+        "event add /x\nenv ACTION=add\nenv B=1\nenv C=1\nenv D=1\nenv DEVPATH=/x\nenv F=1\n\n";
+    let messages = "x.rules:4: V7 no later label: x\n";
+    assert_outcome(&rt, &done, wanted, messages, 0);
+    agree(alloc, &rules, "", BARE.as_bytes(), wanted.as_bytes())
 }
 
 #[test]

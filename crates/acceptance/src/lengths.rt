@@ -5,7 +5,8 @@
 //! and 128, and for each part of a rule 32,896, the length of its attribute and that of its file's
 //! name, and for an IMPORT besides twice the block and all keys and values, each with one more. It is
 //! at most eight times its weight, four times its block and 64 bytes long.
-use crate::running::{files_of, line, run_on};
+use crate::evaluations::agree;
+use crate::running::{files_of, line, one_file, run_on};
 use engine_core::Verb;
 use std::alloc::Global;
 use std::test::Fail;
@@ -30,17 +31,14 @@ note r.rules:8: text too long: ENV{Z}\n\n";
 
 /// The answer to a block by these files, which goes well.
 fn answer_by(alloc: Global, rules: &str, database: &str, block: &[u8]) -> Result<Vec<u8>, Fail> {
-    let files = files_of(
-        alloc,
-        &[
-            (FileKind::Rules, 0, "r.rules", rules),
-            (FileKind::Hwdb, 0, "d.hwdb", database),
-        ],
-    )?;
+    let rules = [(FileKind::Rules, 0, "r.rules", rules)];
+    let mut files = files_of(alloc, &rules)?;
+    files.append(&mut one_file(alloc, "a.hwdb", database)?)?;
     let done = run_on(alloc, &line(alloc, Verb::Events, ""), files, block)?;
     if done.status != 0 {
         Err("the run does not go well")?;
     }
+    agree(alloc, &rules, database, block, &done.output)?;
     Ok(done.output)
 }
 

@@ -9,6 +9,8 @@ mod bounds;
 #[cfg(test)]
 mod database;
 #[cfg(test)]
+mod evaluations;
+#[cfg(test)]
 mod events;
 #[cfg(test)]
 mod failures;

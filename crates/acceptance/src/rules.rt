@@ -30,8 +30,12 @@ const ONE_BAD: &str = "1 files checked, 0 good, 1 bad\n";
 const ONE_GOOD: &str = "1 files checked, 1 good, 0 bad\n";
 
 /// A jump to a label that stands twice.
-const LABELS: &str =
+pub(crate) const LABELS: &str =
     "LABEL=\"x\", ENV{A}=\"1\"\nGOTO=\"x\"\nENV{B}=\"1\"\nLABEL=\"x\", ENV{C}=\"1\"\n";
+
+/// A jump to a jump, and between them a label that stands twice, of no jump.
+pub(crate) const JUMP_BY_JUMP: &str =
+    "GOTO=\"e\"\nLABEL=\"m\", ENV{A}=\"1\"\nLABEL=\"e\", GOTO=\"f\"\nLABEL=\"m\", ENV{B}=\"1\"\nLABEL=\"f\", ENV{C}=\"1\"\n";
 
 #[test]
 fn each_fault_of_a_token_is_told(rt: HostRuntime) -> Result<(), Fail> {
@@ -83,6 +87,11 @@ fn lines_are_joined_and_jumps_looked_up(rt: HostRuntime) -> Result<(), Fail> {
             "o.rules",
             "KERNEL==\"a\" \\\n",
             "o.rules:1: V12 line continuation at the file's end\n",
+        ),
+        (
+            "m.rules",
+            JUMP_BY_JUMP,
+            "m.rules:2: S4 label unused: m\nm.rules:4: S4 label unused: m\n",
         ),
     ] {
         let done = verify(alloc, true, true, name, text)?;

@@ -1,7 +1,7 @@
 //! Whether an event is answered alike by `serve`, by the rules as they were read and by their program.
 //!
-//! Whole answers are compared, so that what a row says of one of them is said of all three. Reading a
-//! block and evaluating its event stand in functions of their own: together they are slow to check.
+//! Whole answers are compared, so that what a row says of one of them is said of all three. Reading
+//! and evaluating stand in functions of their own: together they are slow to check.
 use crate::running::{files_of, one_file};
 use device_core::{Event, read_block};
 use engine_answers::answer;
@@ -13,6 +13,13 @@ use std::alloc::{AllocError, Global};
 use std::test::Fail;
 use text_bytes::Bytes;
 use text_files::FileKind;
+
+/// A database of one file of this text.
+fn database_of(alloc: Global, text: &str) -> Result<PlainDb, Fail> {
+    let files = one_file(alloc, "a.hwdb", text)?;
+    let database = read_sources(alloc, &files).map_err(|_fault| "no database")?;
+    Ok(PlainDb::new(database.entries))
+}
 
 /// The answer to an event by the rules as they were read.
 fn plain_answer(
@@ -64,8 +71,7 @@ pub(crate) fn agree(
     wanted: &[u8],
 ) -> Result<(), Fail> {
     let rules = read_rules(alloc, &files_of(alloc, rules)?).map_err(|_fault| "no rules")?;
-    let files = one_file(alloc, "a.hwdb", database)?;
-    let read = read_sources(alloc, &files).map_err(|_fault| "no database")?;
+    let database = database_of(alloc, database)?;
     let event = read_block(alloc, block).map_err(|_fault| "no event")?;
-    compare(alloc, rules, &PlainDb::new(read.entries), &event, wanted)
+    compare(alloc, rules, &database, &event, wanted)
 }

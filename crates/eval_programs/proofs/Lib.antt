@@ -1,3 +1,5 @@
+mod Marking
 mod Staying
 mod Ruling
+mod Coursing
 mod Skipping

@@ -12,55 +12,47 @@ use Rattle.text_core.specs.Choices.{choice_fits}
 use Rattle.text_core.specs.declared.item.Item.{Item}
 use Rattle.text_core.specs.declared.item.Item.TheVariants as item
 use Rattle.hwdb_lookup.specs.declared.entry.Entry.{Entry}
+use Rattle.rule_keys.specs.declared.roles.MatchOperator.{MatchOperator}
+use Rattle.rule_keys.specs.declared.roles.MatchOperator.TheVariants.{Equal, NotEqual}
 use Rattle.rule_keys.specs.declared.roles.PlainKey.{PlainKey}
 use Rattle.rule_keys.specs.declared.roles.PlainKey.TheVariants as plain
 use Rattle.rule_parts.specs.declared.part.Comparison.{Comparison}
 use Rattle.rule_parts.specs.declared.part.PlainMatch.{PlainMatch}
 use Rattle.rule_core.specs.Rules.{Rule}
 use Rattle.rule_layout.specs.Sketches.{exact_head, exact_sketch, first_byte, is_word, sketch}
-use Rattle.rule_layout.proofs.Heading.{asked_for_head, headed}
-use Rattle.rule_layout.proofs.Sketching.{IsExact, asked_for, exact}
+use Rattle.rule_layout.proofs.Heading.{fits_same_head}
+use Rattle.rule_layout.proofs.Sketching.{IsExact, exact, fits_same_sketch}
 use Rattle.device_core.specs.Values.{EventValue}
 use Rattle.eval_state.specs.Chains.{kernel_of}
 use Rattle.eval_state.specs.Texts.{or_empty, trimmed}
-use Rattle.eval_matching.specs.Holding.{agrees, as_compared, attribute, ends_in_whitespace, holds, is_whitespace_item, one, passes}
+use Rattle.eval_matching.specs.Holding.{agrees, attribute, ends_in_whitespace, holds, is_whitespace_item, one, passes}
 use Rattle.eval_matching.specs.Subjects.{plain_subject}
 use Rattle.eval_scene.specs.declared.scene.Scene.{Scene}
 use Rattle.eval_acts.specs.Acts.{act_step}
 use Rattle.eval_acts.specs.Reaching.{reached}
 use Rattle.eval_core.specs.Steps.{apply, onward, plain_step, result_step, search, set_all, walk}
-use Rattle.eval_programs.specs.Checks.{attribute_seen, behind_five, check_by, check_in, check_of, check_with, differs, first_check, head_slot, is_ruled_out, seen, slot_of}
+use Rattle.eval_programs.specs.Checks.{asked, attribute_seen, behind_five, check_by, check_in, check_of, choice_check, differs, first_check, head_slot, is_other, is_ruled_out, seen, slot_of}
 use Rattle.eval_programs.specs.declared.checks.Check.{Check}
 
--- ---- texts with another sketch
+-- ---- what does not fit
 
--- the comparison asks for no text of which another number holds than it asks for
-asks_not_for : (wanted : Comparison) (found number : ℕ) (text : Text) → (choice_fits wanted.choice text ≡ true → number ≡ found) → not (number == found) ≡ true → choice_fits wanted.choice text ≡ false
-asks_not_for wanted found number text tells other = by (choice_fits wanted.choice text) refl
-  where
-    by : (b : Bool) → choice_fits wanted.choice text ≡ b → b ≡ false
-    by false f = refl
-    by true f =
-        let same : (number == found) ≡ true = eq-eqb number found (tells f) in
-        absurd (true≢false (sym other ∙ ap not same))
+not_fitting : (found number : ℕ) (fits : Bool) → (fits ≡ true → number ≡ found) → not (number == found) ≡ true → fits ≡ false
+not_fitting found number true tells other = absurd (true≢false (sym other ∙ ap not (eq-eqb number found (tells refl))))
+not_fitting found number false tells other = refl
 
--- the comparison asks for no text with another sketch
-asks_not : (wanted : Comparison) (found : ℕ) (text : Text) → exact_sketch wanted ≡ Some found → not (sketch text == found) ≡ true → choice_fits wanted.choice text ≡ false
-asks_not wanted found text e other = asks_not_for wanted found (sketch text) text (asked_for wanted found text e) other
+-- a choice fits no text with another sketch
+fits_not : (choice : List (List Item)) (found : ℕ) (text : Text) → exact_sketch choice ≡ Some found → not (sketch text == found) ≡ true → choice_fits choice text ≡ false
+fits_not choice found text e other = not_fitting found (sketch text) (choice_fits choice text) (fits_same_sketch choice found text e) other
 
-agrees_not : (wanted : Comparison) (found : ℕ) (b : Bool) → exact_sketch wanted ≡ Some found → b ≡ false → agrees wanted.operator b ≡ false
-agrees_not wanted found b e f = ap (λ o. agrees o b) (exact wanted found e).operator ∙ f
-
-text_fails : (wanted : Comparison) (found : ℕ) (text : Text) → exact_sketch wanted ≡ Some found → not (sketch text == found) ≡ true → holds (one text) wanted ≡ false
+-- a comparison with what does not fit holds just where it is by `!=`
+pub text_missed : (wanted : Comparison) (found : ℕ) (text : Text) → exact_sketch wanted.choice ≡ Some found → not (sketch text == found) ≡ true → holds (one text) wanted ≡ agrees wanted.operator false
 unfolding holds
-text_fails wanted found text e other = agrees_not wanted found (choice_fits wanted.choice text) e (asks_not wanted found text e other)
+text_missed wanted found text e other = ap (agrees wanted.operator) (fits_not wanted.choice found text e other)
 
--- nor for one with another first byte
-head_fails : (wanted : Comparison) (found : ℕ) (text : Text) → exact_head wanted ≡ Some found → not (first_byte text == found) ≡ true → holds (one text) wanted ≡ false
+head_missed : (wanted : Comparison) (found : ℕ) (text : Text) → exact_head wanted.choice ≡ Some found → not (first_byte text == found) ≡ true → holds (one text) wanted ≡ agrees wanted.operator false
 unfolding holds
-head_fails wanted found text e other =
-    ap (λ o. agrees o (choice_fits wanted.choice text)) (headed wanted found e).operator
-    ∙ asks_not_for wanted found (first_byte text) text (asked_for_head wanted found text e) other
+head_missed wanted found text e other =
+    ap (agrees wanted.operator) (not_fitting found (first_byte text) (choice_fits wanted.choice text) (fits_same_head wanted.choice found text e) other)
 
 -- ---- attributes
 
@@ -84,89 +76,87 @@ last_word (x ∷ xs) (suc n) w = last_word xs n (rest (is_word x) w)
     rest true h = h
     rest false h = absurd (true≢false (sym h))
 
-not_padded : (wanted : Comparison) (found : ℕ) → exact_sketch wanted ≡ Some found → ends_in_whitespace wanted.choice ≡ false
-not_padded wanted found e =
-    let only : IsExact wanted found = exact wanted found e in
-    ap ends_in_whitespace only.choice ∙ last_word only.items (length only.items - 1) only.words
+not_padded : (choice : List (List Item)) (found : ℕ) → exact_sketch choice ≡ Some found → ends_in_whitespace choice ≡ false
+not_padded choice found e =
+    let only : IsExact choice found = exact choice found e in
+    ap ends_in_whitespace only.choice_is ∙ last_word only.items (length only.items - 1) only.words
 
-attribute_fails : (wanted : Comparison) (found : ℕ) (value : Option Text) → exact_sketch wanted ≡ Some found → differs (Some (option_map (λ v. sketch (trimmed v)) value)) found ≡ true → holds (attribute value) wanted ≡ false
+pub attribute_missed : (wanted : Comparison) (found : ℕ) (value : Option Text) → exact_sketch wanted.choice ≡ Some found → is_other found (option_map (λ v. sketch (trimmed v)) value) ≡ true → holds (attribute value) wanted ≡ agrees wanted.operator false
 unfolding holds
-attribute_fails wanted found None e other = agrees_not wanted found false e refl
-attribute_fails wanted found (Some v) e other =
-    agrees_not wanted found (choice_fits wanted.choice (as_compared wanted.choice v)) e
-    (ap (λ b. choice_fits wanted.choice (cond b v (trimmed v))) (not_padded wanted found e) ∙ asks_not wanted found (trimmed v) e other)
+attribute_missed wanted found None e other = refl
+attribute_missed wanted found (Some v) e other =
+    ap (λ b. agrees wanted.operator (choice_fits wanted.choice (cond b v (trimmed v)))) (not_padded wanted.choice found e)
+    ∙ ap (agrees wanted.operator) (fits_not wanted.choice found (trimmed v) e other)
 
 -- ---- what is seen of an event
 
 -- what stands at the slot of an attribute
-attribute_at : (names : List Text) (name : Text) (event : EventValue) (place : ℕ) → position (same_text name) names ≡ Some place → slice_get (seen names event) (place + 5) ≡ Some (attribute_seen event name)
+attribute_at : (names : List Text) (name : Text) (event : EventValue) (place : ℕ) → position (same_text name) names ≡ Some place → slice_get (seen names event) (place + 5) ≡ Some (attribute_seen event.device name)
 attribute_at names name event place found =
     let five : place + 5 ≡ suc (suc (suc (suc (suc place)))) = omega arith in
     let at = position-Some (same_text name) names place [] found in
     let is : name ≡ get_or names place [] = (bytes_decides name (get_or names place [])).0 at.1 in
     ap (λ n. slice_get (seen names event) n) five
-    ∙ slice_get-map (attribute_seen event) names place
-    ∙ ap (option_map (attribute_seen event)) (slice_get-get_or names place [] at.0)
-    ∙ ap (λ n. Some (attribute_seen event n)) (sym is)
+    ∙ slice_get-map (attribute_seen event.device) names place
+    ∙ ap (option_map (attribute_seen event.device)) (slice_get-get_or names place [] at.0)
+    ∙ ap (λ n. Some (attribute_seen event.device n)) (sym is)
 
--- a key whose match is ruled out leaves nothing, and its match does not hold
-abbrev Fails : Rule → Scene → PlainKey → Comparison → Type 0
-Fails r s key wanted = (reached r key s ≡ s) × (holds (plain_subject key s.state) wanted ≡ false)
+-- a match that is ruled out leaves nothing, and holds just where it is by `!=`
+abbrev pub Misses : Rule → Scene → PlainKey → Comparison → Type 0
+Misses r s key wanted = (reached r key s ≡ s) × (holds (plain_subject key s.state) wanted ≡ agrees wanted.operator false)
 
-nothing_known : {A : Type 0} → false ≡ true → A
+pub nothing_known : {A : Type 0} → false ≡ true → A
 nothing_known h = absurd (true≢false (sym h))
 
 module _ (names : List Text) (r : Rule) (s : Scene) where
-  told : List (Option ℕ)
-  told = seen names s.state.event
-
-  text_ruled : (slot : ℕ) (text : Text) (wanted : Comparison) → slice_get (seen names s.state.event) slot ≡ Some (Some (sketch text)) → (o : Option ℕ) → exact_sketch wanted ≡ o
-      → is_ruled_out (seen names s.state.event) (check_by (Some slot) o) ≡ true → holds (one text) wanted ≡ false
+  text_ruled : (slot : ℕ) (text : Text) (wanted : Comparison) → slice_get (seen names s.state.event) slot ≡ Some (Some (sketch text)) → (o : Option ℕ) → exact_sketch wanted.choice ≡ o
+      → is_ruled_out (seen names s.state.event) (check_by (Some slot) o) ≡ true → holds (one text) wanted ≡ agrees wanted.operator false
   text_ruled slot text wanted at None e h = nothing_known h
-  text_ruled slot text wanted at (Some found) e h = text_fails wanted found text e (ap (λ o. differs o found) (sym at) ∙ h)
+  text_ruled slot text wanted at (Some found) e h = text_missed wanted found text e (ap (λ o. differs o found) (sym at) ∙ h)
 
-  attribute_ruled : (name : Text) (wanted : Comparison) (p : Option ℕ) → position (same_text name) names ≡ p → (o : Option ℕ) → exact_sketch wanted ≡ o
-      → is_ruled_out (seen names s.state.event) (check_by (behind_five p) o) ≡ true → holds (attribute (value_of s.state.event.device.attrs name)) wanted ≡ false
+  attribute_ruled : (name : Text) (wanted : Comparison) (p : Option ℕ) → position (same_text name) names ≡ p → (o : Option ℕ) → exact_sketch wanted.choice ≡ o
+      → is_ruled_out (seen names s.state.event) (check_by (behind_five p) o) ≡ true → holds (attribute (value_of s.state.event.device.attrs name)) wanted ≡ agrees wanted.operator false
   attribute_ruled name wanted None at o e h = nothing_known h
   attribute_ruled name wanted (Some place) at None e h = nothing_known h
   attribute_ruled name wanted (Some place) at (Some found) e h =
-      attribute_fails wanted found (value_of s.state.event.device.attrs name) e (ap (λ o. differs o found) (sym (attribute_at names name s.state.event place at)) ∙ h)
+      attribute_missed wanted found (value_of s.state.event.device.attrs name) e (ap (λ o. differs o found) (sym (attribute_at names name s.state.event place at)) ∙ h)
 
-  key_fails : (key : PlainKey) (wanted : Comparison) → is_ruled_out (seen names s.state.event) (check_by (slot_of names key) (exact_sketch wanted)) ≡ true → Fails r s key wanted
-  key_fails plain.Action wanted h = (refl, text_ruled 0 s.state.event.action wanted refl (exact_sketch wanted) refl h)
-  key_fails plain.Kernel wanted h = (refl, text_ruled 1 (kernel_of s.state.event.device) wanted refl (exact_sketch wanted) refl h)
-  key_fails plain.Subsystem wanted h = (refl, text_ruled 2 (or_empty s.state.event.device.subsystem) wanted refl (exact_sketch wanted) refl h)
-  key_fails plain.Driver wanted h = (refl, text_ruled 3 (or_empty s.state.event.device.driver) wanted refl (exact_sketch wanted) refl h)
-  key_fails (plain.Attr name) wanted h = (refl, attribute_ruled name wanted (position (same_text name) names) refl (exact_sketch wanted) refl h)
-  key_fails key wanted h = nothing_known h
+  key_missed : (key : PlainKey) (wanted : Comparison) → is_ruled_out (seen names s.state.event) (check_by (slot_of names key) (exact_sketch wanted.choice)) ≡ true → Misses r s key wanted
+  key_missed plain.Action wanted h = (refl, text_ruled 0 s.state.event.action wanted refl (exact_sketch wanted.choice) refl h)
+  key_missed plain.Kernel wanted h = (refl, text_ruled 1 (kernel_of s.state.event.device) wanted refl (exact_sketch wanted.choice) refl h)
+  key_missed plain.Subsystem wanted h = (refl, text_ruled 2 (or_empty s.state.event.device.subsystem) wanted refl (exact_sketch wanted.choice) refl h)
+  key_missed plain.Driver wanted h = (refl, text_ruled 3 (or_empty s.state.event.device.driver) wanted refl (exact_sketch wanted.choice) refl h)
+  key_missed (plain.Attr name) wanted h = (refl, attribute_ruled name wanted (position (same_text name) names) refl (exact_sketch wanted.choice) refl h)
+  key_missed key wanted h = nothing_known h
 
-  head_ruled : (text : Text) (wanted : Comparison) → slice_get (seen names s.state.event) 4 ≡ Some (Some (first_byte text)) → (o : Option ℕ) → exact_head wanted ≡ o
-      → is_ruled_out (seen names s.state.event) (check_by (Some 4) o) ≡ true → holds (one text) wanted ≡ false
+  head_ruled : (text : Text) (wanted : Comparison) → slice_get (seen names s.state.event) 4 ≡ Some (Some (first_byte text)) → (o : Option ℕ) → exact_head wanted.choice ≡ o
+      → is_ruled_out (seen names s.state.event) (check_by (Some 4) o) ≡ true → holds (one text) wanted ≡ agrees wanted.operator false
   head_ruled text wanted at None e h = nothing_known h
-  head_ruled text wanted at (Some found) e h = head_fails wanted found text e (ap (λ o. differs o found) (sym at) ∙ h)
+  head_ruled text wanted at (Some found) e h = head_missed wanted found text e (ap (λ o. differs o found) (sym at) ∙ h)
 
-  key_fails_at_its_head : (key : PlainKey) (wanted : Comparison) → is_ruled_out (seen names s.state.event) (check_by (head_slot key) (exact_head wanted)) ≡ true → Fails r s key wanted
-  key_fails_at_its_head plain.Kernel wanted h = (refl, head_ruled (kernel_of s.state.event.device) wanted refl (exact_head wanted) refl h)
-  key_fails_at_its_head key wanted h = nothing_known h
+  key_missed_at_its_head : (key : PlainKey) (wanted : Comparison) → is_ruled_out (seen names s.state.event) (check_by (head_slot key) (exact_head wanted.choice)) ≡ true → Misses r s key wanted
+  key_missed_at_its_head plain.Kernel wanted h = (refl, head_ruled (kernel_of s.state.event.device) wanted refl (exact_head wanted.choice) refl h)
+  key_missed_at_its_head key wanted h = nothing_known h
 
-  part_fails : (part : PlainMatch) → is_ruled_out (seen names s.state.event) (check_with names part) ≡ true → Fails r s part.key part.wanted
-  part_fails part h = by (check_by (slot_of names part.key) (exact_sketch part.wanted)) refl h
+  pub missed : (key : PlainKey) (wanted : Comparison) → is_ruled_out (seen names s.state.event) (choice_check names key wanted.choice) ≡ true → Misses r s key wanted
+  missed key wanted h = by (check_by (slot_of names key) (exact_sketch wanted.choice)) refl h
     where
-      by : (check : Option Check) → check_by (slot_of names part.key) (exact_sketch part.wanted) ≡ check
-          → is_ruled_out (seen names s.state.event) (first_check check (check_by (head_slot part.key) (exact_head part.wanted))) ≡ true → Fails r s part.key part.wanted
-      by None e k = key_fails_at_its_head part.key part.wanted k
-      by (Some check) e k = key_fails part.key part.wanted (ap (is_ruled_out (seen names s.state.event)) e ∙ k)
+      by : (check : Option Check) → check_by (slot_of names key) (exact_sketch wanted.choice) ≡ check
+          → is_ruled_out (seen names s.state.event) (first_check check (check_by (head_slot key) (exact_head wanted.choice))) ≡ true → Misses r s key wanted
+      by None e k = key_missed_at_its_head key wanted k
+      by (Some check) e k = key_missed key wanted (ap (is_ruled_out (seen names s.state.event)) e ∙ k)
 
 -- ---- a rule
 
 -- a rule whose first match leaves nothing and does not hold
-stops : (es : List Entry) (r : Rule) (s : Scene) (part : PlainMatch) (parts : List PlainMatch) → r.plain ≡ part ∷ parts → Fails r s part.key part.wanted → apply es r s ≡ (s, false)
+stops : (es : List Entry) (r : Rule) (s : Scene) (part : PlainMatch) (parts : List PlainMatch) → r.plain ≡ part ∷ parts → reached r part.key s ≡ s → holds (plain_subject part.key s.state) part.wanted ≡ false
+    → apply es r s ≡ (s, false)
 unfolding apply walk plain_step
-stops es r s part parts plain fails =
+stops es r s part parts plain leaves fails =
     let first : walk (plain_step r) r.plain s ≡ (s, false) =
     ap (λ ps. walk (plain_step r) ps s) plain
-    ∙ ap (λ (t : Scene). onward (walk (plain_step r) parts) (t, holds (plain_subject part.key s.state) part.wanted)) fails.0
-    ∙ ap (λ b. onward (walk (plain_step r) parts) (s, b)) fails.1 in
+    ∙ ap (λ (t : Scene). onward (walk (plain_step r) parts) (t, holds (plain_subject part.key s.state) part.wanted)) leaves
+    ∙ ap (λ b. onward (walk (plain_step r) parts) (s, b)) fails in
     ap (λ w. onward (set_all r) (onward (walk result_step r.results) (onward (walk (act_step es r) r.acts) (onward (search r.up) w)))) first
 
 -- a rule that is ruled out changes nothing, and its end is not reached
@@ -175,4 +165,10 @@ ruled_out es names event r s same h = by r.plain refl (ap (λ v. is_ruled_out (s
   where
     by : (parts : List PlainMatch) → r.plain ≡ parts → is_ruled_out (seen names s.state.event) (check_in names parts) ≡ true → apply es r s ≡ (s, false)
     by [] plain k = nothing_known k
-    by (part ∷ parts) plain k = stops es r s part parts plain (part_fails names r s part k)
+    by (part ∷ parts) plain k = fails part.wanted.operator refl k
+      where
+        fails : (o : MatchOperator) → part.wanted.operator ≡ o → is_ruled_out (seen names s.state.event) (asked o (choice_check names part.key part.wanted.choice)) ≡ true → apply es r s ≡ (s, false)
+        fails Equal e k =
+            let misses = missed names r s part.key part.wanted k in
+            stops es r s part parts plain misses.0 (misses.1 ∙ ap (λ o. agrees o false) e)
+        fails NotEqual e k = nothing_known k

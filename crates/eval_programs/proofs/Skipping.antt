@@ -1,21 +1,16 @@
--- Rules by their numbers: what follows a rule, and which are passed over.
-use Rattle.std.proofs.Common.{◌≡◌, ℕ, suc, ◌+◌, ◌<◌, ◌≤◌, Bool, true, false, cond, not, List, [], ◌∷◌, length, map, get_or, drop, Option, Some, None, refl, ap, sym, ◌∙◌, arith}
-use Rattle.std.specs.List.{prefix_len}
+-- Rules by their numbers: what follows a rule.
+use Rattle.std.proofs.Common.{◌≡◌, ℕ, suc, ◌+◌, ◌<◌, ◌≤◌, Bool, true, false, cond, not, List, [], ◌∷◌, length, get_or, drop, Option, Some, None, refl, ap, sym, ◌∙◌, arith}
 use Rattle.std.specs.Cmp.Lexicographic.{bytes_decides}
-use Rattle.std.proofs.lemmas.List.{drop_more, drop_all, drop-drop, drop-map}
+use Rattle.std.proofs.lemmas.List.{drop_more, drop_all, drop-drop}
 use Rattle.text_tables.specs.Texts.{Text, same_text}
 use Rattle.hwdb_lookup.specs.declared.entry.Entry.{Entry}
 use Rattle.rule_jumps.specs.Jumps.{is_named}
 use Rattle.rule_core.specs.Rules.{Rule}
 use Rattle.rule_layout.specs.Jumps.{over, passed_over}
 use Rattle.rule_layout.proofs.Placing.{at_place}
-use Rattle.device_core.specs.Values.{EventValue}
 use Rattle.eval_scene.specs.declared.scene.Scene.{Scene}
 use Rattle.eval_core.specs.Jumps.{is_label, run, sought_after}
 use Rattle.eval_core.specs.Steps.{Went, apply}
-use Rattle.eval_programs.specs.Checks.{check_of, is_ruled_out, seen}
-use Rattle.eval_programs.specs.declared.checks.Check.{Check}
-use Rattle.eval_programs.proofs.Ruling.{ruled_out}
 
 -- ---- labels
 
@@ -81,38 +76,6 @@ module _ (es : List Entry) where
       by false w k =
           let next : j ≡ i + 1 = omega (arith, k) in
           ap (λ n. run es None (drop n rules) t) next ∙ led false w
-
-  module _ (names : List Text) (event : EventValue) where
-    abbrev checked : List Rule → List (Option Check)
-    checked rules = map (check_of names) rules
-
-    -- rules that are ruled out are passed over
-    skipped : (rules : List Rule) (s : Scene) → s.state.event ≡ event → run es None rules s ≡ run es None (drop (prefix_len (is_ruled_out (seen names event)) (checked rules)) rules) s
-    unfolding run
-    skipped [] s same = refl
-    skipped (r ∷ rs) s same = by (is_ruled_out (seen names event) (check_of names r)) refl (skipped rs s same)
-      where
-        count : ℕ
-        count = prefix_len (is_ruled_out (seen names event)) (checked rs)
-
-        by : (b : Bool) → is_ruled_out (seen names event) (check_of names r) ≡ b → run es None rs s ≡ run es None (drop (prefix_len (is_ruled_out (seen names event)) (checked rs)) rs) s
-            → run es (sought_after (apply es r s).1 r) rs (apply es r s).0 ≡ run es None (drop (cond b (1 + prefix_len (is_ruled_out (seen names event)) (checked rs)) 0) (r ∷ rs)) s
-        by true out h =
-            ap (λ (w : Went). run es (sought_after w.1 r) rs w.0) (ruled_out es names event r s same out)
-            ∙ h ∙ ap (λ n. run es None (drop n (r ∷ rs)) s) (sym (one_more (prefix_len (is_ruled_out (seen names event)) (checked rs))))
-        by false out h = refl
-
-    -- from a number on, those that are ruled out are passed over
-    pub run_next : (rules : List Rule) (checks : List (Option Check)) (told : List (Option ℕ)) (from i : ℕ) (s : Scene) → s.state.event ≡ event → checks ≡ map (check_of names) rules → told ≡ seen names event
-        → i ≡ from + prefix_len (is_ruled_out told) (drop from checks) → run es None (drop i rules) s ≡ run es None (drop from rules) s
-    run_next rules checks told from i s same are is to =
-        let left : List Rule = drop from rules in
-        let here : drop from checks ≡ checked left = ap (drop from) are ∙ drop-map (check_of names) from rules in
-        let count : prefix_len (is_ruled_out told) (drop from checks) ≡ prefix_len (is_ruled_out (seen names event)) (checked left) =
-        ap (λ t. prefix_len (is_ruled_out t) (drop from checks)) is ∙ ap (λ cs. prefix_len (is_ruled_out (seen names event)) cs) here in
-        ap (λ n. run es None (drop n rules) s) (to ∙ ap (λ n. from + n) count)
-        ∙ ap (λ rs. run es None rs s) (sym (drop-drop (prefix_len (is_ruled_out (seen names event)) (checked left)) from rules))
-        ∙ sym (skipped left s same)
 
 -- no rule is left
 pub run_end : (es : List Entry) (rules : List Rule) (i : ℕ) (s : Scene) → length rules ≤ i → run es None (drop i rules) s ≡ s

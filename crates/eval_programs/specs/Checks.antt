@@ -2,12 +2,15 @@
 use Rattle.std.specs.Prelude.{ℕ, ◌+◌, ◌==◌, Bool, true, false, not, List, [], ◌∷◌, map, position, slice_get, Option, Some, None, option_map}
 use Rattle.text_tables.specs.Texts.{Text, same_text}
 use Rattle.text_tables.specs.Pairs.{value_of}
+use Rattle.text_core.specs.declared.item.Item.{Item}
+use Rattle.rule_keys.specs.declared.roles.MatchOperator.{MatchOperator}
+use Rattle.rule_keys.specs.declared.roles.MatchOperator.TheVariants.{Equal, NotEqual}
 use Rattle.rule_keys.specs.declared.roles.PlainKey.{PlainKey}
 use Rattle.rule_keys.specs.declared.roles.PlainKey.TheVariants as plain
 use Rattle.rule_parts.specs.declared.part.PlainMatch.{PlainMatch}
 use Rattle.rule_core.specs.Rules.{Rule}
 use Rattle.rule_layout.specs.Sketches.{exact_head, exact_sketch, first_byte, sketch}
-use Rattle.device_core.specs.Values.{EventValue}
+use Rattle.device_core.specs.Values.{DeviceValue, EventValue}
 use Rattle.eval_state.specs.Chains.{kernel_of}
 use Rattle.eval_state.specs.Texts.{or_empty, trimmed}
 use Rattle.eval_programs.specs.declared.checks.Check.{Check}
@@ -47,9 +50,18 @@ abbrev pub first_check : Option Check → Option Check → Option Check
 first_check None other = other
 first_check (Some check) other = Some check
 
--- the check of a match: by its text, or by the first byte of its pattern
+-- the check of what a key looks at, by the text of a choice, or by the first byte of its pattern
+abbrev pub choice_check : List Text → PlainKey → List (List Item) → Option Check
+choice_check names key choice = first_check (check_by (slot_of names key) (exact_sketch choice)) (check_by (head_slot key) (exact_head choice))
+
+-- a check of a match by `==`; one by `!=` has none
+abbrev pub asked : MatchOperator → Option Check → Option Check
+asked Equal check = check
+asked NotEqual check = None
+
+-- the check of a match
 abbrev pub check_with : List Text → PlainMatch → Option Check
-check_with names part = first_check (check_by (slot_of names part.key) (exact_sketch part.wanted)) (check_by (head_slot part.key) (exact_head part.wanted))
+check_with names part = asked part.wanted.operator (choice_check names part.key part.wanted.choice)
 
 -- the check of a rule with these matches of the event: by the first of them
 abbrev pub check_in : List Text → List PlainMatch → Option Check
@@ -60,22 +72,26 @@ check_in names (part ∷ parts) = check_with names part
 abbrev pub check_of : List Text → Rule → Option Check
 check_of names r = check_in names r.plain
 
--- the sketch of an attribute of the event device as it is compared, where it has it
-abbrev pub attribute_seen : EventValue → Text → Option ℕ
-attribute_seen event name = option_map (λ value. sketch (trimmed value)) (value_of event.device.attrs name)
+-- the sketch of an attribute of a device as it is compared, where it has it
+abbrev pub attribute_seen : DeviceValue → Text → Option ℕ
+attribute_seen device name = option_map (λ value. sketch (trimmed value)) (value_of device.attrs name)
 
 -- what is seen of an event
 abbrev pub seen : List Text → EventValue → List (Option ℕ)
 seen names event =
     Some (sketch event.action) ∷ Some (sketch (kernel_of event.device))
     ∷ Some (sketch (or_empty event.device.subsystem)) ∷ Some (sketch (or_empty event.device.driver))
-    ∷ Some (first_byte (kernel_of event.device)) ∷ map (attribute_seen event) names
+    ∷ Some (first_byte (kernel_of event.device)) ∷ map (attribute_seen event.device) names
+
+-- whether what is seen is not what is wanted
+abbrev pub is_other : ℕ → Option ℕ → Bool
+is_other wanted None = true
+is_other wanted (Some found) = not (found == wanted)
 
 -- whether what stands at a slot is not what is wanted there; where nothing is known, nothing is said
 abbrev pub differs : Option (Option ℕ) → ℕ → Bool
 differs None wanted = false
-differs (Some None) wanted = true
-differs (Some (Some found)) wanted = not (found == wanted)
+differs (Some found) wanted = is_other wanted found
 
 -- whether what is seen rules out that a check holds
 abbrev pub is_ruled_out : List (Option ℕ) → Option Check → Bool

@@ -1,2 +1,4 @@
 pub mod Checks
+pub mod Courses
 pub mod Layout
+pub mod Marks

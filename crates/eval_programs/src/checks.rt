@@ -4,24 +4,25 @@
 //! the kernel's name, the subsystem, the driver or an attribute of the event device. Where the event has
 //! another text there, told by its sketch, the rule changes nothing, and need not be looked at. Of a
 //! pattern for the kernel's name the first byte is known, nearly always.
-ghost use Rattle.std.specs.Prelude.{◌≡◌, ◌<◌, length, position, map, IfOk, IfSome};
+ghost use Rattle.std.specs.Prelude.{◌≡◌, ◌<◌, ◌≤◌, length, position, IfOk, IfSome};
 ghost use Rattle.text_tables.specs.Texts.{same_text};
-ghost use Rattle.eval_programs.specs.Checks.{attribute_slot, check_by, check_of, check_with, first_check, head_slot, slot_of};
+ghost use Rattle.eval_programs.specs.Checks.{asked, attribute_slot, check_by, check_of, check_with, choice_check, first_check, head_slot, slot_of};
 
-use rule_core::{PlainKey, PlainMatch, Rule};
+use rule_core::{MatchOperator, PlainKey, PlainMatch, Rule};
 use rule_layout::{exact_head, exact_sketch};
 use std::alloc::{AllocError, Global};
 use text_bytes::Bytes;
+use text_core::Choice;
 
 /// How many attributes are looked up for each event, at most.
 const MOST_NAMES: usize = 60;
 
-/// What has to be seen of an event, or else a rule can be passed over.
+/// What has to be seen of an event, or else a choice does not fit.
 #[derive(Clone, Copy, Debug)]
 pub struct Check {
     /// Where it stands among what is seen of an event.
     pub slot: usize,
-    /// The sketch of the text that the rule asks for.
+    /// The sketch of the text that is asked for.
     pub sketch: u64,
 }
 
@@ -87,38 +88,44 @@ fn first_check(check: Option<Check>, other: Option<Check>) -> Option<Check>
     }
 }
 
-/// The check of a match: by its text, or by the first byte of its pattern.
+/// The check of what a key looks at, by the text of a choice, or by the first byte of its pattern.
+pub(crate) fn choice_check(names: &[Bytes], key: &PlainKey, choice: &Choice) -> Option<Check>
+    ensures { result ≡ choice_check names.now key.now choice.now }
+{
+    first_check(
+        check_by(slot_of(names, key), exact_sketch(choice)),
+        check_by(head_slot(key), exact_head(choice)),
+    )
+}
+
+/// A check of a match by `==`; one by `!=` has none.
+fn asked(operator: MatchOperator, check: Option<Check>) -> Option<Check>
+    ensures { result ≡ asked operator check }
+{
+    match operator {
+        MatchOperator::Equal => check,
+        MatchOperator::NotEqual => None,
+    }
+}
+
+/// The check of a match.
 fn check_with(names: &[Bytes], part: &PlainMatch) -> Option<Check>
     ensures { result ≡ check_with names.now part.now }
 {
-    first_check(
-        check_by(slot_of(names, &part.key), exact_sketch(&part.wanted)),
-        check_by(head_slot(&part.key), exact_head(&part.wanted)),
+    asked(
+        part.wanted.operator,
+        choice_check(names, &part.key, &part.wanted.choice),
     )
 }
 
 /// The check of a rule, by its first match.
-fn check_of(names: &[Bytes], rule: &Rule) -> Option<Check>
+pub(crate) fn check_of(names: &[Bytes], rule: &Rule) -> Option<Check>
     ensures { result ≡ check_of names.now rule.now }
 {
     match rule.plain().first() {
         Some(part) => check_with(names, part),
         None => None,
     }
-}
-
-/// The check of each rule. The error comes where memory is refused.
-pub(crate) fn checks(
-    alloc: Global,
-    names: &[Bytes],
-    rules: &[Rule],
-) -> Result<Vec<Option<Check>>, AllocError>
-    ensures { IfOk result (λ checks. checks.items ≡ map (check_of names.now) rules.now) }
-{
-    rules
-        .iter()
-        .map(|rule| check_of(names, rule))
-        .collect(alloc)
 }
 
 /// The name of the attribute that a rule looks at first, if it does.
@@ -134,7 +141,9 @@ fn first_attribute(rule: &Rule) -> Option<&[u8]> {
 
 /// The names of the attributes that rules look at first, as many as are looked up for each event. The
 /// error comes where memory is refused.
-pub(crate) fn first_attributes(alloc: Global, rules: &[Rule]) -> Result<Vec<Bytes>, AllocError> {
+pub(crate) fn first_attributes(alloc: Global, rules: &[Rule]) -> Result<Vec<Bytes>, AllocError>
+    ensures { IfOk result (λ names. length names.items ≤ 60) }
+{
     let mut names = Vec::new(alloc);
     for name in rules.iter().filter_map(first_attribute) {
         if names.len() < MOST_NAMES && place_of(&names, name).is_none() {

@@ -3,7 +3,8 @@ ghost use Rattle.std.specs.Prelude.{◌≡◌, IfOk};
 ghost use Rattle.eval_core.specs.Outcomes.{outcome};
 ghost use Rattle.eval_programs.specs.Layout.{IsLaidOut};
 
-use crate::checks::{Check, checks, first_attributes};
+use crate::checks::first_attributes;
+use crate::courses::{Course, courses};
 use crate::running::{Layout, run};
 use device_core::Event;
 use eval_core::{Outcome, finish};
@@ -21,7 +22,7 @@ pub struct Program {
     rules: Vec<Rule>,
     passes: Vec<usize>,
     names: Vec<Bytes>,
-    checks: Vec<Option<Check>>,
+    courses: Vec<Course>,
 }
 
 impl Model for Program {
@@ -33,7 +34,7 @@ impl Model for Program {
 
     ghost view = { λ p. p.rules.items };
 
-    ghost invariant = { λ p. IsLaidOut p.rules.items p.passes.items p.names.items p.checks.items };
+    ghost invariant = { λ p. IsLaidOut p.rules.items p.passes.items p.names.items p.courses.items };
 }
 
 /// Lays the rules of a set out for evaluation; its messages are dropped.
@@ -45,12 +46,12 @@ pub fn compile(alloc: Global, rules: RuleSet) -> Result<Program, AllocError>
     let rules = rules.into_rules();
     let passes = passed_over(alloc, &rules)?;
     let names = first_attributes(alloc, &rules)?;
-    let checks = checks(alloc, &names, &rules)?;
+    let courses = courses(alloc, &names, &rules)?;
     Ok(Program {
         rules,
         passes,
         names,
-        checks,
+        courses,
     })
 }
 
@@ -61,7 +62,7 @@ fn evaluate<'a, L: Lookup>(
     event: &'a Event<'_>,
     lookup: &L,
 ) -> Result<Outcome, AllocError>
-    requires { IsLaidOut layout.rules.now layout.passes.now layout.names.now layout.checks.now }
+    requires { IsLaidOut layout.rules.now layout.passes.now layout.names.now layout.courses.now }
     ensures { IfOk result (λ answer. answer ≡ outcome layout.entry.rules.now (L.entries lookup.now) event.now) }
 {
     let mut scene = Scene::new(alloc, event)?;
@@ -73,13 +74,13 @@ impl Program {
     /// The rules as they are laid out, lent.
     fn layout(&self) -> Layout<'_>
         ensures rules { result.rules.now ≡ self.now }
-        ensures laid_out { IsLaidOut result.rules.now result.passes.now result.names.now result.checks.now }
+        ensures laid_out { IsLaidOut result.rules.now result.passes.now result.names.now result.courses.now }
     {
         Layout {
             rules: &self.rules,
             passes: &self.passes,
             names: &self.names,
-            checks: &self.checks,
+            courses: &self.courses,
         }
     }
 

@@ -1,11 +1,14 @@
 //! Rules one behind another, by their numbers.
-ghost use Rattle.std.specs.Prelude.{◌≡◌, ◌+◌, ◌<◌, ◌≤◌, None, OnOk, length, get_or, if◌then◌else◌};
+ghost use Rattle.std.specs.Prelude.{◌≡◌, ◌+◌, ◌<◌, ◌≤◌, None, IfOk, OnOk, length, get_or, if◌then◌else◌};
 ghost use Rattle.rule_layout.specs.Jumps.{passed_over};
 ghost use Rattle.eval_core.specs.Jumps.{run};
+ghost use Rattle.eval_core.specs.Steps.{apply};
+ghost use Rattle.eval_programs.specs.Courses.{as_foretold};
 ghost use Rattle.eval_programs.specs.Layout.{IsLaidOut};
 
-use crate::checks::Check;
-use crate::seen::{next_rule, seen};
+use crate::courses::{Course, Fate, foretold};
+use crate::marks::marks;
+use crate::seen::seen;
 use eval_core::apply;
 use eval_scene::Scene;
 use hwdb_lookup::Lookup;
@@ -22,8 +25,8 @@ pub(crate) struct Layout<'a> {
     pub passes: &'a [usize],
     /// The names of the attributes that are looked up for each event.
     pub names: &'a [Bytes],
-    /// The check of each rule.
-    pub checks: &'a [Option<Check>],
+    /// The course of each rule.
+    pub courses: &'a [Course],
 }
 
 /// The number of the rule behind one that was evaluated: the next, or that to which it jumps.
@@ -38,6 +41,29 @@ fn behind(rules: &[Rule], passes: &[usize], place: usize, reached: bool) -> usiz
     if reached { place + 1 + over } else { place + 1 }
 }
 
+/// Evaluates a rule of which it is known, as far as that goes, what comes of it, and answers whether its
+/// end was reached. The error comes where memory is refused.
+fn step<'a, L: Lookup>(
+    alloc: Global,
+    rule: &'a Rule,
+    fate: Fate,
+    lookup: &L,
+    scene: &mut Scene<'a>,
+) -> Result<bool, AllocError>
+    requires { as_foretold fate scene.old (apply (L.entries lookup.now) rule.now scene.old) ≡ apply (L.entries lookup.now) rule.now scene.old }
+    ensures { IfOk result (λ on. (scene.new, on) ≡ apply (L.entries lookup.now) rule.now scene.old) }
+{
+    match fate {
+        Fate::Unknown => apply(alloc, rule, lookup, scene),
+        Fate::Failed => Ok(false),
+        Fate::Reached => Ok(true),
+        Fate::NotFound => {
+            scene.state.selected = None;
+            Ok(false)
+        }
+    }
+}
+
 /// Evaluates rules, one behind another: those that are ruled out are passed over, and so are those
 /// between a rule that jumps and the one to which it does. The error comes where memory is refused.
 pub(crate) fn run<'a, L: Lookup>(
@@ -46,15 +72,16 @@ pub(crate) fn run<'a, L: Lookup>(
     lookup: &L,
     scene: &mut Scene<'a>,
 ) -> Result<(), AllocError>
-    requires { IsLaidOut layout.rules.now layout.passes.now layout.names.now layout.checks.now }
+    requires { IsLaidOut layout.rules.now layout.passes.now layout.names.now layout.courses.now }
     ensures { OnOk result (scene.new ≡ run (L.entries lookup.now) None layout.entry.rules.now scene.old) }
 {
     let seen = seen(alloc, layout.names, &scene.state.event)?;
-    let mut place = next_rule(&seen, layout.checks, 0);
+    let found = marks(scene.state.event.event());
+    let mut place = 0;
     while place < layout.rules.len() {
-        let reached = apply(alloc, &layout.rules[place], lookup, scene)?;
-        let from = behind(layout.rules, layout.passes, place, reached);
-        place = next_rule(&seen, layout.checks, from);
+        let fate = foretold(&seen, &found, layout.courses[place]);
+        let reached = step(alloc, &layout.rules[place], fate, lookup, scene)?;
+        place = behind(layout.rules, layout.passes, place, reached);
     }
     Ok(())
 }

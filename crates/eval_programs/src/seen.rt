@@ -1,19 +1,19 @@
-//! What is seen of an event before its rules run, and the rules that this rules out.
-ghost use Rattle.std.specs.Prelude.{◌≡◌, ◌+◌, ◌≤◌, drop, length, IfOk};
-ghost use Rattle.std.specs.List.{prefix_len};
-ghost use Rattle.eval_programs.specs.Checks.{attribute_seen, is_ruled_out, seen};
+//! What is seen of an event before its rules run, and which checks this rules out.
+ghost use Rattle.std.specs.Prelude.{◌≡◌, Some, IfOk};
+ghost use Rattle.eval_programs.specs.Checks.{attribute_seen, is_other, is_ruled_out, seen};
 
 use crate::checks::Check;
+use device_core::Device;
 use eval_state::{Chain, trimmed};
 use rule_layout::{first_byte, sketch};
 use std::alloc::{AllocError, Global};
 use text_bytes::Bytes;
 
-/// The sketch of an attribute of the event device as it is compared, where it has it.
-fn attribute_seen(event: &Chain<'_>, name: &[u8]) -> Option<u64>
-    ensures { result ≡ attribute_seen event.now name.now }
+/// The sketch of an attribute of a device as it is compared, where it has it.
+fn attribute_seen(device: &Device<'_>, name: &[u8]) -> Option<u64>
+    ensures { result ≡ attribute_seen device.now name.now }
 {
-    match event.device().attrs().get(name) {
+    match device.attrs().get(name) {
         Some(value) => Some(sketch(trimmed(value))),
         None => None,
     }
@@ -36,42 +36,27 @@ pub(crate) fn seen(
     found.push(Some(sketch(device.driver().unwrap_or(b""))))?;
     found.push(Some(first_byte(event.kernel())))?;
     for name in names {
-        found.push(attribute_seen(event, name.as_slice()))?;
+        found.push(attribute_seen(device, name.as_slice()))?;
     }
     Ok(found)
 }
 
-/// Whether what is seen of an event rules out that the first match of a rule holds.
-fn is_ruled_out(seen: &[Option<u64>], check: Option<Check>) -> bool
-    ensures { result ≡ is_ruled_out seen.now check }
+/// Whether what is seen is not what has this sketch.
+fn is_other(sketch: u64, seen: Option<u64>) -> bool
+    ensures { result ≡ is_other sketch seen }
 {
-    match check {
-        None => false,
-        Some(check) => match seen.get(check.slot) {
-            None => false,
-            Some(None) => true,
-            Some(Some(found)) => *found != check.sketch,
-        },
+    match seen {
+        None => true,
+        Some(found) => found != sketch,
     }
 }
 
-/// How many rules from the front on are ruled out, by their checks.
-fn ruled_out_len(seen: &[Option<u64>], checks: &[Option<Check>]) -> usize
-    ensures value { result ≡ prefix_len (is_ruled_out seen.now) checks.now }
-    ensures within { result ≤ length checks.now }
+/// Whether what is seen of an event rules out that a check holds.
+pub(crate) fn is_ruled_out(seen: &[Option<u64>], check: Check) -> bool
+    ensures { result ≡ is_ruled_out seen.now (Some check) }
 {
-    checks
-        .iter()
-        .take_while(|check| is_ruled_out(seen, **check))
-        .count()
-}
-
-/// The number of the next rule that is not ruled out, from a number on.
-pub(crate) fn next_rule(seen: &[Option<u64>], checks: &[Option<Check>], from: usize) -> usize
-    requires { from ≤ length checks.now }
-    ensures value { result ≡ from + prefix_len (is_ruled_out seen.now) (drop from checks.now) }
-    ensures behind { from ≤ result }
-{
-    let (_, behind) = checks.split_at(from);
-    from + ruled_out_len(seen, behind)
+    match seen.get(check.slot) {
+        None => false,
+        Some(found) => is_other(check.sketch, *found),
+    }
 }

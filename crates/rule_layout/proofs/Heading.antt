@@ -7,26 +7,21 @@ use Rattle.text_core.specs.Choices.{choice_fits}
 use Rattle.text_core.specs.Fits.{fits}
 use Rattle.text_core.specs.declared.item.Item.{Item}
 use Rattle.text_core.specs.declared.item.Item.TheVariants as item
-use Rattle.rule_keys.specs.declared.roles.MatchOperator.{MatchOperator}
-use Rattle.rule_keys.specs.declared.roles.MatchOperator.TheVariants.{Equal, NotEqual}
-use Rattle.rule_parts.specs.declared.part.Comparison.{Comparison}
-use Rattle.rule_layout.specs.Sketches.{byte_item, exact_head, exact_part, first_byte, head_in, head_of}
+use Rattle.rule_layout.specs.Sketches.{byte_item, exact_head, first_byte, head_in, head_of, only_part}
 
--- a comparison asks for one pattern, which begins with this byte
-pub record IsHeaded (wanted : Comparison) (found : ℕ) : Type 0 where
+-- a choice is one pattern, which begins with this byte
+pub record IsHeaded (choice : List (List Item)) (found : ℕ) : Type 0 where
   pub items : List Item
-  pub operator : wanted.operator ≡ Equal
-  pub choice : wanted.choice ≡ items ∷ []
+  pub choice_is : choice ≡ items ∷ []
   pub head : head_of items ≡ Some found
 
-pub headed : (wanted : Comparison) (found : ℕ) → exact_head wanted ≡ Some found → IsHeaded wanted found
-headed wanted found h = by wanted.operator wanted.choice refl refl h
+pub headed : (choice : List (List Item)) (found : ℕ) → exact_head choice ≡ Some found → IsHeaded choice found
+headed choice found h = by choice refl h
   where
-    by : (o : MatchOperator) (parts : List (List Item)) → wanted.operator ≡ o → wanted.choice ≡ parts → head_in (exact_part o parts) ≡ Some found → IsHeaded wanted found
-    by NotEqual parts o c h = cc h
-    by Equal [] o c h = cc h
-    by Equal (items ∷ []) o c h = record { items = items; operator = o; choice = c; head = h }
-    by Equal (items ∷ other ∷ parts) o c h = cc h
+    by : (parts : List (List Item)) → choice ≡ parts → head_in (only_part parts) ≡ Some found → IsHeaded choice found
+    by [] c h = cc h
+    by (items ∷ []) c h = record { items = items; choice_is = c; head = h }
+    by (items ∷ other ∷ parts) c h = cc h
 
 first : (a b : Bool) → (a && b) ≡ true → a ≡ true
 first true b h = refl
@@ -47,7 +42,7 @@ or_nothing : (b : Bool) → (b || false) ≡ true → b ≡ true
 or_nothing true h = refl
 or_nothing false h = h
 
-pub asked_for_head : (wanted : Comparison) (found : ℕ) (text : Text) → exact_head wanted ≡ Some found → choice_fits wanted.choice text ≡ true → first_byte text ≡ found
-asked_for_head wanted found text e f =
-    let one : IsHeaded wanted found = headed wanted found e in
-    begins one.items text found one.head (or_nothing (fits one.items text) (ap (λ c. choice_fits c text) (sym one.choice) ∙ f))
+pub fits_same_head : (choice : List (List Item)) (found : ℕ) (text : Text) → exact_head choice ≡ Some found → choice_fits choice text ≡ true → first_byte text ≡ found
+fits_same_head choice found text e f =
+    let one : IsHeaded choice found = headed choice found e in
+    begins one.items text found one.head (or_nothing (fits one.items text) (ap (λ c. choice_fits c text) (sym one.choice_is) ∙ f))

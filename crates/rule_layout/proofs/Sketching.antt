@@ -8,31 +8,26 @@ use Rattle.text_core.specs.Choices.{choice_fits}
 use Rattle.text_core.specs.Fits.{fits}
 use Rattle.text_core.specs.declared.item.Item.{Item}
 use Rattle.text_core.specs.declared.item.Item.TheVariants as item
-use Rattle.rule_keys.specs.declared.roles.MatchOperator.{MatchOperator}
-use Rattle.rule_keys.specs.declared.roles.MatchOperator.TheVariants.{Equal, NotEqual}
-use Rattle.rule_parts.specs.declared.part.Comparison.{Comparison}
-use Rattle.rule_layout.specs.Sketches.{byte_of, exact_part, exact_sketch, is_word, items_sketch, mixed, sketch, word_sketch}
+use Rattle.rule_layout.specs.Sketches.{byte_of, exact_sketch, is_word, items_sketch, mixed, only_part, sketch, word_sketch}
 
--- a comparison asks for one text, which has this sketch
-pub record IsExact (wanted : Comparison) (found : ℕ) : Type 0 where
+-- a choice is one text, which has this sketch
+pub record IsExact (choice : List (List Item)) (found : ℕ) : Type 0 where
   pub items : List Item
-  pub operator : wanted.operator ≡ Equal
-  pub choice : wanted.choice ≡ items ∷ []
+  pub choice_is : choice ≡ items ∷ []
   pub words : list_all is_word items ≡ true
   pub is : items_sketch items ≡ found
 
-pub exact : (wanted : Comparison) (found : ℕ) → exact_sketch wanted ≡ Some found → IsExact wanted found
-exact wanted found h = by wanted.operator wanted.choice refl refl h
+pub exact : (choice : List (List Item)) (found : ℕ) → exact_sketch choice ≡ Some found → IsExact choice found
+exact choice found h = by choice refl h
   where
-    one : (items : List Item) → wanted.operator ≡ Equal → wanted.choice ≡ items ∷ [] → (b : Bool) → list_all is_word items ≡ b → cond b (Some (items_sketch items)) None ≡ Some found → IsExact wanted found
-    one items o c true w h = record { items = items; operator = o; choice = c; words = w; is = same_Some (items_sketch items) found h }
-    one items o c false w h = cc h
+    one : (items : List Item) → choice ≡ items ∷ [] → (b : Bool) → list_all is_word items ≡ b → cond b (Some (items_sketch items)) None ≡ Some found → IsExact choice found
+    one items c true w h = record { items = items; choice_is = c; words = w; is = same_Some (items_sketch items) found h }
+    one items c false w h = cc h
 
-    by : (o : MatchOperator) (parts : List (List Item)) → wanted.operator ≡ o → wanted.choice ≡ parts → word_sketch (exact_part o parts) ≡ Some found → IsExact wanted found
-    by NotEqual parts o c h = cc h
-    by Equal [] o c h = cc h
-    by Equal (items ∷ []) o c h = one items o c (list_all is_word items) refl h
-    by Equal (items ∷ other ∷ parts) o c h = cc h
+    by : (parts : List (List Item)) → choice ≡ parts → word_sketch (only_part parts) ≡ Some found → IsExact choice found
+    by [] c h = cc h
+    by (items ∷ []) c h = one items c (list_all is_word items) refl h
+    by (items ∷ other ∷ parts) c h = cc h
 
 both : (a b : Bool) → (a && b) ≡ true → (a ≡ true) × (b ≡ true)
 both true true h = (refl, refl)
@@ -68,8 +63,8 @@ or_nothing : (b : Bool) → (b || false) ≡ true → b ≡ true
 or_nothing true h = refl
 or_nothing false h = h
 
-pub asked_for : (wanted : Comparison) (found : ℕ) (text : Text) → exact_sketch wanted ≡ Some found → choice_fits wanted.choice text ≡ true → sketch text ≡ found
-asked_for wanted found text e f =
-    let one : IsExact wanted found = exact wanted found e in
-    let fit : fits one.items text ≡ true = or_nothing (fits one.items text) (ap (λ c. choice_fits c text) (sym one.choice) ∙ f) in
+pub fits_same_sketch : (choice : List (List Item)) (found : ℕ) (text : Text) → exact_sketch choice ≡ Some found → choice_fits choice text ≡ true → sketch text ≡ found
+fits_same_sketch choice found text e f =
+    let one : IsExact choice found = exact choice found e in
+    let fit : fits one.items text ≡ true = or_nothing (fits one.items text) (ap (λ c. choice_fits c text) (sym one.choice_is) ∙ f) in
     sym (sketch_by_item one.items text 0 one.words fit) ∙ one.is

@@ -5,9 +5,6 @@ use Rattle.text_bytes.specs.Names.{is_whitespace}
 use Rattle.text_tables.specs.Texts.{Text}
 use Rattle.text_core.specs.declared.item.Item.{Item}
 use Rattle.text_core.specs.declared.item.Item.TheVariants as item
-use Rattle.rule_keys.specs.declared.roles.MatchOperator.{MatchOperator}
-use Rattle.rule_keys.specs.declared.roles.MatchOperator.TheVariants.{Equal, NotEqual}
-use Rattle.rule_parts.specs.declared.part.Comparison.{Comparison}
 
 -- a sketch with one byte more
 unfoldable pub mixed : ℕ → ℕ → ℕ
@@ -37,23 +34,14 @@ only_part [] = None
 only_part (part ∷ []) = Some part
 only_part (part ∷ other ∷ parts) = None
 
--- the one pattern that a choice is compared with, where one has to fit
-abbrev pub exact_part : MatchOperator → List (List Item) → Option (List Item)
-exact_part Equal parts = only_part parts
-exact_part NotEqual parts = None
-
--- the one pattern that a comparison asks for, if it does
-abbrev pub exact_items : Comparison → Option (List Item)
-exact_items wanted = exact_part wanted.operator wanted.choice
-
 -- the sketch of a pattern that is a text without whitespace
 abbrev pub word_sketch : Option (List Item) → Option ℕ
 word_sketch None = None
 word_sketch (Some items) = if list_all is_word items then Some (items_sketch items) else None
 
--- the sketch of the text that a comparison asks for, where it asks for one text that has no whitespace
-abbrev pub exact_sketch : Comparison → Option ℕ
-exact_sketch wanted = word_sketch (exact_items wanted)
+-- the sketch of the one text that a choice fits, where it is one, without whitespace
+abbrev pub exact_sketch : List (List Item) → Option ℕ
+exact_sketch choice = word_sketch (only_part choice)
 
 -- the first byte of a text, or 256 where it is empty
 abbrev pub first_byte : Text → ℕ
@@ -75,6 +63,6 @@ abbrev pub head_in : Option (List Item) → Option ℕ
 head_in None = None
 head_in (Some items) = head_of items
 
--- the first byte of the texts that a comparison asks for, where it asks for one pattern, which begins with a byte
-abbrev pub exact_head : Comparison → Option ℕ
-exact_head wanted = head_in (exact_items wanted)
+-- the first byte of the texts that a choice fits, where it is one pattern, which begins with a byte
+abbrev pub exact_head : List (List Item) → Option ℕ
+exact_head choice = head_in (only_part choice)

@@ -1,13 +1,12 @@
 //! First bytes, by which texts are told apart from patterns that begin with a byte.
 //!
 //! Most patterns of the kernel's names begin with a few letters, so that a name's first byte is nearly
-//! always enough to see that a comparison does not hold.
+//! always enough to see that a choice does not fit.
 ghost use Rattle.std.specs.Prelude.{◌≡◌};
 ghost use Rattle.rule_layout.specs.Sketches.{byte_item, exact_head, first_byte, head_of};
 
-use crate::sketches::exact_items;
-use rule_core::Comparison;
-use text_core::Item;
+use crate::sketches::only_part;
+use text_core::{Choice, Item};
 
 /// The first byte of a text, or 256 where it is empty.
 pub fn first_byte(text: &[u8]) -> u64
@@ -39,12 +38,12 @@ fn head_of(items: &[Item]) -> Option<u64>
     }
 }
 
-/// The first byte of the texts that a comparison asks for, where it asks for one pattern, which begins
-/// with a byte: it holds of no text with another first byte.
-pub fn exact_head(wanted: &Comparison) -> Option<u64>
-    ensures { result ≡ exact_head wanted.now }
+/// The first byte of the texts that a choice fits, where it is one pattern, which begins with a byte: the
+/// choice fits no text with another first byte.
+pub fn exact_head(choice: &Choice) -> Option<u64>
+    ensures { result ≡ exact_head choice.now }
 {
-    match exact_items(wanted) {
+    match only_part(choice.parts()) {
         Some(items) => head_of(items),
         None => None,
     }

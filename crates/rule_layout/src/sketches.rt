@@ -1,13 +1,12 @@
 //! Numbers by which texts are told apart.
 //!
 //! Texts of different sketches are different; those of the same one are still to be compared. So a
-//! sketch of each text is enough to see, nearly always, that a comparison does not hold.
+//! sketch of each text is enough to see, nearly always, that a choice does not fit.
 ghost use Rattle.std.specs.Prelude.{◌≡◌, fold, option_map};
 ghost use Rattle.std.specs.List.{list_all};
-ghost use Rattle.rule_layout.specs.Sketches.{byte_of, exact_items, exact_sketch, is_word, items_sketch, mixed, only_part, sketch};
+ghost use Rattle.rule_layout.specs.Sketches.{byte_of, exact_sketch, is_word, items_sketch, mixed, only_part, sketch};
 
-use rule_core::{Comparison, MatchOperator};
-use text_core::{Item, Pattern};
+use text_core::{Choice, Item, Pattern};
 use text_words::is_whitespace;
 
 /// A sketch with one byte more.
@@ -70,7 +69,7 @@ fn items_sketch(items: &[Item]) -> u64
 }
 
 /// The one pattern of a choice, if there is only one.
-fn only_part(parts: &[Pattern]) -> Option<&[Item]>
+pub(crate) fn only_part(parts: &[Pattern]) -> Option<&[Item]>
     ensures { option_map (λ items. items.now) result ≡ only_part parts.now }
 {
     match parts.split_first() {
@@ -85,22 +84,12 @@ fn only_part(parts: &[Pattern]) -> Option<&[Item]>
     }
 }
 
-/// The one pattern that a comparison asks for, if it does.
-pub(crate) fn exact_items(wanted: &Comparison) -> Option<&[Item]>
-    ensures { option_map (λ items. items.now) result ≡ exact_items wanted.now }
+/// The sketch of the one text that a choice fits, where it is one, without whitespace: the choice fits no
+/// text with another sketch.
+pub fn exact_sketch(choice: &Choice) -> Option<u64>
+    ensures { result ≡ exact_sketch choice.now }
 {
-    match wanted.operator {
-        MatchOperator::Equal => only_part(wanted.choice.parts()),
-        MatchOperator::NotEqual => None,
-    }
-}
-
-/// The sketch of the text that a comparison asks for, where it asks for one text that has no whitespace:
-/// it holds of no text with another sketch.
-pub fn exact_sketch(wanted: &Comparison) -> Option<u64>
-    ensures { result ≡ exact_sketch wanted.now }
-{
-    match exact_items(wanted) {
+    match only_part(choice.parts()) {
         Some(items) => {
             if are_words(items) {
                 Some(items_sketch(items))

@@ -1,11 +1,11 @@
 #!/usr/bin/env bash
-# How long one event takes, by the rules as they are read and by their program: rules of which most fail at
-# their first match, over 2,000 blocks and over one, and the difference for each event, for 4,600 rules, half
-# of them and twice as many; by each first key alone, and what a rule costs where all of them stay in the
-# processor's cache; the same rules where every tenth one changes a property, so that one sees what a rule
-# costs whose end is reached; then the rules of a distribution, once and copied to about 200 files, with events
-# as a machine has them. Reading rules and blocks counts in both, and so falls out. Times are the processor's,
-# as the program uses it.
+# How long one event takes, by the rules as they are read and by their program. Two times are told of each:
+# evaluation alone, by one block that is read once and evaluated 2,001 times and once, and the whole event, its
+# block read each time, by 2,001 blocks and by one; the difference, divided, is what each takes. The rules are made
+# ones of which most fail at their first match, 4,600, half of them and twice as many; by each first key alone, and
+# what a rule costs where all of them stay in the processor's cache; the same rules where every tenth one changes a
+# property, so that one sees what a rule costs whose end is reached; then the rules of a distribution, once and
+# copied to about 200 files, with events as a machine has them. Times are the processor's, as the program uses it.
 # usage: bench/event.sh [DIR]    DIR holds usr/lib/udev/rules.d, as tools that unpack packages leave it
 set -euo pipefail
 root=$(cd "${1:-/nonexistent}" 2> /dev/null && pwd || true)
@@ -67,27 +67,33 @@ def rule(number, firsts, changing):
     return f'{firsts[number % len(firsts)]}, ATTRS{{idVendor}}=="{number:04x}", SYMLINK+="x/{number}"'
 
 
+def run(way, rules, block, blocks, times):
+    """The processor time of a run over so many blocks, each evaluated so often, by the least of five, and what it told."""
+    with tempfile.NamedTemporaryFile(mode="w") as file:
+        file.write(f"{way}\n{times}\n{rules}{block * blocks}")
+        file.flush()
+        return user_time_of_five([program], file.name)
+
+
 def time_of(way, rules, block):
-    """The processor time of one event, by the least of five runs over many and over one, and what they told."""
-    times = []
-    for events in (1, EVENTS):
-        with tempfile.NamedTemporaryFile(mode="w") as file:
-            file.write(way + "\n" + rules + block * events)
-            file.flush()
-            best, answer = user_time_of_five([program], file.name)
-            times.append(best)
-    return (times[1] - times[0]) / (EVENTS - 1), answer
+    """The processor time of one evaluation, that of one whole event, and what the events come to."""
+    once, _ = run(way, rules, block, 1, 1)
+    evaluated, answer = run(way, rules, block, 1, EVENTS + 1)
+    read, again = run(way, rules, block, EVENTS + 1, 1)
+    assert answer == again, (answer, again)
+    return (evaluated - once) / EVENTS, (read - once) / EVENTS, answer
 
 
 def measure(name, rules, block):
-    """The time of one event, as the rules are read and by their program; gives the first."""
-    each, answer = time_of("plain", rules, block)
-    compiled, again = time_of("compiled", rules, block)
+    """The times of one event, as the rules are read and by their program; gives the first evaluation's."""
+    plain, plain_whole, answer = time_of("plain", rules, block)
+    compiled, compiled_whole, again = time_of("compiled", rules, block)
     assert answer == again, (answer, again)
     count = int(answer.split()[0])
-    print(f"{name}: {answer}, {each * 1000:.3f} ms an event, {each / count * 1e9:.0f} ns a rule; "
-          f"compiled {compiled * 1000:.3f} ms, {each / compiled:.1f} times as fast", flush=True)
-    return each
+    print(f"{name}: {answer}; evaluation {plain * 1e6:.1f} us, {plain / count * 1e9:.0f} ns a rule; compiled "
+          f"{compiled * 1e6:.1f} us, {plain / compiled:.2f} times as fast; with reading the block {plain_whole * 1e6:.1f} us, "
+          f"compiled {compiled_whole * 1e6:.1f} us, {plain_whole / compiled_whole:.2f} times as fast", flush=True)
+    return plain
 
 
 def made(count, firsts=FIRST, changing=False):

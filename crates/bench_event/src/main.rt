@@ -1,7 +1,8 @@
 //! Evaluates the rules of its input over each event block behind them, and prints what the events come
 //! to together. The first line says how: `plain`, by the rules as they are read, or `compiled`, by their
-//! program. The rules are the lines from there to the first that begins with `C:`; an empty line ends a
-//! file.
+//! program. The second line says how often each block that was read is evaluated, as a decimal number, so
+//! that evaluations can be timed alone. The rules are the lines from there to the first that begins with
+//! `C:`; an empty line ends a file.
 //!
 //! `bench/event.sh` runs it over many rules. It stands in a crate of its own so that each evaluation is
 //! timed alone, without the start and the lines of `devdry events`.
@@ -55,6 +56,14 @@ impl Rules {
     }
 }
 
+/// Rules, how many they are, and how often each event is evaluated by them.
+#[derive(Drop)]
+struct Bench {
+    count: usize,
+    rules: Rules,
+    times: u64,
+}
+
 /// A text up to its first newline, and behind that.
 fn first_line(text: &[u8]) -> (&[u8], &[u8]) {
     let len = text.iter().take_while(|byte| **byte != b'\n').count();
@@ -63,6 +72,16 @@ fn first_line(text: &[u8]) -> (&[u8], &[u8]) {
         Some((_, rest)) => (line, rest),
         None => (line, rest),
     }
+}
+
+/// The number that a text of decimal digits is.
+fn number(text: &[u8]) -> u64 {
+    let mut number = 0_u64;
+    for byte in text {
+        let digit = u64::from(byte.wrapping_sub(b'0'));
+        number = number.wrapping_mul(10).wrapping_add(digit);
+    }
+    number
 }
 
 /// A text up to its first line that begins with `C:`, and from there on.
@@ -103,38 +122,50 @@ fn files_of(alloc: Global, text: &[u8]) -> Result<Vec<SourceFile>, AllocError> {
     Ok(files)
 }
 
-/// The rules of a text, and how many there are.
-fn rules_of(alloc: Global, way: &[u8], text: &[u8]) -> Result<(usize, Rules), RulesFault> {
-    let files = files_of(alloc, text)?;
-    let rules = read_rules(alloc, &files)?;
-    let count = rules.rules().len();
+/// Rules as they are read, or their program.
+fn rules_by(alloc: Global, way: &[u8], rules: RuleSet) -> Result<Rules, AllocError> {
     if way == b"plain".as_slice() {
-        Ok((count, Rules::Plain(rules)))
+        Ok(Rules::Plain(rules))
     } else {
-        Ok((count, Rules::Compiled(compile(alloc, rules)?)))
+        Ok(Rules::Compiled(compile(alloc, rules)?))
     }
 }
 
-/// The counts with one event.
+/// The rules of a text, by which each event is evaluated so often.
+fn bench_of(alloc: Global, way: &[u8], times: u64, text: &[u8]) -> Result<Bench, RulesFault> {
+    let files = files_of(alloc, text)?;
+    let rules = read_rules(alloc, &files)?;
+    Ok(Bench {
+        count: rules.rules().len(),
+        rules: rules_by(alloc, way, rules)?,
+        times,
+    })
+}
+
+/// The counts with one event, as often as it is evaluated.
 fn with_event(
     alloc: Global,
-    rules: &Rules,
+    bench: &Bench,
     event: &Event<'_>,
-    counts: Counts,
+    before: Counts,
 ) -> Result<Counts, AllocError> {
-    let outcome = rules.evaluate(alloc, event)?;
-    Ok(counts.with_outcome(&outcome))
+    let mut counts = before;
+    for _ in 0..bench.times {
+        let outcome = bench.rules.evaluate(alloc, event)?;
+        counts = counts.with_outcome(&outcome);
+    }
+    Ok(counts)
 }
 
 /// The counts with the event of a block; a faulty block is none.
 fn with_block(
     alloc: Global,
-    rules: &Rules,
+    bench: &Bench,
     block: &[u8],
     counts: Counts,
 ) -> Result<Counts, AllocError> {
     match read_block(alloc, block) {
-        Ok(event) => with_event(alloc, rules, &event, counts),
+        Ok(event) => with_event(alloc, bench, &event, counts),
         Err(_) => Ok(counts),
     }
 }
@@ -142,7 +173,7 @@ fn with_block(
 /// The counts with all events of a text, each with an empty line behind it.
 fn take_all(
     alloc: Global,
-    rules: &Rules,
+    bench: &Bench,
     splitter: &mut Splitter,
     text: &[u8],
 ) -> Result<Counts, SplitFault> {
@@ -156,7 +187,7 @@ fn take_all(
     while !rest.is_empty() {
         let taken = splitter.take(rest)?;
         if taken.whole {
-            if let Ok(more) = with_block(alloc, rules, splitter.block(), counts) {
+            if let Ok(more) = with_block(alloc, bench, splitter.block(), counts) {
                 counts = more;
             }
         }
@@ -170,13 +201,14 @@ fn main(rt: HostRuntime) -> io::Result<()> {
     let mut text = Vec::new(alloc);
     rt.stdin().read_to_end(&mut text)?;
     let (way, rest) = first_line(&text);
+    let (times, rest) = first_line(rest);
     let (rules, blocks) = rules_and_blocks(rest);
     let mut splitter = Splitter::new(alloc)?;
-    match rules_of(alloc, way, rules) {
-        Ok((count, rules)) => match take_all(alloc, &rules, &mut splitter, blocks) {
+    match bench_of(alloc, way, number(times), rules) {
+        Ok(bench) => match take_all(alloc, &bench, &mut splitter, blocks) {
             Ok(counts) => println!(rt;
                 "{} rules, {} events, {} properties, {} links, {} notes",
-                count, counts.events, counts.properties, counts.links, counts.notes
+                bench.count, counts.events, counts.properties, counts.links, counts.notes
             )?,
             Err(_) => println!(rt; "a block is too long")?,
         },

@@ -1,5 +1,5 @@
 -- What stands among the marks of an event.
-use Rattle.std.proofs.Common.{◌≡◌, ℕ, zero, suc, ◌+◌, ◌*◌, ◌%◌, ◌<◌, ◌==◌, Bool, true, false, cond, not, List, [], ◌∷◌, length, fold, set, slice_get, Option, Some, None, refl, ap, sym, subst, ◌∙◌, arith, true≢false, length-set}
+use Rattle.std.proofs.Common.{◌≡◌, ℕ, zero, suc, ◌+◌, ◌*◌, ◌%◌, ◌<◌, ◌==◌, Bool, true, false, cond, not, List, [], ◌∷◌, length, fold, slice_get, Some, refl, ap, sym, subst, ◌∙◌, arith, true≢false, length-set}
 use Rattle.std.specs.Cmp.Lexicographic.{bytes_decides}
 use Rattle.std.proofs.lemmas.Bool.{eqb-true}
 use Rattle.std.proofs.lemmas.List.{get_or-set_same, length-replicate}

@@ -1,6 +1,5 @@
 -- Serves inner proofs only: marks, by which it is seen that no device of a chain has what rules search for.
 use Rattle.std.specs.Prelude.{ℕ, ◌+◌, ◌*◌, ◌%◌, Bool, true, false, not, List, fold, set, replicate, Option, Some, None}
-use Rattle.text_tables.specs.Texts.{Text}
 use Rattle.text_tables.specs.Pairs.{Pair}
 use Rattle.rule_layout.specs.Sketches.{sketch}
 use Rattle.device_core.specs.Values.{DeviceValue, EventValue, chain}

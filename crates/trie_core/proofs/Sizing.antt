@@ -1,5 +1,5 @@
 -- Texts that are kept once, and the sets of nodes.
-use Rattle.std.proofs.Common.{◌≡◌, ℕ, zero, suc, ◌+◌, ◌-◌, ◌<◌, ◌≤◌, length-append, Bool, List, ◌∷◌, [], ◌++◌, length, take, flat_map, get_or, nat_eq, refl, sym, ◌∙◌, ap, subst, arith}
+use Rattle.std.proofs.Common.{◌≡◌, ℕ, zero, suc, ◌+◌, ◌-◌, ◌<◌, ◌≤◌, length-append, Bool, List, ◌∷◌, [], ◌++◌, length, take, flat_map, get_or, nat_eq, fold, map, refl, sym, ◌∙◌, ap, subst, arith}
 use Rattle.std.specs.Borrow.{Bor}
 use Rattle.std.specs.List.{AllByRecursion, dedup, sum_by}
 use Rattle.std.specs.List.Sorted.{IsPermutation, IsSorted, IsStrictlySortedBy}
@@ -7,20 +7,22 @@ use Rattle.std.specs.Cmp.Lexicographic.{on_texts, on_texts_equal, pointwise, tex
 use Rattle.std.proofs.lemmas.List.Sums.{sum_by-cons, sum_by_more_le}
 use Rattle.std.proofs.lemmas.List.Kept.{Any-dedup, Contains-from_dedup, IsStrictlySortedBy-dedup}
 use Rattle.std.proofs.lemmas.List.Sorted.{Contains-permutation, IsPermutation-sym}
-use Rattle.std.specs.declared.cmp.Ordering.TheVariants.{Less}
+use Rattle.std.specs.declared.cmp.Ordering.{Ordering}
+use Rattle.std.specs.declared.cmp.Ordering.TheVariants.{Less, Equal, Greater}
 use Rattle.text_core.specs.declared.item.Item.{Item}
-use Rattle.text_core.specs.declared.item.Item.TheVariants.{One}
+use Rattle.text_core.specs.declared.item.Item.TheVariants.{Byte, One, Many, Among}
+use Rattle.hwdb_lookup.specs.declared.entry.Entry.{Entry}
 use Rattle.std.proofs.Math.Seq.{get_or-append_seam}
 use Rattle.trie_nodes.proofs.Shaped.{path_on, path_root, up}
 use Rattle.trie_nodes.specs.Tree.{Shape, node_at, path}
 use Rattle.trie_nodes.specs.declared.node.Node.{Node}
-use Rattle.trie_paths.specs.Distinct.{IsDistinctOf, IsIn, Rises, distinct}
+use Rattle.trie_paths.specs.Distinct.{IsDistinctOf, IsIn, Rises, distinct, place, placed}
 use Rattle.trie_paths.specs.Paths.{paths_of}
-use Rattle.trie_paths.specs.Sizes.{index_len, last_label, set_in, sets_of, text_cmp}
+use Rattle.trie_paths.specs.Sizes.{index_len, last_label, names_of, set_in, sets_of, text_cmp}
 use Rattle.trie_paths.proofs.Distinguishing.{distinct_is, in_map, map_in, one_list}
 use Rattle.trie_paths.proofs.Orders.{texts_order}
 use Rattle.trie_core.specs.Content.{Content, IsTrie, shown}
-use Rattle.trie_core.specs.Shown.{index_len_by, node_sets}
+use Rattle.trie_core.specs.Shown.{all_len, index_len_by, node_sets, own_len}
 use Rattle.trie_core.proofs.Answering.{contains_of, in_of}
 
 abbrev pub Text : Type 0
@@ -106,3 +108,59 @@ sets_are t is = ap (distinct text_cmp) (same_sets t.nodes (paths_of t.entries) i
 -- the index that is measured is that of the entries
 pub measured : (t : Content) → IsTrie t → index_len_by t.nodes t.entries ≡ index_len t.entries
 measured t is = let len : length (node_sets t.nodes) ≡ length (sets_of t.entries) = ap length (sets_are t is) in omega (arith, is.count, len)
+
+-- what is kept once adds up to no more than all of it
+module _ {A : Type 0} (f : A → ℕ) (cmp : A → A → Ordering) where
+  place_sum : (x : A) (ys : List A) → sum_by f (place cmp x ys) ≤ f x + sum_by f ys
+  place_sum x [] = omega (arith, sum_by-cons f x [])
+  place_sum x (y ∷ ys) = by (cmp x y) (place_sum x ys) where
+    by : (o : Ordering) → sum_by f (place cmp x ys) ≤ f x + sum_by f ys → sum_by f (placed o x y ys (place cmp x ys)) ≤ f x + sum_by f (y ∷ ys)
+    by Less h = omega (arith, sum_by-cons f x (y ∷ ys))
+    by Equal h = omega arith
+    by Greater h = omega (arith, h, sum_by-cons f y (place cmp x ys), sum_by-cons f y ys)
+
+  fold_sum : (acc xs : List A) → sum_by f (fold (λ ys x. place cmp x ys) acc xs) ≤ sum_by f acc + sum_by f xs
+  fold_sum acc [] = omega arith
+  fold_sum acc (x ∷ xs) = omega (arith, fold_sum (place cmp x acc) xs, place_sum x acc, sum_by-cons f x xs)
+
+  pub distinct_sum : (xs : List A) → sum_by f (distinct cmp xs) ≤ sum_by f xs
+  distinct_sum xs = omega (arith, fold_sum [] xs)
+
+-- what is kept once is no more than all of it
+module _ {A : Type 0} (cmp : A → A → Ordering) where
+  place_len : (x : A) (ys : List A) → length (place cmp x ys) ≤ length ys + 1
+  place_len x [] = omega arith
+  place_len x (y ∷ ys) = by (cmp x y) (place_len x ys) where
+    by : (o : Ordering) → length (place cmp x ys) ≤ length ys + 1 → length (placed o x y ys (place cmp x ys)) ≤ length (y ∷ ys) + 1
+    by Less h = omega arith
+    by Equal h = omega arith
+    by Greater h = omega (arith, h)
+
+  fold_len : (acc xs : List A) → length (fold (λ ys x. place cmp x ys) acc xs) ≤ length acc + length xs
+  fold_len acc [] = omega arith
+  fold_len acc (x ∷ xs) = omega (arith, fold_len (place cmp x acc) xs, place_len x acc)
+
+  pub distinct_len : (xs : List A) → length (distinct cmp xs) ≤ length xs
+  distinct_len xs = omega (arith, fold_len [] xs)
+
+-- a label has at most one set, and nodes at most one each
+set_few : (x : Item) → length (set_in x) ≤ 1
+set_few (Byte b) = omega arith
+set_few One = omega arith
+set_few Many = omega arith
+set_few (Among set) = omega arith
+
+sets_in_few : (nodes : List Node) → length (flat_map (λ n. set_in n.label) nodes) ≤ length nodes
+sets_in_few [] = omega arith
+sets_in_few (n ∷ ns) = omega (arith, length-append (set_in n.label) (flat_map (λ m. set_in m.label) ns), set_few n.label, sets_in_few ns)
+
+pub few_sets : (nodes : List Node) → length (node_sets nodes) ≤ length nodes
+few_sets nodes = omega (arith, distinct_len text_cmp (flat_map (λ n. set_in n.label) nodes), sets_in_few nodes)
+
+-- the texts of entries, each file's name once, are no longer than with a name for each entry
+files_sum : (es : List Entry) → sum_by own_len es + sum_by length (map (λ e. e.file) es) ≡ sum_by all_len es
+files_sum [] = refl
+files_sum (e ∷ es) = omega (arith, sum_by-cons own_len e es, sum_by-cons all_len e es, sum_by-cons length e.file (map (λ x. x.file) es), files_sum es)
+
+pub short_names : (es : List Entry) → sum_by own_len es + sum_by length (names_of es) ≤ sum_by all_len es
+short_names es = omega (arith, distinct_sum length text_cmp (map (λ e. e.file) es), files_sum es)

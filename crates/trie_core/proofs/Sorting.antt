@@ -4,7 +4,7 @@ use Rattle.std.proofs.lemmas.Cmp.{nat_cmp_total, nat_list_cmp_total, on_total, t
 use Rattle.std.proofs.Math.Logic.{⊎_elim}
 use Rattle.std.specs.Cmp.Lexicographic.{slice_cmp}
 use Rattle.trie_core.specs.Fronts.{codes}
-use Rattle.trie_core.proofs.Fronting.{fronts_agree}
+use Rattle.trie_core.proofs.Fronting.{fronts_agree, untold_agrees}
 use Rattle.std.proofs.lemmas.Bool.{cases_order}
 use Rattle.std.proofs.lemmas.List.FromFn.{get_or-range_with_len, length-range_with_len}
 use Rattle.std.proofs.lemmas.Map.Keys.{IsDistinct-IsPermutation, IsDistinct-from_sorted, apart_from_distinct, sorted_from_strictly_increasing}
@@ -17,17 +17,18 @@ use Rattle.std.proofs.lemmas.List.Sorted.{ranks_by, sorted_far}
 use Rattle.std.specs.List.Sorted.{IsPermutation, IsSortedBy, IsStrictlyIncreasing}
 use Rattle.std.specs.Cmp.{IsTotalOrder}
 use Rattle.std.specs.Ordering.{is_lt, nat_cmp, ordering_reverse, ordering_then}
+use Rattle.std.specs.declared.cmp.Ordering.{Ordering}
 use Rattle.std.specs.declared.cmp.Ordering.TheVariants.{Less, Equal, Greater}
 use Rattle.trie_paths.specs.Order.{pattern_cmp}
 use Rattle.trie_paths.proofs.Orders.{patterns_order, patterns_total, texts_order}
 use Rattle.hwdb_lookup.specs.declared.entry.Entry.{Entry}
 use Rattle.trie_nodes.proofs.Pieces.{range-append}
 use Rattle.trie_core.specs.Content.{no_entry}
-use Rattle.trie_core.specs.Rows.{IsSorted, SameRise, Tells, numbers, pattern_at, patterns, row_cmp}
+use Rattle.trie_core.specs.Rows.{IsSorted, SameRise, Tells, numbers, pattern_at, patterns, row_cmp, untold}
 use Rattle.trie_core.specs.declared.rows.Row.{Row}
 
 pub rows_total : IsTotalOrder row_cmp
-rows_total = then_total (on_total (λ (r : Row). r.front) nat_list_cmp_total) (then_total (on_total (λ (r : Row). r.items.now) patterns_total) (on_total (λ (r : Row). r.number) nat_cmp_total))
+rows_total = then_total (on_total (λ (r : Row). r.front) nat_list_cmp_total) (then_total (on_total (λ (r : Row). untold r.front r.items.now) patterns_total) (on_total (λ (r : Row). r.number) nat_cmp_total))
 
 -- the row at a place
 pub row_at : (rows : List Row) (x : ℕ) → x < length rows → (r : Row) × (pattern_at (patterns rows) x ≡ r.items.now) × ((d : Row) → get_or rows x d ≡ r)
@@ -39,9 +40,13 @@ row_at (r ∷ rows) (suc x) h = row_at rows x (omega arith)
 row_greater : (es : List Entry) (r s : Row) → Tells es r → Tells es s → pattern_cmp r.items.now s.items.now ≡ Greater → row_cmp r s ≡ Greater
 row_greater es r s told other greater =
     let fronts : slice_cmp nat_cmp r.front s.front ≡ slice_cmp nat_cmp (codes 24 r.items.now) (codes 24 s.items.now) = ap (λ l. slice_cmp nat_cmp l s.front) told.front ∙ ap (slice_cmp nat_cmp (codes 24 r.items.now)) other.front in
-    let rest : ordering_then (pattern_cmp r.items.now s.items.now) (nat_cmp r.number s.number) ≡ Greater = ap (λ o. ordering_then o (nat_cmp r.number s.number)) greater in
-    ⊎_elim (λ tie. ap (λ o. ordering_then o (ordering_then (pattern_cmp r.items.now s.items.now) (nat_cmp r.number s.number))) (fronts ∙ tie) ∙ rest)
-    (λ is. ap (λ o. ordering_then o (ordering_then (pattern_cmp r.items.now s.items.now) (nat_cmp r.number s.number))) (fronts ∙ is ∙ greater)) (fronts_agree 24 r.items.now s.items.now)
+    let rests : Ordering = pattern_cmp (untold r.front r.items.now) (untold s.front s.items.now) in
+    let behind : codes 24 r.items.now ≡ codes 24 s.items.now → rests ≡ Greater = λ one.
+    ap (λ l. pattern_cmp (untold l r.items.now) (untold s.front s.items.now)) told.front ∙ ap (λ l. pattern_cmp (untold (codes 24 r.items.now) r.items.now) (untold l s.items.now)) other.front
+    ∙ sym (untold_agrees r.items.now s.items.now one) ∙ greater in
+    ⊎_elim (λ tie. ap (λ o. ordering_then o (ordering_then rests (nat_cmp r.number s.number))) (fronts ∙ tie)
+    ∙ ap (λ o. ordering_then o (nat_cmp r.number s.number)) (behind (texts_order.same (codes 24 r.items.now) (codes 24 s.items.now) tie)))
+    (λ is. ap (λ o. ordering_then o (ordering_then rests (nat_cmp r.number s.number))) (fronts ∙ is ∙ greater)) (fronts_agree 24 r.items.now s.items.now)
 
 pub patterns_rise : (es : List Entry) (rows : List Row) → All (Tells es) rows → IsSortedBy (λ r s. is_lt (row_cmp r s)) rows → IsSorted (patterns rows)
 patterns_rise es rows tells up x y h k greater =
@@ -84,9 +89,13 @@ same_rise es rows tells up n p x y h k one =
     let items : s.0.items.now ≡ r.0.items.now = sym s.1 ∙ sym one ∙ r.1 in
     let fronts : slice_cmp nat_cmp s.0.front r.0.front ≡ Equal =
     ap (λ l. slice_cmp nat_cmp l r.0.front) (other.front ∙ ap (codes 24) items ∙ sym told.front) ∙ texts_order.itself r.0.front in
-    let patterns_tie : pattern_cmp s.0.items.now r.0.items.now ≡ Equal = ap (λ q. pattern_cmp q r.0.items.now) items ∙ patterns_order.itself r.0.items.now in
+    let one_front : s.0.front ≡ r.0.front = other.front ∙ ap (codes 24) items ∙ sym told.front in
+    let rests : Ordering = pattern_cmp (untold s.0.front s.0.items.now) (untold r.0.front r.0.items.now) in
+    let patterns_tie : rests ≡ Equal =
+    ap (λ l. pattern_cmp (untold l s.0.items.now) (untold r.0.front r.0.items.now)) one_front ∙ ap (λ q. pattern_cmp (untold r.0.front q) (untold r.0.front r.0.items.now)) items
+    ∙ patterns_order.itself (untold r.0.front r.0.items.now) in
     let by_number : row_cmp s.0 r.0 ≡ nat_cmp s.0.number r.0.number =
-    ap (λ o. ordering_then o (ordering_then (pattern_cmp s.0.items.now r.0.items.now) (nat_cmp s.0.number r.0.number))) fronts
+    ap (λ o. ordering_then o (ordering_then rests (nat_cmp s.0.number r.0.number))) fronts
     ∙ ap (λ o. ordering_then o (nat_cmp s.0.number r.0.number)) patterns_tie in
     let not : is_lt (row_cmp (get_or rows y r.0) (get_or rows x r.0)) ≡ false =
     sorted_far (λ a b. is_lt (row_cmp a b)) (ranks_by rows_total (λ (z : Row). z)) rows up x y r.0 (omega arith) k in

@@ -1,5 +1,5 @@
 -- Serves inner proofs only: the entries, sorted by their patterns.
-use Rattle.std.specs.Prelude.{ℕ, ◌≡◌, ◌-◌, ◌<◌, List, [], length, map, slice_index_or}
+use Rattle.std.specs.Prelude.{ℕ, ◌≡◌, ◌==◌, ◌-◌, ◌<◌, ◌≤◌, if◌then◌else◌, List, [], length, map, min, drop, slice_index_or}
 use Rattle.std.specs.Ordering.{nat_cmp, ordering_then}
 use Rattle.std.specs.Cmp.Lexicographic.{slice_cmp}
 use Rattle.std.specs.declared.cmp.Ordering.{Ordering}
@@ -18,9 +18,23 @@ pub record Tells (es : List Entry) (r : Row) : Type 0 where
   pub items : r.items.now ≡ (entry_at es r.number).pattern
   pub front : r.front ≡ codes 24 r.items.now
 
--- how a row compares with another: by the first labels, by the patterns, and of one pattern by the numbers
+-- the bytes of a row are those of its pattern's first labels
+abbrev pub HasFront : Row → Type 0
+HasFront r = r.front ≡ codes 24 r.items.now
+
+-- two rows of 24 bytes have so many in common at their fronts, and no more
+pub record AreAlike (bs cs : List ℕ) (n : ℕ) : Type 0 where
+  pub within : n ≤ 24
+  pub same : (d : ℕ) → d < n → slice_index_or bs d 0 ≡ slice_index_or cs d 0
+  pub next : n < 24 → slice_index_or bs n 0 ≡ slice_index_or cs n 0 → ⊥
+
+-- what the bytes of its first labels leave open of a pattern: where they have a last one, all labels before that are told
+abbrev pub untold : List ℕ → List Item → List Item
+untold front p = if slice_index_or front 23 0 == 0 then p else drop (min (length p) 23) p
+
+-- how a row compares with another: by the first labels, by what these leave open, and of one pattern by the numbers
 abbrev pub row_cmp : Row → Row → Ordering
-row_cmp r s = ordering_then (slice_cmp nat_cmp r.front s.front) (ordering_then (pattern_cmp r.items.now s.items.now) (nat_cmp r.number s.number))
+row_cmp r s = ordering_then (slice_cmp nat_cmp r.front s.front) (ordering_then (pattern_cmp (untold r.front r.items.now) (untold s.front s.items.now)) (nat_cmp r.number s.number))
 
 -- the patterns of rows
 abbrev pub patterns : List Row → List (List Item)

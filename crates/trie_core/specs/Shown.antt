@@ -9,6 +9,10 @@ use Rattle.trie_paths.specs.Sizes.{header_len, node_len, set_in, set_len, text_c
 abbrev pub own_len : Entry → ℕ
 own_len e = length e.key + length e.value
 
+-- and with the name of its file
+abbrev pub all_len : Entry → ℕ
+all_len e = own_len e + length e.file
+
 -- the sets of the nodes' labels, each once
 abbrev pub node_sets : List Node → List (List ℕ)
 node_sets nodes = distinct text_cmp (flat_map (λ n. set_in n.label) nodes)

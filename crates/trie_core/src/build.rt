@@ -2,12 +2,12 @@
 //!
 //! The groups of rows stand in the order of the nodes. Each is cut once into its children, which are
 //! added behind all: so the nodes come by the length of their paths, and then label by label.
-ghost use Rattle.std.specs.Prelude.{◌≡◌, ◌-◌, ◌<◌, ◌≤◌, IfOk, MatchResult, length};
+ghost use Rattle.std.specs.Prelude.{◌≡◌, ◌-◌, ◌<◌, ◌≤◌, All, IfOk, MatchResult, length};
 ghost use Rattle.hwdb_lookup.specs.Bounds.{max_entries};
 ghost use Rattle.text_core.specs.declared.item.Item.TheVariants.{One};
 ghost use Rattle.trie_core.specs.Building.{AreNodes};
 ghost use Rattle.trie_core.specs.Groups.{IsGroup, label_at};
-ghost use Rattle.trie_core.specs.Rows.{AreShared, IsSorted, patterns};
+ghost use Rattle.trie_core.specs.Rows.{AreShared, HasFront, IsSorted, patterns};
 ghost use Rattle.trie_core.specs.declared.fault.TrieFault.TheVariants.{TooLarge};
 ghost use Rattle.trie_paths.specs.Paths.{paths_among};
 ghost use Rattle.trie_paths.specs.Sizes.{max_nodes};
@@ -24,7 +24,8 @@ const MAX_NODES: usize = 1 << 26;
 
 /// The label that leads to a group; that of the root, to which none leads, is `?`.
 fn last_label(rows: &[Row<'_>], group: Group) -> Item
-    requires { IsGroup (patterns rows.now) group }
+    requires group { IsGroup (patterns rows.now) group }
+    requires fronts { All HasFront rows.now }
     ensures root { group.depth ≡ 0 → result ≡ One }
     ensures label { 0 < group.depth → result ≡ label_at (patterns rows.now) (group.depth - 1) group.start }
 {
@@ -39,6 +40,7 @@ pub(crate) fn nodes_of(alloc: Global, sorted: Sorted<'_, '_>) -> Result<Vec<Node
     requires few { length (patterns sorted.rows.now) ≤ max_entries }
     requires up { IsSorted (patterns sorted.rows.now) }
     requires shared { AreShared (patterns sorted.rows.now) sorted.shared.now }
+    requires fronts { All HasFront sorted.rows.now }
     ensures nodes { IfOk result (λ nodes. AreNodes (patterns sorted.entry.rows.now) nodes.items) }
     ensures fits { MatchResult result (λ _. length (paths_among (patterns sorted.entry.rows.now)) ≤ max_nodes) (λ fault. fault ≡ TooLarge → max_nodes < length (paths_among (patterns sorted.entry.rows.now))) }
 {

@@ -2,7 +2,8 @@
 //!
 //! Most patterns differ in their first labels, and a row that holds a byte for each of these is
 //! compared without a look at its pattern, which stands elsewhere in memory.
-ghost use Rattle.std.specs.Prelude.{◌≡◌};
+ghost use Rattle.std.specs.Prelude.{◌≡◌, ◌<◌, IfSome, OnSome};
+ghost use Rattle.text_core.specs.declared.item.Item.{Item};
 ghost use Rattle.trie_core.specs.Fronts.{behind, code, codes, first_code, is_exact};
 
 use text_core::Item;
@@ -46,6 +47,22 @@ fn behind(pattern: &[Item]) -> &[Item]
     match pattern.split_first() {
         Some((label, rest)) if is_exact(code_of(label)) => rest,
         _ => &[],
+    }
+}
+
+/// The label that a byte of a front is of, where it is of one alone.
+pub(crate) fn label_by(byte: u8) -> Option<Item>
+    ensures some { OnSome result (0 < byte) }
+    ensures label { IfSome result (λ x. (y : Item) → code y ≡ byte → y ≡ x) }
+{
+    if byte == 252 {
+        Some(Item::One)
+    } else if byte == 253 {
+        Some(Item::Many)
+    } else if byte == 0 || byte > 250 {
+        None
+    } else {
+        Some(Item::Byte(byte - 1))
     }
 }
 

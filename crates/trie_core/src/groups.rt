@@ -2,10 +2,11 @@
 //!
 //! Each node of a trie is such a range: first stand the patterns that end there, then for each label
 //! those that go on with it.
-ghost use Rattle.std.specs.Prelude.{◌≡◌, ◌+◌, ◌<◌, ◌≤◌, ◌^◌, OnOk, length, take, ℕ};
+ghost use Rattle.std.specs.Prelude.{◌≡◌, ◌+◌, ◌<◌, ◌≤◌, ◌^◌, All, OnOk, length, take, ℕ};
 ghost use Rattle.trie_core.specs.Groups.{AreChildren, IsGroup, IsRun, IsSplit, label_at};
-ghost use Rattle.trie_core.specs.Rows.{AreShared, IsSorted, pattern_at, patterns};
+ghost use Rattle.trie_core.specs.Rows.{AreShared, HasFront, IsSorted, pattern_at, patterns};
 
+use crate::fronts::{FRONT, label_by};
 use crate::rows::{Row, Sorted, items_at};
 use std::alloc::AllocError;
 use text_core::Item;
@@ -36,13 +37,19 @@ pub(crate) fn longer_from(rows: &[Row<'_>], group: Group) -> usize
     group.end as usize
 }
 
-/// The label of a row behind its first labels.
+/// The label of a row behind its first labels: as its front tells, or else as its pattern does.
 pub(crate) fn label_of(rows: &[Row<'_>], depth: usize, at: usize) -> Item
     requires within { at < length (patterns rows.now) }
+    requires fronts { All HasFront rows.now }
     requires longer { depth < length (pattern_at (patterns rows.now) at) }
     ensures label { result ≡ label_at (patterns rows.now) depth at }
     ensures room { depth + 1 < 2 ^ 64 }
 {
+    if depth < FRONT {
+        if let Some(label) = label_by(rows[at].front[depth]) {
+            return label;
+        }
+    }
     items_at(rows, at)[depth]
 }
 

@@ -6,7 +6,7 @@ ghost use Rattle.std.specs.Prelude.{◌≡◌, ◌-◌, ◌<◌, ◌≤◌, ◌^
 ghost use Rattle.std.specs.List.{range_with_len};
 ghost use Rattle.std.specs.List.Sorted.{IsPermutation};
 ghost use Rattle.hwdb_lookup.specs.Bounds.{max_entries};
-ghost use Rattle.trie_core.specs.Rows.{AreShared, IsCommon, IsSorted, SameRise, Tells, pattern_at, patterns, row_cmp};
+ghost use Rattle.trie_core.specs.Rows.{AreAlike, AreShared, HasFront, IsCommon, IsSorted, SameRise, Tells, pattern_at, patterns, row_cmp, untold};
 
 use crate::fronts::{FRONT, front_of};
 use hwdb_lookup::Entry;
@@ -26,13 +26,26 @@ pub(crate) struct Row<'a> {
     pub(crate) number: u32,
 }
 
+/// What a row's front leaves open of its pattern: where it has a last byte, all labels before that are told.
+fn untold<'a>(row: &Row<'a>) -> &'a [Item]
+    ensures { result.now ≡ untold row.now.front row.now.items.now }
+{
+    if row.front[FRONT - 1] == 0 {
+        return row.items;
+    }
+    let (_, rest) = row.items.split_at(row.items.len().min(FRONT - 1));
+    rest
+}
+
 /// How a row compares with another: by the patterns, of which the first labels mostly decide, and of
 /// one pattern by the numbers.
 fn compare_rows(row: &Row<'_>, other: &Row<'_>) -> Ordering
     ensures { result ≡ row_cmp row.now other.now }
 {
     match row.front.cmp(&other.front) {
-        Ordering::Equal => { compare(row.items, other.items).then(row.number.cmp(&other.number)) }
+        Ordering::Equal => {
+            compare(untold(row), untold(other)).then(row.number.cmp(&other.number))
+        }
         order => order,
     }
 }
@@ -92,19 +105,38 @@ fn common_front(pattern: &[Item], other: &[Item]) -> usize
     len
 }
 
-/// How many labels a row has in common with the row before it; the first has none.
+/// How many bytes two fronts have in common, up to the first in which they differ.
+fn common_bytes(front: &[u8; FRONT], other: &[u8; FRONT]) -> usize
+    ensures { AreAlike front.now other.now result }
+{
+    for at in 0..FRONT {
+        if front[at] != other[at] {
+            return at;
+        }
+    }
+    FRONT
+}
+
+/// How many labels a row has in common with the row before it; the first has none. Mostly their fronts tell, and no
+/// pattern is looked at.
 fn shared_at(rows: &[Row<'_>], at: usize) -> usize
-    requires { at < length (patterns rows.now) }
+    requires within { at < length (patterns rows.now) }
+    requires fronts { All HasFront rows.now }
     ensures { 0 < at → IsCommon (pattern_at (patterns rows.now) (at - 1)) (pattern_at (patterns rows.now) at) result }
 {
     if at == 0 {
         return 0;
+    }
+    let bytes = common_bytes(&rows[at - 1].front, &rows[at].front);
+    if bytes < FRONT {
+        return bytes;
     }
     common_front(items_at(rows, at - 1), items_at(rows, at))
 }
 
 /// How many labels each row has at its front in common with the row before it.
 pub(crate) fn shared_fronts(alloc: Global, rows: &[Row<'_>]) -> Result<Vec<usize>, AllocError>
+    requires { All HasFront rows.now }
     ensures { IfOk result (λ shared. AreShared (patterns rows.now) shared.items) }
 {
     let mut shared = Vec::with_capacity(alloc, rows.len())?;

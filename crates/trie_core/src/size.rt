@@ -5,7 +5,7 @@
 ghost use Rattle.std.specs.Prelude.{◌≡◌, ◌+◌, ◌<◌, ◌≤◌, ◌++◌, ◌↔◌, IfOk, IsTrue, MatchOption, OnOk, length, sum_by};
 ghost use Rattle.hwdb_lookup.specs.Bounds.{max_entries};
 ghost use Rattle.trie_core.specs.Content.{shown};
-ghost use Rattle.trie_core.specs.Shown.{index_len_by, node_sets, own_len};
+ghost use Rattle.trie_core.specs.Shown.{all_len, index_len_by, node_sets, own_len};
 ghost use Rattle.trie_paths.specs.Distinct.{distinct};
 ghost use Rattle.trie_paths.specs.Sizes.{max_index_len, names_of, set_in, text_cmp};
 
@@ -101,6 +101,40 @@ fn texts_fit(entries: &[Entry], names: &[&[u8]], room: u128) -> bool
     }
 }
 
+/// How many bytes the texts of an entry have, with the name of its file.
+fn all_len(entry: &Entry) -> u128
+    ensures { result ≡ all_len entry.now }
+{
+    entry.key.as_slice().len() as u128
+        + entry.value.as_slice().len() as u128
+        + entry.file.as_slice().len() as u128
+}
+
+/// Whether all texts of entries fit into some room, even if none were from the same file.
+fn texts_fit_apart(entries: &[Entry], room: u128) -> bool
+    ensures { IsTrue result → sum_by all_len entries.now ≤ room }
+{
+    let mut left = room;
+    for entry in entries {
+        let len = all_len(entry);
+        if len > left {
+            return false;
+        }
+        left -= len;
+    }
+    true
+}
+
+/// Whether the index of some entries, with their nodes, is not too long even if each node had a set of its own and
+/// each entry a file of its own. Mostly so, and then neither sets nor names need be sorted.
+fn fits_apart(entries: &[Entry], nodes: &[Node]) -> bool
+    requires few { length entries.now ≤ max_entries }
+    ensures { IsTrue result → index_len_by nodes.now entries.now ≤ max_index_len }
+{
+    let all = 32 + 56 * nodes.len() as u128 + 32 * entries.len() as u128;
+    all <= MAX_INDEX_LEN && texts_fit_apart(entries, MAX_INDEX_LEN - all)
+}
+
 /// Whether the index of some entries, with their nodes, is not too long.
 pub(crate) fn index_fits(
     alloc: Global,
@@ -110,6 +144,9 @@ pub(crate) fn index_fits(
     requires few { length entries.now ≤ max_entries }
     ensures { IfOk result (λ fits. IsTrue fits ↔ (index_len_by nodes.now entries.now ≤ max_index_len)) }
 {
+    if fits_apart(entries, nodes) {
+        return Ok(true);
+    }
     let sets = sets_of(alloc, nodes)?;
     let names = names_of(alloc, entries)?;
     let records = 32

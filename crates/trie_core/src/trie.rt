@@ -24,9 +24,11 @@ use trie_nodes::{Database, Found, Node, Nodes};
 /// A database whose patterns are a trie: a query costs what the nodes do that the modalias reaches.
 #[derive(Debug, Drop)]
 pub struct Trie {
-    entries: Vec<Entry>,
+    // The entries stand last, as fields are dropped in order: a large piece that is given back behind very many small
+    // ones has the C library look at each of these again.
     numbers: Vec<u32>,
     nodes: Vec<Node>,
+    entries: Vec<Entry>,
 }
 
 impl Model for Trie {

@@ -15,8 +15,8 @@ pub split-requires-clause-group : goal.split-requires-clause-group
 split-requires-clause-group c =
     valid_at (patterns c.args.sorted.rows.now) c.loop-groups.nodes.items c.loop-groups.groups.items c.loop-groups.invariant.built c.index-group.result.now c.len-in-loop-groups-2.result (omega arith) c.index-group.ensures
 
-pub last_label-requires : goal.last_label-requires
-last_label-requires c =
+pub last_label-requires-clause-group : goal.last_label-requires-clause-group
+last_label-requires-clause-group c =
     valid_at (patterns c.args.sorted.rows.now) c.loop-groups.nodes.items c.loop-groups.groups.items c.loop-groups.invariant.built c.index-group.result.now c.len-in-loop-groups-2.result (omega arith) c.index-group.ensures
 
 pub overflow_cast-from : goal.overflow_cast-from

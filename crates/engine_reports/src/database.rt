@@ -100,16 +100,17 @@ pub fn report_on_update(
     ensures refused { IfErr result (λ e. IsSaid e (database_outcome (update_outcome line.now) (files_read FileKind.Hwdb line.now files.items))) }
 {
     let files = files_read(alloc, FileKind::Hwdb, line, files)?;
-    update_these(alloc, line, &files)
+    update_these(alloc, line, files)
 }
 
-/// The same of the files that are read.
-fn update_these(alloc: Global, line: &Line<'_>, files: &[SourceFile]) -> Result<Report, Refusal>
-    ensures said { IfOk result (λ r. said r ≡ database_outcome (update_outcome line.now) files.now) }
+/// The same of the files that are read. They are given back as soon as their entries are known.
+fn update_these(alloc: Global, line: &Line<'_>, files: Vec<SourceFile>) -> Result<Report, Refusal>
+    ensures said { IfOk result (λ r. said r ≡ database_outcome (update_outcome line.now) files.items) }
     ensures status { IfOk result (λ r. r.status < 3) }
-    ensures refused { IfErr result (λ e. IsSaid e (database_outcome (update_outcome line.now) files.now)) }
+    ensures refused { IfErr result (λ e. IsSaid e (database_outcome (update_outcome line.now) files.items)) }
 {
-    let database = read_sources(alloc, files)?;
+    let database = read_sources(alloc, &files)?;
+    drop(files);
     let report = updated(alloc, line, database)?;
     Ok(report)
 }

@@ -1,8 +1,7 @@
 //! What `query` and `update` say of the database.
 //!
-//! `query` asks an index where one is handed in, and else a list of the entries that were read: one
-//! look-up in a list takes less time than making a trie of it. `update` makes the trie, of which the
-//! index is written.
+//! `query` asks an index where one is handed in, and else a trie of the entries that were read, as
+//! events do. `update` makes the same trie, of which the index is written.
 ghost use Rattle.std.specs.Prelude.{◌≡◌, ◌<◌, length, IfOk, IfErr};
 ghost use Rattle.hwdb_lookup.specs.Orders.{Rising};
 ghost use Rattle.trie_paths.specs.Sizes.{KeepsBounds};
@@ -18,7 +17,7 @@ use crate::refusal::Refusal;
 use crate::report::Report;
 use engine_line::Line;
 use hwdb_core::{Database, read_sources};
-use hwdb_lookup::{Entry, Lookup, PlainDb};
+use hwdb_lookup::{Entry, Lookup};
 use index_core::{Index, IndexFault, write_index};
 use std::alloc::{AllocError, Global};
 use text_files::{FileKind, Message, SourceFile};
@@ -52,19 +51,30 @@ fn query_files(alloc: Global, line: &Line<'_>, files: Vec<SourceFile>) -> Result
     ensures refused { IfErr result (λ e. IsSaid e (database_outcome (query_outcome line.now) (files_read FileKind.Hwdb line.now files.items))) }
 {
     let files = files_read(alloc, FileKind::Hwdb, line, files)?;
-    query_these(alloc, line, &files)
+    query_these(alloc, line, files)
 }
 
-/// The same of the files that are read.
-fn query_these(alloc: Global, line: &Line<'_>, files: &[SourceFile]) -> Result<Report, Refusal>
-    ensures said { IfOk result (λ r. said r ≡ database_outcome (query_outcome line.now) files.now) }
+/// The same of the files that are read. They are given back as soon as their entries are known.
+fn query_these(alloc: Global, line: &Line<'_>, files: Vec<SourceFile>) -> Result<Report, Refusal>
+    ensures said { IfOk result (λ r. said r ≡ database_outcome (query_outcome line.now) files.items) }
     ensures status { IfOk result (λ r. r.status < 3) }
-    ensures refused { IfErr result (λ e. IsSaid e (database_outcome (query_outcome line.now) files.now)) }
+    ensures refused { IfErr result (λ e. IsSaid e (database_outcome (query_outcome line.now) files.items)) }
 {
-    let database = read_sources(alloc, files)?;
-    let entries = PlainDb::new(database.entries);
-    let report = answered(alloc, line, &entries, &database.messages)?;
+    let database = read_sources(alloc, &files)?;
+    drop(files);
+    let report = queried(alloc, line, database)?;
     Ok(report)
+}
+
+/// The answer by a trie of the entries, and the messages about the files.
+fn queried(alloc: Global, line: &Line<'_>, database: Database) -> Result<Report, AllocError>
+    requires rising { Rising database.entries.items }
+    requires bounds { KeepsBounds database.entries.items }
+    ensures said { IfOk result (λ r. said r ≡ query_outcome line.now database.entries.items database.messages.items) }
+    ensures status { IfOk result (λ r. r.status < 3) }
+{
+    let trie = trie_of(alloc, database.entries)?;
+    answered(alloc, line, &trie, &database.messages)
 }
 
 /// The answer to the line's modalias, and the messages about the files.

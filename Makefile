@@ -2,8 +2,8 @@
 #
 # Only a proved program is built, so the first `make` proves every crate that it stands on, which
 # takes more than half an hour; after a change what changed is proved again, and what stands on it.
-# Crates that don't stand on one another are proved side by side, as many as there are processors:
-# `make -j1` proves them one behind another, where memory is short (a proof takes 1 to 4 GB).
+# Crates that don't stand on one another are proved side by side: `make JOBS=1` proves them one behind
+# another, where memory is short.
 
 PREFIX ?= /usr/local
 DESTDIR ?=
@@ -20,36 +20,33 @@ PROGRAM ?= build/devdry
 # The toolchain: `rt` on PATH, or else where it is installed.
 RT ?= $(shell command -v rt || echo /opt/rattle/bin/rt)
 
-MAKEFLAGS += --jobs=$(shell nproc)
+# How many crates are proved side by side: one a processor and two that wait for those below them, as many as memory
+# holds (a proof takes 1 to 3 GB).
+JOBS ?= $(shell awk -v most=$$(($$(nproc) + 2)) '/^MemAvailable/ { fit = int($$2 / 3000000); print fit < 1 ? 1 : fit < most ? fit : most }' /proc/meminfo)
 
-# The crates, and those of them that a crate stands on: crates.txt has a line `name: crate crate ..` for each.
-CRATES := $(shell sed -n 's/^\([a-z_]*\):.*/\1/p' crates.txt)
-below = $(filter $(CRATES),$(shell sed -n 's/^$(1)://p' crates.txt))
+# The program's crate and those that it stands on, by crates.txt (a line `name: crate crate ..` for each, lowest
+# first), and their files.
+CRATES := $(shell tac crates.txt | awk -F '[: ]+' 'BEGIN { below["devdry"] } $$1 in below { print $$1; for (i = 2; i <= NF; i++) below[$$i] }')
+FILES := $(shell find $(wildcard $(foreach crate,$(CRATES),$(addprefix crates/$(crate)/,src specs proofs))) -type f)
 
-# What a proof rests on beside the crate's own files: the kit.
+# What a proof rests on beside the crates' own files: the kit.
 KIT := $(wildcard $(dir $(realpath $(RT)))../KIT-ID)
 
-.PHONY: all check check-uses install uninstall deb clean $(CRATES)
+.PHONY: all check check-uses install uninstall deb clean
 
 all: build/devdry
 
-build/devdry: build/devdry.proved
+# Proves each crate that the program stands on, where one of its files or of those below it has changed, and builds the
+# program. A line tells of each crate that is done; what was said of all stands in build/proofs.log.
+build/devdry: $(FILES) crates.txt $(KIT) | build
+	@cd crates/devdry && $(RT) all check --jobs $(JOBS) 2>&1 | tee $(CURDIR)/build/proofs.log | \
+	    awk -v all=$(words $(CRATES)) '/^== [a-z_]+$$/ && $$2 != "summary" { print ++done " of " all ": " $$2; fflush() }'
+	@tail -n 1 build/proofs.log | grep -q '^$(words $(CRATES)) of $(words $(CRATES)) crates ok$$' || { cat build/proofs.log; exit 1; }
 	@cd crates/devdry && $(RT) run -- --version
 	@cp crates/devdry/out/devdry $@
 
 build:
 	@mkdir -p $@
-
-# Proves one crate, behind those that it stands on, where one of its files or of theirs has changed.
-define prove
-$(1): build/$(1).proved
-build/$(1).proved: $(patsubst %,build/%.proved,$(call below,$(1))) $(KIT) \
-    $(shell find $(wildcard crates/$(1)/src crates/$(1)/specs crates/$(1)/proofs) -type f) | build
-	@echo "proving $(1)"
-	@cd crates/$(1) && $(RT) check > $(CURDIR)/build/$(1).log 2>&1 || { cat $(CURDIR)/build/$(1).log; exit 1; }
-	@touch $$@
-endef
-$(foreach crate,$(CRATES),$(eval $(call prove,$(crate))))
 
 # Proves every crate from nothing, tries each edit that has to be refused, and runs the tests and the
 # program; then what a user meets beside that, over the program that was built.

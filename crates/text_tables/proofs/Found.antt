@@ -1,7 +1,6 @@
 -- What is found among texts and names after one is added or taken away.
-use Rattle.std.proofs.Common.{◌≡◌, ℕ, Bool, true, false, List, [], ◌∷◌, ◌++◌, ◌||◌, ◌&&◌, not, Option, Some, None, is_some, filter, cond, refl, ap, sym, ◌∙◌, subst, nat_eq, true≢false}
-use Rattle.std.specs.Cmp.Lexicographic.{pointwise, bytes_decides}
-use Rattle.std.specs.List.{list_any}
+use Rattle.std.proofs.Common.{◌≡◌, Bool, true, false, List, [], ◌∷◌, ◌++◌, ◌||◌, ◌&&◌, not, Option, Some, None, is_some, cond, refl, ap, sym, ◌∙◌, true≢false}
+use Rattle.std.specs.Cmp.Lexicographic.{bytes_decides}
 use Rattle.text_tables.specs.Texts.{Text, same_text, is_among, with_text, without_text}
 use Rattle.text_tables.specs.Pairs.{named, value_of, with_value, without_name}
 

@@ -1,5 +1,5 @@
 -- What the library's sets and maps hold, seen as lists of texts and of names with values.
-use Rattle.std.proofs.Common.{◌≡◌, ℕ, Bool, true, false, List, [], ◌∷◌, ◌++◌, ◌||◌, not, Option, Some, None, option_map, is_some, is_none, map, filter, cond, refl, ap, sym, ◌∙◌, nat_eq, arith, option_copied, Bor}
+use Rattle.std.proofs.Common.{◌≡◌, ℕ, Bool, true, false, List, [], ◌∷◌, ◌++◌, ◌||◌, not, Option, Some, None, option_map, is_some, map, cond, refl, ap, sym, ◌∙◌, nat_eq, option_copied, Bor}
 use Rattle.std.proofs.lemmas.List.{map-append}
 use Rattle.std.specs.Cmp.Lexicographic.{pointwise}
 use Rattle.std.specs.List.{list_any, IsDistinct, AllByRecursion}

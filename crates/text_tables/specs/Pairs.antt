@@ -1,8 +1,8 @@
 -- Names with values in their order, and what becomes of them as a name is set or taken away. Values
 -- are texts, or of any other kind.
-use Rattle.std.specs.Prelude.{Bool, not, List, [], ◌∷◌, Option, Some, None, if◌then◌else◌, filter, fold, map}
+use Rattle.std.specs.Prelude.{◌≡◌, ℕ, Bool, not, List, [], ◌∷◌, Option, Some, None, if◌then◌else◌, filter, fold, map, take}
 use Rattle.std.specs.List.{list_any}
-use Rattle.text_tables.specs.Texts.{Text, same_text, AreOnce}
+use Rattle.text_tables.specs.Texts.{Text, same_text}
 
 -- two texts, as a name and its value
 abbrev pub Pair : Type 0
@@ -30,6 +30,10 @@ module _ {V : Type 0} where
   -- each of these names takes its value, one behind another
   abbrev pub with_values : List (Text × V) → List (Text × V) → List (Text × V)
   with_values pairs more = fold (λ held pair. with_value held pair.0 pair.1) pairs more
+
+  -- the first so many of these names take their values, and the others do not
+  abbrev pub SetsFirst : List (Text × V) → List (Text × V) → List (Text × V) → Type 0
+  SetsFirst pairs more new = (n : ℕ) × (new ≡ with_values pairs (take n more))
 
   -- all but this name
   abbrev pub without_name : List (Text × V) → Text → List (Text × V)

@@ -1,5 +1,5 @@
 -- Texts in their order, and what becomes of them as one is added or taken away.
-use Rattle.std.specs.Prelude.{ℕ, Bool, not, List, [], ◌∷◌, ◌++◌, if◌then◌else◌, nat_eq, filter, fold}
+use Rattle.std.specs.Prelude.{◌≡◌, ℕ, Bool, not, List, [], ◌∷◌, ◌++◌, if◌then◌else◌, nat_eq, filter, fold, take}
 use Rattle.std.specs.Cmp.Lexicographic.{pointwise}
 use Rattle.std.specs.List.{list_any, IsDistinct}
 
@@ -26,6 +26,10 @@ with_text texts text = if is_among texts text then texts else texts ++ text ∷ 
 -- each of these is added, one behind another
 abbrev pub with_texts : List Text → List Text → List Text
 with_texts texts more = fold with_text texts more
+
+-- the first so many of these are added, and the others are not
+abbrev pub AddsFirst : List Text → List Text → List Text → Type 0
+AddsFirst texts more new = (n : ℕ) × (new ≡ with_texts texts (take n more))
 
 -- all but this text
 abbrev pub without_text : List Text → Text → List Text

@@ -1,7 +1,7 @@
 //! Owned names with owned values: properties that rules set and take away.
 ghost use Rattle.std.specs.Prelude.{◌≡◌, [], length, option_map, map, OnOk, OnErr};
 ghost use Rattle.text_tables.specs.Texts.{AreOnce};
-ghost use Rattle.text_tables.specs.Pairs.{names, value_of, with_value, with_values, without_name};
+ghost use Rattle.text_tables.specs.Pairs.{names, value_of, with_value, with_values, without_name, SetsFirst};
 
 use crate::pairs::Pairs;
 use indexmap::IndexMap;
@@ -75,9 +75,11 @@ impl OwnedPairs {
         Ok(())
     }
 
-    /// Sets each of these names. Where memory is refused, some are set.
+    /// Sets each of these names, in their order. Where memory is refused, the first so many are set,
+    /// perhaps none, and the others are not.
     pub fn set_all(&mut self, alloc: Global, pairs: &Pairs<'_>) -> Result<(), AllocError>
-        ensures { OnOk result (self.new ≡ with_values self.old pairs.now) }
+        ensures pairs { OnOk result (self.new ≡ with_values self.old pairs.now) }
+        ensures refused { OnErr result (SetsFirst self.old pairs.now self.new) }
     {
         for (name, value) in pairs.as_map().iter() {
             self.set(alloc, name, value)?;

@@ -1,6 +1,6 @@
 //! Owned texts, each once: what rules add and take away.
 ghost use Rattle.std.specs.Prelude.{◌≡◌, [], map, OnOk, OnErr};
-ghost use Rattle.text_tables.specs.Texts.{is_among, with_text, with_texts, without_text, AreOnce};
+ghost use Rattle.text_tables.specs.Texts.{is_among, with_text, with_texts, without_text, AddsFirst, AreOnce};
 
 use crate::texts::Texts;
 use indexmap::IndexSet;
@@ -57,9 +57,11 @@ impl OwnedTexts {
         Ok(())
     }
 
-    /// Adds each of these texts. Where memory is refused, some are added.
+    /// Adds each of these texts, in their order. Where memory is refused, the first so many are
+    /// added, perhaps none, and the others are not.
     pub fn add_all(&mut self, alloc: Global, texts: &Texts<'_>) -> Result<(), AllocError>
-        ensures { OnOk result (self.new ≡ with_texts self.old texts.now) }
+        ensures texts { OnOk result (self.new ≡ with_texts self.old texts.now) }
+        ensures refused { OnErr result (AddsFirst self.old texts.now self.new) }
     {
         for text in texts.as_slice() {
             self.add(alloc, text)?;

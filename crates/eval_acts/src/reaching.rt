@@ -1,5 +1,5 @@
 //! What a match leaves that is only reached.
-ghost use Rattle.std.specs.Prelude.{◌≡◌, OnOk};
+ghost use Rattle.std.specs.Prelude.{◌≡◌, OnOk, OnErr};
 ghost use Rattle.eval_acts.specs.Reaching.{reached};
 
 use eval_scene::{NoteKind, Scene};
@@ -8,14 +8,15 @@ use std::alloc::{AllocError, Global};
 
 /// Leaves what a match of the event leaves when it is reached, whether it holds or not: that of SYSCTL,
 /// which a dry run does not read, the note `sysctl not read` with the parameter's name; any other
-/// nothing. The error comes where memory is refused.
+/// nothing. The error comes where memory is refused; the scene then stays as it is.
 pub fn reached(
     alloc: Global,
     rule: &Rule,
     part: &PlainMatch,
     scene: &mut Scene<'_>,
 ) -> Result<(), AllocError>
-    ensures { OnOk result (scene.new ≡ reached rule.now part.now.key scene.old) }
+    ensures scene { OnOk result (scene.new ≡ reached rule.now part.now.key scene.old) }
+    ensures refused { OnErr result (scene.new ≡ scene.old) }
 {
     match &part.key {
         PlainKey::Sysctl(name) => {

@@ -73,6 +73,7 @@ fn set_text(
 
 /// Takes in a RUN as it is written.
 fn keep_run<'a>(
+    alloc: Global,
     rule: &'a Rule,
     operator: AssignOperator,
     braces: Option<RunType>,
@@ -82,7 +83,7 @@ fn keep_run<'a>(
     ensures { OnOk result (scene.new ≡ run_kept rule.now operator braces template.now scene.old) }
 {
     let run = Run::new(rule, braces, template, scene.state.selected);
-    scene.runs.change(operator, run)?;
+    scene.runs.change(alloc, operator, run)?;
     finish(operator, Some(FinalKey::Run), scene);
     Ok(())
 }
@@ -108,7 +109,7 @@ fn step_by<'a>(
             let rendered = render(alloc, template, &scene.state, mode_of(target, escape))?;
             set_text(alloc, rule, escape, operator, target, rendered, scene)
         }
-        Change::Run(braces, template) => keep_run(rule, operator, *braces, template, scene),
+        Change::Run(braces, template) => keep_run(alloc, rule, operator, *braces, template, scene),
     }
 }
 

@@ -143,9 +143,11 @@ impl<'a> Runs<'a> {
         self.held.iter().any(|other| run.is_same(other))
     }
 
-    /// Adds a RUN at the end, unless it is there or its written text is empty.
+    /// Adds a RUN at the end, unless it is there or its written text is empty. Where memory is
+    /// refused, the runs stay as they are.
     fn add(&mut self, run: Run<'a>) -> Result<(), AllocError>
-        ensures { OnOk result (self.new ≡ with_run self.old run.entry) }
+        ensures runs { OnOk result (self.new ≡ with_run self.old run.entry) }
+        ensures refused { OnErr result (self.new ≡ self.old) }
     {
         if run.template.written().is_empty() || self.contains(&run) {
             return Ok(());
@@ -157,15 +159,23 @@ impl<'a> Runs<'a> {
     /// Takes a RUN in by its operator: `+=` adds it unless the same one is there, any other operator
     /// makes it the only one. One whose written text is empty is not taken in.
     ///
-    /// The error comes where memory is refused; what was to be taken away is gone then.
-    pub fn change(&mut self, operator: AssignOperator, run: Run<'a>) -> Result<(), AllocError>
-        ensures { OnOk result (self.new ≡ runs_after operator self.old run.entry) }
+    /// The error comes where memory is refused; the runs then stay as they are.
+    pub fn change(
+        &mut self,
+        alloc: Global,
+        operator: AssignOperator,
+        run: Run<'a>,
+    ) -> Result<(), AllocError>
+        ensures runs { OnOk result (self.new ≡ runs_after operator self.old run.entry) }
+        ensures refused { OnErr result (self.new ≡ self.old) }
     {
         match operator {
             AssignOperator::Add => self.add(run),
             _ => {
-                self.held.clear();
-                self.add(run)
+                let mut begun = Runs::new(alloc);
+                begun.add(run)?;
+                self.held = begun.held;
+                Ok(())
             }
         }
     }

@@ -1,5 +1,5 @@
 //! All that is collected while rules run.
-ghost use Rattle.std.specs.Prelude.{◌≡◌, OnOk, IfOk, option_map};
+ghost use Rattle.std.specs.Prelude.{◌≡◌, OnOk, OnErr, IfOk, option_map};
 ghost use Rattle.eval_scene.specs.Notes.{word_of_key};
 ghost use Rattle.eval_scene.specs.Scenes.{noted, start};
 ghost use Rattle.eval_scene.specs.declared.note_kind.NoteKind.TheVariants.{TextTooLong};
@@ -68,7 +68,7 @@ impl<'a> Scene<'a> {
     }
 
     /// Leaves a note that something of a rule was not done, told with a text. The error comes where
-    /// memory is refused.
+    /// memory is refused; the scene then stays as it is.
     pub fn note(
         &mut self,
         alloc: Global,
@@ -76,13 +76,14 @@ impl<'a> Scene<'a> {
         kind: NoteKind,
         text: &[u8],
     ) -> Result<(), AllocError>
-        ensures { OnOk result (self.new ≡ noted rule.now kind text.now self.old) }
+        ensures scene { OnOk result (self.new ≡ noted rule.now kind text.now self.old) }
+        ensures refused { OnErr result (self.new ≡ self.old) }
     {
         self.notes.add(Note::about(alloc, rule, kind, text)?)
     }
 
     /// Leaves a note that a text of a key was too long; the note names the key, with its attribute if
-    /// it has one. The error comes where memory is refused.
+    /// it has one. The error comes where memory is refused; the scene then stays as it is.
     pub fn note_too_long(
         &mut self,
         alloc: Global,
@@ -90,7 +91,8 @@ impl<'a> Scene<'a> {
         key: Key,
         attribute: Option<&[u8]>,
     ) -> Result<(), AllocError>
-        ensures { OnOk result (self.new ≡ noted rule.now TextTooLong (word_of_key key (option_map (λ text. text.now) attribute.entry)) self.old) }
+        ensures scene { OnOk result (self.new ≡ noted rule.now TextTooLong (word_of_key key (option_map (λ text. text.now) attribute.entry)) self.old) }
+        ensures refused { OnErr result (self.new ≡ self.old) }
     {
         let word = word_of_key(alloc, key, attribute)?;
         self.note(alloc, rule, NoteKind::TextTooLong, &word)

@@ -3,7 +3,7 @@
 //! A file's name and a word may hold any byte, so both are escaped here, and no line is made without.
 #![tactic(auto)]
 
-ghost use Rattle.std.specs.Prelude.{◌≡◌, ◌++◌, OnOk};
+ghost use Rattle.std.specs.Prelude.{◌≡◌, ◌++◌, OnOk, OnErr};
 ghost use Rattle.engine_places.specs.Places.{place_of, word_part};
 
 use itoa::Buffer;
@@ -12,32 +12,34 @@ use text_files::escape;
 
 /// Puts `FILE:LINE: ` behind a text, the file's name escaped.
 ///
-/// The error comes where memory is refused; a part may then stand behind the text.
+/// The error comes where memory is refused; the text then stays as it is.
 pub fn push_place(
     alloc: Global,
     text: &mut Vec<u8>,
     file: &[u8],
     line: u32,
 ) -> Result<(), AllocError>
-    ensures { OnOk result (text.new.items ≡ text.old.items ++ place_of file.now line) }
+    ensures place { OnOk result (text.new.items ≡ text.old.items ++ place_of file.now line) }
+    ensures refused { OnErr result (text.new.items ≡ text.old.items) }
 {
-    text.extend_from_slice(&escape(alloc, file)?)?;
-    text.push(b':')?;
-    text.extend_from_slice(Buffer::new().format(line).as_bytes())?;
-    text.extend_from_slice(b": ")?;
-    Ok(())
+    let mut place = escape(alloc, file)?;
+    place.push(b':')?;
+    place.extend_from_slice(Buffer::new().format(line).as_bytes())?;
+    place.extend_from_slice(b": ")?;
+    text.extend_from_slice(&place)
 }
 
 /// Puts `: ` and a word behind a text, the word escaped, and nothing where the word is empty.
 ///
-/// The error comes where memory is refused; a part may then stand behind the text.
+/// The error comes where memory is refused; the text then stays as it is.
 pub fn push_word(alloc: Global, text: &mut Vec<u8>, word: &[u8]) -> Result<(), AllocError>
-    ensures { OnOk result (text.new.items ≡ text.old.items ++ word_part word.now) }
+    ensures word { OnOk result (text.new.items ≡ text.old.items ++ word_part word.now) }
+    ensures refused { OnErr result (text.new.items ≡ text.old.items) }
 {
     if word.is_empty() {
         return Ok(());
     }
-    text.extend_from_slice(b": ")?;
-    text.extend_from_slice(&escape(alloc, word)?)?;
-    Ok(())
+    let mut part = Vec::from_slice(alloc, b": ")?;
+    part.extend_from_slice(&escape(alloc, word)?)?;
+    text.extend_from_slice(&part)
 }

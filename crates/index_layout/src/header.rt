@@ -1,8 +1,8 @@
 //! The header of an index, which says how many records there are, and so where each part stands.
-ghost use Rattle.std.specs.Prelude.{◌≡◌, ◌≤◌, ◌<◌, ◌*◌, ◌^◌, ◌++◌, OnOk, length};
+ghost use Rattle.std.specs.Prelude.{◌≡◌, ◌≤◌, ◌<◌, ◌*◌, ◌^◌, ◌++◌, OnOk, OnErr, length};
 ghost use Rattle.index_layout.specs.Header.{header_bytes, header_len, header_of, places_of, value_len};
 
-use crate::numbers::{number_at, push_number};
+use crate::numbers::{number_at, put_numbers};
 use std::alloc::AllocError;
 
 /// What each index begins with.
@@ -66,18 +66,26 @@ impl Header {
         }
     }
 
-    /// Adds the header to an index that is being written. Fails only where there is no memory for it.
+    /// Adds the header to an index that is being written. Fails only where there is no memory for
+    /// it; what was written then stays as it is.
     pub fn write(&self, out: &mut Vec<u8>) -> Result<(), AllocError>
-        ensures { OnOk result (out.new.items ≡ out.old.items ++ header_bytes self.now) }
+        ensures header { OnOk result (out.new.items ≡ out.old.items ++ header_bytes self.now) }
+        ensures refused { OnErr result (out.new.items ≡ out.old.items) }
     {
-        out.extend_from_slice(MAGIC)?;
-        push_number(out, self.version)?;
-        push_number(out, self.nodes)?;
-        push_number(out, self.values)?;
-        push_number(out, self.sets)?;
-        push_number(out, self.text)?;
-        push_number(out, self.reserved)?;
-        Ok(())
+        let mut bytes = [0; HEADER_LEN];
+        bytes[..8].copy_from_slice(MAGIC);
+        put_numbers(
+            &mut bytes[8..],
+            &[
+                self.version,
+                self.nodes,
+                self.values,
+                self.sets,
+                self.text,
+                self.reserved,
+            ],
+        );
+        out.extend_from_slice(&bytes)
     }
 
     /// How many bytes so many values have.

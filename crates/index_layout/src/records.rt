@@ -1,12 +1,16 @@
 //! The records of an index: nodes and values.
 //!
 //! A record is what stands in the bytes, whether or not it makes sense.
-ghost use Rattle.std.specs.Prelude.{◌≡◌, ◌+◌, ◌≤◌, ◌++◌, OnOk, length};
+ghost use Rattle.std.specs.Prelude.{◌≡◌, ◌+◌, ◌≤◌, ◌++◌, OnOk, OnErr, length};
 ghost use Rattle.index_layout.specs.Header.{node_len, value_len};
-ghost use Rattle.index_layout.specs.Records.{node_at, node_bytes, span_at, span_bytes, value_at, value_bytes};
+ghost use Rattle.index_layout.specs.Records.{node_at, node_bytes, span_at, value_at, value_bytes};
 
-use crate::numbers::{number_at, push_number};
+use crate::header::NODE_LEN;
+use crate::numbers::{number_at, put_numbers};
 use std::alloc::AllocError;
+
+/// How many bytes a value has in version 2.
+const VALUE_LEN: usize = 32;
 
 /// A node, as it is written.
 #[derive(Clone, Copy, Debug, PartialEq, Eq)]
@@ -74,16 +78,25 @@ impl NodeRecord {
         }
     }
 
-    /// Adds the node to an index that is being written. Fails only where there is no memory for it.
+    /// Adds the node to an index that is being written. Fails only where there is no memory for it;
+    /// what was written then stays as it is.
     pub fn write(&self, out: &mut Vec<u8>) -> Result<(), AllocError>
-        ensures { OnOk result (out.new.items ≡ out.old.items ++ node_bytes self.now) }
+        ensures node { OnOk result (out.new.items ≡ out.old.items ++ node_bytes self.now) }
+        ensures refused { OnErr result (out.new.items ≡ out.old.items) }
     {
-        out.extend_from_slice(&[self.kind, self.byte, self.first_zero, self.second_zero])?;
-        push_number(out, self.set)?;
-        push_number(out, self.first)?;
-        push_number(out, self.count)?;
-        push_number(out, self.first_value)?;
-        push_number(out, self.values)
+        let mut bytes = [0; NODE_LEN];
+        bytes[..4].copy_from_slice(&[self.kind, self.byte, self.first_zero, self.second_zero]);
+        put_numbers(
+            &mut bytes[4..],
+            &[
+                self.set,
+                self.first,
+                self.count,
+                self.first_value,
+                self.values,
+            ],
+        );
+        out.extend_from_slice(&bytes)
     }
 }
 
@@ -97,14 +110,6 @@ impl Span {
             place: number_at(bytes, at),
             len: number_at(bytes, at + 4),
         }
-    }
-
-    /// Adds where a part of the text stands.
-    fn write(&self, out: &mut Vec<u8>) -> Result<(), AllocError>
-        ensures { OnOk result (out.new.items ≡ out.old.items ++ span_bytes self.now) }
-    {
-        push_number(out, self.place)?;
-        push_number(out, self.len)
     }
 }
 
@@ -138,15 +143,25 @@ impl ValueRecord {
     }
 
     /// Adds the value to an index of version 2 that is being written. Fails only where there is no
-    /// memory for it.
+    /// memory for it; what was written then stays as it is.
     pub fn write(&self, out: &mut Vec<u8>) -> Result<(), AllocError>
-        ensures { OnOk result (out.new.items ≡ out.old.items ++ value_bytes self.now) }
+        ensures value { OnOk result (out.new.items ≡ out.old.items ++ value_bytes self.now) }
+        ensures refused { OnErr result (out.new.items ≡ out.old.items) }
     {
-        self.key.write(out)?;
-        self.value.write(out)?;
-        push_number(out, self.order)?;
-        self.file.write(out)?;
-        push_number(out, self.line)?;
-        Ok(())
+        let mut bytes = [0; VALUE_LEN];
+        put_numbers(
+            &mut bytes,
+            &[
+                self.key.place,
+                self.key.len,
+                self.value.place,
+                self.value.len,
+                self.order,
+                self.file.place,
+                self.file.len,
+                self.line,
+            ],
+        );
+        out.extend_from_slice(&bytes)
     }
 }

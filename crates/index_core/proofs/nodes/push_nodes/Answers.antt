@@ -29,6 +29,6 @@ loop-i-preserved c =
     record {
       out = one_more c.write.new.out.items c.loop-i.out.items c.args.out.now.items (flat_map node_bytes (map (node_record sets nodes) (range_with_len 0 i)))
           (flat_map node_bytes (map (node_record sets nodes) (range_with_len 0 (i + 1)))) (node_bytes (node_record sets nodes i))
-          (c.in_ok-write.ensures ∙ ap (λ (r : NodeRecord). c.loop-i.out.items ++ node_bytes r) own) c.loop-i.invariant.out (pieces_more node_bytes (node_record sets nodes) i);
+          (c.in_ok-write.ensures.node ∙ ap (λ (r : NodeRecord). c.loop-i.out.items ++ node_bytes r) own) c.loop-i.invariant.out (pieces_more node_bytes (node_record sets nodes) i);
       first = omega (arith, more, c.loop-i.invariant.first);
     }

@@ -57,6 +57,6 @@ loop-j-preserved c =
     record {
       out = one_more c.write.new.out.items c.loop-j.out.items c.args.out.now.items (flat_map value_bytes (map (value_record es names) (range_with_len 0 j)))
           (flat_map value_bytes (map (value_record es names) (range_with_len 0 (j + 1)))) (value_bytes (value_record es names j))
-          (c.in_ok-write.ensures ∙ ap (λ (r : ValueRecord). c.loop-j.out.items ++ value_bytes r) written) c.loop-j.invariant.out (pieces_more value_bytes (value_record es names) j);
+          (c.in_ok-write.ensures.value ∙ ap (λ (r : ValueRecord). c.loop-j.out.items ++ value_bytes r) written) c.loop-j.invariant.out (pieces_more value_bytes (value_record es names) j);
       place = omega (arith, own, c.own_len-place.ensures, c.loop-j.invariant.place, texts_more es j (omega (arith, length_named c.args.entries.now c.args.order.now)));
     }

@@ -184,5 +184,5 @@ returns c =
     joined c.write.new.out.items c.push_nodes.new.out.items c.push_values.new.out.items c.push_all.new.out.items c.push_texts.new.out.items c.push_all-2.new.out.items
     (header_bytes c.header_of-header.result) (flat_map node_bytes (node_records shown_sets c.nodes-nodes.result.now)) (flat_map value_bytes (value_records listed shown_names)) (all_names shown_sets) (flat_map own_text listed) (all_names shown_names)
     c.in_ok-push_all-2.ensures c.in_ok-push_texts.ensures c.in_ok-push_all.ensures c.in_ok-push_values.ensures c.in_ok-push_nodes.ensures
-    (c.in_ok-write.ensures ∙ ap (λ l. l ++ header_bytes c.header_of-header.result) c.in_ok-out.ensures.items)
+    (c.in_ok-write.ensures.header ∙ ap (λ l. l ++ header_bytes c.header_of-header.result) c.in_ok-out.ensures.items)
     ∙ composed t is bounds c.entries-entries.result.now c.nodes-nodes.result.now (shown c.as_slice-sets.result.now) (shown c.as_slice-names.result.now) c.as_slice-order.result.now c.entries-entries.ensures.value c.nodes-nodes.ensures sets names order (header_bytes c.header_of-header.result) (ap header_bytes header)

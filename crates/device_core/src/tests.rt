@@ -1,27 +1,27 @@
 //! Blocks that are read, and blocks that are refused.
 
-use crate::{BlockFault, BlockFaultKind, Device, Event, ProgramAnswer, read_block};
+use crate::{BlockFaultKind, Device, DeviceNumber, Event, Pairs, ProgramAnswer, Texts, read_block};
 use std::alloc::{AllocError, Global};
-use std::process::Abort;
 use std::test::Fail;
 
-/// The fault of a block, if it has one.
-fn fault_of(alloc: Global, block: &[u8]) -> Option<BlockFault> {
+/// Whether a block is read.
+fn is_read(alloc: Global, block: &[u8]) -> bool {
+    read_block(alloc, block).is_ok()
+}
+
+/// Whether a block is refused with this fault at this line.
+fn is_refused(alloc: Global, block: &[u8], line: usize, kind: BlockFaultKind) -> bool {
     match read_block(alloc, block) {
-        Ok(_) => None,
-        Err(fault) => Some(fault),
+        Ok(_) => false,
+        Err(fault) => fault.line == line && fault.kind == kind,
     }
 }
 
-fn at(line: usize, kind: BlockFaultKind) -> Option<BlockFault> {
-    Some(BlockFault { line, kind })
-}
-
-/// A block of lines that follow an action and a device.
-fn fault_below(alloc: Global, lines: &[u8]) -> Result<Option<BlockFault>, AllocError> {
+/// A block of these lines below an action and a device.
+fn block_below(alloc: Global, lines: &[u8]) -> Result<Vec<u8>, AllocError> {
     let mut block = b"C: add\nP: /d\n".to_vec(alloc)?;
     block.extend_from_slice(lines)?;
-    Ok(fault_of(alloc, &block))
+    Ok(block)
 }
 
 /// A block whose third line is a property with this many bytes as its value.
@@ -47,6 +47,7 @@ fn deep_block(alloc: Global, count: usize) -> Result<Vec<u8>, AllocError> {
     Ok(block)
 }
 
+/// Whether a text is there and is this one.
 fn is_text(text: Option<&[u8]>, wanted: &[u8]) -> bool {
     match text {
         Some(text) => text == wanted,
@@ -54,6 +55,7 @@ fn is_text(text: Option<&[u8]>, wanted: &[u8]) -> bool {
     }
 }
 
+/// Whether a program gave this answer.
 fn has_answer(answer: Option<&ProgramAnswer<'_>>, status: u8, text: &[u8]) -> bool {
     match answer {
         Some(answer) => answer.status() == status && answer.text() == text,
@@ -61,85 +63,90 @@ fn has_answer(answer: Option<&ProgramAnswer<'_>>, status: u8, text: &[u8]) -> bo
     }
 }
 
+/// Whether there are so many pairs and one of them has this name and this value.
+fn has_pair(pairs: &Pairs<'_>, count: usize, name: &[u8], value: &[u8]) -> bool {
+    pairs.as_map().len() == count && is_text(pairs.get(name), value)
+}
+
+/// Whether there are so many texts and this one is among them.
+fn has_text(texts: &Texts<'_>, count: usize, text: &[u8]) -> bool {
+    texts.as_slice().len() == count && texts.contains(text)
+}
+
+/// Whether a number is there and has these parts.
+fn is_number(number: Option<&DeviceNumber<'_>>, major: &[u8], minor: &[u8]) -> bool {
+    match number {
+        Some(number) => number.major() == major && number.minor() == minor,
+        None => false,
+    }
+}
+
 #[test]
 fn first_lines(rt: HostRuntime) {
-    let alloc = rt.alloc();
-    assert_eq!(rt; fault_of(alloc, b""), at(1, BlockFaultKind::NoAction));
-    assert_eq!(rt;
-        fault_of(alloc, b"P: /d\n"),
-        at(1, BlockFaultKind::NoAction)
-    );
-    assert_eq!(rt; fault_of(alloc, b"X: y\n"), at(1, BlockFaultKind::Letter));
-    assert_eq!(rt; fault_of(alloc, b"R: 0\n"), at(1, BlockFaultKind::Pair));
-    assert_eq!(rt;
-        fault_of(alloc, b"C: add\nU: x\n"),
-        at(2, BlockFaultKind::NoDevice)
-    );
-    assert_eq!(rt;
-        fault_of(alloc, b"C: add\n"),
-        at(1, BlockFaultKind::NoDevice)
-    );
-    assert_eq!(rt;
-        fault_of(alloc, b"C: add\nP: /d/\n"),
-        at(2, BlockFaultKind::Path)
-    );
+    for (block, line, kind) in [
+        (b"".as_slice(), 1, BlockFaultKind::NoAction),
+        (b"P: /d\n", 1, BlockFaultKind::NoAction),
+        (b"X: y\n", 1, BlockFaultKind::Letter),
+        (b"R: 0\n", 1, BlockFaultKind::Pair),
+        (b"C: add\nU: x\n", 2, BlockFaultKind::NoDevice),
+        (b"C: add\n", 1, BlockFaultKind::NoDevice),
+        (b"C: add\nP: /d/\n", 2, BlockFaultKind::Path),
+    ] {
+        assert!(rt; is_refused(rt.alloc(), block, line, kind));
+    }
 }
 
 #[test]
 fn lines_below_a_device(rt: HostRuntime) -> Result<(), Fail> {
-    let alloc = rt.alloc();
-    assert_eq!(rt;
-        fault_below(alloc, b"D: 8\n")?,
-        at(3, BlockFaultKind::Number)
-    );
-    assert_eq!(rt;
-        fault_below(alloc, b"E: =x\n")?,
-        at(3, BlockFaultKind::Pair)
-    );
-    assert_eq!(rt;
-        fault_below(alloc, b"Q: a\nE: k=v\n")?,
-        at(3, BlockFaultKind::Pair)
-    );
-    assert_eq!(rt;
-        fault_below(alloc, b"Q: a\nR: 256\n")?,
-        at(4, BlockFaultKind::Number)
-    );
-    assert_eq!(rt;
-        fault_below(alloc, b"Q: a\nR: 0\nQ: a\n")?,
-        at(5, BlockFaultKind::Pair)
-    );
-    assert_eq!(rt; fault_below(alloc, b"R: 0\n")?, at(3, BlockFaultKind::Pair));
-    assert_eq!(rt; fault_below(alloc, b"C: \n")?, at(3, BlockFaultKind::Pair));
-    assert_eq!(rt;
-        fault_below(alloc, b"A: x=1\nA: x=1\n")?,
-        at(4, BlockFaultKind::Twice)
-    );
-    assert_eq!(rt;
-        fault_below(alloc, b"E: k=\0\n")?,
-        at(3, BlockFaultKind::Nul)
-    );
-    assert_eq!(rt;
-        fault_of(alloc, b"C: add\nP: /devices/a\nP: /devices/b\n"),
-        at(3, BlockFaultKind::Path)
-    );
+    for (lines, line, kind) in [
+        (b"D: 8\n".as_slice(), 3, BlockFaultKind::Number),
+        (b"E: =x\n", 3, BlockFaultKind::Pair),
+        (b"Q: a\nE: k=v\n", 3, BlockFaultKind::Pair),
+        (b"Q: a\nR: 256\n", 4, BlockFaultKind::Number),
+        (b"Q: a\nR: 0\nQ: a\n", 5, BlockFaultKind::Pair),
+        (b"R: 0\n", 3, BlockFaultKind::Pair),
+        (b"C: \n", 3, BlockFaultKind::Pair),
+        (b"A: x=1\nA: x=1\n", 4, BlockFaultKind::Twice),
+        (b"E: k=\0\n", 3, BlockFaultKind::Nul),
+    ] {
+        let block = block_below(rt.alloc(), lines)?;
+        assert!(rt; is_refused(rt.alloc(), &block, line, kind));
+    }
     Ok(())
 }
 
 #[test]
-fn bounds(rt: HostRuntime) -> Result<(), Fail> {
-    let alloc = rt.alloc();
-    let longest = long_block(alloc, 65_509)?;
-    assert_eq!(rt; longest.len(), 65_536);
-    assert_eq!(rt; fault_of(alloc, &longest), None);
-    assert_eq!(rt;
-        fault_of(alloc, &long_block(alloc, 65_510)?),
-        at(3, BlockFaultKind::TooLong)
-    );
-    assert_eq!(rt; fault_of(alloc, &deep_block(alloc, 64)?), None);
-    assert_eq!(rt;
-        fault_of(alloc, &deep_block(alloc, 65)?),
-        at(66, BlockFaultKind::TooDeep)
-    );
+fn a_path_that_is_no_parent(rt: HostRuntime) {
+    let block = b"C: add\nP: /devices/a\nP: /devices/b\n";
+    assert!(rt; is_refused(rt.alloc(), block, 3, BlockFaultKind::Path));
+}
+
+#[test]
+fn the_longest_block(rt: HostRuntime) -> Result<(), Fail> {
+    let block = long_block(rt.alloc(), 65_509)?;
+    assert!(rt; block.len() == 65_536);
+    assert!(rt; is_read(rt.alloc(), &block));
+    Ok(())
+}
+
+#[test]
+fn a_block_that_is_too_long(rt: HostRuntime) -> Result<(), Fail> {
+    let block = long_block(rt.alloc(), 65_510)?;
+    assert!(rt; is_refused(rt.alloc(), &block, 3, BlockFaultKind::TooLong));
+    Ok(())
+}
+
+#[test]
+fn the_most_devices(rt: HostRuntime) -> Result<(), Fail> {
+    let block = deep_block(rt.alloc(), 64)?;
+    assert!(rt; is_read(rt.alloc(), &block));
+    Ok(())
+}
+
+#[test]
+fn a_device_too_many(rt: HostRuntime) -> Result<(), Fail> {
+    let block = deep_block(rt.alloc(), 65)?;
+    assert!(rt; is_refused(rt.alloc(), &block, 66, BlockFaultKind::TooDeep));
     Ok(())
 }
 
@@ -166,66 +173,97 @@ Q: false
 R: 255
 ";
 
-fn check_event(rt: &impl Abort, event: &Event<'_>) {
-    assert!(rt; event.action() == b"change".as_slice());
-    assert_eq!(rt; event.constants().as_map().len(), 1);
-    assert!(rt; is_text(event.constants().get(b"arch"), b"x86-64"));
-    assert_eq!(rt; event.programs().as_map().len(), 2);
-    assert!(rt; has_answer(event.programs().get(b"blkid -o x"), 0, b"TYPE=ext4 "));
-    assert!(rt; has_answer(event.programs().get(b"false"), 255, b""));
-    assert_eq!(rt; event.device_count(), 2);
-    assert_eq!(rt; event.parents().len(), 1);
-    assert!(rt; event.device_at(2).is_none());
+/// The event of that block.
+fn whole(alloc: Global) -> Result<Event<'static>, Fail> {
+    Ok(read_block(alloc, WHOLE).map_err(|_fault| "no event")?)
 }
 
-fn check_usb(rt: &impl Abort, device: &Device<'_>) {
-    assert!(rt; device.path() == b"/devices/pci0/usb1/1-1".as_slice());
-    assert!(rt; is_text(device.subsystem(), b"usb"));
-    assert!(rt; is_text(device.driver(), b"hub"));
-    assert!(rt; is_text(device.node(), b"bus/usb/001/002"));
-    match device.number() {
-        Some(number) => {
-            assert!(rt; number.major() == b"189".as_slice());
-            assert!(rt; number.minor() == b"001".as_slice());
-        }
-        None => assert!(rt; false),
+/// Whether the event has the answers of the block's two programs.
+fn has_its_answers(event: &Event<'_>) -> bool {
+    event.programs().as_map().len() == 2
+        && has_answer(event.programs().get(b"blkid -o x"), 0, b"TYPE=ext4 ")
+        && has_answer(event.programs().get(b"false"), 255, b"")
+}
+
+/// Whether the event has its device and one parent.
+fn has_two_devices(event: &Event<'_>) -> bool {
+    event.device_count() == 2 && event.parents().len() == 1 && event.device_at(2).is_none()
+}
+
+/// Whether the device of the USB port says what it is.
+fn is_usb_port(device: &Device<'_>) -> bool {
+    device.path() == b"/devices/pci0/usb1/1-1".as_slice()
+        && is_text(device.subsystem(), b"usb")
+        && is_text(device.driver(), b"hub")
+}
+
+/// Whether the device has its node and the numbers of that.
+fn has_its_node(device: &Device<'_>) -> bool {
+    is_text(device.node(), b"bus/usb/001/002") && is_number(device.number(), b"189", b"001")
+}
+
+/// Whether the device has its attribute and its two properties.
+fn has_its_pairs(device: &Device<'_>) -> bool {
+    has_pair(device.attrs(), 1, b"serial", b"7 = 7")
+        && has_pair(device.env(), 2, b"ID", b"a=b")
+        && is_text(device.env().get(b"EMPTY"), b"")
+}
+
+/// Whether the device has its two tags, in their order, and its link.
+fn has_its_texts(device: &Device<'_>) -> bool {
+    is_text(device.tags().as_slice().first().copied(), b"seat")
+        && has_text(device.tags(), 2, b"systemd")
+        && has_text(device.links(), 1, b"disk/x")
+}
+
+/// Whether the parent says what it is, and has neither a driver nor a node.
+fn is_pci_bus(device: &Device<'_>) -> bool {
+    device.path() == b"/devices/pci0".as_slice()
+        && is_text(device.subsystem(), b"pci")
+        && device.driver().is_none()
+        && device.node().is_none()
+        && device.number().is_none()
+}
+
+/// Whether the parent has its attribute and no more.
+fn has_an_attribute_alone(device: &Device<'_>) -> bool {
+    has_pair(device.attrs(), 1, b"serial", b"8")
+        && device.env().as_map().len() == 0
+        && device.tags().as_slice().len() == 0
+        && device.links().as_slice().len() == 0
+}
+
+/// Whether the event's device has a parent that is as the block says.
+fn has_its_parent(event: &Event<'_>) -> bool {
+    match event.device_at(1) {
+        Some(parent) => is_pci_bus(parent) && has_an_attribute_alone(parent),
+        None => false,
     }
-    assert_eq!(rt; device.attrs().as_map().len(), 1);
-    assert!(rt; is_text(device.attrs().get(b"serial"), b"7 = 7"));
-    assert_eq!(rt; device.env().as_map().len(), 2);
-    assert!(rt; is_text(device.env().get(b"ID"), b"a=b"));
-    assert!(rt; is_text(device.env().get(b"EMPTY"), b""));
-    assert_eq!(rt; device.tags().as_slice().len(), 2);
-    assert!(rt; is_text(device.tags().as_slice().first().copied(), b"seat"));
-    assert!(rt; device.tags().contains(b"systemd"));
-    assert_eq!(rt; device.links().as_slice().len(), 1);
-    assert!(rt; device.links().contains(b"disk/x"));
-}
-
-fn check_pci(rt: &impl Abort, device: &Device<'_>) {
-    assert!(rt; device.path() == b"/devices/pci0".as_slice());
-    assert!(rt; is_text(device.subsystem(), b"pci"));
-    assert!(rt; device.driver().is_none());
-    assert!(rt; device.node().is_none());
-    assert!(rt; device.number().is_none());
-    assert_eq!(rt; device.attrs().as_map().len(), 1);
-    assert!(rt; is_text(device.attrs().get(b"serial"), b"8"));
-    assert_eq!(rt; device.env().as_map().len(), 0);
-    assert_eq!(rt; device.tags().as_slice().len(), 0);
-    assert_eq!(rt; device.links().as_slice().len(), 0);
 }
 
 #[test]
-fn whole_block(rt: HostRuntime) {
-    match read_block(rt.alloc(), WHOLE) {
-        Ok(event) => {
-            check_event(&rt, &event);
-            check_usb(&rt, event.device());
-            match event.device_at(1) {
-                Some(parent) => check_pci(&rt, parent),
-                None => assert!(rt; false),
-            }
-        }
-        Err(fault) => assert!(rt; false, "{fault:?}"),
-    }
+fn the_event_of_a_block(rt: HostRuntime) -> Result<(), Fail> {
+    let event = whole(rt.alloc())?;
+    assert!(rt; event.action() == b"change".as_slice());
+    assert!(rt; has_pair(event.constants(), 1, b"arch", b"x86-64"));
+    assert!(rt; has_its_answers(&event));
+    assert!(rt; has_two_devices(&event));
+    Ok(())
+}
+
+#[test]
+fn the_device_of_a_block(rt: HostRuntime) -> Result<(), Fail> {
+    let event = whole(rt.alloc())?;
+    assert!(rt; is_usb_port(event.device()));
+    assert!(rt; has_its_node(event.device()));
+    assert!(rt; has_its_pairs(event.device()));
+    assert!(rt; has_its_texts(event.device()));
+    Ok(())
+}
+
+#[test]
+fn the_parent_of_a_device(rt: HostRuntime) -> Result<(), Fail> {
+    let event = whole(rt.alloc())?;
+    assert!(rt; has_its_parent(&event));
+    Ok(())
 }

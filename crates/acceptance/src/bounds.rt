@@ -1,79 +1,60 @@
 //! Blocks, chains and rules as large as they may be, and one more.
 use crate::evaluations::agree;
 use crate::running::{files_of, line, run_on};
+use crate::sessions::{block_with, tables_of, take_all};
 use device_core::BlockFaultKind;
 use engine_core::{Session, SessionFault, Tables, Verb};
-use hwdb_core::{PlainDb, read_sources};
-use rule_core::read_rules;
+use hwdb_core::PlainDb;
 use std::alloc::Global;
 use std::test::Fail;
 use text_files::FileKind;
 
-/// No rules and no database.
-fn nothing(alloc: Global) -> Result<Tables<PlainDb>, Fail> {
-    let rules = read_rules(alloc, &Vec::new(alloc)).map_err(|_fault| "no rules")?;
-    let database = read_sources(alloc, &Vec::new(alloc)).map_err(|_fault| "no database")?;
-    Ok(Tables::new(alloc, rules, PlainDb::new(database.entries))?)
-}
-
-/// Hands a piece to a session, call by call, and adds how many bytes it answers.
-fn feed(
-    alloc: Global,
-    session: &mut Session<'_, Tables<PlainDb>>,
-    piece: &[u8],
-    answered: &mut usize,
-) -> Result<(), SessionFault> {
-    let mut rest = piece;
-    for _call in 0..piece.len() {
-        let step = session.take(alloc, rest)?;
-        rest = rest.get(step.used..).unwrap_or(b"");
-        if let Some(answer) = step.answer {
-            *answered = answered.saturating_add(answer.as_slice().len());
-        }
-        if rest.is_empty() {
-            return Ok(());
-        }
-    }
-    Ok(())
-}
-
-/// Hands an input to a session in pieces of so many bytes.
+/// Hands an input to a session in pieces of so many bytes, and puts the answers behind a text.
 fn feed_in_pieces(
     alloc: Global,
     session: &mut Session<'_, Tables<PlainDb>>,
     input: &[u8],
     size: usize,
-    answered: &mut usize,
+    text: &mut Vec<u8>,
 ) -> Result<(), SessionFault> {
     let mut rest = input;
     for _piece in 0..input.len() {
         let (piece, behind) = rest.split_at(size.min(rest.len()));
-        feed(alloc, session, piece, answered)?;
+        take_all(alloc, session, piece, text)?;
         rest = behind;
     }
     Ok(())
 }
 
 /// A block with a property `X` of so many letters, and the empty line behind it.
-fn block_with(alloc: Global, letters: usize) -> Result<Vec<u8>, Fail> {
-    let mut block = Vec::from_slice(alloc, b"C: add\nP: /devices/x\nE: X=")?;
-    block.extend_from_slice(vec![in alloc; b'v'; letters]?.as_slice())?;
-    block.extend_from_slice(b"\n\n")?;
+fn whole_block(alloc: Global, letters: usize) -> Result<Vec<u8>, Fail> {
+    let mut block = block_with(alloc, b'v', letters)?;
+    block.push(b'\n')?;
     Ok(block)
+}
+
+/// How many bytes a session answers to an input in pieces of so many bytes, which goes well.
+fn answered(
+    alloc: Global,
+    tables: &Tables<PlainDb>,
+    input: &[u8],
+    size: usize,
+) -> Result<usize, Fail> {
+    let mut session = Session::new(alloc, tables)?;
+    let mut text = Vec::new(alloc);
+    feed_in_pieces(alloc, &mut session, input, size, &mut text)?;
+    Ok(text.len())
 }
 
 #[test]
 fn a_block_of_65536_bytes_is_answered_in_any_pieces(rt: HostRuntime) -> Result<(), Fail> {
     let alloc = rt.alloc();
-    let tables = nothing(alloc)?;
-    let block = block_with(alloc, 65_509)?;
+    let tables = tables_of(alloc, &[])?;
+    let block = whole_block(alloc, 65_509)?;
+    // event add /devices/x, env ACTION=add, env DEVPATH=/devices/x, env X= and the letters, and an empty line
+    let whole = 21 + 15 + 23 + 6 + 65_509 + 1 + 1;
     for size in [1, 4096, 65_537] {
-        let mut session = Session::new(alloc, &tables)?;
-        let mut answered = 0;
-        let fed = feed_in_pieces(alloc, &mut session, &block, size, &mut answered);
-        assert!(rt; fed.is_ok());
-        // event add /devices/x, env ACTION=add, env DEVPATH=/devices/x, env X= and the letters, and an empty line
-        assert_eq!(rt; answered, 21 + 15 + 23 + 6 + 65_509 + 1 + 1);
+        assert_eq!(rt; answered(alloc, &tables, &block, size)?, whole);
     }
     Ok(())
 }
@@ -88,26 +69,36 @@ fn is_too_long(fault: &SessionFault) -> bool {
     }
 }
 
+/// Whether a session has ended, so that it answers nothing more.
+fn has_ended(alloc: Global, session: &mut Session<'_, Tables<PlainDb>>) -> bool {
+    session.take(alloc, b"x").err() == Some(SessionFault::Ended)
+        && session.end(alloc).err() == Some(SessionFault::Ended)
+}
+
+/// Whether an input in pieces of so many bytes ends a session as too long, with no answer.
+fn is_refused(
+    alloc: Global,
+    tables: &Tables<PlainDb>,
+    input: &[u8],
+    size: usize,
+) -> Result<bool, Fail> {
+    let mut session = Session::new(alloc, tables)?;
+    let mut text = Vec::new(alloc);
+    match feed_in_pieces(alloc, &mut session, input, size, &mut text) {
+        Err(fault) => {
+            Ok(is_too_long(&fault) && text.is_empty() && has_ended(alloc, &mut session))
+        }
+        Ok(()) => Ok(false),
+    }
+}
+
 #[test]
 fn a_block_of_65537_bytes_ends_a_session_in_any_pieces(rt: HostRuntime) -> Result<(), Fail> {
     let alloc = rt.alloc();
-    let tables = nothing(alloc)?;
-    let block = block_with(alloc, 65_510)?;
+    let tables = tables_of(alloc, &[])?;
+    let block = whole_block(alloc, 65_510)?;
     for size in [1, 4096, 65_537] {
-        let mut session = Session::new(alloc, &tables)?;
-        let mut answered = 0;
-        let fed = feed_in_pieces(alloc, &mut session, &block, size, &mut answered);
-        assert!(rt; fed.is_err_and(|fault| is_too_long(&fault)) && answered == 0);
-        assert!(rt;
-            session
-                .take(alloc, b"x")
-                .is_err_and(|fault| fault == SessionFault::Ended)
-        );
-        assert!(rt;
-            session
-                .end(alloc)
-                .is_err_and(|fault| fault == SessionFault::Ended)
-        );
+        assert!(rt; is_refused(alloc, &tables, &block, size)?);
     }
     Ok(())
 }

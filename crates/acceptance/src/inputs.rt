@@ -2,9 +2,9 @@
 use crate::running::{
     Outcome, assert_bytes, assert_outcome, files_of, input_of, line, run_on, serve_over,
 };
+use crate::sessions::{block_with, tables_of, take_all};
 use engine_core::{MemorySink, MemorySource, Session, Tables, Verb, turn};
-use hwdb_core::{PlainDb, read_sources};
-use rule_core::read_rules;
+use hwdb_core::PlainDb;
 use std::alloc::Global;
 use std::test::Fail;
 use text_files::{FileKind, SourceFile};
@@ -30,9 +30,7 @@ fn files_with(alloc: Global, rules: &str) -> Result<Vec<SourceFile>, Fail> {
 
 /// What is answered by the rule.
 fn tables(alloc: Global) -> Result<Tables<PlainDb>, Fail> {
-    let rules = read_rules(alloc, &files_with(alloc, RULE)?).map_err(|_fault| "no rules")?;
-    let database = read_sources(alloc, &Vec::new(alloc)).map_err(|_fault| "no database")?;
-    Ok(Tables::new(alloc, rules, PlainDb::new(database.entries))?)
+    tables_of(alloc, &files_with(alloc, RULE)?)
 }
 
 /// Answers an input in a run by the rule, over these devices.
@@ -67,24 +65,6 @@ fn answer_to(alloc: Global, rules: &str, input: &[u8]) -> Result<Outcome, Fail> 
         files_with(alloc, rules)?,
         input,
     )
-}
-
-/// Takes a piece whole, and puts the answers behind a text.
-fn take_all(
-    alloc: Global,
-    session: &mut Session<'_, Tables<PlainDb>>,
-    piece: &[u8],
-    text: &mut Vec<u8>,
-) -> Result<(), Fail> {
-    let mut rest = piece;
-    for _call in 0..piece.len() {
-        let step = session.take(alloc, rest).map_err(|_fault| "no answer")?;
-        rest = rest.get(step.used..).ok_or("too much was used")?;
-        if let Some(answer) = step.answer {
-            text.extend_from_slice(answer.as_slice())?;
-        }
-    }
-    Ok(())
 }
 
 /// The answers to an input that is cut at two places.
@@ -175,23 +155,13 @@ fn inputs_are_answered(rt: HostRuntime) -> Result<(), Fail> {
     Ok(())
 }
 
-/// A block of a property of so many letters.
-fn block_with(alloc: Global, letters: usize) -> Result<String, Fail> {
-    let mut block = String::from_str(alloc, "C: add\nP: /devices/x\nE: X=")?;
-    for _letter in 0..letters {
-        block.push('v')?;
-    }
-    block.push('\n')?;
-    Ok(block)
-}
-
 #[test]
 fn a_block_has_room_for_65536_bytes(rt: HostRuntime) -> Result<(), Fail> {
-    let fits = block_with(rt.alloc(), 65_509)?;
-    let done = answer_to(rt.alloc(), "", fits.as_str().as_bytes())?;
+    let fits = block_with(rt.alloc(), b'v', 65_509)?;
+    let done = answer_to(rt.alloc(), "", &fits)?;
     assert_eq!(rt; done.status, 0);
-    let too_long = block_with(rt.alloc(), 65_510)?;
-    let done = answer_to(rt.alloc(), "", too_long.as_str().as_bytes())?;
+    let too_long = block_with(rt.alloc(), b'v', 65_510)?;
+    let done = answer_to(rt.alloc(), "", &too_long)?;
     assert_outcome(&rt, &done, "", "block 1, line 3: too long\n", 1);
     Ok(())
 }

@@ -7,6 +7,7 @@
 //! at most eight times its weight, four times its block and 64 bytes long.
 use crate::evaluations::agree;
 use crate::running::{files_of, line, one_file, run_on};
+use crate::sessions::block_with;
 use engine_core::Verb;
 use std::alloc::Global;
 use std::test::Fail;
@@ -43,16 +44,13 @@ fn answer_by(alloc: Global, rules: &str, database: &str, block: &[u8]) -> Result
 }
 
 /// A block of 27 bytes more, with a property `X` of so many bytes 1, which are written as `\x01`.
-fn block_with(alloc: Global, count: usize) -> Result<Vec<u8>, Fail> {
-    let mut block = Vec::from_slice(alloc, b"C: add\nP: /devices/x\nE: X=")?;
-    block.extend_from_slice(vec![in alloc; 1; count]?.as_slice())?;
-    block.push(b'\n')?;
-    Ok(block)
+fn block_of_ones(alloc: Global, count: usize) -> Result<Vec<u8>, Fail> {
+    block_with(alloc, 1, count)
 }
 
 #[test]
 fn the_longest_texts_stay_within_the_bounds(rt: HostRuntime) -> Result<(), Fail> {
-    let block = block_with(rt.alloc(), LONGEST)?;
+    let block = block_of_ones(rt.alloc(), LONGEST)?;
     let answer = answer_by(rt.alloc(), EACH_KEY, "", &block)?;
     assert_eq!(rt; answer.len(), AROUND.len() + 8 * 4 * LONGEST);
     // the longest texts; m, ACTION, add, DEVPATH, /devices/x, X, Y, a, s and program; the note's three
@@ -64,7 +62,7 @@ fn the_longest_texts_stay_within_the_bounds(rt: HostRuntime) -> Result<(), Fail>
 
 #[test]
 fn the_longest_property_of_a_block_stays_within_the_bounds(rt: HostRuntime) -> Result<(), Fail> {
-    let block = block_with(rt.alloc(), LONGEST_VALUE)?;
+    let block = block_of_ones(rt.alloc(), LONGEST_VALUE)?;
     let answer = answer_by(rt.alloc(), "", "", &block)?;
     // event add /devices/x, env ACTION=add, env DEVPATH=/devices/x, env X= and an empty line
     assert_eq!(rt; answer.len(), 21 + 15 + 23 + 7 + 1 + 4 * LONGEST_VALUE);

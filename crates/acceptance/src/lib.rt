@@ -26,3 +26,5 @@ mod refusals;
 mod rules;
 #[cfg(test)]
 mod running;
+#[cfg(test)]
+mod sessions;

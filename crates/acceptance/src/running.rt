@@ -88,7 +88,7 @@ pub(crate) fn serve_over(
 
 /// Runs a line with room enough, over no input.
 pub(crate) fn run(alloc: Global, line: &Line<'_>, files: Vec<SourceFile>) -> Result<Outcome, Fail> {
-    run_on(alloc, line, files, b"")
+    run_by(alloc, line, files, None, b"")
 }
 
 /// Runs a line with room enough over an input.

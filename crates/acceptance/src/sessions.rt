@@ -1,0 +1,43 @@
+//! Sessions that are handed an input piece by piece, and blocks as long as a test asks for.
+use engine_core::{Session, SessionFault, Tables};
+use hwdb_core::{PlainDb, read_sources};
+use rule_core::read_rules;
+use std::alloc::Global;
+use std::test::Fail;
+use text_files::SourceFile;
+
+/// What is answered by files of rules and no database.
+pub(crate) fn tables_of(alloc: Global, files: &[SourceFile]) -> Result<Tables<PlainDb>, Fail> {
+    let rules = read_rules(alloc, files).map_err(|_fault| "no rules")?;
+    let database = read_sources(alloc, &Vec::new(alloc)).map_err(|_fault| "no database")?;
+    Ok(Tables::new(alloc, rules, PlainDb::new(database.entries))?)
+}
+
+/// Hands a piece to a session, call by call, and puts the answers behind a text.
+///
+/// A call that says it used more than it was given ends here too.
+pub(crate) fn take_all(
+    alloc: Global,
+    session: &mut Session<'_, Tables<PlainDb>>,
+    piece: &[u8],
+    text: &mut Vec<u8>,
+) -> Result<(), SessionFault> {
+    let mut rest = piece;
+    for _call in 0..piece.len() {
+        let step = session.take(alloc, rest)?;
+        rest = rest.get(step.used..).ok_or(SessionFault::Ended)?;
+        if let Some(answer) = step.answer {
+            text.extend_from_slice(answer.as_slice())
+                .map_err(|_refused| SessionFault::Memory)?;
+        }
+    }
+    Ok(())
+}
+
+/// A block of 27 bytes more, with a property `X` of so many times this byte.
+pub(crate) fn block_with(alloc: Global, byte: u8, count: usize) -> Result<Vec<u8>, Fail> {
+    let mut block = Vec::from_slice(alloc, b"C: add\nP: /devices/x\nE: X=")?;
+    block.extend_from_slice(vec![in alloc; byte; count]?.as_slice())?;
+    block.push(b'\n')?;
+    Ok(block)
+}

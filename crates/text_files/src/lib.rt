@@ -15,6 +15,3 @@ pub use file_order::order_files;
 pub use laws::{escaped_is_read_back, kept_files};
 pub use message::{Message, MessageKind, capped, word_of};
 pub use source_file::{FileKind, SourceFile};
-
-#[cfg(test)]
-mod tests;

@@ -8,8 +8,6 @@
 
 mod laws;
 mod safe;
-#[cfg(test)]
-mod tests;
 mod words;
 
 pub use laws::{safe_bytes_stay, safe_texts_are_safe};

@@ -11,8 +11,6 @@ mod owned_pairs;
 mod owned_texts;
 mod pairs;
 mod table;
-#[cfg(test)]
-mod tests;
 mod texts;
 
 pub use laws::{

@@ -7,8 +7,6 @@
 mod laws;
 mod lines;
 mod numbers;
-#[cfg(test)]
-mod tests;
 mod texts;
 
 pub use laws::a_text_has_its_lines_in_one_way;

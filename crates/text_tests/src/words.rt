@@ -1,5 +1,9 @@
-use super::*;
+//! Lines, numbers and blanks at values that a person wrote down.
 use std::test::Fail;
+use text_words::{
+    Lines, begins_with, decimal_below, ends_in, first_line, is_blank, is_whitespace, split_once,
+    unindented,
+};
 
 #[test]
 fn each_line_has_its_number(rt: HostRuntime) -> Result<(), Fail> {

@@ -1,6 +1,6 @@
-//! Each public function at values that a person wrote down.
-use crate::{attribute_safe, link_safe, underscored};
+//! Texts made safe for names, at values that a person wrote down.
 use std::test::Fail;
+use text_safe::{attribute_safe, link_safe, underscored};
 
 #[test]
 fn links_keep_what_paths_may_have(rt: HostRuntime) -> Result<(), Fail> {

@@ -1,10 +1,9 @@
-//! Each public function once, with answers that are worked out by hand.
-
-use super::{OwnedPairs, OwnedTexts, Pairs, Table, Texts};
+//! Each public function of the tables once, with answers that are worked out by hand.
 use indexmap::{IndexMap, IndexSet};
 use std::alloc::{AllocError, Global};
 use std::test::Fail;
 use text_bytes::Bytes;
+use text_tables::{OwnedPairs, OwnedTexts, Pairs, Table, Texts};
 
 /// Whether a value is there and is this one.
 fn is_value(found: Option<&[u8]>, wanted: &[u8]) -> bool {

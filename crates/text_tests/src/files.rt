@@ -1,8 +1,8 @@
-//! Each public function at values that a person wrote down.
-use crate::{FileKind, Message, MessageKind, SourceFile, capped, escape, order_files};
+//! Files in their order, texts escaped and messages, at values that a person wrote down.
 use std::alloc::{AllocError, Global};
 use std::test::Fail;
 use text_bytes::Bytes;
+use text_files::{FileKind, Message, MessageKind, SourceFile, capped, escape, order_files};
 
 fn file(alloc: Global, rank: u8, name: &[u8], bytes: &[u8]) -> Result<SourceFile, AllocError> {
     Ok(SourceFile {

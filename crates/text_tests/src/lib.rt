@@ -1,0 +1,20 @@
+//! Tests of what the crates of texts make public, in one crate for all of them.
+//!
+//! They show what no contract says: that a call does succeed where memory is ample, and that the
+//! definitions mean what their readers take them to mean. A crate with tests is proved a second time
+//! with them, so they stand here: a change of a crate is tried without proving it twice. Expected
+//! values are written by hand.
+#![tactic(auto)]
+
+#[cfg(test)]
+mod choices;
+#[cfg(test)]
+mod files;
+#[cfg(test)]
+mod patterns;
+#[cfg(test)]
+mod safe;
+#[cfg(test)]
+mod tables;
+#[cfg(test)]
+mod words;

@@ -12,8 +12,6 @@ mod reading;
 mod readings;
 mod rule;
 mod rule_set;
-#[cfg(test)]
-mod tests;
 
 pub use fault::RulesFault;
 pub use reading::read_rules;

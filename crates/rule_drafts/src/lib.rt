@@ -10,8 +10,6 @@ mod places;
 mod reading;
 mod style;
 mod telling;
-#[cfg(test)]
-mod tests;
 mod turns;
 
 pub use draft::Draft;

@@ -8,8 +8,6 @@
 mod jumps;
 mod laws;
 mod passes;
-#[cfg(test)]
-mod tests;
 
 pub use jumps::{Jump, Landing};
 pub use laws::{a_jump_that_is_not_lost_reaches_a_rule, each_rule_has_its_landing};

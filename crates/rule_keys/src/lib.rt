@@ -9,8 +9,6 @@
 mod keys;
 mod operators;
 mod roles;
-#[cfg(test)]
-mod tests;
 mod topics;
 mod types;
 mod written;

@@ -9,8 +9,6 @@ mod joined;
 mod joining;
 mod laws;
 mod pieces;
-#[cfg(test)]
-mod tests;
 mod text;
 
 pub use joined::{JoinedLine, JoinedLines};

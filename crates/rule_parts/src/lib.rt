@@ -10,8 +10,6 @@ mod laws;
 mod options;
 mod part;
 mod reading;
-#[cfg(test)]
-mod tests;
 mod values;
 mod written;
 

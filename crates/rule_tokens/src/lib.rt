@@ -16,8 +16,6 @@ mod letters;
 mod parts;
 mod prefixes;
 mod runs;
-#[cfg(test)]
-mod tests;
 mod tokens;
 mod unquoting;
 mod values;

@@ -1,10 +1,9 @@
 //! Tokens with the parts or the faults that udev(7) gives them.
-
-use crate::{
+use rule_keys::{AssignOperator, MatchOperator, PlainKey, Target};
+use rule_parts::{
     Act, Change, Comparison, Deed, Import, Part, PartFault, RuleOption, is_read_as_assign,
     read_part,
 };
-use rule_keys::{AssignOperator, MatchOperator, PlainKey, Target};
 use rule_tokens::Tokens;
 use std::alloc::Global;
 use text_files::MessageKind;

@@ -1,6 +1,5 @@
 //! Rules files, with the rules and messages that udev(7) gives them.
-
-use crate::{Rule, RuleSet, RulesFault, read_rules};
+use rule_core::{Rule, RuleSet, RulesFault, read_rules};
 use std::alloc::{AllocError, Global};
 use std::test::Fail;
 use text_bytes::Bytes;

@@ -1,6 +1,5 @@
 //! Files of rules, by their labels and jumps.
-
-use crate::{Jump, Landing, landings};
+use rule_jumps::{Jump, Landing, landings};
 use std::alloc::{AllocError, Global};
 use std::test::Fail;
 

@@ -1,10 +1,8 @@
 //! Lines of rules with what udev(7) makes of them.
-
-use crate::style::add_style;
-use crate::{Draft, no_part_is_lost, parts_are_kept_in_order, read_draft};
+use rule_drafts::{Draft, no_part_is_lost, parts_are_kept_in_order, read_draft};
 use rule_keys::Key;
 use rule_parts::{Act, Assignment, Finding, PartFault};
-use std::alloc::{AllocError, Global};
+use std::alloc::Global;
 use std::test::Fail;
 use text_files::MessageKind;
 
@@ -13,11 +11,9 @@ fn draft(alloc: Global, line: &[u8]) -> Result<Draft, Fail> {
     Ok(read_draft(alloc, line).ok().ok_or("no rule")?)
 }
 
-/// What is to be said of how a line is written.
-fn style(alloc: Global, line: &[u8]) -> Result<Vec<Finding>, AllocError> {
-    let mut findings = Vec::new(alloc);
-    add_style(alloc, &mut findings, line)?;
-    Ok(findings)
+/// What is to be said of a line that is a rule.
+fn findings_of(alloc: Global, line: &[u8]) -> Result<Vec<Finding>, Fail> {
+    Ok(draft(alloc, line)?.findings)
 }
 
 /// Whether a line is no rule for this reason.
@@ -85,11 +81,11 @@ fn long_lines(rt: HostRuntime) -> Result<(), Fail> {
 
 #[test]
 fn commas_between_tokens(rt: HostRuntime) -> Result<(), Fail> {
-    let findings = style(rt.alloc(), br#"ENV{A}:="1",TAG+="t""#)?;
+    let findings = findings_of(rt.alloc(), br#"ENV{A}:="1",TAG+="t""#)?;
     assert_eq!(rt; findings.len(), 2);
     assert!(rt; tells(&findings, 0, MessageKind::ReadAsAssign, b"ENV"));
     assert!(rt; tells(&findings, 1, MessageKind::BlankExpected, b"TAG"));
-    let findings = style(rt.alloc(), br#"KERNEL=="a"ENV{B}="1" , ,TAG="t""#)?;
+    let findings = findings_of(rt.alloc(), br#"KERNEL=="a"ENV{B}="1" , ,TAG="t""#)?;
     assert_eq!(rt; findings.len(), 3);
     assert!(rt; tells(&findings, 0, MessageKind::CommaExpected, b"ENV"));
     assert!(rt; tells(&findings, 1, MessageKind::CommaExpected, b"TAG"));

@@ -1,6 +1,5 @@
 //! Lines with the tokens, the meanings and the faults that the manual's rules give them.
-
-use crate::{
+use rule_tokens::{
     Operator, Quote, Span, TokenFault, TokenFaultKind, Tokens, letters_before_quote,
     line_has_one_answer, parts_lie_in_line, rules_stand_on_the_grammar, unquote, value_has_no_nul,
     value_has_one_meaning,

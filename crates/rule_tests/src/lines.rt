@@ -1,6 +1,5 @@
 //! Lines as udev(7) joins them.
-
-use crate::{JoinedLines, joined_lines};
+use rule_lines::{JoinedLines, joined_lines};
 use std::test::Fail;
 
 fn has(joined: &JoinedLines<'_>, at: usize, number: u32, text: &[u8]) -> bool {

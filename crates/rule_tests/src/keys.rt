@@ -1,6 +1,5 @@
 //! Lines of udev(7)'s tables of keys.
-
-use crate::{
+use rule_keys::{
     AssignOperator, ImportType, Key, MatchOperator, Operator, PlainKey, Role, RunType, Target,
     Topic, UpKey, import_type_of, is_read_as_assign, key_of, read_as, role_of, run_type_of,
     topic_of,

@@ -13,6 +13,23 @@ fn file(alloc: Global, rank: u8, name: &[u8], bytes: &[u8]) -> Result<SourceFile
     })
 }
 
+/// Files of three ranks, some of them of one name.
+fn files(alloc: Global) -> Result<Vec<SourceFile>, AllocError> {
+    let mut files = Vec::new(alloc);
+    for (rank, name, bytes) in [
+        (1, b"70-b.hwdb".as_slice(), b"1".as_slice()),
+        (1, b"60-a.hwdb", b"2"),
+        (0, b"80-c.txt", b"3"),
+        (0, b"70-b.hwdb", b"4"),
+        (1, b"60-a.hwdb", b"5"),
+        (2, b"70-b.hwdb", b"6"),
+        (1, b"60.hwdb", b"7"),
+    ] {
+        files.push(file(alloc, rank, name, bytes)?)?;
+    }
+    Ok(files)
+}
+
 /// A line for each file: its name and what it holds.
 fn listed(alloc: Global, files: &[SourceFile]) -> Result<Vec<u8>, AllocError> {
     let mut lines = Vec::new(alloc);
@@ -38,15 +55,7 @@ fn escapes_controls_and_backslashes(rt: HostRuntime) -> Result<(), AllocError> {
 #[test]
 fn of_each_name_the_first_of_least_rank_is_kept_in_order(rt: HostRuntime) -> Result<(), Fail> {
     let alloc = rt.alloc();
-    let mut files = Vec::new(alloc);
-    files.push(file(alloc, 1, b"70-b.hwdb", b"1")?)?;
-    files.push(file(alloc, 1, b"60-a.hwdb", b"2")?)?;
-    files.push(file(alloc, 0, b"80-c.txt", b"3")?)?;
-    files.push(file(alloc, 0, b"70-b.hwdb", b"4")?)?;
-    files.push(file(alloc, 1, b"60-a.hwdb", b"5")?)?;
-    files.push(file(alloc, 2, b"70-b.hwdb", b"6")?)?;
-    files.push(file(alloc, 1, b"60.hwdb", b"7")?)?;
-    let kept = order_files(alloc, files, b".hwdb")?;
+    let kept = order_files(alloc, files(alloc)?, b".hwdb")?;
     assert_eq!(rt;
         listed(alloc, &kept)?.as_slice(),
         b"60-a.hwdb 2\n60.hwdb 7\n70-b.hwdb 4\n".as_slice()

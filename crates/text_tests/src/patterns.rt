@@ -7,20 +7,27 @@ fn fits(alloc: Global, pattern: &[u8], text: &[u8]) -> Result<bool, GlobFault> {
     Ok(Pattern::read(alloc, pattern)?.fits(text))
 }
 
+fn fault_of(alloc: Global, pattern: &[u8]) -> Option<GlobFault> {
+    Pattern::read(alloc, pattern).err()
+}
+
 #[test]
 fn brackets(rt: HostRuntime) -> Result<(), Fail> {
-    let alloc = rt.alloc();
-    assert!(rt; fits(alloc, b"[]", b"[]")?);
-    assert!(rt; !fits(alloc, b"[]", b"]")?);
-    assert!(rt; fits(alloc, b"[!]", b"[!]")?);
-    assert!(rt; !fits(alloc, b"[!]", b"a")?);
-    assert!(rt; fits(alloc, b"[]a]", b"]")?);
-    assert!(rt; fits(alloc, b"[]a]", b"a")?);
-    assert!(rt; !fits(alloc, b"[]a]", b"[]a]")?);
-    assert!(rt; fits(alloc, b"[a-]", b"a")?);
-    assert!(rt; fits(alloc, b"[a-]", b"-")?);
-    assert!(rt; !fits(alloc, b"[^a-c]*x?", b"bxxy")?);
-    assert!(rt; fits(alloc, b"[^a-c]*x?", b"dxxy")?);
+    for (pattern, text, wanted) in [
+        (b"[]".as_slice(), b"[]".as_slice(), true),
+        (b"[]", b"]", false),
+        (b"[!]", b"[!]", true),
+        (b"[!]", b"a", false),
+        (b"[]a]", b"]", true),
+        (b"[]a]", b"a", true),
+        (b"[]a]", b"[]a]", false),
+        (b"[a-]", b"a", true),
+        (b"[a-]", b"-", true),
+        (b"[^a-c]*x?", b"bxxy", false),
+        (b"[^a-c]*x?", b"dxxy", true),
+    ] {
+        assert_eq!(rt; fits(rt.alloc(), pattern, text)?, wanted);
+    }
     Ok(())
 }
 
@@ -50,19 +57,12 @@ fn modalias(rt: HostRuntime) -> Result<(), Fail> {
 #[test]
 fn faults(rt: HostRuntime) -> Result<(), Fail> {
     let alloc = rt.alloc();
-    assert_eq!(rt;
-        Pattern::read(alloc, b"a[b[:c]").err(),
-        Some(GlobFault::Class { at: 3 })
-    );
-    assert_eq!(rt;
-        Pattern::read(alloc, b"[[.]").err(),
-        Some(GlobFault::Class { at: 1 })
-    );
+    let class = Some(GlobFault::Class { at: 3 });
+    assert_eq!(rt; fault_of(alloc, b"a[b[:c]"), class);
+    let class = Some(GlobFault::Class { at: 1 });
+    assert_eq!(rt; fault_of(alloc, b"[[.]"), class);
     let classes = vec![in alloc; b'['; 16385]?;
-    assert_eq!(rt;
-        Pattern::read(alloc, &classes).err(),
-        Some(GlobFault::TooLong)
-    );
+    assert_eq!(rt; fault_of(alloc, &classes), Some(GlobFault::TooLong));
     let brackets = vec![in alloc; b'['; 16384]?;
     assert_eq!(rt; Pattern::read(alloc, &brackets)?.items().len(), 16384);
     Ok(())

@@ -13,8 +13,6 @@ pub mod laws;
 mod lines;
 mod paragraph;
 mod reading;
-#[cfg(test)]
-mod tests;
 
 pub use database::{Database, read_sources};
 pub use fault::HwdbFault;

@@ -8,8 +8,6 @@ mod checks;
 mod fault;
 mod law;
 mod records;
-#[cfg(test)]
-mod tests;
 
 pub use checks::check;
 pub use fault::IndexFault;

@@ -7,8 +7,6 @@ mod labels;
 mod law;
 mod nodes;
 mod order;
-#[cfg(test)]
-mod tests;
 mod texts;
 mod values;
 mod write;

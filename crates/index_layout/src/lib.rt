@@ -9,8 +9,6 @@ pub mod kinds;
 mod law;
 mod numbers;
 mod records;
-#[cfg(test)]
-mod tests;
 
 pub use header::{HEADER_LEN, Header, MAGIC, NODE_LEN, Places, SET_LEN, VERSION};
 pub use law::what_is_written_is_read;

@@ -5,8 +5,6 @@
 
 mod index;
 mod law;
-#[cfg(test)]
-mod tests;
 mod tree;
 
 pub use index::Index;

@@ -10,8 +10,6 @@ mod fronts;
 mod groups;
 mod rows;
 mod size;
-#[cfg(test)]
-mod tests;
 mod trie;
 
 pub use fault::TrieFault;

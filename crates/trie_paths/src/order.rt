@@ -54,19 +54,3 @@ pub fn compare(pattern: &[Item], other: &[Item]) -> Ordering
         Ordering::Less
     }
 }
-
-#[cfg(test)]
-mod tests {
-    use super::*;
-    use std::test::Fail;
-
-    #[test]
-    fn bytes_stand_before_stars(rt: HostRuntime) -> Result<(), Fail> {
-        let byte = [Item::Byte(255)];
-        let star = [Item::Many, Item::One];
-        assert_eq!(rt; compare(&byte, &star), Ordering::Less);
-        assert_eq!(rt; compare(&star, &star[..1]), Ordering::Greater);
-        assert_eq!(rt; compare_labels(&Item::Many, &Item::One), Ordering::Greater);
-        Ok(())
-    }
-}

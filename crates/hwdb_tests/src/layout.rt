@@ -1,14 +1,8 @@
 //! The format at an index that a person wrote down.
 
-use crate::{Header, NodeRecord, Places, Span, ValueRecord, kinds};
+use crate::samples::WITH_SOURCE;
+use index_layout::{Header, NodeRecord, Places, Span, ValueRecord, kinds};
 use std::test::Fail;
-
-/// The index of one record: the pattern `a*` with ` K=V`, in line 2 of t.hwdb.
-const ONE_RECORD: &[u8; 144] = b"devdryhw\x02\0\0\0\x03\0\0\0\x01\0\0\0\0\0\0\0\x08\0\0\0\0\0\0\0\
-    \0\0\0\0\0\0\0\0\x01\0\0\0\x01\0\0\0\0\0\0\0\0\0\0\0\
-    \x01a\0\0\0\0\0\0\x02\0\0\0\x01\0\0\0\0\0\0\0\0\0\0\0\
-    \x03\0\0\0\0\0\0\0\x03\0\0\0\0\0\0\0\0\0\0\0\x01\0\0\0\
-    \0\0\0\0\x01\0\0\0\x01\0\0\0\x01\0\0\0\0\0\0\0\x02\0\0\0\x06\0\0\0\x02\0\0\0KVt.hwdb";
 
 const HEADER: Header = Header {
     version: 2,
@@ -41,7 +35,7 @@ const VALUE: ValueRecord = ValueRecord {
 
 #[test]
 fn the_header_is_read_and_written(rt: HostRuntime) -> Result<(), Fail> {
-    let header = Header::read(ONE_RECORD);
+    let header = Header::read(WITH_SOURCE);
     assert!(rt; header == HEADER);
     let places = Places {
         values: 104,
@@ -52,18 +46,18 @@ fn the_header_is_read_and_written(rt: HostRuntime) -> Result<(), Fail> {
     assert!(rt; header.places() == places);
     let mut out = Vec::new(rt.alloc());
     header.write(&mut out)?;
-    let whole = ONE_RECORD.as_slice();
+    let whole = WITH_SOURCE.as_slice();
     assert!(rt; out.as_slice() == &whole[..32]);
     Ok(())
 }
 
 #[test]
 fn records_are_read_and_written(rt: HostRuntime) -> Result<(), Fail> {
-    let star = NodeRecord::read(ONE_RECORD, 80);
+    let star = NodeRecord::read(WITH_SOURCE, 80);
     assert!(rt; star == STAR);
-    let value = ValueRecord::read(2, ONE_RECORD, 104);
+    let value = ValueRecord::read(2, WITH_SOURCE, 104);
     assert!(rt; value == VALUE);
-    let whole = ONE_RECORD.as_slice();
+    let whole = WITH_SOURCE.as_slice();
     let mut out = Vec::new(rt.alloc());
     star.write(&mut out)?;
     value.write(&mut out)?;
@@ -73,7 +67,7 @@ fn records_are_read_and_written(rt: HostRuntime) -> Result<(), Fail> {
 
 #[test]
 fn a_value_of_version_1_has_no_file(rt: HostRuntime) -> Result<(), Fail> {
-    let value = ValueRecord::read(1, ONE_RECORD, 104);
+    let value = ValueRecord::read(1, WITH_SOURCE, 104);
     let nowhere = Span { place: 0, len: 0 };
     assert!(rt; value.file == nowhere);
     assert_eq!(rt; value.line, 0);

@@ -1,25 +1,12 @@
 //! Indexes that a person wrote down, and long chains of nodes.
 
-use crate::{Index, IndexFault};
+use crate::samples::{ONE_RECORD, WITH_SOURCE};
 use hwdb_lookup::Lookup;
 use index_layout::kinds::{BYTE, MANY, ROOT};
 use index_layout::{Header, NodeRecord, Span, ValueRecord};
+use index_reading::{Index, IndexFault};
 use std::alloc::{AllocError, Global};
 use std::test::Fail;
-
-/// The index of one record: the pattern `a*` with ` K=V`.
-const ONE_RECORD: &[u8; 126] = b"devdryhw\x01\0\0\0\x03\0\0\0\x01\0\0\0\0\0\0\0\x02\0\0\0\0\0\0\0\
-    \0\0\0\0\0\0\0\0\x01\0\0\0\x01\0\0\0\0\0\0\0\0\0\0\0\
-    \x01a\0\0\0\0\0\0\x02\0\0\0\x01\0\0\0\0\0\0\0\0\0\0\0\
-    \x03\0\0\0\0\0\0\0\x03\0\0\0\0\0\0\0\0\0\0\0\x01\0\0\0\
-    \0\0\0\0\x01\0\0\0\x01\0\0\0\x01\0\0\0\0\0\0\0KV";
-
-/// The same in version 2, with the file t.hwdb and line 2.
-const WITH_SOURCE: &[u8; 144] = b"devdryhw\x02\0\0\0\x03\0\0\0\x01\0\0\0\0\0\0\0\x08\0\0\0\0\0\0\0\
-    \0\0\0\0\0\0\0\0\x01\0\0\0\x01\0\0\0\0\0\0\0\0\0\0\0\
-    \x01a\0\0\0\0\0\0\x02\0\0\0\x01\0\0\0\0\0\0\0\0\0\0\0\
-    \x03\0\0\0\0\0\0\0\x03\0\0\0\0\0\0\0\0\0\0\0\x01\0\0\0\
-    \0\0\0\0\x01\0\0\0\x01\0\0\0\x01\0\0\0\0\0\0\0\x02\0\0\0\x06\0\0\0\x02\0\0\0KVt.hwdb";
 
 /// Why there is no answer.
 #[derive(Clone, Copy, Debug, PartialEq, Eq, Drop)]

@@ -1,6 +1,6 @@
 //! Database files as they are written, with the entries and messages that hwdb(7) gives them.
 
-use crate::{Database, HwdbFault, read_sources};
+use hwdb_core::{Database, HwdbFault, read_sources};
 use std::alloc::{AllocError, Global};
 use std::test::Fail;
 use text_bytes::Bytes;

@@ -1,10 +1,10 @@
 //! Tries of few and of many entries.
 
-use crate::{Nodes, Trie};
 use hwdb_lookup::{Entry, Lookup, PlainDb, rising};
 use std::alloc::Global;
 use std::test::Fail;
 use text_core::{Bytes, GlobFault, Pattern};
+use trie_core::{Nodes, Trie};
 
 fn entry(alloc: Global, pattern: &[u8], value: &[u8], order: u32) -> Result<Entry, GlobFault> {
     Ok(Entry {

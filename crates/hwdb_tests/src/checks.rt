@@ -1,23 +1,10 @@
 //! Checks of files that a person wrote down.
 
-use crate::{IndexFault, check};
+use crate::samples::{ONE_RECORD, WITH_SOURCE};
+use index_checks::{IndexFault, check};
 use index_layout::Span;
 use std::alloc::{AllocError, Global};
 use std::test::Fail;
-
-/// The index of one record: the pattern `a*` with ` K=V`.
-const ONE_RECORD: &[u8; 126] = b"devdryhw\x01\0\0\0\x03\0\0\0\x01\0\0\0\0\0\0\0\x02\0\0\0\0\0\0\0\
-    \0\0\0\0\0\0\0\0\x01\0\0\0\x01\0\0\0\0\0\0\0\0\0\0\0\
-    \x01a\0\0\0\0\0\0\x02\0\0\0\x01\0\0\0\0\0\0\0\0\0\0\0\
-    \x03\0\0\0\0\0\0\0\x03\0\0\0\0\0\0\0\0\0\0\0\x01\0\0\0\
-    \0\0\0\0\x01\0\0\0\x01\0\0\0\x01\0\0\0\0\0\0\0KV";
-
-/// The same in version 2, with the file t.hwdb and line 2.
-const WITH_SOURCE: &[u8; 144] = b"devdryhw\x02\0\0\0\x03\0\0\0\x01\0\0\0\0\0\0\0\x08\0\0\0\0\0\0\0\
-    \0\0\0\0\0\0\0\0\x01\0\0\0\x01\0\0\0\0\0\0\0\0\0\0\0\
-    \x01a\0\0\0\0\0\0\x02\0\0\0\x01\0\0\0\0\0\0\0\0\0\0\0\
-    \x03\0\0\0\0\0\0\0\x03\0\0\0\0\0\0\0\0\0\0\0\x01\0\0\0\
-    \0\0\0\0\x01\0\0\0\x01\0\0\0\x01\0\0\0\0\0\0\0\x02\0\0\0\x06\0\0\0\x02\0\0\0KVt.hwdb";
 
 /// The index of two properties of `a*`, both of order 0.
 const TWINS: &[u8; 146] = b"devdryhw\x01\0\0\0\x03\0\0\0\x02\0\0\0\0\0\0\0\x02\0\0\0\0\0\0\0\

@@ -1,7 +1,8 @@
 //! Indexes of few entries, byte by byte, and what is asked of them.
 
-use crate::{Index, write_index};
+use crate::samples::WITH_SOURCE;
 use hwdb_lookup::{Entry, Lookup, rising};
+use index_core::{Index, write_index};
 use std::alloc::{AllocError, AllocFailed, Global};
 use std::test::Fail;
 use text_core::{Bytes, GlobFault, Pattern};
@@ -10,13 +11,6 @@ use trie_core::{Trie, TrieFault};
 /// The index of no entry: the root alone.
 const EMPTY: &[u8; 56] = b"devdryhw\x02\0\0\0\x01\0\0\0\0\0\0\0\0\0\0\0\0\0\0\0\0\0\0\0\
     \0\0\0\0\0\0\0\0\x01\0\0\0\0\0\0\0\0\0\0\0\0\0\0\0";
-
-/// The index of ` K=V` for `a*`, in line 2 of t.hwdb.
-const ONE_ENTRY: &[u8; 144] = b"devdryhw\x02\0\0\0\x03\0\0\0\x01\0\0\0\0\0\0\0\x08\0\0\0\0\0\0\0\
-    \0\0\0\0\0\0\0\0\x01\0\0\0\x01\0\0\0\0\0\0\0\0\0\0\0\
-    \x01a\0\0\0\0\0\0\x02\0\0\0\x01\0\0\0\0\0\0\0\0\0\0\0\
-    \x03\0\0\0\0\0\0\0\x03\0\0\0\0\0\0\0\0\0\0\0\x01\0\0\0\
-    \0\0\0\0\x01\0\0\0\x01\0\0\0\x01\0\0\0\0\0\0\0\x02\0\0\0\x06\0\0\0\x02\0\0\0KVt.hwdb";
 
 /// Why there is no index.
 #[derive(Clone, Copy, Debug, PartialEq, Eq, Drop)]
@@ -100,7 +94,7 @@ fn one_entry(alloc: Global) -> Result<Vec<u8>, NoIndex> {
 #[test]
 fn one_entry_byte_by_byte(rt: HostRuntime) -> Result<(), Fail> {
     match one_entry(rt.alloc()) {
-        Ok(bytes) => assert!(rt; bytes.as_slice() == ONE_ENTRY.as_slice()),
+        Ok(bytes) => assert!(rt; bytes.as_slice() == WITH_SOURCE.as_slice()),
         Err(fault) => assert!(rt; fault != fault),
     }
     Ok(())

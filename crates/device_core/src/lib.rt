@@ -17,8 +17,6 @@ mod lines;
 mod parts;
 mod programs;
 mod read;
-#[cfg(test)]
-mod tests;
 
 pub use device_runs::{SplitFault, Splitter, Taken};
 pub use devices::{Device, DeviceNumber};

@@ -14,6 +14,3 @@ pub use laws::{
     other_faults_end_the_blocks_sooner, runs_of_pieces,
 };
 pub use splitter::{SplitFault, Splitter, Taken};
-
-#[cfg(test)]
-mod tests;

@@ -10,8 +10,6 @@ mod candidates;
 mod hwdb;
 mod laws;
 mod lookups;
-#[cfg(test)]
-mod tests;
 mod words;
 
 pub use builtin::Builtin;

@@ -11,8 +11,6 @@ mod laws;
 mod pieces;
 mod rendered;
 mod rendering;
-#[cfg(test)]
-mod tests;
 mod words;
 
 pub use laws::rendered_links_are_safe;

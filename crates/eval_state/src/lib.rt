@@ -8,8 +8,6 @@
 mod chain;
 mod start;
 mod state;
-#[cfg(test)]
-mod tests;
 mod texts;
 
 pub use chain::Chain;

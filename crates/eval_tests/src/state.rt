@@ -1,6 +1,6 @@
 //! What an event begins with, as a person reads it off the block.
-use crate::{State, node_path, trimmed};
 use device_core::{Event, read_block};
+use eval_state::{State, node_path, trimmed};
 use std::alloc::{AllocError, Global};
 use std::test::Fail;
 

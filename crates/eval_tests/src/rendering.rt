@@ -1,6 +1,6 @@
 //! Substitutions over a disk that a person wrote down.
-use crate::{Mode, Rendered, render};
 use device_core::{Event, read_block};
+use eval_rendering::{Mode, Rendered, render};
 use eval_state::State;
 use rule_templates::Template;
 use std::alloc::Global;

@@ -1,5 +1,5 @@
 //! Inputs in pieces of several sizes, and their blocks.
-use crate::{SplitFault, Splitter, Taken};
+use device_runs::{SplitFault, Splitter, Taken};
 use std::alloc::{AllocError, Global};
 use std::test::Fail;
 

@@ -1,7 +1,7 @@
 //! Commands as rules write them, and what they find of one entry for hubs.
 
-use crate::{Builtin, Hwdb, look_up, words_are_what_a_command_writes};
 use device_core::{Event, read_block};
+use eval_builtins::{Builtin, Hwdb, look_up, words_are_what_a_command_writes};
 use eval_state::State;
 use hwdb_lookup::{Entry, PlainDb, rising};
 use std::alloc::{AllocError, Global};

@@ -1,6 +1,8 @@
 //! Blocks that are read, and blocks that are refused.
 
-use crate::{BlockFaultKind, Device, DeviceNumber, Event, Pairs, ProgramAnswer, Texts, read_block};
+use device_core::{
+    BlockFaultKind, Device, DeviceNumber, Event, Pairs, ProgramAnswer, Texts, read_block,
+};
 use std::alloc::{AllocError, Global};
 use std::test::Fail;
 

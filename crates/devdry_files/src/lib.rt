@@ -13,8 +13,6 @@ mod memory_disk;
 mod places;
 mod reading;
 mod real_disk;
-#[cfg(test)]
-mod tests;
 
 pub use asking::wanted;
 pub use disk::{Disk, DiskFault, Entry};

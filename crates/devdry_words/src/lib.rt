@@ -7,8 +7,6 @@
 mod commands;
 mod line_reading;
 mod parse;
-#[cfg(test)]
-mod tests;
 mod values;
 
 pub use parse::parse_line;

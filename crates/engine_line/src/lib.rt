@@ -6,8 +6,6 @@
 #![tactic(auto)]
 
 mod kinds;
-#[cfg(test)]
-mod tests;
 
 pub use kinds::same_kind;
 

@@ -8,8 +8,6 @@
 mod answering;
 mod laws;
 mod session;
-#[cfg(test)]
-mod tests;
 mod turning;
 
 pub use answering::Answering;

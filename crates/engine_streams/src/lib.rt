@@ -10,8 +10,6 @@ mod device;
 mod memory_sink;
 mod memory_source;
 mod std_streams;
-#[cfg(test)]
-mod tests;
 mod writing;
 
 pub use device::{DeviceFault, Sink, Source};

@@ -1,6 +1,6 @@
 //! Which files a line speaks of.
 
-use crate::{Line, Verb, same_kind};
+use engine_line::{Line, Verb, same_kind};
 use std::test::Fail;
 use text_files::FileKind;
 

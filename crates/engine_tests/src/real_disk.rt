@@ -1,6 +1,10 @@
-//! The real disk.
+//! What no clause can say: that the real disk answers with what stands on it.
+//!
+//! Tests may run as root, whom no permission stops. So what can't be read is shown by links that
+//! lead to themselves; `bench/odd_files.sh` shows a folder without permission to another user, and
+//! a pipe.
 
-use crate::{ReadFault, RealDisk, read_all, wanted};
+use devdry_files::{ReadFault, RealDisk, read_all, wanted};
 use engine_line::{Line, Verb};
 use std::alloc::AllocError;
 use std::os::unix::fs::symlink;

@@ -1,6 +1,6 @@
 //! What stands in a line, and the texts that `clap` makes, which no clause tells.
 
-use crate::parse_line;
+use devdry_words::parse_line;
 use engine_line::{LineFault, Verb};
 use std::alloc::{AllocError, Global};
 use std::test::Fail;

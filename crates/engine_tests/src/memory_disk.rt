@@ -1,6 +1,6 @@
 //! A disk over memory.
 
-use crate::{
+use devdry_files::{
     Disk, DiskFault, MemoryDisk, MemoryEntry, MemoryPlace, ReadFault, Stands, read_all, read_index,
     wanted,
 };

@@ -2,7 +2,7 @@
 //!
 //! Its room is taken once, by its constructor, so that its calls need no memory. It can be made to
 //! fail at a chosen byte, to take little in a call, or to refuse to flush.
-ghost use Rattle.std.specs.Prelude.{◌≡◌, ◌≤◌, Some, [], take, vec_len, vec_capacity, IfOk};
+ghost use Rattle.std.specs.Prelude.{◌≡◌, ◌≤◌, false, Some, [], take, vec_len, vec_capacity, IfOk};
 ghost use Rattle.engine_streams.specs.Sinks.{SinkState};
 
 use crate::{DeviceFault, Sink};
@@ -28,8 +28,11 @@ impl MemorySink {
     ///
     /// `AllocError` comes where the room could not be had.
     pub fn new(alloc: Global, room: usize, each: usize) -> Result<MemorySink, AllocError>
-        ensures { IfOk result (λ s. ⟦<MemorySink as Sink>⟧.shown s
+        ensures shown { IfOk result (λ s. ⟦<MemorySink as Sink>⟧.shown s
             ≡ record { taken = Some []; flushed = Some []; faults = 0 }) }
+        ensures room { IfOk result (λ s. s.room ≡ room) }
+        ensures each { IfOk result (λ s. s.each ≡ each) }
+        ensures flushes { IfOk result (λ s. s.flushes_fail ≡ false) }
     {
         let bytes = Vec::with_capacity(alloc, room)?;
         Ok(MemorySink {
@@ -44,7 +47,7 @@ impl MemorySink {
 
     /// Makes every later flush fail, or well again.
     pub fn set_flushes_fail(&mut self, fail: bool)
-        ensures { ⟦<MemorySink as Sink>⟧.shown self.new ≡ ⟦<MemorySink as Sink>⟧.shown self.old }
+        ensures { self.new ≡ record self.old { flushes_fail = fail } }
     {
         self.flushes_fail = fail;
     }

@@ -2,7 +2,7 @@
 //!
 //! Its room is taken once, by its constructor, so that its calls need no memory. It can be made to
 //! fail at a chosen byte, or to give little in a call.
-ghost use Rattle.std.specs.Prelude.{◌≡◌, ◌≤◌, Some, [], drop, sum, vec_len, IfOk};
+ghost use Rattle.std.specs.Prelude.{◌≡◌, ◌≤◌, Some, [], drop, sum, vec_len, vec_capacity, IfOk};
 ghost use Rattle.engine_streams.specs.Cuts.{cuts};
 ghost use Rattle.engine_streams.specs.Sources.{SourceState};
 
@@ -36,8 +36,11 @@ impl MemorySource {
         each: usize,
         fails_at: usize,
     ) -> Result<MemorySource, AllocError>
-        ensures { IfOk result (λ s. ⟦<MemorySource as Source>⟧.shown s
+        ensures shown { IfOk result (λ s. ⟦<MemorySource as Source>⟧.shown s
             ≡ record { pieces = Some []; left = Some bytes.items; faults = 0 }) }
+        ensures each { IfOk result (λ s. s.each ≡ each) }
+        ensures fails_at { IfOk result (λ s. s.fails_at ≡ fails_at) }
+        ensures reads { IfOk result (λ s. reads ≤ vec_capacity s.sizes) }
     {
         let sizes = Vec::with_capacity(alloc, reads)?;
         Ok(MemorySource {

@@ -1,5 +1,6 @@
 //! An act of a rule, by what it does.
-ghost use Rattle.std.specs.Prelude.{◌≡◌, [], IfOk, option_copied};
+ghost use Rattle.std.specs.Prelude.{◌≡◌, [], IfOk, OnErr, option_copied};
+ghost use Rattle.eval_scene.specs.Scenes.{IsBlank};
 ghost use Rattle.eval_rendering.specs.Rendering.{render};
 ghost use Rattle.eval_rendering.specs.declared.rendered.Mode.TheVariants.{Plain};
 ghost use Rattle.eval_matching.specs.Holding.{agrees};
@@ -142,7 +143,7 @@ fn perform<L: Lookup>(
 /// note `import not run` and are not done. A text over 16,384 bytes is the note `text too long`, and its
 /// act is not done.
 ///
-/// The error comes where memory is refused; what was changed by then stays.
+/// The error comes where memory is refused; the scene is then cleared.
 #[tactic(auto, unfolding(crate::specs::Acts::act_step))]
 pub fn act_step<L: Lookup>(
     alloc: Global,
@@ -151,8 +152,14 @@ pub fn act_step<L: Lookup>(
     database: &L,
     scene: &mut Scene<'_>,
 ) -> Result<bool, AllocError>
-    ensures { IfOk result (λ on. (scene.new, on) ≡ act_step (L.entries database.now) rule.now act.now scene.old) }
+    ensures scene { IfOk result (λ on. (scene.new, on) ≡ act_step (L.entries database.now) rule.now act.now scene.old) }
+    ensures refused { OnErr result (IsBlank scene.new) }
 {
-    let done = perform(alloc, rule, &act.deed, database, scene)?;
-    Ok(agrees(act.operator, done))
+    match perform(alloc, rule, &act.deed, database, scene) {
+        Ok(done) => Ok(agrees(act.operator, done)),
+        Err(refused) => {
+            scene.clear(alloc);
+            Err(refused)
+        }
+    }
 }

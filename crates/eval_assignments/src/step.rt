@@ -1,5 +1,6 @@
 //! One assignment of a rule.
-ghost use Rattle.std.specs.Prelude.{◌≡◌, OnOk, option_map};
+ghost use Rattle.std.specs.Prelude.{◌≡◌, OnOk, OnErr, option_map};
+ghost use Rattle.eval_scene.specs.Scenes.{IsBlank};
 ghost use Rattle.eval_assignments.specs.Steps.{is_ignored, is_net, run_kept, set_step, step_by, text_set};
 ghost use Rattle.eval_assignments.specs.Steps.{text_given};
 
@@ -113,15 +114,9 @@ fn step_by<'a>(
     }
 }
 
-/// Makes an assignment of a rule, unless its key is final: udev(7), "assign keys".
-///
-/// A text is rendered first. One of more than 16,384 bytes leaves a note and changes nothing, and so
-/// does a NAME for what is no network device. A RUN is kept as it is written, with the device that is
-/// selected now. Behind a `:=` that was made, its key is final.
-///
-/// The error comes where memory is refused; the scene then holds a part of the change.
+/// Makes an assignment, unless its key is final.
 #[tactic(auto, unfolding(crate::specs::Steps::set_step))]
-pub fn set_step<'a>(
+fn set_open<'a>(
     alloc: Global,
     rule: &'a Rule,
     assignment: &'a Assignment,
@@ -133,4 +128,27 @@ pub fn set_step<'a>(
         return Ok(());
     }
     step_by(alloc, rule, assignment, scene)
+}
+
+/// Makes an assignment of a rule, unless its key is final: udev(7), "assign keys".
+///
+/// A text is rendered first. One of more than 16,384 bytes leaves a note and changes nothing, and so
+/// does a NAME for what is no network device. A RUN is kept as it is written, with the device that is
+/// selected now. Behind a `:=` that was made, its key is final.
+///
+/// The error comes where memory is refused; the scene is then cleared.
+pub fn set_step<'a>(
+    alloc: Global,
+    rule: &'a Rule,
+    assignment: &'a Assignment,
+    scene: &mut Scene<'a>,
+) -> Result<(), AllocError>
+    ensures scene { OnOk result (scene.new ≡ set_step rule.now scene.old assignment.now) }
+    ensures refused { OnErr result (IsBlank scene.new) }
+{
+    let made = set_open(alloc, rule, assignment, scene);
+    if made.is_err() {
+        scene.clear(alloc);
+    }
+    made
 }

@@ -1,9 +1,10 @@
 //! One rule, step by step.
 //!
 //! Most rules fail at their first match: until one holds that takes memory, nothing is taken.
-ghost use Rattle.std.specs.Prelude.{◌≡◌, OnOk, IfOk, fold};
+ghost use Rattle.std.specs.Prelude.{◌≡◌, OnOk, OnErr, IfOk, fold};
 ghost use Rattle.std.specs.List.{list_all};
 ghost use Rattle.eval_matching.specs.Holding.{holds, one};
+ghost use Rattle.eval_scene.specs.Scenes.{IsBlank};
 ghost use Rattle.eval_acts.specs.Acts.{act_step};
 ghost use Rattle.eval_assignments.specs.Steps.{set_step};
 ghost use Rattle.eval_core.specs.Steps.{apply, plain_step, result_step, search, walk};
@@ -110,11 +111,10 @@ fn set_all<'a>(
     Ok(())
 }
 
-/// Evaluates a rule, and answers whether its end was reached: the matches of the event, the search for
-/// one device, what acts, the matches of the result, the assignments. Where one of them stops the rule,
-/// what was changed until then stays. The error comes where memory is refused.
+/// Goes through a rule's five steps, up to the first that stops it, and answers whether its end was
+/// reached.
 #[tactic(auto, unfolding(crate::specs::Steps::apply))]
-pub fn apply<'a, L: Lookup>(
+fn take_steps<'a, L: Lookup>(
     alloc: Global,
     rule: &'a Rule,
     lookup: &L,
@@ -136,4 +136,24 @@ pub fn apply<'a, L: Lookup>(
     }
     set_all(alloc, rule, rule.sets(), scene)?;
     Ok(true)
+}
+
+/// Evaluates a rule, and answers whether its end was reached: the matches of the event, the search for
+/// one device, what acts, the matches of the result, the assignments. Where one of them stops the rule,
+/// what was changed until then stays. The error comes where memory is refused; the scene is then
+/// cleared.
+pub fn apply<'a, L: Lookup>(
+    alloc: Global,
+    rule: &'a Rule,
+    lookup: &L,
+    scene: &mut Scene<'a>,
+) -> Result<bool, AllocError>
+    ensures scene { IfOk result (λ on. (scene.new, on) ≡ apply (L.entries lookup.now) rule.now scene.old) }
+    ensures refused { OnErr result (IsBlank scene.new) }
+{
+    let went = take_steps(alloc, rule, lookup, scene);
+    if went.is_err() {
+        scene.clear(alloc);
+    }
+    went
 }

@@ -1,5 +1,5 @@
--- What an event has come to: before any rule has run, with a note more, and with other properties.
-use Rattle.std.specs.Prelude.{false, List, [], ◌∷◌, ◌++◌, None}
+-- What an event has come to: where nothing is left, before any rule has run, with a note more, and with other properties.
+use Rattle.std.specs.Prelude.{◌≡◌, false, List, [], ◌∷◌, ◌++◌, None}
 use Rattle.text_tables.specs.Texts.{Text}
 use Rattle.text_tables.specs.Pairs.{Pair}
 use Rattle.device_core.specs.Values.{EventValue}
@@ -10,10 +10,10 @@ use Rattle.eval_scene.specs.Notes.{note_about}
 use Rattle.eval_scene.specs.declared.note_kind.NoteKind.{NoteKind}
 use Rattle.eval_scene.specs.declared.scene.Scene.{Scene}
 
--- what an event has come to before any rule has run: its state as it begins, and nothing collected
-abbrev pub start : EventValue → Scene
-start event = record {
-  state = states.start event;
+-- a scene in which nothing is left but the event itself
+abbrev pub blank : EventValue → Scene
+blank event = record {
+  state = states.blank event;
   owner = None;
   group = None;
   mode = None;
@@ -27,6 +27,14 @@ start event = record {
   notes = [];
   finals = no_finals;
 }
+
+-- nothing is left of a scene but its event
+abbrev pub IsBlank : Scene → Type 0
+IsBlank s = s ≡ blank s.state.event
+
+-- what an event has come to before any rule has run: its state as it begins, and nothing collected
+abbrev pub start : EventValue → Scene
+start event = record (blank event) { state = states.start event }
 
 -- one note more: that something of a rule was not done, told with a text
 abbrev pub noted : Rule → NoteKind → Text → Scene → Scene

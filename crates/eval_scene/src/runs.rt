@@ -136,6 +136,13 @@ impl<'a> Runs<'a> {
         &self.held
     }
 
+    /// Takes all away.
+    pub(crate) fn clear(&mut self)
+        ensures { self.new ≡ [] }
+    {
+        self.held.clear();
+    }
+
     /// Whether the same RUN is there.
     fn contains(&self, run: &Run<'_>) -> bool
         ensures { result ≡ list_any (same_run run.now) self.now }

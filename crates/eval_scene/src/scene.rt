@@ -1,7 +1,7 @@
 //! All that is collected while rules run.
 ghost use Rattle.std.specs.Prelude.{◌≡◌, OnOk, OnErr, IfOk, option_map};
 ghost use Rattle.eval_scene.specs.Notes.{word_of_key};
-ghost use Rattle.eval_scene.specs.Scenes.{noted, start};
+ghost use Rattle.eval_scene.specs.Scenes.{blank, noted, start};
 ghost use Rattle.eval_scene.specs.declared.note_kind.NoteKind.TheVariants.{TextTooLong};
 
 use crate::notes::word_of_key;
@@ -65,6 +65,26 @@ impl<'a> Scene<'a> {
             notes: Notes::new(alloc),
             finals: Finals::none(),
         })
+    }
+
+    /// Forgets all but the event itself: what is called where memory was refused, so that nothing half
+    /// done is taken for what the event has come to.
+    pub fn clear(&mut self, alloc: Global)
+        ensures { self.new ≡ blank self.old.state.event }
+    {
+        self.state.clear(alloc);
+        self.owner = None;
+        self.group = None;
+        self.mode = None;
+        self.priority = None;
+        self.watch = None;
+        self.persist = false;
+        self.labels.clear();
+        self.attrs.clear();
+        self.sysctls.clear();
+        self.runs.clear();
+        self.notes = Notes::new(alloc);
+        self.finals = Finals::none();
     }
 
     /// Leaves a note that something of a rule was not done, told with a text. The error comes where

@@ -27,13 +27,13 @@ told_by event =
 unfoldable pub start_env : EventValue → List Pair
 start_env event = with_values (with_values [] event.device.env) (told_by event)
 
+-- what is known where nothing is left but the event itself
+abbrev pub blank : EventValue → State
+blank event = record { event = event; selected = None; result = []; name = None; env = []; links = []; tags = [] }
+
 -- what is known of an event before any rule has run
 abbrev pub start : EventValue → State
-start event = record {
-  event = event;
-  selected = None;
-  result = [];
-  name = None;
+start event = record (blank event) {
   env = start_env event;
   links = with_texts [] event.device.links;
   tags = with_texts [] event.device.tags;

@@ -1,9 +1,11 @@
 //! What is known of an event.
 ghost use Rattle.std.specs.Prelude.{◌≡◌};
 ghost use Rattle.text_tables.specs.Pairs.{value_of};
+ghost use Rattle.eval_state.specs.Start.{blank};
 ghost use Rattle.eval_state.specs.Texts.{or_empty};
 
 use crate::Chain;
+use std::alloc::Global;
 use text_bytes::Bytes;
 use text_tables::{OwnedPairs, OwnedTexts};
 
@@ -36,5 +38,17 @@ impl<'a> State<'a> {
             Some(value) => value.as_slice(),
             None => b"",
         }
+    }
+
+    /// Forgets all but the event itself.
+    pub fn clear(&mut self, alloc: Global)
+        ensures { self.new ≡ blank self.old.event }
+    {
+        self.selected = None;
+        self.result = Bytes::new(Vec::new(alloc));
+        self.name = None;
+        self.env.clear();
+        self.links.clear();
+        self.tags.clear();
     }
 }

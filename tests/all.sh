@@ -7,6 +7,13 @@ cd "$(dirname "$0")/.." || exit 1
 work=$(mktemp -d)
 trap 'rm -rf "$work"' EXIT
 
+# As many crates side by side as there are processors, each by one job: a second job at a crate reads all that its
+# proof stands on once more. Where memory is shorter than 4 GB for each, the toolchain itself shares it out.
+if awk -v most="$(nproc)" '/^MemAvailable/ { exit $2 < most * 4000000 }' /proc/meminfo; then
+    RT_JOBS=$(nproc)
+    export RT_JOBS
+fi
+
 "${1:-rt}" ci | tee "$work/proofs"
 status=${PIPESTATUS[0]}
 tests/run.sh crates/devdry/out/devdry | tee "$work/uses"

@@ -54,6 +54,64 @@ fn disks(alloc: Global, count: usize) -> Result<Vec<u8>, AllocError> {
     Ok(input)
 }
 
+/// Whether a piece is taken, with so many of its bytes used, for this answer or for none.
+fn takes(
+    alloc: Global,
+    session: &mut Session<'_, Brief>,
+    piece: &[u8],
+    used: usize,
+    answer: Option<&[u8]>,
+) -> bool {
+    match session.take(alloc, piece) {
+        Ok(step) => step.used == used && is_answer(&step.answer, answer),
+        Err(_fault) => false,
+    }
+}
+
+/// Whether a session that was going on ends, with this answer or with none.
+fn ends(alloc: Global, session: &mut Session<'_, Brief>, answer: Option<&[u8]>) -> bool {
+    match session.end(alloc) {
+        Ok(last) => is_answer(&last, answer),
+        Err(_fault) => false,
+    }
+}
+
+/// Whether there is this answer, or none where none is wanted.
+fn is_answer(answer: &Option<Bytes>, wanted: Option<&[u8]>) -> bool {
+    match (answer, wanted) {
+        (Some(answer), Some(wanted)) => answer.as_slice() == wanted,
+        (None, None) => true,
+        _ => false,
+    }
+}
+
+/// The fault at which a session stops in a piece, if it does.
+fn fault_at(alloc: Global, session: &mut Session<'_, Brief>, piece: &[u8]) -> Option<SessionFault> {
+    match session.take(alloc, piece) {
+        Ok(_step) => None,
+        Err(fault) => Some(fault),
+    }
+}
+
+/// Whether a session says of its end, too, that it had ended.
+fn has_ended(alloc: Global, session: &mut Session<'_, Brief>) -> bool {
+    match session.end(alloc) {
+        Err(SessionFault::Ended) => true,
+        _ => false,
+    }
+}
+
+/// A turn. All tests come here: a function that calls `turn` itself is slow to check, by its long
+/// contract.
+fn one_turn(
+    alloc: Global,
+    session: &mut Session<'_, Brief>,
+    input: &mut MemorySource,
+    output: &mut MemorySink,
+) -> Result<bool, TurnFault> {
+    turn(alloc, session, input, output)
+}
+
 /// Turns until one answers false or fails, at most 200 of them: what the last answered.
 fn turns(
     alloc: Global,
@@ -63,7 +121,7 @@ fn turns(
     let brief = Brief;
     let mut session = Session::new(alloc, &brief)?;
     for _ in 0..200 {
-        match turn(alloc, &mut session, input, output) {
+        match one_turn(alloc, &mut session, input, output) {
             Ok(true) => {}
             last => return Ok(last),
         }
@@ -77,19 +135,16 @@ fn each_block_of_a_piece_is_answered(rt: HostRuntime) -> Result<(), Fail> {
     let input = disks(alloc, 3)?;
     let brief = Brief;
     let mut session = Session::new(alloc, &brief)?;
-    let mut left = input.as_slice();
-    for _ in 0..3 {
-        let step = session.take(alloc, left)?;
-        assert_eq!(rt; step.used, 58);
-        assert!(rt;
-            step.answer
-                .is_some_and(|text| text.as_slice() == DISK_ANSWER)
-        );
-        left = &left[step.used..];
+    for block in 0..3usize {
+        let left = input.get(block * 58..).unwrap_or(b"");
+        assert!(rt; takes(alloc, &mut session, left, 58, Some(DISK_ANSWER)));
     }
-    assert!(rt; matches!(session.end(alloc), Ok(None)));
-    assert!(rt; matches!(session.take(alloc, DISK), Err(SessionFault::Ended)));
-    assert!(rt; matches!(session.end(alloc), Err(SessionFault::Ended)));
+    assert!(rt; ends(alloc, &mut session, None));
+    assert_eq!(rt;
+        fault_at(alloc, &mut session, DISK),
+        Some(SessionFault::Ended)
+    );
+    assert!(rt; has_ended(alloc, &mut session));
     Ok(())
 }
 
@@ -97,9 +152,7 @@ fn each_block_of_a_piece_is_answered(rt: HostRuntime) -> Result<(), Fail> {
 fn newlines_alone_are_used_up(rt: HostRuntime) -> Result<(), Fail> {
     let brief = Brief;
     let mut session = Session::new(rt.alloc(), &brief)?;
-    let step = session.take(rt.alloc(), b"\n\n\n\n\n\n\n\n\n\n")?;
-    assert_eq!(rt; step.used, 10);
-    assert!(rt; step.answer.is_none());
+    assert!(rt; takes(rt.alloc(), &mut session, b"\n\n\n\n\n\n\n\n\n\n", 10, None));
     Ok(())
 }
 
@@ -107,9 +160,8 @@ fn newlines_alone_are_used_up(rt: HostRuntime) -> Result<(), Fail> {
 fn the_end_answers_the_last_block(rt: HostRuntime) -> Result<(), Fail> {
     let brief = Brief;
     let mut session = Session::new(rt.alloc(), &brief)?;
-    assert!(rt; session.take(rt.alloc(), DISK).is_ok());
-    let last = session.end(rt.alloc())?;
-    assert!(rt; last.is_some_and(|text| text.as_slice() == DISK_ANSWER));
+    assert!(rt; takes(rt.alloc(), &mut session, DISK, 57, None));
+    assert!(rt; ends(rt.alloc(), &mut session, Some(DISK_ANSWER)));
     Ok(())
 }
 
@@ -117,16 +169,39 @@ fn the_end_answers_the_last_block(rt: HostRuntime) -> Result<(), Fail> {
 fn a_faulty_block_ends_the_session(rt: HostRuntime) -> Result<(), Fail> {
     let brief = Brief;
     let mut session = Session::new(rt.alloc(), &brief)?;
-    let step = session.take(rt.alloc(), FAULTY)?;
-    assert_eq!(rt;
-        session.take(rt.alloc(), &FAULTY[step.used..]).err(),
-        Some(FAULT)
+    let (_, behind) = FAULTY.split_at(22);
+    assert!(rt;
+        takes(
+            rt.alloc(),
+            &mut session,
+            FAULTY,
+            22,
+            Some(b"add /devices/x\n")
+        )
     );
+    assert_eq!(rt; fault_at(rt.alloc(), &mut session, behind), Some(FAULT));
     assert_eq!(rt;
-        session.take(rt.alloc(), DISK).err(),
+        fault_at(rt.alloc(), &mut session, DISK),
         Some(SessionFault::Ended)
     );
     Ok(())
+}
+
+/// Whether so many turns go on, one behind another.
+fn goes_on(
+    alloc: Global,
+    count: usize,
+    session: &mut Session<'_, Brief>,
+    input: &mut MemorySource,
+    output: &mut MemorySink,
+) -> bool {
+    for _ in 0..count {
+        match one_turn(alloc, session, input, output) {
+            Ok(true) => {}
+            _ => return false,
+        }
+    }
+    true
 }
 
 #[test]
@@ -136,17 +211,9 @@ fn an_answer_is_flushed_in_the_turn_that_completes_its_block(rt: HostRuntime) ->
     let mut session = Session::new(alloc, &brief)?;
     let mut input = MemorySource::new(alloc, disks(alloc, 2)?, 200, 1, 200)?;
     let mut output = MemorySink::new(alloc, 200, 5)?;
-    for _ in 0..57 {
-        assert_eq!(rt;
-            turn(alloc, &mut session, &mut input, &mut output),
-            Ok(true)
-        );
-    }
+    assert!(rt; goes_on(alloc, 57, &mut session, &mut input, &mut output));
     assert!(rt; output.bytes_taken().is_empty());
-    assert_eq!(rt;
-        turn(alloc, &mut session, &mut input, &mut output),
-        Ok(true)
-    );
+    assert!(rt; goes_on(alloc, 1, &mut session, &mut input, &mut output));
     assert_eq!(rt; output.bytes_flushed(), DISK_ANSWER);
     Ok(())
 }
@@ -212,11 +279,11 @@ fn a_turn_of_an_ended_session_does_nothing(rt: HostRuntime) -> Result<(), Fail> 
     let alloc = rt.alloc();
     let brief = Brief;
     let mut session = Session::new(alloc, &brief)?;
-    assert!(rt; session.end(alloc).is_ok());
+    assert!(rt; ends(alloc, &mut session, None));
     let mut input = MemorySource::new(alloc, disks(alloc, 1)?, 9, 99, 99)?;
     let mut output = MemorySink::new(alloc, 99, 99)?;
     assert_eq!(rt;
-        turn(alloc, &mut session, &mut input, &mut output),
+        one_turn(alloc, &mut session, &mut input, &mut output),
         Err(TurnFault::Session(SessionFault::Ended))
     );
     assert!(rt; output.bytes_taken().is_empty());

@@ -1,7 +1,8 @@
 //! What is known of an event before any rule has run.
-ghost use Rattle.std.specs.Prelude.{◌≡◌, OnOk, IfOk, option_map, codes};
+ghost use Rattle.std.specs.Prelude.{◌≡◌, [], OnOk, IfOk, option_map, codes};
 ghost use Rattle.text_tables.specs.Pairs.{with_values};
-ghost use Rattle.eval_state.specs.Start.{given, node_path, start, start_env};
+ghost use Rattle.text_tables.specs.Texts.{with_texts};
+ghost use Rattle.eval_state.specs.Start.{given, node_path, start, start_env, told_by};
 
 use crate::{Chain, State};
 use device_core::Event;
@@ -43,31 +44,55 @@ fn set_node(alloc: Global, env: &mut OwnedPairs, node: Option<&[u8]>) -> Result<
     }
 }
 
-/// The properties that an event begins with.
-#[tactic(auto, unfolding(crate::specs::Start::start_env))]
-fn start_env(alloc: Global, event: &Event<'_>) -> Result<OwnedPairs, AllocError>
-    ensures { IfOk result (λ env. env ≡ start_env event.now) }
+/// Sets what the event itself says of its device.
+fn set_told(alloc: Global, env: &mut OwnedPairs, event: &Event<'_>) -> Result<(), AllocError>
+    ensures { OnOk result (env.new ≡ with_values env.old (told_by event.now)) }
 {
     let device = event.device();
-    let mut env = OwnedPairs::new(alloc);
-    env.set_all(alloc, device.env())?;
     env.set(alloc, b"ACTION", event.action())?;
     env.set(alloc, b"DEVPATH", device.path())?;
-    set_given(alloc, &mut env, b"SUBSYSTEM", device.subsystem())?;
-    set_node(alloc, &mut env, device.node())?;
+    set_given(alloc, env, b"SUBSYSTEM", device.subsystem())?;
+    set_node(alloc, env, device.node())?;
     set_given(
         alloc,
-        &mut env,
+        env,
         b"MAJOR",
         device.number().map(|number| number.major()),
     )?;
     set_given(
         alloc,
-        &mut env,
+        env,
         b"MINOR",
         device.number().map(|number| number.minor()),
-    )?;
-    Ok(env)
+    )
+}
+
+/// Sets the properties that an event begins with.
+#[tactic(auto, unfolding(crate::specs::Start::start_env))]
+fn set_env(alloc: Global, env: &mut OwnedPairs, event: &Event<'_>) -> Result<(), AllocError>
+    requires { env.old ≡ [] }
+    ensures { OnOk result (env.new ≡ start_env event.now) }
+{
+    env.set_all(alloc, event.device().env())?;
+    set_told(alloc, env, event)
+}
+
+/// Sets the properties that an event begins with, the links and the tags.
+fn set_tables(
+    alloc: Global,
+    env: &mut OwnedPairs,
+    links: &mut OwnedTexts,
+    tags: &mut OwnedTexts,
+    event: &Event<'_>,
+) -> Result<(), AllocError>
+    requires none { env.old ≡ [] }
+    ensures env { OnOk result (env.new ≡ start_env event.now) }
+    ensures links { OnOk result (links.new ≡ with_texts links.old event.now.device.links) }
+    ensures tags { OnOk result (tags.new ≡ with_texts tags.old event.now.device.tags) }
+{
+    links.add_all(alloc, event.device().links())?;
+    tags.add_all(alloc, event.device().tags())?;
+    set_env(alloc, env, event)
 }
 
 impl<'a> State<'a> {
@@ -79,16 +104,17 @@ impl<'a> State<'a> {
     pub fn new(alloc: Global, event: &'a Event<'_>) -> Result<State<'a>, AllocError>
         ensures { IfOk result (λ state. state ≡ start event.now) }
     {
+        let chain = Chain::new(alloc, event)?;
+        let mut env = OwnedPairs::new(alloc);
         let mut links = OwnedTexts::new(alloc);
-        links.add_all(alloc, event.device().links())?;
         let mut tags = OwnedTexts::new(alloc);
-        tags.add_all(alloc, event.device().tags())?;
+        set_tables(alloc, &mut env, &mut links, &mut tags, event)?;
         Ok(State {
-            event: Chain::new(alloc, event)?,
+            event: chain,
             selected: None,
             result: Bytes::new(Vec::new(alloc)),
             name: None,
-            env: start_env(alloc, event)?,
+            env,
             links,
             tags,
         })

@@ -1,5 +1,6 @@
 //! Blocks that are read, and blocks that are refused.
 
+use crate::events::event_of;
 use device_core::{
     BlockFaultKind, Device, DeviceNumber, Event, Pairs, ProgramAnswer, Texts, read_block,
 };
@@ -8,7 +9,10 @@ use std::test::Fail;
 
 /// Whether a block is read.
 fn is_read(alloc: Global, block: &[u8]) -> bool {
-    read_block(alloc, block).is_ok()
+    match read_block(alloc, block) {
+        Ok(_event) => true,
+        Err(_fault) => false,
+    }
 }
 
 /// Whether a block is refused with this fault at this line.
@@ -175,11 +179,6 @@ Q: false
 R: 255
 ";
 
-/// The event of that block.
-fn whole(alloc: Global) -> Result<Event<'static>, Fail> {
-    Ok(read_block(alloc, WHOLE).map_err(|_fault| "no event")?)
-}
-
 /// Whether the event has the answers of the block's two programs.
 fn has_its_answers(event: &Event<'_>) -> bool {
     event.programs().as_map().len() == 2
@@ -245,7 +244,7 @@ fn has_its_parent(event: &Event<'_>) -> bool {
 
 #[test]
 fn the_event_of_a_block(rt: HostRuntime) -> Result<(), Fail> {
-    let event = whole(rt.alloc())?;
+    let event = event_of(rt.alloc(), WHOLE)?;
     assert!(rt; event.action() == b"change".as_slice());
     assert!(rt; has_pair(event.constants(), 1, b"arch", b"x86-64"));
     assert!(rt; has_its_answers(&event));
@@ -255,7 +254,7 @@ fn the_event_of_a_block(rt: HostRuntime) -> Result<(), Fail> {
 
 #[test]
 fn the_device_of_a_block(rt: HostRuntime) -> Result<(), Fail> {
-    let event = whole(rt.alloc())?;
+    let event = event_of(rt.alloc(), WHOLE)?;
     assert!(rt; is_usb_port(event.device()));
     assert!(rt; has_its_node(event.device()));
     assert!(rt; has_its_pairs(event.device()));
@@ -265,7 +264,7 @@ fn the_device_of_a_block(rt: HostRuntime) -> Result<(), Fail> {
 
 #[test]
 fn the_parent_of_a_device(rt: HostRuntime) -> Result<(), Fail> {
-    let event = whole(rt.alloc())?;
+    let event = event_of(rt.alloc(), WHOLE)?;
     assert!(rt; has_its_parent(&event));
     Ok(())
 }

@@ -1,8 +1,8 @@
 //! Commands as rules write them, and what they find of one entry for hubs.
 
-use device_core::{Event, read_block};
+use crate::events::{event_of, state_of};
+use device_core::Event;
 use eval_builtins::{Builtin, Hwdb, look_up, words_are_what_a_command_writes};
-use eval_state::State;
 use hwdb_lookup::{Entry, PlainDb, rising};
 use std::alloc::{AllocError, Global};
 use std::test::Fail;
@@ -28,8 +28,11 @@ fn entry(alloc: Global, pattern: &[u8]) -> Result<Entry, GlobFault> {
 
 /// A database of that entry alone.
 fn database(alloc: Global, pattern: &[u8]) -> Result<PlainDb, Fail> {
+    let Ok(entry) = entry(alloc, pattern) else {
+        return Err(Fail::from("no pattern"));
+    };
     let mut listed = Vec::new(alloc);
-    listed.push(entry(alloc, pattern).map_err(|_fault| "no pattern")?)?;
+    listed.push(entry)?;
     if rising(&listed) {
         Ok(PlainDb::new(listed))
     } else {
@@ -51,16 +54,21 @@ fn count_of(
     hwdb: &Hwdb,
     event: &Event<'_>,
     database: &PlainDb,
-) -> Result<usize, AllocError> {
-    let state = State::new(alloc, event)?;
+) -> Result<usize, Fail> {
+    let state = state_of(alloc, event)?;
     Ok(look_up(alloc, hwdb, &state, database)?.len())
 }
 
 /// How many properties a command finds for the event of a block.
-fn count(alloc: Global, command: &[u8], block: &[u8], database: &PlainDb) -> Result<usize, Fail> {
+fn count(
+    alloc: Global,
+    command: &[u8],
+    block: &'static [u8],
+    database: &PlainDb,
+) -> Result<usize, Fail> {
     let hwdb = options(alloc, command)?;
-    let event = read_block(alloc, block).map_err(|_fault| "no event")?;
-    Ok(count_of(alloc, &hwdb, &event, database)?)
+    let event = event_of(alloc, block)?;
+    count_of(alloc, &hwdb, &event, database)
 }
 
 /// Whether a command has bad arguments.

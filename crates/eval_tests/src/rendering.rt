@@ -1,5 +1,6 @@
 //! Substitutions over a disk that a person wrote down.
-use device_core::{Event, read_block};
+use crate::events::{event_of, state_of};
+use device_core::Event;
 use eval_rendering::{Mode, Rendered, render};
 use eval_state::State;
 use rule_templates::Template;
@@ -17,7 +18,9 @@ fn text_over(
     template: &[u8],
     mode: Mode,
 ) -> Result<Option<Vec<u8>>, Fail> {
-    let template = Template::read(alloc, template).map_err(|_fault| "no template")?;
+    let Ok(template) = Template::read(alloc, template) else {
+        return Err(Fail::from("no template"));
+    };
     match render(alloc, &template, state, mode)? {
         Rendered::Text(text) => Ok(Some(text.into_vec())),
         Rendered::TooLong => Ok(None),
@@ -31,14 +34,14 @@ fn text_of(
     template: &[u8],
     mode: Mode,
 ) -> Result<Option<Vec<u8>>, Fail> {
-    let mut state = State::new(alloc, event)?;
+    let mut state = state_of(alloc, event)?;
     state.result = Bytes::copy_of(alloc, b"ab cd ef")?;
     text_over(alloc, &state, template, mode)
 }
 
 /// What a template gives over the disk.
 fn rendered(alloc: Global, template: &[u8], mode: Mode) -> Result<Option<Vec<u8>>, Fail> {
-    let event = read_block(alloc, DISK).map_err(|_fault| "no event")?;
+    let event = event_of(alloc, DISK)?;
     text_of(alloc, &event, template, mode)
 }
 

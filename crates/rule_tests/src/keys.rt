@@ -8,14 +8,59 @@ use std::alloc::{AllocError, Global};
 use std::test::Fail;
 use text_bytes::Bytes;
 
-/// What a key with this attribute is about, if it takes that.
-fn topic(alloc: Global, key: Key, attribute: &[u8]) -> Result<Option<Topic>, AllocError> {
-    Ok(topic_of(key, Some(Bytes::copy_of(alloc, attribute)?)))
+/// What a key is about, as far as the tests here tell it.
+#[derive(Clone, Copy, PartialEq, Eq)]
+enum Subject {
+    /// Nothing: the key does not take its attribute.
+    Nothing,
+    Property,
+    FileOfAnyMode,
+    FileOfAMode,
+    Database,
+    Other,
 }
 
-/// What a key without an attribute is for its rule, if it takes the operator.
-fn role(key: Key, operator: Operator) -> Option<Role> {
-    role_of(topic_of(key, None)?, operator)
+/// What a key with this attribute is about, or without one.
+fn subject_of(alloc: Global, key: Key, attribute: Option<&[u8]>) -> Result<Subject, AllocError> {
+    let attribute = match attribute {
+        Some(text) => Some(Bytes::copy_of(alloc, text)?),
+        None => None,
+    };
+    match topic_of(key, attribute) {
+        None => Ok(Subject::Nothing),
+        Some(Topic::Env(_)) => Ok(Subject::Property),
+        Some(Topic::Test(None)) => Ok(Subject::FileOfAnyMode),
+        Some(Topic::Test(Some(_))) => Ok(Subject::FileOfAMode),
+        Some(Topic::Import(ImportType::Db)) => Ok(Subject::Database),
+        Some(_) => Ok(Subject::Other),
+    }
+}
+
+/// What a key is for its rule, as far as the tests here tell it.
+#[derive(Clone, Copy, PartialEq, Eq)]
+enum Use {
+    /// Nothing: the key does not take its operator.
+    Nothing,
+    UnequalName,
+    EqualTags,
+    EqualProgram,
+    LinksRemoved,
+    Other,
+}
+
+/// What a key without an attribute is for its rule.
+fn use_of(key: Key, operator: Operator) -> Use {
+    let Some(topic) = topic_of(key, None) else {
+        return Use::Nothing;
+    };
+    match role_of(topic, operator) {
+        None => Use::Nothing,
+        Some(Role::Plain(PlainKey::Name, MatchOperator::NotEqual)) => Use::UnequalName,
+        Some(Role::Up(UpKey::Tags, MatchOperator::Equal)) => Use::EqualTags,
+        Some(Role::Program(MatchOperator::Equal)) => Use::EqualProgram,
+        Some(Role::Set(Target::Symlink, AssignOperator::Remove)) => Use::LinksRemoved,
+        Some(_) => Use::Other,
+    }
 }
 
 #[test]
@@ -42,61 +87,37 @@ fn names_of_types(rt: HostRuntime) -> Result<(), Fail> {
 
 #[test]
 fn attributes(rt: HostRuntime) -> Result<(), Fail> {
-    let alloc = rt.alloc();
-    assert!(rt; matches!(topic(alloc, Key::Env, b"A")?, Some(Topic::Env(_))));
-    assert!(rt; topic(alloc, Key::Env, b"")?.is_none());
-    assert!(rt; topic(alloc, Key::Kernel, b"a")?.is_none());
-    assert!(rt; topic_of(Key::Attr, None).is_none());
-    assert!(rt; matches!(topic_of(Key::Test, None), Some(Topic::Test(None))));
-    assert!(rt;
-        matches!(
-            topic(alloc, Key::Test, b"00777")?,
-            Some(Topic::Test(Some(_)))
-        )
-    );
-    assert!(rt; topic(alloc, Key::Test, b"000777")?.is_none());
-    assert!(rt; topic(alloc, Key::Test, b"8")?.is_none());
-    assert!(rt;
-        matches!(
-            topic(alloc, Key::Import, b"db")?,
-            Some(Topic::Import(ImportType::Db))
-        )
-    );
-    assert!(rt; topic_of(Key::Import, None).is_none());
-    assert!(rt; topic(alloc, Key::Run, b"db")?.is_none());
+    for (key, attribute, wanted) in [
+        (Key::Env, Some(b"A".as_slice()), Subject::Property),
+        (Key::Env, Some(b""), Subject::Nothing),
+        (Key::Kernel, Some(b"a"), Subject::Nothing),
+        (Key::Attr, None, Subject::Nothing),
+        (Key::Test, None, Subject::FileOfAnyMode),
+        (Key::Test, Some(b"00777"), Subject::FileOfAMode),
+        (Key::Test, Some(b"000777"), Subject::Nothing),
+        (Key::Test, Some(b"8"), Subject::Nothing),
+        (Key::Import, Some(b"db"), Subject::Database),
+        (Key::Import, None, Subject::Nothing),
+        (Key::Run, Some(b"db"), Subject::Nothing),
+    ] {
+        assert!(rt; subject_of(rt.alloc(), key, attribute)? == wanted);
+    }
     Ok(())
 }
 
 #[test]
-fn operators(rt: HostRuntime) -> Result<(), Fail> {
-    assert!(rt; role(Key::Action, Operator::Remove).is_none());
-    assert!(rt; role(Key::Owner, Operator::Equal).is_none());
-    assert!(rt; role(Key::Label, Operator::Add).is_none());
-    assert!(rt;
-        matches!(
-            role(Key::Name, Operator::NotEqual),
-            Some(Role::Plain(PlainKey::Name, MatchOperator::NotEqual))
-        )
-    );
-    assert!(rt;
-        matches!(
-            role(Key::Tags, Operator::Equal),
-            Some(Role::Up(UpKey::Tags, MatchOperator::Equal))
-        )
-    );
-    assert!(rt;
-        matches!(
-            role(Key::Program, Operator::Add),
-            Some(Role::Program(MatchOperator::Equal))
-        )
-    );
-    assert!(rt;
-        matches!(
-            role(Key::Symlink, Operator::Remove),
-            Some(Role::Set(Target::Symlink, AssignOperator::Remove))
-        )
-    );
-    Ok(())
+fn operators(rt: HostRuntime) {
+    for (key, operator, wanted) in [
+        (Key::Action, Operator::Remove, Use::Nothing),
+        (Key::Owner, Operator::Equal, Use::Nothing),
+        (Key::Label, Operator::Add, Use::Nothing),
+        (Key::Name, Operator::NotEqual, Use::UnequalName),
+        (Key::Tags, Operator::Equal, Use::EqualTags),
+        (Key::Program, Operator::Add, Use::EqualProgram),
+        (Key::Symlink, Operator::Remove, Use::LinksRemoved),
+    ] {
+        assert!(rt; use_of(key, operator) == wanted);
+    }
 }
 
 #[test]

@@ -14,11 +14,6 @@ fn first(alloc: Global, line: &[u8]) -> Option<Result<Part, PartFault>> {
     Some(read_part(alloc, &token))
 }
 
-/// The part that a line's first token is.
-fn part(alloc: Global, line: &[u8]) -> Option<Part> {
-    first(alloc, line)?.ok()
-}
-
 /// Whether what a token is read as is this fault.
 fn is_fault(read: &Result<Part, PartFault>, kind: MessageKind, word: &[u8]) -> bool {
     match read {
@@ -35,49 +30,40 @@ fn is_wrong(alloc: Global, line: &[u8], kind: MessageKind, word: &[u8]) -> bool 
     }
 }
 
-/// Whether a line's first token is a bad value with this word.
-fn is_bad_value(alloc: Global, line: &[u8], word: &[u8]) -> bool {
-    is_wrong(alloc, line, MessageKind::BadValue, word)
-}
-
-/// The option that a change is of, if it is of one.
-fn option_of(change: Change) -> Option<RuleOption> {
-    match change {
-        Change::Option(known) => Some(known),
+/// The option that a part sets, if it sets one.
+fn option_of(part: &Part) -> Option<RuleOption> {
+    match part {
+        Part::Set(assignment) => match &assignment.change {
+            Change::Option(known) => Some(*known),
+            _ => None,
+        },
         _ => None,
     }
 }
 
-/// The option that a line's first token names, if it names one.
+/// The option that a line's first token sets, if it sets one.
 fn option(alloc: Global, line: &[u8]) -> Option<RuleOption> {
-    match part(alloc, line)? {
-        Part::Set(assignment) => option_of(assignment.change),
+    match first(alloc, line) {
+        Some(Ok(part)) => option_of(&part),
         _ => None,
     }
 }
 
-/// Whether a part is a match of the event whose patterns fit a text.
-fn has_fitting(part: &Part, text: &[u8]) -> bool {
-    match part {
-        Part::Plain(plain) => plain.wanted.choice.fits(text),
-        _ => false,
-    }
-}
-
-/// Whether a line's first token is a match of the event whose patterns fit a text.
-fn fits(alloc: Global, line: &[u8], text: &[u8]) -> bool {
-    match part(alloc, line) {
-        Some(part) => has_fitting(&part, text),
-        None => false,
-    }
-}
-
-/// Whether a part is a match of the kernel's name, none of whose patterns is to fit.
-fn is_unequal_kernel(part: &Part) -> bool {
-    match part {
-        Part::Plain(plain) => is_unequal(&plain.wanted) && is_kernel(&plain.key),
-        _ => false,
-    }
+/// What a part is, as far as the tests here tell it.
+#[derive(Clone, Copy)]
+enum Kind {
+    /// A match of the kernel's name, none of whose patterns is to fit.
+    UnequalKernel,
+    /// An import from the parent device that is to be done.
+    WantedImport,
+    /// A match of one device of the chain.
+    Up,
+    /// A match of the result of PROGRAM.
+    Result,
+    /// A jump.
+    Jump,
+    /// An assignment to a property by `=`.
+    PropertySet,
 }
 
 /// Whether a comparison asks for none of its patterns to fit.
@@ -89,14 +75,6 @@ fn is_unequal(wanted: &Comparison) -> bool {
 fn is_kernel(key: &PlainKey) -> bool {
     match key {
         PlainKey::Kernel => true,
-        _ => false,
-    }
-}
-
-/// Whether a part is an import from the parent device that is to be done.
-fn is_wanted_import(part: &Part) -> bool {
-    match part {
-        Part::Act(act) => is_wanted(act) && is_import_from_the_parent(&act.deed),
         _ => false,
     }
 }
@@ -114,67 +92,54 @@ fn is_import_from_the_parent(deed: &Deed) -> bool {
     }
 }
 
-/// Whether a part is a match of one device of the chain.
-fn is_up_match(part: &Part) -> bool {
-    match part {
-        Part::Up(_) => true,
+/// Whether a change is one of a property.
+fn is_of_a_property(change: &Change) -> bool {
+    match change {
+        Change::Text(Target::Env(_), _) => true,
         _ => false,
     }
 }
 
-/// Whether a part is a match of the result of PROGRAM.
-fn is_result_match(part: &Part) -> bool {
-    match part {
-        Part::Result(_) => true,
+/// Whether a part is of this kind.
+fn is_of_kind(part: &Part, kind: Kind) -> bool {
+    match (kind, part) {
+        (Kind::UnequalKernel, Part::Plain(plain)) => {
+            is_unequal(&plain.wanted) && is_kernel(&plain.key)
+        }
+        (Kind::WantedImport, Part::Act(act)) => {
+            is_wanted(act) && is_import_from_the_parent(&act.deed)
+        }
+        (Kind::Up, Part::Up(_)) => true,
+        (Kind::Result, Part::Result(_)) => true,
+        (Kind::Jump, Part::Goto(_)) => true,
+        (Kind::PropertySet, Part::Set(set)) => {
+            set.operator == AssignOperator::Assign && is_of_a_property(&set.change)
+        }
         _ => false,
     }
 }
 
-/// Whether a part is a jump.
-fn is_goto(part: &Part) -> bool {
-    match part {
-        Part::Goto(_) => true,
+/// Whether a line's first token is read as a part of this kind.
+fn reads(alloc: Global, line: &[u8], kind: Kind) -> bool {
+    match first(alloc, line) {
+        Some(Ok(part)) => is_of_kind(&part, kind),
         _ => false,
     }
 }
 
-/// Whether a line's first token is a match of the kernel's name, none of whose patterns is to fit.
-fn reads_unequal_kernel(alloc: Global, line: &[u8]) -> bool {
-    match part(alloc, line) {
-        Some(part) => is_unequal_kernel(&part),
-        None => false,
+/// Whether a part is a match of the event whose patterns fit a text.
+fn has_fitting(part: &Part, text: &[u8]) -> bool {
+    match part {
+        Part::Plain(plain) => plain.wanted.choice.fits(text),
+        _ => false,
     }
 }
 
-/// Whether a line's first token is an import from the parent device that is to be done.
-fn reads_wanted_import(alloc: Global, line: &[u8]) -> bool {
-    match part(alloc, line) {
-        Some(part) => is_wanted_import(&part),
-        None => false,
-    }
-}
-
-/// Whether a line's first token is a match of one device of the chain.
-fn reads_up_match(alloc: Global, line: &[u8]) -> bool {
-    match part(alloc, line) {
-        Some(part) => is_up_match(&part),
-        None => false,
-    }
-}
-
-/// Whether a line's first token is a match of the result of PROGRAM.
-fn reads_result_match(alloc: Global, line: &[u8]) -> bool {
-    match part(alloc, line) {
-        Some(part) => is_result_match(&part),
-        None => false,
-    }
-}
-
-/// Whether a line's first token is a jump.
-fn reads_goto(alloc: Global, line: &[u8]) -> bool {
-    match part(alloc, line) {
-        Some(part) => is_goto(&part),
-        None => false,
+/// Whether a line's first token is a match of the event whose patterns fit a text.
+fn fits(alloc: Global, line: &[u8], text: &[u8]) -> bool {
+    match first(alloc, line) {
+        Some(Ok(part)) => has_fitting(&part, text),
+        _ => false,
     }
 }
 
@@ -186,106 +151,94 @@ fn first_is_read_as_assign(line: &[u8]) -> bool {
     }
 }
 
-/// Whether a part is an assignment to a property by `=`.
-fn assigns_to_a_property(part: &Part) -> bool {
-    match part {
-        Part::Set(set) => set.operator == AssignOperator::Assign && is_of_a_property(&set.change),
-        _ => false,
-    }
-}
-
-/// Whether a change is one of a property.
-fn is_of_a_property(change: &Change) -> bool {
-    match change {
-        Change::Text(Target::Env(_), _) => true,
-        _ => false,
-    }
-}
-
-/// Whether a line's first token is an assignment to a property by `=`.
-fn reads_assignment(alloc: Global, line: &[u8]) -> bool {
-    match part(alloc, line) {
-        Some(part) => assigns_to_a_property(&part),
-        None => false,
-    }
-}
-
 #[test]
-fn keys_attributes_and_operators(rt: HostRuntime) {
-    let alloc = rt.alloc();
-    assert!(rt; is_wrong(alloc, br#"FOO="b""#, MessageKind::UnknownKey, b"FOO"));
-    let refused = MessageKind::OperatorNotAllowed;
-    assert!(rt; is_wrong(alloc, br#"ACTION-="y""#, refused, b"ACTION"));
-    let attribute = MessageKind::WrongAttribute;
-    assert!(rt; is_wrong(alloc, br#"ATTR=="x""#, attribute, b"ATTR"));
-    assert!(rt; is_wrong(alloc, br#"ATTR-="x""#, attribute, b"ATTR"));
+fn faults_are_told_with_their_word(rt: HostRuntime) {
     let long = br#"KEY_KEY_KEY_KEY_KEY_KEY_KEY_KEY_KEY="b""#;
-    let word = b"KEY_KEY_KEY_KEY_KEY_KEY_KEY_KEY_";
-    assert!(rt; is_wrong(alloc, long, MessageKind::UnknownKey, word));
+    for (line, kind, word) in [
+        (
+            br#"FOO="b""#.as_slice(),
+            MessageKind::UnknownKey,
+            b"FOO".as_slice(),
+        ),
+        (
+            br#"ACTION-="y""#,
+            MessageKind::OperatorNotAllowed,
+            b"ACTION",
+        ),
+        (br#"ATTR=="x""#, MessageKind::WrongAttribute, b"ATTR"),
+        (br#"ATTR-="x""#, MessageKind::WrongAttribute, b"ATTR"),
+        (
+            long,
+            MessageKind::UnknownKey,
+            b"KEY_KEY_KEY_KEY_KEY_KEY_KEY_KEY_",
+        ),
+        (
+            br#"KERNEL=="[[:alpha:]]""#,
+            MessageKind::SetNotSupported,
+            b"[[:alpha:]]",
+        ),
+        (br#"ENV{B}="$nope""#, MessageKind::BadSubstitution, b"$nope"),
+        (br#"TEST==i"x""#, MessageKind::BadValue, b"x"),
+        (br#"IMPORT{parent}==i"x""#, MessageKind::BadValue, b"x"),
+        (br#"LABEL="""#, MessageKind::BadValue, b""),
+        (br#"OPTIONS="watching""#, MessageKind::BadValue, b"watching"),
+        (
+            br#"OPTIONS="link_priority=x""#,
+            MessageKind::BadValue,
+            b"link_priority=x",
+        ),
+        (
+            br#"OPTIONS="link_priority=-""#,
+            MessageKind::BadValue,
+            b"link_priority=-",
+        ),
+    ] {
+        assert!(rt; is_wrong(rt.alloc(), line, kind, word));
+    }
 }
 
 #[test]
-fn values(rt: HostRuntime) {
-    let alloc = rt.alloc();
-    let set = MessageKind::SetNotSupported;
-    assert!(rt; is_wrong(alloc, br#"KERNEL=="[[:alpha:]]""#, set, b"[[:alpha:]]"));
-    let substitution = MessageKind::BadSubstitution;
-    assert!(rt; is_wrong(alloc, br#"ENV{B}="$nope""#, substitution, b"$nope"));
-    assert!(rt; is_bad_value(alloc, br#"TEST==i"x""#, b"x"));
-    assert!(rt; is_bad_value(alloc, br#"IMPORT{parent}==i"x""#, b"x"));
-    assert!(rt; is_bad_value(alloc, br#"LABEL="""#, b""));
-    assert!(rt; fits(alloc, br#"KERNEL==i"SDA""#, b"sda"));
-    assert!(rt; !fits(alloc, br#"KERNEL=="SDA""#, b"sda"));
+fn values_that_ignore_case(rt: HostRuntime) {
+    assert!(rt; fits(rt.alloc(), br#"KERNEL==i"SDA""#, b"sda"));
+    assert!(rt; !fits(rt.alloc(), br#"KERNEL=="SDA""#, b"sda"));
 }
 
 #[test]
 fn options(rt: HostRuntime) {
-    let alloc = rt.alloc();
-    assert!(rt; option(alloc, br#"OPTIONS+="watch""#) == Some(RuleOption::Watch));
-    assert!(rt; option(alloc, br#"OPTIONS="log_level=""#) == Some(RuleOption::Ignored));
-    assert!(rt; is_bad_value(alloc, br#"OPTIONS="watching""#, b"watching"));
+    for (line, wanted) in [
+        (br#"OPTIONS+="watch""#.as_slice(), Some(RuleOption::Watch)),
+        (br#"OPTIONS="log_level=""#, Some(RuleOption::Ignored)),
+        (
+            br#"OPTIONS="link_priority=-2147483648""#,
+            Some(RuleOption::LinkPriority(-2147483648)),
+        ),
+        (br#"OPTIONS="link_priority=-2147483649""#, None),
+        (
+            br#"OPTIONS="link_priority=+02147483647""#,
+            Some(RuleOption::LinkPriority(2147483647)),
+        ),
+        (br#"OPTIONS="link_priority=2147483648""#, None),
+    ] {
+        assert!(rt; option(rt.alloc(), line) == wanted);
+    }
 }
 
 #[test]
-fn priorities(rt: HostRuntime) {
-    let alloc = rt.alloc();
-    assert!(rt; is_bad_value(alloc, br#"OPTIONS="link_priority=x""#, b"link_priority=x"));
-    assert!(rt; is_bad_value(alloc, br#"OPTIONS="link_priority=-""#, b"link_priority=-"));
-    let least = Some(RuleOption::LinkPriority(-2147483648));
-    assert!(rt; option(alloc, br#"OPTIONS="link_priority=-2147483648""#) == least);
-    assert!(rt; option(alloc, br#"OPTIONS="link_priority=-2147483649""#).is_none());
-    let most = Some(RuleOption::LinkPriority(2147483647));
-    assert!(rt; option(alloc, br#"OPTIONS="link_priority=+02147483647""#) == most);
-    assert!(rt; option(alloc, br#"OPTIONS="link_priority=2147483648""#).is_none());
-}
-
-#[test]
-fn matches_of_the_event(rt: HostRuntime) {
-    assert!(rt; reads_unequal_kernel(rt.alloc(), br#"KERNEL!="sd*""#));
-}
-
-#[test]
-fn imports_from_the_parent(rt: HostRuntime) {
-    assert!(rt; reads_wanted_import(rt.alloc(), br#"IMPORT{parent}="ID_*""#));
-}
-
-#[test]
-fn matches_of_a_device(rt: HostRuntime) {
-    assert!(rt; reads_up_match(rt.alloc(), br#"TAGS=="seat""#));
-}
-
-#[test]
-fn matches_of_a_result(rt: HostRuntime) {
-    assert!(rt; reads_result_match(rt.alloc(), br#"RESULT=="1""#));
-}
-
-#[test]
-fn jumps(rt: HostRuntime) {
-    assert!(rt; reads_goto(rt.alloc(), br#"GOTO="end""#));
+fn kinds_of_parts(rt: HostRuntime) {
+    for (line, kind) in [
+        (br#"KERNEL!="sd*""#.as_slice(), Kind::UnequalKernel),
+        (br#"IMPORT{parent}="ID_*""#, Kind::WantedImport),
+        (br#"TAGS=="seat""#, Kind::Up),
+        (br#"RESULT=="1""#, Kind::Result),
+        (br#"GOTO="end""#, Kind::Jump),
+        (br#"ENV{A}:="1""#, Kind::PropertySet),
+    ] {
+        assert!(rt; reads(rt.alloc(), line, kind));
+    }
 }
 
 #[test]
 fn operators_that_are_read_as_assign(rt: HostRuntime) {
     assert!(rt; first_is_read_as_assign(br#"ENV{A}:="1""#));
-    assert!(rt; reads_assignment(rt.alloc(), br#"ENV{A}:="1""#));
+    assert!(rt; !first_is_read_as_assign(br#"ENV{A}+="1""#));
 }

@@ -20,12 +20,21 @@ fn read(alloc: Global, name: &[u8], text: &[u8]) -> Result<RuleSet, RulesFault> 
     read_rules(alloc, &files)
 }
 
-fn tells(set: &RuleSet, at: usize, line: u32, kind: MessageKind, word: &[u8]) -> bool {
-    match set.messages().get(at) {
-        None => false,
-        Some(message) => {
+/// The set of one file of rules.
+fn set_of(alloc: Global, name: &[u8], text: &[u8]) -> Result<RuleSet, Fail> {
+    match read(alloc, name, text) {
+        Ok(set) => Ok(set),
+        Err(_fault) => Err(Fail::from("no rules")),
+    }
+}
+
+/// Whether this is the one message of a set.
+fn tells(set: &RuleSet, line: u32, kind: MessageKind, word: &[u8]) -> bool {
+    match set.messages() {
+        [message] => {
             message.line == line && message.kind == kind && message.word.as_slice() == word
         }
+        _ => false,
     }
 }
 
@@ -46,30 +55,39 @@ fn has_parts(rule: &Rule, matches: (usize, usize), acts: (usize, usize), sets: u
         && rule.sets().len() == sets
 }
 
+/// Whether a rule stands in a line of a file, with a label and an assignment alone.
+fn is_label(rule: &Rule, file: &[u8], line: u32, label: &[u8]) -> bool {
+    rule.file() == file
+        && rule.line() == line
+        && is_name(rule.label(), label)
+        && rule.goto().is_none()
+        && has_parts(rule, (0, 0), (0, 0), 1)
+}
+
+/// Whether a rule stands in a line with a jump.
+fn is_jump(rule: &Rule, line: u32, goto: &[u8]) -> bool {
+    rule.line() == line && is_name(rule.goto(), goto)
+}
+
 #[test]
 fn a_label_that_no_jump_ends_at(rt: HostRuntime) -> Result<(), Fail> {
     let text = b"LABEL=\"x\", ENV{A}=\"1\"\nGOTO=\"x\"\nENV{B}=\"1\"\nLABEL=\"x\", ENV{C}=\"1\"\n";
-    let set = read(rt.alloc(), b"f.rules", text)?;
-    assert_eq!(rt; set.messages().len(), 1);
-    assert!(rt; tells(&set, 0, 1, MessageKind::LabelUnused, b"x"));
-    assert_eq!(rt; set.rules().len(), 4);
-    let first = &set.rules()[0];
-    assert!(rt; first.file() == b"f.rules".as_slice());
-    assert_eq!(rt; first.line(), 1);
-    assert!(rt; is_name(first.label(), b"x"));
-    assert!(rt; first.goto().is_none());
-    assert!(rt; has_parts(first, (0, 0), (0, 0), 1));
-    let jump = &set.rules()[1];
-    assert_eq!(rt; jump.line(), 2);
-    assert!(rt; is_name(jump.goto(), b"x"));
+    let set = set_of(rt.alloc(), b"f.rules", text)?;
+    assert!(rt; tells(&set, 1, MessageKind::LabelUnused, b"x"));
+    match set.rules() {
+        [label, jump, _, _] => {
+            assert!(rt; is_label(label, b"f.rules", 1, b"x"));
+            assert!(rt; is_jump(jump, 2, b"x"));
+        }
+        _ => return Err(Fail::from("there are four rules")),
+    }
     Ok(())
 }
 
 #[test]
 fn a_jump_without_its_label(rt: HostRuntime) -> Result<(), Fail> {
-    let set = read(rt.alloc(), b"g.rules", b"GOTO=\"y\", ENV{D}=\"1\"")?;
-    assert_eq!(rt; set.messages().len(), 1);
-    assert!(rt; tells(&set, 0, 1, MessageKind::NoLaterLabel, b"y"));
+    let set = set_of(rt.alloc(), b"g.rules", b"GOTO=\"y\", ENV{D}=\"1\"")?;
+    assert!(rt; tells(&set, 1, MessageKind::NoLaterLabel, b"y"));
     let rules = set.into_rules();
     assert_eq!(rt; rules.len(), 1);
     assert!(rt; rules[0].goto().is_none());
@@ -79,18 +97,17 @@ fn a_jump_without_its_label(rt: HostRuntime) -> Result<(), Fail> {
 
 #[test]
 fn a_line_that_is_open_at_the_end(rt: HostRuntime) -> Result<(), Fail> {
-    let set = read(rt.alloc(), b"o.rules", b"KERNEL==\"a\" \\")?;
-    assert_eq!(rt; set.rules().len(), 0);
-    assert_eq!(rt; set.messages().len(), 1);
-    assert!(rt; tells(&set, 0, 1, MessageKind::OpenAtEnd, b""));
+    let set = set_of(rt.alloc(), b"o.rules", b"KERNEL==\"a\" \\")?;
+    assert!(rt; set.rules().is_empty());
+    assert!(rt; tells(&set, 1, MessageKind::OpenAtEnd, b""));
     Ok(())
 }
 
 #[test]
 fn a_part_of_each_list(rt: HostRuntime) -> Result<(), Fail> {
     let text = b"KERNEL==\"a\", KERNELS==\"b\", TEST==\"c\", RESULT==\"d\", ENV{A}=\"1\"";
-    let set = read(rt.alloc(), b"p.rules", text)?;
-    assert_eq!(rt; set.messages().len(), 0);
+    let set = set_of(rt.alloc(), b"p.rules", text)?;
+    assert!(rt; set.messages().is_empty());
     assert_eq!(rt; set.rules().len(), 1);
     assert!(rt; has_parts(&set.rules()[0], (1, 1), (1, 1), 1));
     Ok(())

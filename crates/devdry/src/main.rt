@@ -8,8 +8,6 @@
 
 mod running;
 mod telling;
-#[cfg(test)]
-mod tests;
 
 use crate::running::run_words;
 use crate::telling::tell_arguments_fault;

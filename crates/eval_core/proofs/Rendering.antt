@@ -10,9 +10,8 @@ use Rattle.eval_scene.specs.declared.notes.Note.{Note}
 use Rattle.eval_scene.specs.declared.scene.Scene.{Scene}
 use Rattle.eval_core.specs.Steps.{with_selected}
 use Rattle.eval_core.specs.Outcomes.{by_name, commands, late_notes, outcome_of, run_text}
-use Rattle.eval_core.specs.Inner.{unselected, with_notes}
+use Rattle.eval_core.specs.Inner.{made_of, unselected, with_notes}
 use Rattle.eval_core.specs.declared.outcome.Command.{Command}
-use Rattle.eval_core.specs.declared.outcome.Outcome.{Outcome}
 
 module _ {A : Type 0} (give : RunValue → Rendered → List A) where
   abbrev pub given : State → List RunValue → List A
@@ -38,26 +37,6 @@ bare s = record (unselected s) { notes = [] }
 -- notes are all that rendering adds
 pub noted_only : (s t : Scene) (notes : List Note) → bare s ≡ bare t → s.notes ≡ t.notes ++ notes → unselected s ≡ with_notes notes (unselected t)
 noted_only s t notes same more = ap (λ (b : Scene). record b { notes = s.notes }) same ∙ ap (λ ns. record (bare t) { notes = ns }) more
-
--- an outcome that is made of a scene
-abbrev pub made_of : Scene → List Pair → List Command → Outcome
-made_of s env runs = record {
-  name = s.state.name;
-  owner = s.owner;
-  group = s.group;
-  mode = s.mode;
-  priority = s.priority;
-  watch = s.watch;
-  persist = s.persist;
-  labels = s.labels;
-  links = s.state.links;
-  tags = s.state.tags;
-  env = env;
-  attrs = s.attrs;
-  sysctls = s.sysctls;
-  runs = runs;
-  notes = s.notes;
-}
 
 -- the outcome, once all is rendered and sorted
 pub finished : (s t : Scene) (runs left : List RunValue) (env : List Pair) (done : List Command) → runs ≡ s.runs → left ≡ []

@@ -10,6 +10,8 @@ use Rattle.eval_scene.specs.declared.scene.Scene.{Scene}
 use Rattle.rule_core.specs.Rules.{Rule}
 use Rattle.eval_core.specs.Steps.{with_selected}
 use Rattle.eval_core.specs.Jumps.{is_passed}
+use Rattle.eval_core.specs.declared.outcome.Command.{Command}
+use Rattle.eval_core.specs.declared.outcome.Outcome.{Outcome}
 
 -- a scene in which no device is selected
 abbrev pub unselected : Scene → Scene
@@ -18,6 +20,26 @@ unselected s = record s { state = with_selected None s.state }
 -- a scene with further notes
 abbrev pub with_notes : List Note → Scene → Scene
 with_notes notes s = record s { notes = s.notes ++ notes }
+
+-- an outcome that is made of a scene, of properties and of commands
+abbrev pub made_of : Scene → List Pair → List Command → Outcome
+made_of s env runs = record {
+  name = s.state.name;
+  owner = s.owner;
+  group = s.group;
+  mode = s.mode;
+  priority = s.priority;
+  watch = s.watch;
+  persist = s.persist;
+  labels = s.labels;
+  links = s.state.links;
+  tags = s.state.tags;
+  env = env;
+  attrs = s.attrs;
+  sysctls = s.sysctls;
+  runs = runs;
+  notes = s.notes;
+}
 
 -- the place of the next rule that is not passed over while a label is sought, or none is, from a place on
 abbrev pub landing : Option Text → List Rule → ℕ → ℕ

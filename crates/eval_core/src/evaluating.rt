@@ -3,7 +3,7 @@ ghost use Rattle.std.specs.Prelude.{◌≡◌, ◌++◌, OnOk, IfOk, option_map}
 ghost use Rattle.rule_keys.specs.Names.{run_name};
 ghost use Rattle.eval_core.specs.Steps.{with_selected};
 ghost use Rattle.eval_core.specs.Outcomes.{command, commands, late_note, late_notes, outcome, outcome_of, run_text};
-ghost use Rattle.eval_core.specs.Inner.{unselected, with_notes};
+ghost use Rattle.eval_core.specs.Inner.{made_of, unselected, with_notes};
 
 use crate::outcome::{Command, Commands, Outcome};
 use crate::rules::run;
@@ -16,6 +16,7 @@ use hwdb_lookup::Lookup;
 use rule_core::{Key, RuleSet};
 use std::alloc::{AllocError, Global};
 use std::mem;
+use text_tables::OwnedPairs;
 
 /// Renders a RUN with the device that its rule had selected, which is selected from then on.
 fn run_text(alloc: Global, kept: &Run<'_>, state: &mut State<'_>) -> Result<Rendered, AllocError>
@@ -73,14 +74,20 @@ fn render_runs(
     Ok(commands)
 }
 
-/// What a scene comes to when no rule is left: what is to be run is rendered, and properties are sorted.
-/// The error comes where memory is refused.
-pub fn finish(alloc: Global, mut scene: Scene<'_>) -> Result<Outcome, AllocError>
-    ensures { IfOk result (λ outcome. outcome ≡ outcome_of scene.entry) }
+/// What is to be run, rendered, and the properties, sorted, where no rule is left.
+fn rendered(alloc: Global, scene: &mut Scene<'_>) -> Result<(Commands, OwnedPairs), AllocError>
+    ensures { IfOk result (λ done. made_of scene.new done.1 done.0 ≡ outcome_of scene.old) }
 {
     let runs = mem::replace(&mut scene.runs, Runs::new(alloc));
-    let commands = render_runs(alloc, runs.as_slice(), &mut scene)?;
+    let commands = render_runs(alloc, runs.as_slice(), scene)?;
     let env = by_name(alloc, &scene.state.env)?;
+    Ok((commands, env))
+}
+
+/// The outcome that is made of a scene, of commands and of properties.
+fn outcome_with(scene: Scene<'_>, commands: Commands, env: OwnedPairs) -> Outcome
+    ensures { result ≡ made_of scene.entry env commands }
+{
     let Scene {
         state,
         owner,
@@ -105,7 +112,7 @@ pub fn finish(alloc: Global, mut scene: Scene<'_>) -> Result<Outcome, AllocError
         result: _,
         env: _,
     } = state;
-    Ok(Outcome {
+    Outcome {
         name,
         owner,
         group,
@@ -121,7 +128,21 @@ pub fn finish(alloc: Global, mut scene: Scene<'_>) -> Result<Outcome, AllocError
         sysctls,
         runs: commands,
         notes,
-    })
+    }
+}
+
+/// What a scene comes to when no rule is left: what is to be run is rendered, and properties are sorted.
+/// The error comes where memory is refused.
+pub fn finish(alloc: Global, mut scene: Scene<'_>) -> Result<Outcome, AllocError>
+    ensures { IfOk result (λ outcome. outcome ≡ outcome_of scene.entry) }
+{
+    match rendered(alloc, &mut scene) {
+        Ok((commands, env)) => Ok(outcome_with(scene, commands, env)),
+        Err(refused) => {
+            drop(scene);
+            Err(refused)
+        }
+    }
 }
 
 /// What an event comes to, where rules and event are lent for one time.
@@ -134,8 +155,13 @@ fn evaluate<'a, L: Lookup>(
     ensures { IfOk result (λ answer. answer ≡ outcome rules.now.rules (L.entries lookup.now) event.now) }
 {
     let mut scene = Scene::new(alloc, event)?;
-    run(alloc, rules.rules(), lookup, &mut scene)?;
-    finish(alloc, scene)
+    match run(alloc, rules.rules(), lookup, &mut scene) {
+        Ok(()) => finish(alloc, scene),
+        Err(refused) => {
+            drop(scene);
+            Err(refused)
+        }
+    }
 }
 
 /// What an event comes to by the rules as they are read, as udev(7) has it: each rule in turn over what

@@ -1,11 +1,12 @@
 //! Blocks, chains and rules as large as they may be, and one more.
 use crate::evaluations::agree;
-use crate::running::{files_of, line, run_on};
+use crate::running::{line, run_by};
 use crate::sessions::{block_with, tables_of, take_all};
 use device_core::BlockFaultKind;
 use engine_core::{Session, SessionFault, Tables, Verb};
 use hwdb_core::PlainDb;
 use std::alloc::Global;
+use std::process::Abort;
 use std::test::Fail;
 use text_files::FileKind;
 
@@ -42,20 +43,39 @@ fn answered(
 ) -> Result<usize, Fail> {
     let mut session = Session::new(alloc, tables)?;
     let mut text = Vec::new(alloc);
-    feed_in_pieces(alloc, &mut session, input, size, &mut text)?;
+    let fed = feed_in_pieces(alloc, &mut session, input, size, &mut text);
+    drop(session);
+    fed?;
     Ok(text.len())
+}
+
+/// The sizes of pieces.
+const SIZES: [usize; 3] = [1, 4096, 65_537];
+
+/// Whether a session answers an input by so many bytes in pieces of each size.
+fn each_size_answers(
+    alloc: Global,
+    tables: &Tables<PlainDb>,
+    input: &[u8],
+    wanted: usize,
+) -> Result<bool, Fail> {
+    for size in SIZES {
+        if answered(alloc, tables, input, size)? != wanted {
+            return Ok(false);
+        }
+    }
+    Ok(true)
 }
 
 #[test]
 fn a_block_of_65536_bytes_is_answered_in_any_pieces(rt: HostRuntime) -> Result<(), Fail> {
-    let alloc = rt.alloc();
-    let tables = tables_of(alloc, &[])?;
-    let block = whole_block(alloc, 65_509)?;
+    let block = whole_block(rt.alloc(), 65_509)?;
+    let tables = tables_of(rt.alloc(), &[])?;
     // event add /devices/x, env ACTION=add, env DEVPATH=/devices/x, env X= and the letters, and an empty line
     let whole = 21 + 15 + 23 + 6 + 65_509 + 1 + 1;
-    for size in [1, 4096, 65_537] {
-        assert_eq!(rt; answered(alloc, &tables, &block, size)?, whole);
-    }
+    let is_answered = each_size_answers(rt.alloc(), &tables, &block, whole);
+    drop(tables);
+    assert!(rt; is_answered?);
     Ok(())
 }
 
@@ -84,22 +104,35 @@ fn is_refused(
 ) -> Result<bool, Fail> {
     let mut session = Session::new(alloc, tables)?;
     let mut text = Vec::new(alloc);
-    match feed_in_pieces(alloc, &mut session, input, size, &mut text) {
-        Err(fault) => {
-            Ok(is_too_long(&fault) && text.is_empty() && has_ended(alloc, &mut session))
+    let refused = match feed_in_pieces(alloc, &mut session, input, size, &mut text) {
+        Err(fault) => is_too_long(&fault) && text.is_empty() && has_ended(alloc, &mut session),
+        Ok(()) => false,
+    };
+    drop(session);
+    Ok(refused)
+}
+
+/// Whether an input ends a session so in pieces of each size.
+fn each_size_is_refused(
+    alloc: Global,
+    tables: &Tables<PlainDb>,
+    input: &[u8],
+) -> Result<bool, Fail> {
+    for size in SIZES {
+        if !is_refused(alloc, tables, input, size)? {
+            return Ok(false);
         }
-        Ok(()) => Ok(false),
     }
+    Ok(true)
 }
 
 #[test]
 fn a_block_of_65537_bytes_ends_a_session_in_any_pieces(rt: HostRuntime) -> Result<(), Fail> {
-    let alloc = rt.alloc();
-    let tables = tables_of(alloc, &[])?;
-    let block = whole_block(alloc, 65_510)?;
-    for size in [1, 4096, 65_537] {
-        assert!(rt; is_refused(alloc, &tables, &block, size)?);
-    }
+    let block = whole_block(rt.alloc(), 65_510)?;
+    let tables = tables_of(rt.alloc(), &[])?;
+    let refused = each_size_is_refused(rt.alloc(), &tables, &block);
+    drop(tables);
+    assert!(rt; refused?);
     Ok(())
 }
 
@@ -117,18 +150,30 @@ fn chain_of(alloc: Global, count: usize) -> Result<Vec<u8>, Fail> {
     Ok(block)
 }
 
+/// Asserts how much a chain of so many devices is answered, what is told of it, and the status.
+fn assert_chain(
+    rt: &(impl Abort + AllocGlobal),
+    count: usize,
+    written: usize,
+    told: &str,
+    status: u8,
+) -> Result<(), Fail> {
+    let chain = chain_of(rt.alloc(), count)?;
+    let events = line(rt.alloc(), Verb::Events, "");
+    let done = run_by(rt.alloc(), &events, &[], None, &chain)?;
+    assert_eq!(rt; done.output.len(), written);
+    assert_eq!(rt; done.messages.as_slice(), told.as_bytes());
+    assert_eq!(rt; done.status, status);
+    Ok(())
+}
+
 #[test]
 fn a_chain_has_at_most_64_devices(rt: HostRuntime) -> Result<(), Fail> {
-    let alloc = rt.alloc();
     for (count, written, told, status) in [
         (64, 10 + 128 + 1 + 15 + 12 + 128 + 1 + 1, "", 0),
         (65, 0, "block 1, line 66: too deep\n", 1),
     ] {
-        let events = line(alloc, Verb::Events, "");
-        let done = run_on(alloc, &events, Vec::new(alloc), &chain_of(alloc, count)?)?;
-        assert_eq!(rt; done.output.len(), written);
-        assert_eq!(rt; done.messages.as_slice(), told.as_bytes());
-        assert_eq!(rt; done.status, status);
+        assert_chain(&rt, count, written, told, status)?;
     }
     Ok(())
 }
@@ -137,7 +182,7 @@ fn a_chain_has_at_most_64_devices(rt: HostRuntime) -> Result<(), Fail> {
 fn answer_by(alloc: Global, rules: &str, block: &str) -> Result<Vec<u8>, Fail> {
     let events = line(alloc, Verb::Events, "");
     let rules = [(FileKind::Rules, 0, "r.rules", rules)];
-    let done = run_on(alloc, &events, files_of(alloc, &rules)?, block.as_bytes())?;
+    let done = run_by(alloc, &events, &rules, None, block.as_bytes())?;
     if done.status != 0 || !done.messages.is_empty() {
         Err("the run does not go well")?;
     }
@@ -173,14 +218,19 @@ fn thousand_properties(alloc: Global, last: &str) -> Result<String, Fail> {
     Ok(block)
 }
 
+/// How often a block with these properties is answered by `HIT`.
+fn hits_of(alloc: Global, rule: &str, last: &str) -> Result<usize, Fail> {
+    let block = thousand_properties(alloc, last)?;
+    let answer = answer_by(alloc, rule, block.as_str())?;
+    Ok(lines_with(&answer, b"env HIT=1"))
+}
+
 #[test]
 fn a_rule_matches_a_thousand_properties(rt: HostRuntime) -> Result<(), Fail> {
     let alloc = rt.alloc();
     let rule = thousand_matches(alloc)?;
     for (last, hits) in [("E: P999=1\n", 1), ("E: P999=2\n", 0), ("", 0)] {
-        let block = thousand_properties(alloc, last)?;
-        let answer = answer_by(alloc, rule.as_str(), block.as_str())?;
-        assert_eq!(rt; lines_with(&answer, b"env HIT=1"), hits);
+        assert_eq!(rt; hits_of(alloc, rule.as_str(), last)?, hits);
     }
     Ok(())
 }

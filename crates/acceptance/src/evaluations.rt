@@ -1,77 +1,138 @@
 //! Whether an event is answered alike by `serve`, by the rules as they were read and by their program.
 //!
-//! Whole answers are compared, so that what a row says of one of them is said of all three. Reading
-//! and evaluating stand in functions of their own: together they are slow to check.
-use crate::running::{files_of, one_file};
+//! Whole answers are compared, so that what a row says of one of them is said of all three. Each
+//! function owns one large value, and gives it back by name: where it goes back unnamed, all that it is
+//! made of is gone through once more, at each way out.
+use crate::running::{Given, files_of, line, run_by};
 use device_core::{Event, read_block};
 use engine_answers::answer;
+use engine_core::Verb;
 use eval_core::evaluate_plain;
 use eval_programs::{Program, compile};
 use hwdb_core::{PlainDb, read_sources};
 use rule_core::{RuleSet, read_rules};
 use std::alloc::{AllocError, Global};
 use std::test::Fail;
-use text_bytes::Bytes;
 use text_files::FileKind;
 
 /// A database of one file of this text.
 fn database_of(alloc: Global, text: &str) -> Result<PlainDb, Fail> {
-    let files = one_file(alloc, "a.hwdb", text)?;
+    let files = files_of(alloc, &[(FileKind::Hwdb, 1, "a.hwdb", text)])?;
     let database = read_sources(alloc, &files).map_err(|_fault| "no database")?;
     Ok(PlainDb::new(database.entries))
 }
 
-/// The answer to an event by the rules as they were read.
-fn plain_answer(
+/// Whether the rules as they were read answer an event so.
+fn plain_answers(
     alloc: Global,
     rules: &RuleSet,
     database: &PlainDb,
     event: &Event<'_>,
-) -> Result<Bytes, AllocError> {
+    wanted: &[u8],
+) -> Result<bool, AllocError> {
     let outcome = evaluate_plain(alloc, rules, event, database)?;
-    answer(alloc, event, &outcome)
+    let said = answer(alloc, event, &outcome);
+    drop(outcome);
+    Ok(said?.as_slice() == wanted)
 }
 
-/// The answer to an event by a program.
-fn program_answer(
+/// Whether a program answers an event so.
+fn program_answers(
     alloc: Global,
     program: &Program,
     database: &PlainDb,
     event: &Event<'_>,
-) -> Result<Bytes, AllocError> {
+    wanted: &[u8],
+) -> Result<bool, AllocError> {
     let outcome = program.evaluate(alloc, event, database)?;
-    answer(alloc, event, &outcome)
+    let said = answer(alloc, event, &outcome);
+    drop(outcome);
+    Ok(said?.as_slice() == wanted)
 }
 
-/// Fails where either evaluation answers an event otherwise.
-fn compare(
+/// Whether both evaluations answer an event so.
+fn both_answer(
     alloc: Global,
     rules: RuleSet,
     database: &PlainDb,
     event: &Event<'_>,
     wanted: &[u8],
-) -> Result<(), Fail> {
-    if plain_answer(alloc, &rules, database, event)?.as_slice() != wanted {
-        Err("the rules as they were read answer otherwise")?;
-    }
+) -> Result<bool, AllocError> {
+    let by_rules = plain_answers(alloc, &rules, database, event, wanted);
     let program = compile(alloc, rules)?;
-    if program_answer(alloc, &program, database, event)?.as_slice() != wanted {
-        Err("the program answers otherwise")?;
+    let by_program = program_answers(alloc, &program, database, event, wanted);
+    drop(program);
+    Ok(by_rules? && by_program?)
+}
+
+/// Whether both evaluations answer a block so, which is no faulty one.
+fn both_answer_block(
+    alloc: Global,
+    rules: RuleSet,
+    database: &PlainDb,
+    block: &[u8],
+    wanted: &[u8],
+) -> Result<bool, Fail> {
+    match read_block(alloc, block) {
+        Ok(event) => {
+            let same = both_answer(alloc, rules, database, &event, wanted);
+            drop(event);
+            Ok(same?)
+        }
+        Err(_fault) => {
+            drop(rules);
+            Err("no event")?
+        }
     }
-    Ok(())
 }
 
 /// Fails where either evaluation, over files of rules and a text of the database, gives a block
 /// another answer than this one.
 pub(crate) fn agree(
     alloc: Global,
-    rules: &[(FileKind, u8, &str, &str)],
+    rules: &[Given<'_>],
     database: &str,
     block: &[u8],
     wanted: &[u8],
 ) -> Result<(), Fail> {
-    let rules = read_rules(alloc, &files_of(alloc, rules)?).map_err(|_fault| "no rules")?;
     let database = database_of(alloc, database)?;
-    let event = read_block(alloc, block).map_err(|_fault| "no event")?;
-    compare(alloc, rules, &database, &event, wanted)
+    let same = match read_rules(alloc, &files_of(alloc, rules)?) {
+        Ok(rules) => both_answer_block(alloc, rules, &database, block, wanted),
+        Err(_fault) => Ok(false),
+    };
+    drop(database);
+    if same? {
+        Ok(())
+    } else {
+        Err("an evaluation answers otherwise")?
+    }
+}
+
+/// The answer of the program to a block by files of rules and a text of the database, in a run that
+/// goes well.
+fn answered<'a>(
+    alloc: Global,
+    rules: &[Given<'a>],
+    database: &'a str,
+    block: &[u8],
+) -> Result<Vec<u8>, Fail> {
+    let mut given = Vec::from_slice(alloc, rules)?;
+    given.push((FileKind::Hwdb, 1, "a.hwdb", database))?;
+    let done = run_by(alloc, &line(alloc, Verb::Events, ""), &given, None, block)?;
+    if done.status != 0 {
+        Err("the run does not go well")?;
+    }
+    Ok(done.output)
+}
+
+/// The answer to a block by files of rules and a text of the database, which both evaluations give.
+pub(crate) fn answered_alike<'a>(
+    alloc: Global,
+    rules: &[Given<'a>],
+    database: &'a str,
+    block: &[u8],
+) -> Result<Vec<u8>, Fail> {
+    let output = answered(alloc, rules, database, block)?;
+    agree(alloc, rules, database, block, &output)?;
+    Ok(output)
 }

@@ -1,9 +1,10 @@
 //! Rules over one event: lines of the answer that the program gives, as both evaluations do.
-use crate::evaluations::agree;
+use crate::evaluations::{agree, answered_alike};
 use crate::rules::{JUMP_BY_JUMP, LABELS};
-use crate::running::{assert_outcome, files_of, line, one_file, run_on};
+use crate::running::{assert_outcome, line, run_by, wanted};
 use engine_core::Verb;
 use std::alloc::Global;
+use std::process::Abort;
 use std::test::Fail;
 use text_files::FileKind;
 
@@ -79,15 +80,7 @@ fn answer_by(
         (FileKind::Rules, 0, "10-a.rules", first),
         (FileKind::Rules, 0, "20-b.rules", second),
     ];
-    let mut files = files_of(alloc, &rules)?;
-    files.append(&mut one_file(alloc, "a.hwdb", database)?)?;
-    let events = line(alloc, Verb::Events, "");
-    let done = run_on(alloc, &events, files, block.as_bytes())?;
-    if done.status != 0 {
-        Err("the run does not go well")?;
-    }
-    agree(alloc, &rules, database, block.as_bytes(), &done.output)?;
-    Ok(done.output)
+    answered_alike(alloc, &rules, database, block.as_bytes())
 }
 
 /// Whether an answer has a line.
@@ -239,6 +232,18 @@ fn rules_stand_one_behind_another(rt: HostRuntime) -> Result<(), Fail> {
     Ok(())
 }
 
+/// Asserts what a block is answered by the rules of one file.
+fn assert_answer(
+    rt: &(impl Abort + AllocGlobal),
+    rules: &str,
+    block: &str,
+    wanted: &str,
+) -> Result<(), Fail> {
+    let answer = answer_by(rt.alloc(), rules, "", "", block)?;
+    assert_eq!(rt; answer.as_slice(), wanted.as_bytes());
+    Ok(())
+}
+
 #[test]
 fn answers_are_written_whole(rt: HostRuntime) -> Result<(), Fail> {
     for (rules, block, wanted) in [
@@ -258,8 +263,7 @@ fn answers_are_written_whole(rt: HostRuntime) -> Result<(), Fail> {
             "event add /x\nenv ACTION=add\nenv C=1\nenv DEVPATH=/x\n\n",
         ),
     ] {
-        let answer = answer_by(rt.alloc(), rules, "", "", block)?;
-        assert_eq!(rt; answer.as_slice(), wanted.as_bytes());
+        assert_answer(&rt, rules, block, wanted)?;
     }
     Ok(())
 }
@@ -274,12 +278,12 @@ fn no_jump_leaves_its_file(rt: HostRuntime) -> Result<(), Fail> {
     let mut events = line(alloc, Verb::Events, "");
     events.files.push("x.rules")?;
     events.files.push("x.rules")?;
-    let done = run_on(alloc, &events, files_of(alloc, &rules)?, BARE.as_bytes())?;
-    let wanted =
+    let done = run_by(alloc, &events, &rules, None, BARE.as_bytes())?;
+    let output =
         "event add /x\nenv ACTION=add\nenv B=1\nenv C=1\nenv D=1\nenv DEVPATH=/x\nenv F=1\n\n";
     let messages = "x.rules:4: V7 no later label: x\n";
-    assert_outcome(&rt, &done, wanted, messages, 0);
-    agree(alloc, &rules, "", BARE.as_bytes(), wanted.as_bytes())
+    assert_outcome(&rt, &done, wanted(output, messages, 0));
+    agree(alloc, &rules, "", BARE.as_bytes(), output.as_bytes())
 }
 
 #[test]

@@ -1,8 +1,12 @@
 //! What stands after a device failed.
-use crate::running::{Outcome, assert_bytes, line, one_file, run_over};
-use engine_core::{MemorySink, Verb};
+use crate::running::{
+    AMPLE, Expected, Outcome, Room, assert_outcome, files_of, input_of, line, room_for, run_in,
+};
+use engine_core::Verb;
 use std::alloc::Global;
+use std::process::Abort;
 use std::test::Fail;
+use text_files::FileKind;
 
 /// A file with one message, and its only match.
 const FILE: &str = "a*\n A=1\n B=2\n\n C=3\n";
@@ -15,31 +19,50 @@ const ANSWER: &[u8] = b"A=1\nB=2\n";
 const MESSAGE_AND_FAILURE: &[u8] =
     b"t.hwdb:5: H1 property without a match: C=3\ndevdry: write failed\n";
 
-/// Runs the query over these sinks, and gives what they took.
-fn run_query(
-    alloc: Global,
-    output: &mut MemorySink,
-    error: &mut MemorySink,
-) -> Result<Outcome, Fail> {
+/// Runs the query over outputs of so much room.
+fn run_query(alloc: Global, room: Room, error_room: Room) -> Result<Outcome, Fail> {
     let query = line(alloc, Verb::Query, "ax");
-    let files = one_file(alloc, "t.hwdb", FILE)?;
-    let status = run_over(alloc, &query, files, output, error)?;
-    Ok(Outcome {
-        output: Vec::from_slice(alloc, output.bytes_taken())?,
-        messages: Vec::from_slice(alloc, error.bytes_taken())?,
-        status,
-    })
+    let files = files_of(alloc, &[(FileKind::Hwdb, 1, "t.hwdb", FILE)])?;
+    let mut input = input_of(alloc, b"", 1)?;
+    Ok(run_in(alloc, &query, files, None, &mut input, (room, error_room))?)
+}
+
+/// Asserts what the query comes to over outputs of so much room.
+fn assert_query(
+    rt: &(impl Abort + AllocGlobal),
+    room: Room,
+    error_room: Room,
+    wanted: Expected<'_>,
+) -> Result<(), Fail> {
+    let done = run_query(rt.alloc(), room, error_room)?;
+    assert_outcome(rt, &done, wanted);
+    Ok(())
+}
+
+/// An output of so much room that takes so much in a call.
+fn in_pieces(bytes: usize, each: usize) -> Room {
+    Room {
+        bytes,
+        each,
+        flushes: true,
+    }
+}
+
+/// What stands where the output takes the beginning of the answer alone.
+fn broken_off(taken: &[u8]) -> Expected<'_> {
+    Expected {
+        output: taken,
+        messages: MESSAGE_AND_FAILURE,
+        status: 3,
+    }
 }
 
 #[test]
 fn an_output_may_fail_at_each_byte(rt: HostRuntime) -> Result<(), Fail> {
-    let alloc = rt.alloc();
     for each in [1, 3, 99] {
         for room in 0..ANSWER.len() {
-            let mut output = MemorySink::new(alloc, room, each)?;
-            let mut error = MemorySink::new(alloc, 4096, each)?;
-            let done = run_query(alloc, &mut output, &mut error)?;
-            assert_bytes(&rt, &done, &ANSWER[..room], MESSAGE_AND_FAILURE, 3);
+            let (output, error) = (in_pieces(room, each), in_pieces(4096, each));
+            assert_query(&rt, output, error, broken_off(&ANSWER[..room]))?;
         }
     }
     Ok(())
@@ -47,46 +70,46 @@ fn an_output_may_fail_at_each_byte(rt: HostRuntime) -> Result<(), Fail> {
 
 #[test]
 fn an_output_may_just_have_room(rt: HostRuntime) -> Result<(), Fail> {
-    let alloc = rt.alloc();
+    let wanted = Expected {
+        output: ANSWER,
+        messages: MESSAGE,
+        status: 0,
+    };
     for each in [1, 3, 99] {
-        let mut output = MemorySink::new(alloc, ANSWER.len(), each)?;
-        let mut error = MemorySink::new(alloc, 4096, each)?;
-        let done = run_query(alloc, &mut output, &mut error)?;
-        assert_bytes(&rt, &done, ANSWER, MESSAGE, 0);
+        assert_query(
+            &rt,
+            in_pieces(ANSWER.len(), each),
+            in_pieces(4096, each),
+            wanted,
+        )?;
     }
     Ok(())
 }
 
 #[test]
 fn an_error_output_may_fail_at_each_byte(rt: HostRuntime) -> Result<(), Fail> {
-    let alloc = rt.alloc();
     for room in 0..MESSAGE.len() {
-        let mut output = MemorySink::new(alloc, 99, 99)?;
-        let mut error = MemorySink::new(alloc, room, 99)?;
-        let done = run_query(alloc, &mut output, &mut error)?;
-        assert_bytes(&rt, &done, b"", &MESSAGE[..room], 3);
+        let wanted = Expected {
+            output: b"",
+            messages: &MESSAGE[..room],
+            status: 3,
+        };
+        assert_query(&rt, AMPLE, room_for(room), wanted)?;
     }
     Ok(())
 }
 
 #[test]
 fn an_output_may_take_nothing(rt: HostRuntime) -> Result<(), Fail> {
-    let alloc = rt.alloc();
-    let mut output = MemorySink::new(alloc, 99, 0)?;
-    let mut error = MemorySink::new(alloc, 4096, 99)?;
-    let done = run_query(alloc, &mut output, &mut error)?;
-    assert_bytes(&rt, &done, b"", MESSAGE_AND_FAILURE, 3);
-    Ok(())
+    assert_query(&rt, in_pieces(99, 0), AMPLE, broken_off(b""))
 }
 
 #[test]
 fn an_output_may_flush_nothing(rt: HostRuntime) -> Result<(), Fail> {
-    let alloc = rt.alloc();
-    let mut output = MemorySink::new(alloc, 99, 99)?;
-    output.set_flushes_fail(true);
-    let mut error = MemorySink::new(alloc, 4096, 99)?;
-    let done = run_query(alloc, &mut output, &mut error)?;
-    assert_bytes(&rt, &done, ANSWER, MESSAGE_AND_FAILURE, 3);
-    assert!(rt; output.bytes_flushed().is_empty());
-    Ok(())
+    let unflushed = Room {
+        bytes: 99,
+        each: 99,
+        flushes: false,
+    };
+    assert_query(&rt, unflushed, AMPLE, broken_off(ANSWER))
 }

@@ -1,12 +1,11 @@
 //! Indexes that `update` writes, and that `query` and `events` answer from.
-use crate::running::{
-    Outcome, assert_bytes, assert_outcome, files_of, line, one_file, run, run_by,
-};
-use engine_core::{Index, Verb};
+use crate::database::TRACKBALL;
+use crate::running::{Expected, Given, assert_outcome, line, run, run_by, wanted};
+use engine_core::{Index, Line, Verb};
 use std::alloc::Global;
 use std::process::Abort;
 use std::test::Fail;
-use text_files::{FileKind, SourceFile};
+use text_files::FileKind;
 
 /// The index of no entries.
 pub(crate) const EMPTY_INDEX: &[u8] =
@@ -34,30 +33,69 @@ const ASKS: &str = "IMPORT{builtin}=\"hwdb --subsystem=usb\"\n";
 const BELOW_USB: &str = "C: add\nP: /a/b\nP: /a\nU: usb\nE: MODALIAS=usb:v1D6Bp0002\n";
 
 /// The index that `update` writes of files.
-fn index_of(alloc: Global, files: Vec<SourceFile>) -> Result<Vec<u8>, Fail> {
-    Ok(run(alloc, &line(alloc, Verb::Update, ""), files)?.output)
+fn index_of(alloc: Global, given: &[Given<'_>]) -> Result<Vec<u8>, Fail> {
+    Ok(run(alloc, &line(alloc, Verb::Update, ""), given)?.output)
 }
 
-/// What `query` says of an index.
-fn query(alloc: Global, index: &[u8], modalias: &str, sources: bool) -> Result<Outcome, Fail> {
-    let mut asked = line(alloc, Verb::Query, modalias);
-    asked.sources = sources;
-    run_by(alloc, &asked, Vec::new(alloc), Some(index), b"")
+/// Asserts what a line comes to with this index, over files and an input.
+fn assert_by(
+    rt: &(impl Abort + AllocGlobal),
+    line: &Line<'_>,
+    given: &[Given<'_>],
+    index: &[u8],
+    text: &[u8],
+    wanted: Expected<'_>,
+) -> Result<(), Fail> {
+    let done = run_by(rt.alloc(), line, given, Some(index), text)?;
+    assert_outcome(rt, &done, wanted);
+    Ok(())
 }
 
-#[test]
-fn update_writes_the_index(rt: HostRuntime) -> Result<(), Fail> {
-    let alloc = rt.alloc();
-    let index = index_of(alloc, Vec::new(alloc))?;
-    assert_eq!(rt; index.as_slice(), EMPTY_INDEX);
-    let index = index_of(alloc, one_file(alloc, "t.hwdb", "a*\n K=V\n")?)?;
-    assert_eq!(rt; index.as_slice(), SECOND_VERSION);
+/// Asserts what a query by an index comes to.
+fn assert_query(
+    rt: &(impl Abort + AllocGlobal),
+    index: &[u8],
+    modalias: &str,
+    sources: bool,
+    output: &str,
+) -> Result<(), Fail> {
+    let mut query = line(rt.alloc(), Verb::Query, modalias);
+    query.sources = sources;
+    assert_by(rt, &query, &[], index, b"", wanted(output, "", 0))
+}
+
+/// Asserts what a query by the index of files comes to.
+fn assert_query_of(
+    rt: &(impl Abort + AllocGlobal),
+    given: &[Given<'_>],
+    modalias: &str,
+    sources: bool,
+    output: &str,
+) -> Result<(), Fail> {
+    let index = index_of(rt.alloc(), given)?;
+    assert_query(rt, &index, modalias, sources, output)
+}
+
+/// Asserts that `update` writes this index of files.
+fn assert_update(
+    rt: &(impl Abort + AllocGlobal),
+    given: &[Given<'_>],
+    index: &[u8],
+) -> Result<(), Fail> {
+    assert_eq!(rt; index_of(rt.alloc(), given)?.as_slice(), index);
     Ok(())
 }
 
 #[test]
+fn update_writes_the_index(rt: HostRuntime) -> Result<(), Fail> {
+    assert_update(&rt, &[], EMPTY_INDEX)?;
+    let given = [(FileKind::Hwdb, 1, "t.hwdb", "a*\n K=V\n")];
+    assert_update(&rt, &given, SECOND_VERSION)
+}
+
+#[test]
 fn both_versions_are_asked(rt: HostRuntime) -> Result<(), Fail> {
-    for (index, modalias, sources, want) in [
+    for (index, modalias, sources, output) in [
         (FIRST_VERSION, "abc", false, "K=V\n"),
         (FIRST_VERSION, "abc", true, "-: K=V\n"),
         (SECOND_VERSION, "abc", false, "K=V\n"),
@@ -65,8 +103,7 @@ fn both_versions_are_asked(rt: HostRuntime) -> Result<(), Fail> {
         (SECOND_VERSION, "bc", true, ""),
         (EMPTY_INDEX, "x", false, ""),
     ] {
-        let done = query(rt.alloc(), index, modalias, sources)?;
-        assert_outcome(&rt, &done, want, "", 0);
+        assert_query(&rt, index, modalias, sources, output)?;
     }
     Ok(())
 }
@@ -79,98 +116,121 @@ fn changed(alloc: Global, index: &[u8], at: usize, byte: u8) -> Result<Vec<u8>, 
 }
 
 /// Asserts that both commands refuse an index with this message.
-fn assert_refused(rt: &impl Abort, alloc: Global, index: &[u8], message: &str) -> Result<(), Fail> {
-    let done = query(alloc, index, "abc", false)?;
-    assert_outcome(rt, &done, "", message, 1);
-    let events = line(alloc, Verb::Events, "");
-    let done = run_by(alloc, &events, Vec::new(alloc), Some(index), b"C: ")?;
-    assert_outcome(rt, &done, "", message, 1);
+fn assert_refused(
+    rt: &(impl Abort + AllocGlobal),
+    index: &[u8],
+    message: &str,
+) -> Result<(), Fail> {
+    for verb in [Verb::Query, Verb::Events] {
+        let asked = line(rt.alloc(), verb, "abc");
+        assert_by(rt, &asked, &[], index, b"C: ", wanted("", message, 1))?;
+    }
     Ok(())
+}
+
+/// Asserts that both commands refuse an index that has one byte changed, with this message.
+fn assert_change_refused(
+    rt: &(impl Abort + AllocGlobal),
+    index: &[u8],
+    at: usize,
+    byte: u8,
+    message: &str,
+) -> Result<(), Fail> {
+    let index = changed(rt.alloc(), index, at, byte)?;
+    assert_refused(rt, &index, message)
 }
 
 #[test]
 fn damaged_indexes_are_refused(rt: HostRuntime) -> Result<(), Fail> {
-    for (at, byte, message) in [
-        (0, b'D', "devdry: index: magic\n"),
-        (8, 9, "devdry: index: version\n"),
-        (8, 2, "devdry: index: size\n"),
-        (44, 2, "devdry: index: shape\n"),
-        (56, 9, "devdry: index: label\n"),
-        (108, 3, "devdry: index: text\n"),
+    for (index, at, byte, message) in [
+        (FIRST_VERSION, 0, b'D', "devdry: index: magic\n"),
+        (FIRST_VERSION, 8, 9, "devdry: index: version\n"),
+        (FIRST_VERSION, 8, 2, "devdry: index: size\n"),
+        (FIRST_VERSION, 44, 2, "devdry: index: shape\n"),
+        (FIRST_VERSION, 56, 9, "devdry: index: label\n"),
+        (FIRST_VERSION, 108, 3, "devdry: index: text\n"),
+        (SECOND_VERSION, 128, 7, "devdry: index: text\n"),
     ] {
-        let index = changed(rt.alloc(), FIRST_VERSION, at, byte)?;
-        assert_refused(&rt, rt.alloc(), &index, message)?;
+        assert_change_refused(&rt, index, at, byte, message)?;
     }
-    let index = changed(rt.alloc(), SECOND_VERSION, 128, 7)?;
-    assert_refused(&rt, rt.alloc(), &index, "devdry: index: text\n")
-}
-
-#[test]
-fn cut_indexes_are_refused(rt: HostRuntime) -> Result<(), Fail> {
-    assert_refused(
-        &rt,
-        rt.alloc(),
-        &FIRST_VERSION[..31],
-        "devdry: index: short\n",
-    )?;
-    assert_refused(
-        &rt,
-        rt.alloc(),
-        &FIRST_VERSION[..125],
-        "devdry: index: size\n",
-    )?;
-    assert_refused(
-        &rt,
-        rt.alloc(),
-        &SECOND_VERSION[..143],
-        "devdry: index: size\n",
-    )
-}
-
-#[test]
-fn values_out_of_order_are_refused(rt: HostRuntime) -> Result<(), Fail> {
-    let alloc = rt.alloc();
-    let two = index_of(alloc, one_file(alloc, "t.hwdb", "a*\n K=V\n L=W\n")?)?;
-    // The order of the second value, behind the header, three nodes, the first value and four numbers.
-    let index = changed(alloc, &two, 32 + 3 * 24 + 32 + 16, 0)?;
-    assert_refused(&rt, rt.alloc(), &index, "devdry: index: order\n")
-}
-
-#[test]
-fn verify_and_update_look_at_no_index(rt: HostRuntime) -> Result<(), Fail> {
-    let alloc = rt.alloc();
-    let update = line(alloc, Verb::Update, "");
-    let done = run_by(alloc, &update, Vec::new(alloc), Some(b"x"), b"")?;
-    assert_bytes(&rt, &done, EMPTY_INDEX, b"", 0);
-    let verify = line(alloc, Verb::Verify, "");
-    let done = run_by(alloc, &verify, Vec::new(alloc), Some(b"x"), b"")?;
-    assert_outcome(&rt, &done, "0 files checked, 0 good, 0 bad\n", "", 0);
     Ok(())
 }
 
 #[test]
+fn cut_indexes_are_refused(rt: HostRuntime) -> Result<(), Fail> {
+    for (index, message) in [
+        (&FIRST_VERSION[..31], "devdry: index: short\n"),
+        (&FIRST_VERSION[..125], "devdry: index: size\n"),
+        (&SECOND_VERSION[..143], "devdry: index: size\n"),
+    ] {
+        assert_refused(&rt, index, message)?;
+    }
+    Ok(())
+}
+
+#[test]
+fn values_out_of_order_are_refused(rt: HostRuntime) -> Result<(), Fail> {
+    let given = [(FileKind::Hwdb, 1, "t.hwdb", "a*\n K=V\n L=W\n")];
+    let two = index_of(rt.alloc(), &given)?;
+    // The order of the second value, behind the header, three nodes, the first value and four numbers.
+    assert_change_refused(
+        &rt,
+        &two,
+        32 + 3 * 24 + 32 + 16,
+        0,
+        "devdry: index: order\n",
+    )
+}
+
+#[test]
+fn update_looks_at_no_index(rt: HostRuntime) -> Result<(), Fail> {
+    let wanted = Expected {
+        output: EMPTY_INDEX,
+        messages: b"",
+        status: 0,
+    };
+    assert_by(
+        &rt,
+        &line(rt.alloc(), Verb::Update, ""),
+        &[],
+        b"x",
+        b"",
+        wanted,
+    )
+}
+
+#[test]
+fn verify_looks_at_no_index(rt: HostRuntime) -> Result<(), Fail> {
+    let wanted = wanted("0 files checked, 0 good, 0 bad\n", "", 0);
+    assert_by(
+        &rt,
+        &line(rt.alloc(), Verb::Verify, ""),
+        &[],
+        b"x",
+        b"",
+        wanted,
+    )
+}
+
+#[test]
 fn an_index_answers_as_its_files(rt: HostRuntime) -> Result<(), Fail> {
-    let alloc = rt.alloc();
-    let trackball = "mouse:*:name:*[tT]rack[bB]all*:*\n ID_INPUT_TRACKBALL=1\n";
-    for (text, modalias, want) in [
+    for (text, modalias, output) in [
         (
-            trackball,
+            TRACKBALL,
             "mouse:usb:name:My TrackBall:x",
             "ID_INPUT_TRACKBALL=1\n",
         ),
         ("ab*\n A=1\n B=2\n\na?c\n A=3\n", "abc", "A=3\nB=2\n"),
     ] {
-        let index = index_of(alloc, one_file(alloc, "t.hwdb", text)?)?;
-        let done = query(alloc, &index, modalias, false)?;
-        assert_outcome(&rt, &done, want, "", 0);
+        let given = [(FileKind::Hwdb, 1, "t.hwdb", text)];
+        assert_query_of(&rt, &given, modalias, false, output)?;
     }
     Ok(())
 }
 
 #[test]
 fn an_index_keeps_the_order_of_files(rt: HostRuntime) -> Result<(), Fail> {
-    let alloc = rt.alloc();
-    for (rank, text, want) in [
+    for (rank, text, output) in [
         (1, "m*\n A=2\n", "70-b.hwdb:2: A=2\n"),
         (0, "z\n A=2\n", "60-a.hwdb:2: A=1\n"),
     ] {
@@ -180,29 +240,30 @@ fn an_index_keeps_the_order_of_files(rt: HostRuntime) -> Result<(), Fail> {
             (FileKind::Hwdb, 1, "60-a.hwdb", "m*\n A=1\n"),
             (FileKind::Hwdb, 1, "80-c.txt", "m*\n A=4\n"),
         ];
-        let index = index_of(alloc, files_of(alloc, &given)?)?;
-        let done = query(alloc, &index, "mx", true)?;
-        assert_outcome(&rt, &done, want, "", 0);
+        assert_query_of(&rt, &given, "mx", true, output)?;
     }
     Ok(())
 }
 
 #[test]
 fn events_are_answered_from_an_index(rt: HostRuntime) -> Result<(), Fail> {
-    let alloc = rt.alloc();
     let text = "usb:v1D6B*\n ID_VENDOR=Linux\n";
-    let index = index_of(alloc, one_file(alloc, "u.hwdb", text)?)?;
+    let index = index_of(rt.alloc(), &[(FileKind::Hwdb, 1, "u.hwdb", text)])?;
     // A database beside the index is not read: its mistake is not told.
     let given = [
         (FileKind::Rules, 0, "r.rules", ASKS),
         (FileKind::Hwdb, 0, "bad.hwdb", " A=1\n"),
     ];
-    let events = line(alloc, Verb::Events, "");
-    let files = files_of(alloc, &given)?;
-    let done = run_by(alloc, &events, files, Some(&index), BELOW_USB.as_bytes())?;
-    let want = "event add /a/b\nenv ACTION=add\nenv DEVPATH=/a/b\nenv ID_VENDOR=Linux\n\n";
-    assert_outcome(&rt, &done, want, "", 0);
-    Ok(())
+    let output = "event add /a/b\nenv ACTION=add\nenv DEVPATH=/a/b\nenv ID_VENDOR=Linux\n\n";
+    let events = line(rt.alloc(), Verb::Events, "");
+    assert_by(
+        &rt,
+        &events,
+        &given,
+        &index,
+        BELOW_USB.as_bytes(),
+        wanted(output, "", 0),
+    )
 }
 
 /// How many nodes are active at the end of a modalias, and how many are in all.
@@ -224,12 +285,11 @@ fn forty_stars(alloc: Global) -> Result<String, Fail> {
 
 #[test]
 fn stars_are_walked_without_going_back(rt: HostRuntime) -> Result<(), Fail> {
-    let alloc = rt.alloc();
-    let text = forty_stars(alloc)?;
-    let index = index_of(alloc, one_file(alloc, "t.hwdb", text.as_str())?)?;
-    let mut modalias = Vec::from_elem(alloc, b'a', 200)?;
+    let text = forty_stars(rt.alloc())?;
+    let index = index_of(rt.alloc(), &[(FileKind::Hwdb, 1, "t.hwdb", text.as_str())])?;
+    let mut modalias = Vec::from_elem(rt.alloc(), b'a', 200)?;
     modalias.push(b'b')?;
-    assert_eq!(rt; visits(alloc, &index, &modalias)?, (40, 14_521));
+    assert_eq!(rt; visits(rt.alloc(), &index, &modalias)?, (40, 14_521));
     Ok(())
 }
 
@@ -247,12 +307,10 @@ fn ten_thousand(alloc: Global) -> Result<String, Fail> {
 
 #[test]
 fn many_records_are_found_by_few_steps(rt: HostRuntime) -> Result<(), Fail> {
-    let alloc = rt.alloc();
-    let text = ten_thousand(alloc)?;
-    let index = index_of(alloc, one_file(alloc, "t.hwdb", text.as_str())?)?;
+    let text = ten_thousand(rt.alloc())?;
+    let index = index_of(rt.alloc(), &[(FileKind::Hwdb, 1, "t.hwdb", text.as_str())])?;
     // The number of nodes stands behind the header's mark and version.
-    let nodes = index.get(12..16).ok_or("no header")?;
-    assert_eq!(rt; nodes, 11_116_u32.to_le_bytes().as_slice());
-    assert_eq!(rt; visits(alloc, &index, b"usb:v1234")?, (1, 10));
+    assert!(rt; index.get(12..16) == Some(11_116_u32.to_le_bytes().as_slice()));
+    assert_eq!(rt; visits(rt.alloc(), &index, b"usb:v1234")?, (1, 10));
     Ok(())
 }

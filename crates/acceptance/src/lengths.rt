@@ -5,10 +5,8 @@
 //! and 128, and for each part of a rule 32,896, the length of its attribute and that of its file's
 //! name, and for an IMPORT besides twice the block and all keys and values, each with one more. It is
 //! at most eight times its weight, four times its block and 64 bytes long.
-use crate::evaluations::agree;
-use crate::running::{files_of, line, one_file, run_on};
+use crate::evaluations::answered_alike;
 use crate::sessions::block_with;
-use engine_core::Verb;
 use std::alloc::Global;
 use std::test::Fail;
 use text_files::FileKind;
@@ -30,17 +28,10 @@ const AROUND: &[u8] = b"event add /devices/x\nowner \ngroup \nlabel m=\nenv ACTI
 env DEVPATH=/devices/x\nenv X=\nenv Y=\nattr a=\nsysctl s=\nrun program \n\
 note r.rules:8: text too long: ENV{Z}\n\n";
 
-/// The answer to a block by these files, which goes well.
-fn answer_by(alloc: Global, rules: &str, database: &str, block: &[u8]) -> Result<Vec<u8>, Fail> {
+/// How long the answer to a block by these files is, which goes well.
+fn answer_len(alloc: Global, rules: &str, database: &str, block: &[u8]) -> Result<usize, Fail> {
     let rules = [(FileKind::Rules, 0, "r.rules", rules)];
-    let mut files = files_of(alloc, &rules)?;
-    files.append(&mut one_file(alloc, "a.hwdb", database)?)?;
-    let done = run_on(alloc, &line(alloc, Verb::Events, ""), files, block)?;
-    if done.status != 0 {
-        Err("the run does not go well")?;
-    }
-    agree(alloc, &rules, database, block, &done.output)?;
-    Ok(done.output)
+    Ok(answered_alike(alloc, &rules, database, block)?.len())
 }
 
 /// A block of 27 bytes more, with a property `X` of so many bytes 1, which are written as `\x01`.
@@ -51,24 +42,24 @@ fn block_of_ones(alloc: Global, count: usize) -> Result<Vec<u8>, Fail> {
 #[test]
 fn the_longest_texts_stay_within_the_bounds(rt: HostRuntime) -> Result<(), Fail> {
     let block = block_of_ones(rt.alloc(), LONGEST)?;
-    let answer = answer_by(rt.alloc(), EACH_KEY, "", &block)?;
-    assert_eq!(rt; answer.len(), AROUND.len() + 8 * 4 * LONGEST);
+    let length = answer_len(rt.alloc(), EACH_KEY, "", &block)?;
+    assert_eq!(rt; length, AROUND.len() + 8 * 4 * LONGEST);
     // the longest texts; m, ACTION, add, DEVPATH, /devices/x, X, Y, a, s and program; the note's three
     let weight = 8 * (LONGEST + 1) + (2 + 7 + 4 + 8 + 11 + 2 + 2 + 2 + 2 + 8) + (8 + 14 + 7);
     assert!(rt; weight <= 4 * (27 + LONGEST) + 128 + 8 * (32_896 + 7) + 5);
-    assert!(rt; answer.len() <= 8 * weight + 4 * (27 + LONGEST) + 64);
+    assert!(rt; length <= 8 * weight + 4 * (27 + LONGEST) + 64);
     Ok(())
 }
 
 #[test]
 fn the_longest_property_of_a_block_stays_within_the_bounds(rt: HostRuntime) -> Result<(), Fail> {
     let block = block_of_ones(rt.alloc(), LONGEST_VALUE)?;
-    let answer = answer_by(rt.alloc(), "", "", &block)?;
+    let length = answer_len(rt.alloc(), "", "", &block)?;
     // event add /devices/x, env ACTION=add, env DEVPATH=/devices/x, env X= and an empty line
-    assert_eq!(rt; answer.len(), 21 + 15 + 23 + 7 + 1 + 4 * LONGEST_VALUE);
+    assert_eq!(rt; length, 21 + 15 + 23 + 7 + 1 + 4 * LONGEST_VALUE);
     let weight = (7 + 4) + (8 + 11) + (2 + LONGEST_VALUE + 1);
     assert!(rt; weight <= 4 * (27 + LONGEST_VALUE) + 128);
-    assert!(rt; answer.len() <= 8 * weight + 4 * (27 + LONGEST_VALUE) + 64);
+    assert!(rt; length <= 8 * weight + 4 * (27 + LONGEST_VALUE) + 64);
     Ok(())
 }
 
@@ -87,12 +78,12 @@ fn a_whole_database_stays_within_the_bounds(rt: HostRuntime) -> Result<(), Fail>
     let database = database_of(alloc, 1000)?;
     let block = b"C: add\nP: /x\n".as_slice();
     let rules = "IMPORT{builtin}=\"hwdb x\"\n";
-    let answer = answer_by(alloc, rules, database.as_str(), block)?;
+    let length = answer_len(alloc, rules, database.as_str(), block)?;
     // event add /x, env 000=v and its like, env ACTION=add, env DEVPATH=/x and an empty line
-    assert_eq!(rt; answer.len(), 13 + 1000 * 10 + 15 + 15 + 1);
+    assert_eq!(rt; length, 13 + 1000 * 10 + 15 + 15 + 1);
     let weight = (7 + 4) + (8 + 3) + 1000 * (4 + 2);
     let entries = 1000 * (4 + 2);
     assert!(rt; weight <= 4 * 13 + 128 + (32_896 + 7 + 7) + 2 * 13 + entries);
-    assert!(rt; answer.len() <= 8 * weight + 4 * 13 + 64);
+    assert!(rt; length <= 8 * weight + 4 * 13 + 64);
     Ok(())
 }

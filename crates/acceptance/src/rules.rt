@@ -1,26 +1,19 @@
 //! `verify` over rules files.
-use crate::running::{Outcome, assert_outcome, files_of, line, run};
+use crate::running::{Expected, assert_run, line, wanted};
 use engine_core::Verb;
-use std::alloc::Global;
+use std::process::Abort;
 use std::test::Fail;
 use text_files::FileKind;
 
-/// Runs `verify` over one file of a folder.
-fn verify(
-    alloc: Global,
-    summary: bool,
-    style: bool,
+/// Asserts what `verify` says of one file of a folder.
+fn assert_verified(
+    rt: &(impl Abort + AllocGlobal),
     name: &str,
     text: &str,
-) -> Result<Outcome, Fail> {
-    let mut asked = line(alloc, Verb::Verify, "");
-    asked.summary = summary;
-    asked.style = style;
-    run(
-        alloc,
-        &asked,
-        files_of(alloc, &[(FileKind::Rules, 3, name, text)])?,
-    )
+    wanted: Expected<'_>,
+) -> Result<(), Fail> {
+    let verify = line(rt.alloc(), Verb::Verify, "");
+    assert_run(rt, &verify, &[(FileKind::Rules, 3, name, text)], wanted)
 }
 
 /// The summary of one bad file.
@@ -41,13 +34,11 @@ pub(crate) const JUMP_BY_JUMP: &str =
 fn each_fault_of_a_token_is_told(rt: HostRuntime) -> Result<(), Fail> {
     let text = "KERNEL==\"a\" FOO=\"b\"\nSUBSYSTEM==\"x\",ACTION-=\"y\"\nENV{A}:=\"1\",TAG+=\"t\"\n\
 OPTIONS=\"link_priority=x\"\nKERNEL==\"[[:alpha:]]\"\nENV{B}=\"$nope\"\nATTR==\"x\"\n";
-    let done = verify(rt.alloc(), true, true, "v.rules", text)?;
-    let want = "v.rules:1: V2 unknown key: FOO\nv.rules:2: V3 operator not allowed: ACTION\n\
+    let messages = "v.rules:1: V2 unknown key: FOO\nv.rules:2: V3 operator not allowed: ACTION\n\
 v.rules:3: S3 operator read as =: ENV\nv.rules:3: S2 blank after a comma expected: TAG\n\
 v.rules:4: V5 bad value: link_priority=x\nv.rules:5: V11 set not supported: [[:alpha:]]\n\
 v.rules:6: V6 bad substitution: $nope\nv.rules:7: V4 attribute missing or not allowed: ATTR\n";
-    assert_outcome(&rt, &done, ONE_BAD, want, 1);
-    Ok(())
+    assert_verified(&rt, "v.rules", text, wanted(ONE_BAD, messages, 1))
 }
 
 #[test]
@@ -58,16 +49,18 @@ fn style_and_summary_may_be_left_out(rt: HostRuntime) -> Result<(), Fail> {
         (true, false, ONE_GOOD, "", 0),
         (false, true, "", unused, 1),
     ] {
-        let done = verify(rt.alloc(), summary, style, "f.rules", LABELS)?;
-        assert_outcome(&rt, &done, output, messages, status);
+        let mut verify = line(rt.alloc(), Verb::Verify, "");
+        verify.summary = summary;
+        verify.style = style;
+        let given = [(FileKind::Rules, 3, "f.rules", LABELS)];
+        assert_run(&rt, &verify, &given, wanted(output, messages, status))?;
     }
     Ok(())
 }
 
 #[test]
 fn lines_are_joined_and_jumps_looked_up(rt: HostRuntime) -> Result<(), Fail> {
-    let alloc = rt.alloc();
-    for (name, text, want) in [
+    for (name, text, messages) in [
         (
             "g.rules",
             "GOTO=\"y\", ENV{D}=\"1\"\n",
@@ -94,15 +87,13 @@ fn lines_are_joined_and_jumps_looked_up(rt: HostRuntime) -> Result<(), Fail> {
             "m.rules:2: S4 label unused: m\nm.rules:4: S4 label unused: m\n",
         ),
     ] {
-        let done = verify(alloc, true, true, name, text)?;
-        assert_outcome(&rt, &done, ONE_BAD, want, 1);
+        assert_verified(&rt, name, text, wanted(ONE_BAD, messages, 1))?;
     }
     Ok(())
 }
 
 #[test]
 fn prefixes_of_values(rt: HostRuntime) -> Result<(), Fail> {
-    let alloc = rt.alloc();
     for (text, output, messages, status) in [
         ("KERNEL==i\"SDA\"\n", ONE_GOOD, "", 0),
         (
@@ -119,15 +110,13 @@ fn prefixes_of_values(rt: HostRuntime) -> Result<(), Fail> {
         ),
         ("TEST==i\"x\"\n", ONE_BAD, "q.rules:1: V5 bad value: x\n", 1),
     ] {
-        let done = verify(alloc, true, true, "q.rules", text)?;
-        assert_outcome(&rt, &done, output, messages, status);
+        assert_verified(&rt, "q.rules", text, wanted(output, messages, status))?;
     }
     Ok(())
 }
 
 #[test]
 fn rules_of_folders_are_ordered(rt: HostRuntime) -> Result<(), Fail> {
-    let alloc = rt.alloc();
     let given = [
         (FileKind::Rules, 3, "b.rules", "A\n"),
         (FileKind::Rules, 1, "b.rules", "B\n"),
@@ -135,9 +124,12 @@ fn rules_of_folders_are_ordered(rt: HostRuntime) -> Result<(), Fail> {
         (FileKind::Hwdb, 0, "d.rules", "D\n"),
         (FileKind::Rules, 3, "a.rules", "\n"),
     ];
-    let asked = line(alloc, Verb::Verify, "");
-    let done = run(alloc, &asked, files_of(alloc, &given)?)?;
+    let verify = line(rt.alloc(), Verb::Verify, "");
     let output = "2 files checked, 1 good, 1 bad\n";
-    assert_outcome(&rt, &done, output, "b.rules:1: V1 bad syntax: B\n", 1);
-    Ok(())
+    assert_run(
+        &rt,
+        &verify,
+        &given,
+        wanted(output, "b.rules:1: V1 bad syntax: B\n", 1),
+    )
 }

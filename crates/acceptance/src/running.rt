@@ -1,10 +1,43 @@
 //! Runs over devices in memory.
+//!
+//! What owns the devices and what they took stands here alone: a test that owns none of them, and only
+//! says what is to come of a run, is quick to check.
 use engine_core::{Line, MemorySink, MemorySource, Verb, serve};
-use std::alloc::Global;
+use std::alloc::{AllocError, Global};
 use std::process::Abort;
 use std::test::Fail;
 use text_bytes::Bytes;
 use text_files::{FileKind, SourceFile};
+
+/// A file of a folder: its kind, its rank, its name and its text.
+pub(crate) type Given<'a> = (FileKind, u8, &'a str, &'a str);
+
+/// What an output takes.
+#[derive(Clone, Copy)]
+pub(crate) struct Room {
+    /// How much it takes before it fails.
+    pub(crate) bytes: usize,
+    /// The most that it takes in a call.
+    pub(crate) each: usize,
+    /// Whether it can be flushed.
+    pub(crate) flushes: bool,
+}
+
+/// Room for all that a run here writes.
+pub(crate) const AMPLE: Room = Room {
+    bytes: 1_000_000,
+    each: 4096,
+    flushes: true,
+};
+
+/// Room for so many bytes.
+pub(crate) fn room_for(bytes: usize) -> Room {
+    Room {
+        bytes,
+        each: 4096,
+        flushes: true,
+    }
+}
 
 /// What a run wrote and answered.
 #[derive(Drop)]
@@ -12,6 +45,33 @@ pub(crate) struct Outcome {
     pub(crate) output: Vec<u8>,
     pub(crate) messages: Vec<u8>,
     pub(crate) status: u8,
+    /// Whether all that was written was flushed.
+    pub(crate) is_flushed: bool,
+}
+
+/// What a run is to write and to answer.
+#[derive(Clone, Copy)]
+pub(crate) struct Expected<'a> {
+    pub(crate) output: &'a [u8],
+    pub(crate) messages: &'a [u8],
+    pub(crate) status: u8,
+}
+
+/// What a run is to write and to answer, of texts.
+pub(crate) fn wanted<'a>(output: &'a str, messages: &'a str, status: u8) -> Expected<'a> {
+    Expected {
+        output: output.as_bytes(),
+        messages: messages.as_bytes(),
+        status,
+    }
+}
+
+/// Asserts what a run wrote and answered, and that all of it was flushed where no device failed.
+pub(crate) fn assert_outcome(rt: &impl Abort, done: &Outcome, wanted: Expected<'_>) {
+    assert_eq!(rt; done.output.as_slice(), wanted.output);
+    assert_eq!(rt; done.messages.as_slice(), wanted.messages);
+    assert_eq!(rt; done.status, wanted.status);
+    assert!(rt; done.is_flushed || done.status == 3);
 }
 
 /// A line that names no file, with no option.
@@ -30,13 +90,8 @@ pub(crate) fn line<'a>(alloc: Global, verb: Verb, modalias: &'a str) -> Line<'a>
 }
 
 /// A file of a folder.
-fn file_of(
-    alloc: Global,
-    kind: FileKind,
-    rank: u8,
-    name: &str,
-    text: &str,
-) -> Result<SourceFile, Fail> {
+fn file_of(alloc: Global, given: &Given<'_>) -> Result<SourceFile, AllocError> {
+    let (kind, rank, name, text) = *given;
     Ok(SourceFile {
         kind,
         rank,
@@ -45,22 +100,12 @@ fn file_of(
     })
 }
 
-/// Files of folders, each by its kind, its rank, its name and its text.
-pub(crate) fn files_of(
-    alloc: Global,
-    given: &[(FileKind, u8, &str, &str)],
-) -> Result<Vec<SourceFile>, Fail> {
+/// Files of folders.
+pub(crate) fn files_of(alloc: Global, given: &[Given<'_>]) -> Result<Vec<SourceFile>, AllocError> {
     let mut files = Vec::new(alloc);
-    for (kind, rank, name, text) in given {
-        files.push(file_of(alloc, *kind, *rank, name, text)?)?;
+    for file in given {
+        files.push(file_of(alloc, file)?)?;
     }
-    Ok(files)
-}
-
-/// A list of one file, of rank 1.
-pub(crate) fn one_file(alloc: Global, name: &str, text: &str) -> Result<Vec<SourceFile>, Fail> {
-    let mut files = Vec::new(alloc);
-    files.push(file_of(alloc, FileKind::Hwdb, 1, name, text)?)?;
     Ok(files)
 }
 
@@ -71,95 +116,77 @@ pub(crate) fn input_of(alloc: Global, text: &[u8], each: usize) -> Result<Memory
     Ok(MemorySource::new(alloc, bytes, reads, each, text.len())?)
 }
 
-/// Runs a line over these devices.
+/// An output of so much room.
+pub(crate) fn output_of(alloc: Global, room: Room) -> Result<MemorySink, AllocError> {
+    let mut output = MemorySink::new(alloc, room.bytes, room.each)?;
+    output.set_flushes_fail(!room.flushes);
+    Ok(output)
+}
+
+/// What two outputs took in a run of this status.
+fn outcome_of(
+    alloc: Global,
+    output: &MemorySink,
+    error: &MemorySink,
+    status: u8,
+) -> Result<Outcome, AllocError> {
+    let (written, told) = (output.bytes_taken(), error.bytes_taken());
+    let is_flushed = written.len() == output.bytes_flushed().len()
+        && told.len() == error.bytes_flushed().len();
+    Ok(Outcome {
+        output: Vec::from_slice(alloc, written)?,
+        messages: Vec::from_slice(alloc, told)?,
+        status,
+        is_flushed,
+    })
+}
+
+/// Runs a line over files, with an index in place of the database's where there is one, over an input
+/// and outputs of so much room.
 ///
 /// All tests come here: a function that calls `serve` itself is slow to check, by its long contract.
-pub(crate) fn serve_over(
+pub(crate) fn run_in(
     alloc: Global,
     line: &Line<'_>,
     files: Vec<SourceFile>,
     index: Option<&[u8]>,
     input: &mut MemorySource,
-    output: &mut MemorySink,
-    error: &mut MemorySink,
-) -> u8 {
-    serve(alloc, line, files, index, input, output, error)
+    rooms: (Room, Room),
+) -> Result<Outcome, AllocError> {
+    let (room, error_room) = rooms;
+    let mut output = output_of(alloc, room)?;
+    let mut error = output_of(alloc, error_room)?;
+    let status = serve(alloc, line, files, index, input, &mut output, &mut error);
+    outcome_of(alloc, &output, &error, status)
 }
 
-/// Runs a line with room enough, over no input.
-pub(crate) fn run(alloc: Global, line: &Line<'_>, files: Vec<SourceFile>) -> Result<Outcome, Fail> {
-    run_by(alloc, line, files, None, b"")
-}
-
-/// Runs a line with room enough over an input.
-pub(crate) fn run_on(
-    alloc: Global,
-    line: &Line<'_>,
-    files: Vec<SourceFile>,
-    text: &[u8],
-) -> Result<Outcome, Fail> {
-    run_by(alloc, line, files, None, text)
-}
-
-/// Runs a line with room enough over an input, with an index in place of the database's files.
+/// Runs a line with room enough over an input, with an index in place of the database's files where
+/// there is one.
 pub(crate) fn run_by(
     alloc: Global,
     line: &Line<'_>,
-    files: Vec<SourceFile>,
+    given: &[Given<'_>],
     index: Option<&[u8]>,
     text: &[u8],
 ) -> Result<Outcome, Fail> {
+    let files = files_of(alloc, given)?;
     let mut input = input_of(alloc, text, 4096)?;
-    let mut output = MemorySink::new(alloc, 1_000_000, 4096)?;
-    let mut error = MemorySink::new(alloc, 4096, 4096)?;
-    let status = serve_over(
-        alloc,
-        line,
-        files,
-        index,
-        &mut input,
-        &mut output,
-        &mut error,
-    );
-    Ok(Outcome {
-        output: Vec::from_slice(alloc, output.bytes_flushed())?,
-        messages: Vec::from_slice(alloc, error.bytes_flushed())?,
-        status,
-    })
+    Ok(run_in(alloc, line, files, index, &mut input, (AMPLE, AMPLE))?)
 }
 
-/// Asserts what a run wrote and answered.
-pub(crate) fn assert_outcome(
-    rt: &impl Abort,
-    done: &Outcome,
-    output: &str,
-    messages: &str,
-    status: u8,
-) {
-    assert_bytes(rt, done, output.as_bytes(), messages.as_bytes(), status);
+/// Runs a line with room enough, over no input.
+pub(crate) fn run(alloc: Global, line: &Line<'_>, given: &[Given<'_>]) -> Result<Outcome, Fail> {
+    run_by(alloc, line, given, None, b"")
 }
 
-/// Asserts the bytes that a run wrote, and what it answered.
-pub(crate) fn assert_bytes(
-    rt: &impl Abort,
-    done: &Outcome,
-    output: &[u8],
-    messages: &[u8],
-    status: u8,
-) {
-    assert_eq!(rt; done.output.as_slice(), output);
-    assert_eq!(rt; done.messages.as_slice(), messages);
-    assert_eq!(rt; done.status, status);
-}
-
-/// Runs a line over these sinks and no input.
-pub(crate) fn run_over(
-    alloc: Global,
+/// Asserts what a run with room enough comes to, over no input.
+pub(crate) fn assert_run(
+    rt: &(impl Abort + AllocGlobal),
     line: &Line<'_>,
-    files: Vec<SourceFile>,
-    output: &mut MemorySink,
-    error: &mut MemorySink,
-) -> Result<u8, Fail> {
-    let mut input = input_of(alloc, b"", 1)?;
-    Ok(serve_over(alloc, line, files, None, &mut input, output, error))
+    given: &[Given<'_>],
+    wanted: Expected<'_>,
+) -> Result<(), Fail> {
+    let done = run(rt.alloc(), line, given)?;
+    assert_outcome(rt, &done, wanted);
+    Ok(())
 }

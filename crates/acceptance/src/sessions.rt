@@ -1,16 +1,23 @@
 //! Sessions that are handed an input piece by piece, and blocks as long as a test asks for.
+use crate::running::{Given, files_of};
 use engine_core::{Session, SessionFault, Tables};
 use hwdb_core::{PlainDb, read_sources};
 use rule_core::read_rules;
 use std::alloc::Global;
 use std::test::Fail;
-use text_files::SourceFile;
 
 /// What is answered by files of rules and no database.
-pub(crate) fn tables_of(alloc: Global, files: &[SourceFile]) -> Result<Tables<PlainDb>, Fail> {
-    let rules = read_rules(alloc, files).map_err(|_fault| "no rules")?;
-    let database = read_sources(alloc, &Vec::new(alloc)).map_err(|_fault| "no database")?;
-    Ok(Tables::new(alloc, rules, PlainDb::new(database.entries))?)
+pub(crate) fn tables_of(alloc: Global, given: &[Given<'_>]) -> Result<Tables<PlainDb>, Fail> {
+    let Ok(rules) = read_rules(alloc, &files_of(alloc, given)?) else {
+        return Err("no rules")?;
+    };
+    match read_sources(alloc, &Vec::new(alloc)) {
+        Ok(database) => Ok(Tables::new(alloc, rules, PlainDb::new(database.entries))?),
+        Err(_fault) => {
+            drop(rules);
+            Err("no database")?
+        }
+    }
 }
 
 /// Hands a piece to a session, call by call, and puts the answers behind a text.
@@ -30,6 +37,19 @@ pub(crate) fn take_all(
             text.extend_from_slice(answer.as_slice())
                 .map_err(|_refused| SessionFault::Memory)?;
         }
+    }
+    Ok(())
+}
+
+/// Hands pieces to a session, one behind another, and puts the answers behind a text.
+pub(crate) fn take_each(
+    alloc: Global,
+    session: &mut Session<'_, Tables<PlainDb>>,
+    pieces: &[&[u8]],
+    text: &mut Vec<u8>,
+) -> Result<(), SessionFault> {
+    for piece in pieces {
+        take_all(alloc, session, piece, text)?;
     }
     Ok(())
 }

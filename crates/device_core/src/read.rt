@@ -71,6 +71,7 @@ fn read_rest<'a>(alloc: Global, text: &'a [u8]) -> Result<(Draft<'a>, usize), Bl
         match add_line(alloc, &mut draft, line, below) {
             Ok(()) => {}
             Err(kind) => {
+                drop(draft);
                 return Err(BlockFault {
                     line: above + 1,
                     kind,

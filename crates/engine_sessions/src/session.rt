@@ -170,10 +170,14 @@ fn answer_to<A: Answering>(
     ensures err { IfErr result (λ fault. IsRefused fault number block.now) }
 {
     match read_block(alloc, block) {
-        Ok(event) => match answering.answer(alloc, &event) {
-            Ok(text) => Ok(text),
-            Err(_) => Err(SessionFault::Memory),
-        },
+        Ok(event) => {
+            let said = answering.answer(alloc, &event);
+            drop(event);
+            match said {
+                Ok(text) => Ok(text),
+                Err(_) => Err(SessionFault::Memory),
+            }
+        }
         Err(fault) => {
             if matches!(fault.kind, BlockFaultKind::Memory) {
                 return Err(SessionFault::Memory);

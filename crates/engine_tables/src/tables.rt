@@ -53,7 +53,9 @@ fn answer_by<L: Lookup>(
     ensures { IfOk result (λ text. text ≡ answer event.now (outcome program.now (L.entries lookup.now) event.now)) }
 {
     let outcome = program.evaluate(alloc, event, lookup)?;
-    answer(alloc, event, &outcome)
+    let said = answer(alloc, event, &outcome);
+    drop(outcome);
+    said
 }
 
 impl<L: Lookup> Answering for Tables<L> {

@@ -112,23 +112,6 @@ fn one_turn(
     turn(alloc, session, input, output)
 }
 
-/// Turns until one answers false or fails, at most 200 of them: what the last answered.
-fn turns(
-    alloc: Global,
-    input: &mut MemorySource,
-    output: &mut MemorySink,
-) -> Result<Result<bool, TurnFault>, AllocError> {
-    let brief = Brief;
-    let mut session = Session::new(alloc, &brief)?;
-    for _ in 0..200 {
-        match one_turn(alloc, &mut session, input, output) {
-            Ok(true) => {}
-            last => return Ok(last),
-        }
-    }
-    Ok(Ok(true))
-}
-
 #[test]
 fn each_block_of_a_piece_is_answered(rt: HostRuntime) -> Result<(), Fail> {
     let alloc = rt.alloc();
@@ -214,62 +197,6 @@ fn an_answer_is_flushed_in_the_turn_that_completes_its_block(rt: HostRuntime) ->
     assert!(rt; goes_on(alloc, 57, &mut session, &mut input, &mut output));
     assert!(rt; output.bytes_taken().is_empty());
     assert!(rt; goes_on(alloc, 1, &mut session, &mut input, &mut output));
-    assert_eq!(rt; output.bytes_flushed(), DISK_ANSWER);
-    Ok(())
-}
-
-#[test]
-fn answers_do_not_depend_on_the_reads(rt: HostRuntime) -> Result<(), Fail> {
-    let alloc = rt.alloc();
-    for each in [1, 7, 58, 4096] {
-        let mut input = MemorySource::new(alloc, disks(alloc, 2)?, 200, each, 200)?;
-        let mut output = MemorySink::new(alloc, 200, 200)?;
-        assert_eq!(rt; turns(alloc, &mut input, &mut output)?, Ok(false));
-        assert_eq!(rt;
-            output.bytes_flushed(),
-            b"add /devices/pci0/block/sda\nadd /devices/pci0/block/sda\n".as_slice()
-        );
-    }
-    Ok(())
-}
-
-#[test]
-fn answers_before_a_faulty_block_are_written(rt: HostRuntime) -> Result<(), Fail> {
-    let alloc = rt.alloc();
-    let mut input = MemorySource::new(alloc, FAULTY.to_vec(alloc)?, 9, 99, 99)?;
-    let mut output = MemorySink::new(alloc, 99, 99)?;
-    assert_eq!(rt;
-        turns(alloc, &mut input, &mut output)?,
-        Err(TurnFault::Session(FAULT))
-    );
-    assert_eq!(rt; output.bytes_flushed(), b"add /devices/x\n".as_slice());
-    Ok(())
-}
-
-#[test]
-fn an_output_that_fails_ends_the_turns(rt: HostRuntime) -> Result<(), Fail> {
-    let alloc = rt.alloc();
-    for (room, each, taken) in [(30, 9, 30), (0, 9, 0), (99, 0, 0)] {
-        let mut input = MemorySource::new(alloc, disks(alloc, 2)?, 9, 200, 200)?;
-        let mut output = MemorySink::new(alloc, room, each)?;
-        assert_eq!(rt;
-            turns(alloc, &mut input, &mut output)?,
-            Err(TurnFault::Write)
-        );
-        assert_eq!(rt; output.bytes_taken().len(), taken);
-    }
-    Ok(())
-}
-
-#[test]
-fn a_read_that_fails_ends_the_turns(rt: HostRuntime) -> Result<(), Fail> {
-    let alloc = rt.alloc();
-    let mut input = MemorySource::new(alloc, disks(alloc, 2)?, 9, 60, 60)?;
-    let mut output = MemorySink::new(alloc, 99, 99)?;
-    assert_eq!(rt;
-        turns(alloc, &mut input, &mut output)?,
-        Err(TurnFault::Read)
-    );
     assert_eq!(rt; output.bytes_flushed(), DISK_ANSWER);
     Ok(())
 }

@@ -66,8 +66,13 @@ fn evaluate<'a, L: Lookup>(
     ensures { IfOk result (λ answer. answer ≡ outcome layout.entry.rules.now (L.entries lookup.now) event.now) }
 {
     let mut scene = Scene::new(alloc, event)?;
-    run(alloc, layout, lookup, &mut scene)?;
-    finish(alloc, scene)
+    match run(alloc, layout, lookup, &mut scene) {
+        Ok(()) => finish(alloc, scene),
+        Err(refused) => {
+            drop(scene);
+            Err(refused)
+        }
+    }
 }
 
 impl Program {

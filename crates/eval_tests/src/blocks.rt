@@ -1,19 +1,10 @@
 //! Blocks that are read, and blocks that are refused.
 
-use crate::events::event_of;
 use device_core::{
     BlockFaultKind, Device, DeviceNumber, Event, Pairs, ProgramAnswer, Texts, read_block,
 };
 use std::alloc::{AllocError, Global};
 use std::test::Fail;
-
-/// Whether a block is read.
-fn is_read(alloc: Global, block: &[u8]) -> bool {
-    match read_block(alloc, block) {
-        Ok(_event) => true,
-        Err(_fault) => false,
-    }
-}
 
 /// Whether a block is refused with this fault at this line.
 fn is_refused(alloc: Global, block: &[u8], line: usize, kind: BlockFaultKind) -> bool {
@@ -27,29 +18,6 @@ fn is_refused(alloc: Global, block: &[u8], line: usize, kind: BlockFaultKind) ->
 fn block_below(alloc: Global, lines: &[u8]) -> Result<Vec<u8>, AllocError> {
     let mut block = b"C: add\nP: /d\n".to_vec(alloc)?;
     block.extend_from_slice(lines)?;
-    Ok(block)
-}
-
-/// A block whose third line is a property with this many bytes as its value.
-fn long_block(alloc: Global, count: usize) -> Result<Vec<u8>, AllocError> {
-    let mut block = b"C: add\nP: /devices/x\nE: X=".to_vec(alloc)?;
-    for _ in 0..count {
-        block.push(b'v')?;
-    }
-    block.push(b'\n')?;
-    Ok(block)
-}
-
-/// A block of this many devices, each the parent of the one before.
-fn deep_block(alloc: Global, count: usize) -> Result<Vec<u8>, AllocError> {
-    let mut block = b"C: add\n".to_vec(alloc)?;
-    for above in 0..count {
-        block.extend_from_slice(b"P: ")?;
-        for _ in above..65 {
-            block.extend_from_slice(b"/a")?;
-        }
-        block.push(b'\n')?;
-    }
     Ok(block)
 }
 
@@ -125,35 +93,6 @@ fn lines_below_a_device(rt: HostRuntime) -> Result<(), Fail> {
 fn a_path_that_is_no_parent(rt: HostRuntime) {
     let block = b"C: add\nP: /devices/a\nP: /devices/b\n";
     assert!(rt; is_refused(rt.alloc(), block, 3, BlockFaultKind::Path));
-}
-
-#[test]
-fn the_longest_block(rt: HostRuntime) -> Result<(), Fail> {
-    let block = long_block(rt.alloc(), 65_509)?;
-    assert!(rt; block.len() == 65_536);
-    assert!(rt; is_read(rt.alloc(), &block));
-    Ok(())
-}
-
-#[test]
-fn a_block_that_is_too_long(rt: HostRuntime) -> Result<(), Fail> {
-    let block = long_block(rt.alloc(), 65_510)?;
-    assert!(rt; is_refused(rt.alloc(), &block, 3, BlockFaultKind::TooLong));
-    Ok(())
-}
-
-#[test]
-fn the_most_devices(rt: HostRuntime) -> Result<(), Fail> {
-    let block = deep_block(rt.alloc(), 64)?;
-    assert!(rt; is_read(rt.alloc(), &block));
-    Ok(())
-}
-
-#[test]
-fn a_device_too_many(rt: HostRuntime) -> Result<(), Fail> {
-    let block = deep_block(rt.alloc(), 65)?;
-    assert!(rt; is_refused(rt.alloc(), &block, 66, BlockFaultKind::TooDeep));
-    Ok(())
 }
 
 /// A block with each kind of line.
@@ -242,29 +181,33 @@ fn has_its_parent(event: &Event<'_>) -> bool {
     }
 }
 
-#[test]
-fn the_event_of_a_block(rt: HostRuntime) -> Result<(), Fail> {
-    let event = event_of(rt.alloc(), WHOLE)?;
-    assert!(rt; event.action() == b"change".as_slice());
-    assert!(rt; has_pair(event.constants(), 1, b"arch", b"x86-64"));
-    assert!(rt; has_its_answers(&event));
-    assert!(rt; has_two_devices(&event));
-    Ok(())
+/// Whether the device of the event is as the block says.
+fn has_its_device(event: &Event<'_>) -> bool {
+    is_usb_port(event.device())
+        && has_its_node(event.device())
+        && has_its_pairs(event.device())
+        && has_its_texts(event.device())
+}
+
+/// Whether an event is as the block says.
+fn is_whole(event: &Event<'_>) -> bool {
+    event.action() == b"change".as_slice()
+        && has_pair(event.constants(), 1, b"arch", b"x86-64")
+        && has_its_answers(event)
+        && has_two_devices(event)
+        && has_its_device(event)
+        && has_its_parent(event)
+}
+
+/// Whether the block is read as it says.
+fn is_read_whole(alloc: Global) -> bool {
+    match read_block(alloc, WHOLE) {
+        Ok(event) => is_whole(&event),
+        Err(_fault) => false,
+    }
 }
 
 #[test]
-fn the_device_of_a_block(rt: HostRuntime) -> Result<(), Fail> {
-    let event = event_of(rt.alloc(), WHOLE)?;
-    assert!(rt; is_usb_port(event.device()));
-    assert!(rt; has_its_node(event.device()));
-    assert!(rt; has_its_pairs(event.device()));
-    assert!(rt; has_its_texts(event.device()));
-    Ok(())
-}
-
-#[test]
-fn the_parent_of_a_device(rt: HostRuntime) -> Result<(), Fail> {
-    let event = event_of(rt.alloc(), WHOLE)?;
-    assert!(rt; has_its_parent(&event));
-    Ok(())
+fn a_block_with_each_kind_of_line(rt: HostRuntime) {
+    assert!(rt; is_read_whole(rt.alloc()));
 }

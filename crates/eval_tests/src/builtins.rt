@@ -1,8 +1,8 @@
 //! Commands as rules write them, and what they find of one entry for hubs.
 
-use crate::events::{event_of, state_of};
-use device_core::Event;
+use device_core::{Event, read_block};
 use eval_builtins::{Builtin, Hwdb, look_up, words_are_what_a_command_writes};
+use eval_state::State;
 use hwdb_lookup::{Entry, PlainDb, rising};
 use std::alloc::{AllocError, Global};
 use std::test::Fail;
@@ -28,11 +28,8 @@ fn entry(alloc: Global, pattern: &[u8]) -> Result<Entry, GlobFault> {
 
 /// A database of that entry alone.
 fn database(alloc: Global, pattern: &[u8]) -> Result<PlainDb, Fail> {
-    let Ok(entry) = entry(alloc, pattern) else {
-        return Err(Fail::from("no pattern"));
-    };
     let mut listed = Vec::new(alloc);
-    listed.push(entry)?;
+    listed.push(entry(alloc, pattern)?)?;
     if rising(&listed) {
         Ok(PlainDb::new(listed))
     } else {
@@ -40,35 +37,28 @@ fn database(alloc: Global, pattern: &[u8]) -> Result<PlainDb, Fail> {
     }
 }
 
-/// The options of a command of `hwdb`.
-fn options(alloc: Global, command: &[u8]) -> Result<Hwdb, Fail> {
-    match Builtin::read(alloc, command)? {
-        Builtin::Hwdb(hwdb) => Ok(hwdb),
-        _ => Err(Fail::from("no command of hwdb")),
+/// How many properties are found with such options over what is known of an event.
+fn count_over(alloc: Global, hwdb: &Hwdb, state: &State<'_>, database: &PlainDb) -> Option<usize> {
+    match look_up(alloc, hwdb, state, database) {
+        Ok(found) => Some(found.len()),
+        Err(_refused) => None,
     }
 }
 
-/// How many properties are found for an event.
-fn count_of(
-    alloc: Global,
-    hwdb: &Hwdb,
-    event: &Event<'_>,
-    database: &PlainDb,
-) -> Result<usize, Fail> {
-    let state = state_of(alloc, event)?;
-    Ok(look_up(alloc, hwdb, &state, database)?.len())
+/// How many properties a command of `hwdb` finds for an event.
+fn count_of(alloc: Global, command: &[u8], event: &Event<'_>, database: &PlainDb) -> Option<usize> {
+    match (Builtin::read(alloc, command), State::new(alloc, event)) {
+        (Ok(Builtin::Hwdb(hwdb)), Ok(state)) => count_over(alloc, &hwdb, &state, database),
+        _ => None,
+    }
 }
 
-/// How many properties a command finds for the event of a block.
-fn count(
-    alloc: Global,
-    command: &[u8],
-    block: &'static [u8],
-    database: &PlainDb,
-) -> Result<usize, Fail> {
-    let hwdb = options(alloc, command)?;
-    let event = event_of(alloc, block)?;
-    count_of(alloc, &hwdb, &event, database)
+/// How many properties a command of `hwdb` finds for the event of a block.
+fn count(alloc: Global, command: &[u8], block: &[u8], database: &PlainDb) -> Option<usize> {
+    match read_block(alloc, block) {
+        Ok(event) => count_of(alloc, command, &event, database),
+        Err(_fault) => None,
+    }
 }
 
 /// Whether a command has bad arguments.
@@ -80,22 +70,17 @@ fn is_bad(alloc: Global, command: &[u8]) -> Result<bool, AllocError> {
 }
 
 #[test]
-fn a_hub_above_is_found(rt: HostRuntime) -> Result<(), Fail> {
+fn the_device_of_usb_above_is_looked_up(rt: HostRuntime) -> Result<(), Fail> {
     let hubs = database(rt.alloc(), b"usb:v1D6B*")?;
-    assert_eq!(rt;
-        count(rt.alloc(), b"hwdb --subsystem=usb", BEHIND_HUB, &hubs)?,
-        1
-    );
-    Ok(())
-}
-
-#[test]
-fn a_device_of_usb_ends_the_search(rt: HostRuntime) -> Result<(), Fail> {
-    let hubs = database(rt.alloc(), b"usb:v1D6B*")?;
-    assert_eq!(rt;
-        count(rt.alloc(), b"hwdb --subsystem=usb", BEHIND_DEVICE, &hubs)?,
-        0
-    );
+    for (command, block, wanted) in [
+        (b"hwdb --subsystem=usb".as_slice(), BEHIND_HUB, 1),
+        // a device of USB ends the search
+        (b"hwdb --subsystem=usb", BEHIND_DEVICE, 0),
+        // no key fits
+        (b"hwdb usb:v1D6B --filter=X*", BEHIND_HUB, 0),
+    ] {
+        assert!(rt; count(rt.alloc(), command, block, &hubs) == Some(wanted));
+    }
     Ok(())
 }
 
@@ -103,17 +88,7 @@ fn a_device_of_usb_ends_the_search(rt: HostRuntime) -> Result<(), Fail> {
 fn quotes_and_a_prefix(rt: HostRuntime) -> Result<(), Fail> {
     let quoted = database(rt.alloc(), b"usb:v1D6B x")?;
     let command = b"hwdb --lookup-prefix=usb: 'v1D6B x' --filter=ID_*".as_slice();
-    assert_eq!(rt; count(rt.alloc(), command, BEHIND_HUB, &quoted)?, 1);
-    Ok(())
-}
-
-#[test]
-fn keys_that_do_not_fit_are_not_found(rt: HostRuntime) -> Result<(), Fail> {
-    let hubs = database(rt.alloc(), b"usb:v1D6B*")?;
-    assert_eq!(rt;
-        count(rt.alloc(), b"hwdb usb:v1D6B --filter=X*", BEHIND_HUB, &hubs)?,
-        0
-    );
+    assert!(rt; count(rt.alloc(), command, BEHIND_HUB, &quoted) == Some(1));
     Ok(())
 }
 

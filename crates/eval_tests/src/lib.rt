@@ -10,8 +10,6 @@ mod blocks;
 #[cfg(test)]
 mod builtins;
 #[cfg(test)]
-mod events;
-#[cfg(test)]
 mod rendering;
 #[cfg(test)]
 mod splitting;

@@ -1,55 +1,54 @@
 //! Substitutions over a disk that a person wrote down.
-use crate::events::{event_of, state_of};
-use device_core::Event;
+use device_core::{Event, read_block};
 use eval_rendering::{Mode, Rendered, render};
 use eval_state::State;
 use rule_templates::Template;
-use std::alloc::Global;
+use std::alloc::{AllocError, Global};
 use std::test::Fail;
 use text_bytes::Bytes;
 
 /// A disk without a node or a number.
 const DISK: &[u8] = b"C: add\nP: /devices/x/cciss!c0d1\nA: a=x;y? \nE: L= a  b \nE: A=\xA4\n";
 
-/// What a template gives over what is known; nothing where that is too long.
+/// What a template gives over what is known, if it is one.
 fn text_over(
     alloc: Global,
     state: &State<'_>,
     template: &[u8],
     mode: Mode,
-) -> Result<Option<Vec<u8>>, Fail> {
-    let Ok(template) = Template::read(alloc, template) else {
-        return Err(Fail::from("no template"));
-    };
-    match render(alloc, &template, state, mode)? {
-        Rendered::Text(text) => Ok(Some(text.into_vec())),
-        Rendered::TooLong => Ok(None),
+) -> Result<Option<Rendered>, AllocError> {
+    match Template::read(alloc, template) {
+        Ok(template) => Ok(Some(render(alloc, &template, state, mode)?)),
+        Err(_fault) => Ok(None),
     }
 }
 
-/// What a template gives over an event, after a program that answered `ab cd ef`.
+/// The same over an event, after a program that answered `ab cd ef`.
 fn text_of(
     alloc: Global,
     event: &Event<'_>,
     template: &[u8],
     mode: Mode,
-) -> Result<Option<Vec<u8>>, Fail> {
-    let mut state = state_of(alloc, event)?;
-    state.result = Bytes::copy_of(alloc, b"ab cd ef")?;
+) -> Result<Option<Rendered>, AllocError> {
+    let answer = Bytes::copy_of(alloc, b"ab cd ef")?;
+    let mut state = State::new(alloc, event)?;
+    state.result = answer;
     text_over(alloc, &state, template, mode)
 }
 
-/// What a template gives over the disk.
-fn rendered(alloc: Global, template: &[u8], mode: Mode) -> Result<Option<Vec<u8>>, Fail> {
-    let event = event_of(alloc, DISK)?;
-    text_of(alloc, &event, template, mode)
+/// The same over the disk.
+fn rendered(alloc: Global, template: &[u8], mode: Mode) -> Result<Option<Rendered>, AllocError> {
+    match read_block(alloc, DISK) {
+        Ok(event) => text_of(alloc, &event, template, mode),
+        Err(_fault) => Ok(None),
+    }
 }
 
 /// Whether a template gives this text over the disk.
-fn gives(alloc: Global, template: &[u8], mode: Mode, text: &[u8]) -> Result<bool, Fail> {
+fn gives(alloc: Global, template: &[u8], mode: Mode, text: &[u8]) -> Result<bool, AllocError> {
     match rendered(alloc, template, mode)? {
-        Some(found) => Ok(found.as_slice() == text),
-        None => Ok(false),
+        Some(Rendered::Text(found)) => Ok(found.as_slice() == text),
+        _ => Ok(false),
     }
 }
 
@@ -99,18 +98,19 @@ fn pieces_of_a_link_are_judged_as_one_text(rt: HostRuntime) -> Result<(), Fail> 
 
 /// How many bytes come of so many letters with a digit behind them; nothing where these are too many.
 fn length_of(alloc: Global, letters: usize) -> Result<Option<usize>, Fail> {
-    let mut template = Vec::new(alloc);
-    for _ in 0..letters {
-        template.push(b'a')?;
-    }
+    let mut template = vec![in alloc; b'a'; letters]?;
     template.extend_from_slice(b"%n")?;
-    Ok(rendered(alloc, &template, Mode::Plain)?.map(|text| text.len()))
+    match rendered(alloc, &template, Mode::Plain)? {
+        Some(Rendered::Text(text)) => Ok(Some(text.as_slice().len())),
+        Some(Rendered::TooLong) => Ok(None),
+        None => Err(Fail::from("no template")),
+    }
 }
 
 #[test]
 fn texts_have_16_384_bytes_at_most(rt: HostRuntime) -> Result<(), Fail> {
     for (letters, length) in [(16383, Some(16384)), (16384, None), (16385, None)] {
-        assert_eq!(rt; length_of(rt.alloc(), letters)?, length);
+        assert!(rt; length_of(rt.alloc(), letters)? == length);
     }
     Ok(())
 }

@@ -11,12 +11,19 @@ fn fits_blind(alloc: Global, choice: &[u8], text: &[u8]) -> Result<bool, GlobFau
     Ok(Choice::read_blind(alloc, choice)?.fits(text))
 }
 
-fn fault_of(alloc: Global, choice: &[u8]) -> Option<GlobFault> {
-    Choice::read(alloc, choice).err()
+fn part_count(alloc: Global, choice: &[u8]) -> Result<usize, GlobFault> {
+    Ok(Choice::read(alloc, choice)?.parts().len())
 }
 
-fn blind_fault_of(alloc: Global, choice: &[u8]) -> Option<GlobFault> {
-    Choice::read_blind(alloc, choice).err()
+/// Whether a choice has this fault, read in both ways.
+fn has_fault(alloc: Global, choice: &[u8], fault: GlobFault) -> bool {
+    match (
+        Choice::read(alloc, choice),
+        Choice::read_blind(alloc, choice),
+    ) {
+        (Err(found), Err(found_blindly)) => found == fault && found_blindly == fault,
+        _ => false,
+    }
 }
 
 #[test]
@@ -30,7 +37,6 @@ fn parts(rt: HostRuntime) -> Result<(), Fail> {
     ] {
         assert_eq!(rt; fits(rt.alloc(), choice, text)?, wanted);
     }
-    assert_eq!(rt; Choice::read(rt.alloc(), b"[a|b]")?.parts().len(), 2);
     Ok(())
 }
 
@@ -55,13 +61,19 @@ fn blind(rt: HostRuntime) -> Result<(), Fail> {
 }
 
 #[test]
-fn faults(rt: HostRuntime) -> Result<(), Fail> {
-    let alloc = rt.alloc();
-    let class = Some(GlobFault::Class { at: 4 });
-    assert_eq!(rt; fault_of(alloc, b"ab|[[:x]|[[=]"), class);
-    assert_eq!(rt; blind_fault_of(alloc, b"ab|[[:x]|[[=]"), class);
-    let bars = vec![in alloc; b'|'; 16385]?;
-    assert_eq!(rt; fault_of(alloc, &bars), Some(GlobFault::TooLong));
-    assert_eq!(rt; blind_fault_of(alloc, &bars), Some(GlobFault::TooLong));
+fn a_bar_cuts_a_set(rt: HostRuntime) -> Result<(), Fail> {
+    assert!(rt; part_count(rt.alloc(), b"[a|b]")? == 2);
+    Ok(())
+}
+
+#[test]
+fn a_class_is_a_fault(rt: HostRuntime) {
+    assert!(rt; has_fault(rt.alloc(), b"ab|[[:x]|[[=]", GlobFault::Class { at: 4 }));
+}
+
+#[test]
+fn a_choice_may_be_too_long(rt: HostRuntime) -> Result<(), Fail> {
+    let bars = vec![in rt.alloc(); b'|'; 16385]?;
+    assert!(rt; has_fault(rt.alloc(), &bars, GlobFault::TooLong));
     Ok(())
 }

@@ -7,8 +7,23 @@ fn fits(alloc: Global, pattern: &[u8], text: &[u8]) -> Result<bool, GlobFault> {
     Ok(Pattern::read(alloc, pattern)?.fits(text))
 }
 
-fn fault_of(alloc: Global, pattern: &[u8]) -> Option<GlobFault> {
-    Pattern::read(alloc, pattern).err()
+fn copy_fits(alloc: Global, pattern: &[u8], text: &[u8]) -> Result<bool, GlobFault> {
+    Ok(Pattern::read(alloc, pattern)?.copy(alloc)?.fits(text))
+}
+
+fn begins_with(alloc: Global, pattern: &[u8], item: &Item) -> Result<bool, GlobFault> {
+    Ok(Pattern::read(alloc, pattern)?.items().first() == Some(item))
+}
+
+fn item_count(alloc: Global, pattern: &[u8]) -> Result<usize, GlobFault> {
+    Ok(Pattern::read(alloc, pattern)?.items().len())
+}
+
+fn has_fault(alloc: Global, pattern: &[u8], fault: GlobFault) -> bool {
+    match Pattern::read(alloc, pattern) {
+        Err(found) => found == fault,
+        Ok(_) => false,
+    }
 }
 
 #[test]
@@ -33,38 +48,48 @@ fn brackets(rt: HostRuntime) -> Result<(), Fail> {
 
 #[test]
 fn ranges(rt: HostRuntime) -> Result<(), Fail> {
-    let alloc = rt.alloc();
-    let empty = Pattern::read(alloc, b"[b-a]")?;
-    let from_minus = Pattern::read(alloc, b"[--a]")?;
     for byte in 0..=255 {
-        assert!(rt; !empty.fits(&[byte]));
-        assert_eq!(rt; from_minus.fits(&[byte]), byte >= b'-' && byte <= b'a');
+        assert!(rt; !fits(rt.alloc(), b"[b-a]", &[byte])?);
+        let is_between = byte >= b'-' && byte <= b'a';
+        assert!(rt; fits(rt.alloc(), b"[--a]", &[byte])? == is_between);
     }
     Ok(())
 }
 
+/// The pattern of a device by its name.
+const TRACKBALL: &[u8] = b"mouse:*:name:*[tT]rack[bB]all*:*";
+
 #[test]
 fn modalias(rt: HostRuntime) -> Result<(), Fail> {
-    let pattern = Pattern::read(rt.alloc(), b"mouse:*:name:*[tT]rack[bB]all*:*")?;
-    let copy = pattern.copy(rt.alloc())?;
-    assert!(rt; pattern.fits(b"mouse:usb:name:My TrackBall:x"));
-    assert!(rt; copy.fits(b"mouse:usb:name:My TrackBall:x"));
-    assert!(rt; !copy.fits(b"mouse:usb:name:My Mouse:x"));
-    assert_eq!(rt; copy.items().first(), Some(&Item::Byte(b'm')));
+    for (text, wanted) in [
+        (b"mouse:usb:name:My TrackBall:x".as_slice(), true),
+        (b"mouse:usb:name:My Mouse:x", false),
+    ] {
+        assert!(rt; fits(rt.alloc(), TRACKBALL, text)? == wanted);
+        assert!(rt; copy_fits(rt.alloc(), TRACKBALL, text)? == wanted);
+    }
+    assert!(rt; begins_with(rt.alloc(), TRACKBALL, &Item::Byte(b'm'))?);
     Ok(())
 }
 
 #[test]
-fn faults(rt: HostRuntime) -> Result<(), Fail> {
-    let alloc = rt.alloc();
-    let class = Some(GlobFault::Class { at: 3 });
-    assert_eq!(rt; fault_of(alloc, b"a[b[:c]"), class);
-    let class = Some(GlobFault::Class { at: 1 });
-    assert_eq!(rt; fault_of(alloc, b"[[.]"), class);
-    let classes = vec![in alloc; b'['; 16385]?;
-    assert_eq!(rt; fault_of(alloc, &classes), Some(GlobFault::TooLong));
-    let brackets = vec![in alloc; b'['; 16384]?;
-    assert_eq!(rt; Pattern::read(alloc, &brackets)?.items().len(), 16384);
+fn a_class_is_a_fault(rt: HostRuntime) {
+    for (pattern, at) in [(b"a[b[:c]".as_slice(), 3), (b"[[.]", 1)] {
+        assert!(rt; has_fault(rt.alloc(), pattern, GlobFault::Class { at }));
+    }
+}
+
+#[test]
+fn a_pattern_may_be_too_long(rt: HostRuntime) -> Result<(), Fail> {
+    let brackets = vec![in rt.alloc(); b'['; 16385]?;
+    assert!(rt; has_fault(rt.alloc(), &brackets, GlobFault::TooLong));
+    Ok(())
+}
+
+#[test]
+fn the_longest_pattern_is_read(rt: HostRuntime) -> Result<(), Fail> {
+    let brackets = vec![in rt.alloc(); b'['; 16384]?;
+    assert!(rt; item_count(rt.alloc(), &brackets)? == 16384);
     Ok(())
 }
 

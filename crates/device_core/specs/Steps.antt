@@ -197,6 +197,11 @@ unfoldable pub steps : Sofar → ℕ → List Text → Result (Sofar × ℕ) Blo
 steps s above [] = Ok (s, above)
 steps s above (line ∷ below) = then_steps (above + 1) (λ t. steps t (above + 1) below) (line_step s line (begins_answer below))
 
+-- the devices of the chain, if there is one
+abbrev pub some_devices : List DeviceValue → Result (List DeviceValue) BlockFaultKind
+some_devices [] = Err NoDevice
+some_devices (device ∷ parents) = Ok (device ∷ parents)
+
 -- the event with these devices
 abbrev pub with_devices : Text → Sofar → ℕ → List DeviceValue → Result EventValue BlockFault
 with_devices action s count [] = Err (record { line = count; kind = NoDevice })

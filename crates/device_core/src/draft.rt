@@ -100,8 +100,7 @@ fn begin_device<'a>(
 {
     check_path(draft.closed.len(), &draft.last, path)?;
     let last = draft.last.replace(bare_device(alloc, path));
-    close_last(&mut draft.closed, last)?;
-    Ok(())
+    close_last(&mut draft.closed, last)
 }
 
 /// A command, with whether its answer follows.
@@ -159,17 +158,15 @@ pub(crate) fn add_row<'a>(
 {
     let asked = draft.asked.take();
     match kind {
-        LineKind::Action => {
-            if rest.is_empty() {
-                return Err(BlockFaultKind::Pair);
-            }
-            return Err(BlockFaultKind::Twice);
+        LineKind::Action if rest.is_empty() => Err(BlockFaultKind::Pair),
+        LineKind::Action => Err(BlockFaultKind::Twice),
+        LineKind::Device => begin_device(alloc, draft, rest),
+        LineKind::Field(field) => add_to_last(&mut draft.last, field, rest),
+        LineKind::Constant => add_pair(&mut draft.constants, rest),
+        LineKind::Command => {
+            draft.asked = Some(check_command(&draft.programs, rest, answered)?);
+            Ok(())
         }
-        LineKind::Device => begin_device(alloc, draft, rest)?,
-        LineKind::Field(field) => add_to_last(&mut draft.last, field, rest)?,
-        LineKind::Constant => add_pair(&mut draft.constants, rest)?,
-        LineKind::Command => draft.asked = Some(check_command(&draft.programs, rest, answered)?),
-        LineKind::Answer => add_answer(&mut draft.programs, asked, rest)?,
+        LineKind::Answer => add_answer(&mut draft.programs, asked, rest),
     }
-    Ok(())
 }

@@ -1,6 +1,6 @@
 //! A device with one more line about it.
-ghost use Rattle.std.specs.Prelude.{◌≡◌, option_map};
-ghost use Rattle.device_core.specs.Steps.{Gives, once_step, number_step, pair_step, member_step, field_step, bare_device};
+ghost use Rattle.std.specs.Prelude.{◌≡◌, Some, option_map};
+ghost use Rattle.device_core.specs.Steps.{Gives, if_ok, once_step, number_step, pair_step, member_step, field_step, bare_device};
 
 use crate::devices::{Device, DeviceNumber};
 use crate::faults::BlockFaultKind;
@@ -28,33 +28,35 @@ pub(crate) fn bare_device<'a>(alloc: Global, path: &'a [u8]) -> Device<'a>
 
 /// A text that a device may have once.
 #[tactic(auto, unfolding(crate::specs::Steps::once_step))]
-fn text_once<'a>(before: Option<&'a [u8]>, rest: &'a [u8]) -> Result<&'a [u8], BlockFaultKind>
-    ensures { Gives (λ t. t.now) result (once_step (option_map (λ t. t.now) before.entry) rest.now) }
+fn set_text<'a>(text: &mut Option<&'a [u8]>, rest: &'a [u8]) -> Result<(), BlockFaultKind>
+    ensures { Gives (λ _. option_map (λ t. t.now) text.new) result (if_ok Some (once_step (option_map (λ t. t.now) text.old) rest.now)) }
 {
     if rest.is_empty() {
         return Err(BlockFaultKind::Pair);
     }
-    if before.is_some() {
+    if text.is_some() {
         return Err(BlockFaultKind::Twice);
     }
-    Ok(rest)
+    *text = Some(rest);
+    Ok(())
 }
 
 /// The number of a device.
 #[tactic(auto, unfolding(crate::specs::Steps::number_step))]
-fn number_once<'a>(
-    before: &Option<DeviceNumber<'a>>,
+fn set_number<'a>(
+    number: &mut Option<DeviceNumber<'a>>,
     rest: &'a [u8],
-) -> Result<DeviceNumber<'a>, BlockFaultKind>
-    ensures { Gives (λ n. n) result (number_step before.now rest.now) }
+) -> Result<(), BlockFaultKind>
+    ensures { Gives (λ _. number.new) result (if_ok Some (number_step number.old rest.now)) }
 {
-    let Some(number) = number_of(rest) else {
+    let Some(read) = number_of(rest) else {
         return Err(BlockFaultKind::Number);
     };
-    if before.is_some() {
+    if number.is_some() {
         return Err(BlockFaultKind::Twice);
     }
-    Ok(number)
+    *number = Some(read);
+    Ok(())
 }
 
 /// One more name with its value.
@@ -95,14 +97,13 @@ pub(crate) fn add_field<'a>(
     ensures { Gives (λ _. device.new) result (field_step device.old field rest.now) }
 {
     match field {
-        DeviceField::Subsystem => device.subsystem = Some(text_once(device.subsystem, rest)?),
-        DeviceField::Driver => device.driver = Some(text_once(device.driver, rest)?),
-        DeviceField::Node => device.node = Some(text_once(device.node, rest)?),
-        DeviceField::Devnum => device.number = Some(number_once(&device.number, rest)?),
-        DeviceField::Attribute => add_pair(&mut device.attrs, rest)?,
-        DeviceField::Property => add_pair(&mut device.env, rest)?,
-        DeviceField::Tag => add_text(&mut device.tags, rest)?,
-        DeviceField::Link => add_text(&mut device.links, rest)?,
+        DeviceField::Subsystem => set_text(&mut device.subsystem, rest),
+        DeviceField::Driver => set_text(&mut device.driver, rest),
+        DeviceField::Node => set_text(&mut device.node, rest),
+        DeviceField::Devnum => set_number(&mut device.number, rest),
+        DeviceField::Attribute => add_pair(&mut device.attrs, rest),
+        DeviceField::Property => add_pair(&mut device.env, rest),
+        DeviceField::Tag => add_text(&mut device.tags, rest),
+        DeviceField::Link => add_text(&mut device.links, rest),
     }
-    Ok(())
 }

@@ -1,12 +1,14 @@
 //! A whole block: its lines one after another, and the event at the end.
-ghost use Rattle.std.specs.Prelude.{◌≡◌, ◌≢◌, ◌∷◌, ◌+◌, ◌<◌, ◌≤◌, length, Ok, Err, IfOk, IfErr, nat_eq};
+ghost use Rattle.std.specs.Prelude.{◌≡◌, ◌≢◌, ◌∷◌, ◌++◌, ◌+◌, ◌<◌, ◌≤◌, length, Ok, Err, IfOk, IfErr, nat_eq};
+ghost use Rattle.std.specs.Option.{option_to_list};
 ghost use Rattle.text_words.specs.Lines.{lines};
 ghost use Rattle.device_core.specs.Values.{most_devices};
 ghost use Rattle.device_core.specs.Lines.{begins_answer};
 ghost use Rattle.device_runs.specs.Blocks.{line_of_excess, most_bytes};
 ghost use Rattle.device_core.specs.Faults.{block_gives};
-ghost use Rattle.device_core.specs.Steps.{Gives, GivesAt, sofar, start, first_step, line_step, steps, finished, read_lines};
+ghost use Rattle.device_core.specs.Steps.{Gives, GivesAt, sofar, start, first_step, line_step, steps, some_devices, finished, read_lines};
 
+use crate::devices::Device;
 use crate::draft::{Draft, add_row, close_last, new_draft};
 use crate::events::Event;
 use crate::faults::{BlockFault, BlockFaultKind};
@@ -84,6 +86,22 @@ fn read_rest<'a>(alloc: Global, text: &'a [u8]) -> Result<(Draft<'a>, usize), Bl
     Ok((draft, above))
 }
 
+/// The event's device, taken out of those of its chain.
+fn take_first<'a>(
+    devices: &mut Vec<Device<'a>>,
+    last: Option<Device<'a>>,
+) -> Result<Device<'a>, BlockFaultKind>
+    requires { length devices.old.items < most_devices }
+    ensures chain { Gives (λ first. first ∷ devices.new.items) result (some_devices (devices.old.items ++ option_to_list last.entry)) }
+    ensures few { IfOk result (λ _. length devices.new.items < most_devices) }
+{
+    close_last(devices, last)?;
+    if devices.is_empty() {
+        return Err(BlockFaultKind::NoDevice);
+    }
+    Ok(devices.remove(0))
+}
+
 /// The event of all lines.
 #[tactic(auto, unfolding(crate::specs::Steps::finished))]
 fn finish<'a>(action: &'a [u8], draft: Draft<'a>, count: usize) -> Result<Event<'a>, BlockFault>
@@ -98,24 +116,21 @@ fn finish<'a>(action: &'a [u8], draft: Draft<'a>, count: usize) -> Result<Event<
         asked: _,
     } = draft;
     let mut devices = closed;
-    match close_last(&mut devices, last) {
-        Ok(()) => {}
-        Err(kind) => return Err(BlockFault { line: count, kind }),
+    match take_first(&mut devices, last) {
+        Ok(device) => Ok(Event {
+            action,
+            device,
+            parents: devices,
+            programs,
+            constants,
+        }),
+        Err(kind) => {
+            drop(devices);
+            drop(programs);
+            drop(constants);
+            Err(BlockFault { line: count, kind })
+        }
     }
-    if devices.is_empty() {
-        return Err(BlockFault {
-            line: count,
-            kind: BlockFaultKind::NoDevice,
-        });
-    }
-    let device = devices.remove(0);
-    Ok(Event {
-        action,
-        device,
-        parents: devices,
-        programs,
-        constants,
-    })
 }
 
 /// The line that holds the first byte too many.

@@ -39,26 +39,31 @@ fn database(alloc: Global, pattern: &[u8]) -> Result<PlainDb, Fail> {
 
 /// How many properties are found with such options over what is known of an event.
 fn count_over(alloc: Global, hwdb: &Hwdb, state: &State<'_>, database: &PlainDb) -> Option<usize> {
-    match look_up(alloc, hwdb, state, database) {
-        Ok(found) => Some(found.len()),
-        Err(_refused) => None,
-    }
+    let found = look_up(alloc, hwdb, state, database).ok()?;
+    let count = found.len();
+    drop(found);
+    Some(count)
 }
 
 /// How many properties a command of `hwdb` finds for an event.
 fn count_of(alloc: Global, command: &[u8], event: &Event<'_>, database: &PlainDb) -> Option<usize> {
-    match (Builtin::read(alloc, command), State::new(alloc, event)) {
-        (Ok(Builtin::Hwdb(hwdb)), Ok(state)) => count_over(alloc, &hwdb, &state, database),
-        _ => None,
-    }
+    let Ok(Builtin::Hwdb(hwdb)) = Builtin::read(alloc, command) else {
+        return None;
+    };
+    let state = State::new(alloc, event).ok()?;
+    let count = count_over(alloc, &hwdb, &state, database);
+    drop(state);
+    count
 }
 
 /// How many properties a command of `hwdb` finds for the event of a block.
 fn count(alloc: Global, command: &[u8], block: &[u8], database: &PlainDb) -> Option<usize> {
-    match read_block(alloc, block) {
-        Ok(event) => count_of(alloc, command, &event, database),
-        Err(_fault) => None,
-    }
+    let Ok(event) = read_block(alloc, block) else {
+        return None;
+    };
+    let count = count_of(alloc, command, &event, database);
+    drop(event);
+    count
 }
 
 /// Whether a command has bad arguments.

@@ -33,15 +33,19 @@ fn text_of(
     let answer = Bytes::copy_of(alloc, b"ab cd ef")?;
     let mut state = State::new(alloc, event)?;
     state.result = answer;
-    text_over(alloc, &state, template, mode)
+    let text = text_over(alloc, &state, template, mode);
+    drop(state);
+    text
 }
 
 /// The same over the disk.
 fn rendered(alloc: Global, template: &[u8], mode: Mode) -> Result<Option<Rendered>, AllocError> {
-    match read_block(alloc, DISK) {
-        Ok(event) => text_of(alloc, &event, template, mode),
-        Err(_fault) => Ok(None),
-    }
+    let Ok(event) = read_block(alloc, DISK) else {
+        return Ok(None);
+    };
+    let text = text_of(alloc, &event, template, mode);
+    drop(event);
+    text
 }
 
 /// Whether a template gives this text over the disk.

@@ -22,18 +22,22 @@ fn has_slashes(state: &State<'_>) -> bool {
 
 /// Whether both hold of what is known of the event before any rule has run.
 fn begins_so(alloc: Global, event: &Event<'_>) -> bool {
-    match State::new(alloc, event) {
-        Ok(state) => is_told(&state) && has_slashes(&state),
-        Err(_refused) => false,
-    }
+    let Ok(state) = State::new(alloc, event) else {
+        return false;
+    };
+    let is_so = is_told(&state) && has_slashes(&state);
+    drop(state);
+    is_so
 }
 
 /// Whether both hold of the block's event.
 fn is_so(alloc: Global) -> bool {
-    match read_block(alloc, BLOCK) {
-        Ok(event) => begins_so(alloc, &event),
-        Err(_fault) => false,
-    }
+    let Ok(event) = read_block(alloc, BLOCK) else {
+        return false;
+    };
+    let is_so = begins_so(alloc, &event);
+    drop(event);
+    is_so
 }
 
 #[test]

@@ -26,14 +26,18 @@ fn subject_of(alloc: Global, key: Key, attribute: Option<&[u8]>) -> Result<Subje
         Some(text) => Some(Bytes::copy_of(alloc, text)?),
         None => None,
     };
-    match topic_of(key, attribute) {
-        None => Ok(Subject::Nothing),
-        Some(Topic::Env(_)) => Ok(Subject::Property),
-        Some(Topic::Test(None)) => Ok(Subject::FileOfAnyMode),
-        Some(Topic::Test(Some(_))) => Ok(Subject::FileOfAMode),
-        Some(Topic::Import(ImportType::Db)) => Ok(Subject::Database),
-        Some(_) => Ok(Subject::Other),
-    }
+    let Some(topic) = topic_of(key, attribute) else {
+        return Ok(Subject::Nothing);
+    };
+    let subject = match &topic {
+        Topic::Env(_) => Subject::Property,
+        Topic::Test(None) => Subject::FileOfAnyMode,
+        Topic::Test(Some(_)) => Subject::FileOfAMode,
+        Topic::Import(ImportType::Db) => Subject::Database,
+        _ => Subject::Other,
+    };
+    drop(topic);
+    Ok(subject)
 }
 
 /// What a key is for its rule, as far as the tests here tell it.
@@ -53,14 +57,18 @@ fn use_of(key: Key, operator: Operator) -> Use {
     let Some(topic) = topic_of(key, None) else {
         return Use::Nothing;
     };
-    match role_of(topic, operator) {
-        None => Use::Nothing,
-        Some(Role::Plain(PlainKey::Name, MatchOperator::NotEqual)) => Use::UnequalName,
-        Some(Role::Up(UpKey::Tags, MatchOperator::Equal)) => Use::EqualTags,
-        Some(Role::Program(MatchOperator::Equal)) => Use::EqualProgram,
-        Some(Role::Set(Target::Symlink, AssignOperator::Remove)) => Use::LinksRemoved,
-        Some(_) => Use::Other,
-    }
+    let Some(role) = role_of(topic, operator) else {
+        return Use::Nothing;
+    };
+    let found = match &role {
+        Role::Plain(PlainKey::Name, MatchOperator::NotEqual) => Use::UnequalName,
+        Role::Up(UpKey::Tags, MatchOperator::Equal) => Use::EqualTags,
+        Role::Program(MatchOperator::Equal) => Use::EqualProgram,
+        Role::Set(Target::Symlink, AssignOperator::Remove) => Use::LinksRemoved,
+        _ => Use::Other,
+    };
+    drop(role);
+    found
 }
 
 #[test]

@@ -1,0 +1,8 @@
+#!/usr/bin/env bash
+# What the program says to the rows of the tables in tests/tables/.
+set -uo pipefail
+# shellcheck source=lib.sh
+. "$(dirname "$0")/lib.sh"
+PYTHONDONTWRITEBYTECODE=1 python3 "$top/tests/rows.py" "$program"
+# (each row has its own line)
+exit 0

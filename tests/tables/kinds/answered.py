@@ -28,14 +28,14 @@ def block(path, *lines):
     return b"\n".join([b"C: add", b"P: " + as_bytes(path), *(as_bytes(line) for line in lines)]) + b"\n\n"
 
 
-def answered(name, rules, *asked, messages=b""):
-    """A run over a file `r.rules` of these lines. Each thing asked is a pair: the lines of a block behind its path `/d`, and
-    the lines that its answer has besides the event, ACTION and DEVPATH."""
+def answered(name, rules, *asked, path="/d", messages=b""):
+    """A run over a file `r.rules` of these lines. Each thing asked is a pair: the lines of a block behind its path, and the
+    lines that its answer has besides the event, ACTION and DEVPATH."""
     return Row(
         name,
         "events -r none r.rules",
         {"r.rules": b"".join(as_bytes(line) + b"\n" for line in rules)},
-        input=b"".join(block("/d", *lines) for lines, _ in asked),
-        output=b"".join(answer("/d", wanted) for _, wanted in asked),
+        input=b"".join(block(path, *lines) for lines, _ in asked),
+        output=b"".join(answer(path, wanted) for _, wanted in asked),
         messages=messages,
     )

@@ -104,6 +104,7 @@ fn a_fault_stands_at_the_first_byte_of_its_token(rt: HostRuntime) {
     refuses(&rt, b"", TokenFaultKind::Syntax);
     refuses(&rt, br#" A="x""#, TokenFaultKind::Syntax);
     refuses(&rt, br#"KERNEL=="a"#, TokenFaultKind::Syntax);
+    refuses(&rt, br#"KERNEL=="a\\"#, TokenFaultKind::Syntax);
     refuses(&rt, br#"A=e"\400""#, TokenFaultKind::Syntax);
     refuses(&rt, br#"A=e"\uD800""#, TokenFaultKind::Syntax);
     refuses(&rt, br#"KERNEL==x"a""#, TokenFaultKind::Prefix);

@@ -36,17 +36,33 @@ ROWS = [
         },
         "2 7 4",
     ),
-    rules("names are sorted over all folders", {(0, "9.rules"): "d", (1, "10.rules"): "b", (2, "1.rules"): "a", (3, "2.rules"): "c"}, "a b c d"),
-    rules("names are sorted by bytes", {(0, "a.rules"): "3", (0, "B.rules"): "2", (0, "10.rules"): "1", (0, "\u00E4.rules"): "4"}, "1 2 3 4"),
+    rules(
+        "names are sorted over all folders",
+        {(0, "9.rules"): "d", (1, "10.rules"): "b", (2, "1.rules"): "a", (3, "2.rules"): "c"},
+        "a b c d",
+    ),
+    rules(
+        "names are sorted by bytes",
+        {(0, "a.rules"): "3", (0, "B.rules"): "2", (0, "10.rules"): "1", (0, "\u00E4.rules"): "4"},
+        "1 2 3 4",
+    ),
     rules("/etc stands before the others", {(rank, "a.rules"): str(rank) for rank in (0, 1, 2, 3)}, "0"),
     rules("/run stands before /usr", {(rank, "a.rules"): str(rank) for rank in (1, 2, 3)}, "1"),
     rules("/usr/local/lib stands before /usr/lib", {(rank, "a.rules"): str(rank) for rank in (2, 3)}, "2"),
-    rules("names that end otherwise are not read", {(0, "a.rules.old"): "1", (0, "b.hwdb"): "2", (0, "crules"): "3", (3, "RULES"): "4"}, ""),
+    rules(
+        "names that end otherwise are not read",
+        {(0, "a.rules.old"): "1", (0, "b.hwdb"): "2", (0, "crules"): "3", (3, "RULES"): "4"},
+        "",
+    ),
     rules("a name may be the ending alone", {(3, ".rules"): "1"}, "1"),
     Row(
         "rules: a file that holds nothing hides one below it",
         "verify -r root",
-        {"root/etc/udev/rules.d/a.rules": "", "root/usr/lib/udev/rules.d/a.rules": "A\n", "root/usr/lib/udev/rules.d/b.rules": ""},
+        {
+            "root/etc/udev/rules.d/a.rules": "",
+            "root/usr/lib/udev/rules.d/a.rules": "A\n",
+            "root/usr/lib/udev/rules.d/b.rules": "",
+        },
         output="2 files checked, 2 good, 0 bad\n",
     ),
     database(

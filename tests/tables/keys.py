@@ -40,6 +40,9 @@ VALUES = {
     "option": ("watch", "V5 bad value: [[:x:]]", "V5 bad value: $nope"),
 }
 
+# Types of IMPORT that leave a note.
+NOT_RUN = ["program", "file", "cmdline", "db"]
+
 # Each key once, as the table has it.
 EACH = [(key, *row) for keys, *row in KEYS for key in keys.split()]
 
@@ -141,27 +144,67 @@ ROWS = [
     verified(
         "masks of TEST",
         *(f'TEST{{{mask}}}=="x"' for mask in ["0", "7", "00777", "77777"]),
-        *((f'TEST{{{mask}}}=="x"', "V4 attribute missing or not allowed: TEST") for mask in ["000777", "8", "0x7", "-1", "7 ", ""]),
+        *(
+            (f'TEST{{{mask}}}=="x"', "V4 attribute missing or not allowed: TEST")
+            for mask in ["000777", "8", "0x7", "-1", "7 ", ""]
+        ),
+    ),
+    answered(
+        "a test with a mask is not made",
+        ['TEST{00777}=="f", TAG="mode"', 'TEST=="f", TAG+="any"'],
+        (["A: f="], ["tag any", "note r.rules:1: test not made: f"]),
     ),
     answered(
         "types of IMPORT as notes name them",
-        [f'IMPORT{{{name}}}!="x"' for name in ["program", "file", "cmdline", "db"]],
-        ([], [f"note r.rules:{line}: import not run: {name}" for line, name in enumerate(["program", "file", "cmdline", "db"], 1)]),
+        [f'IMPORT{{{name}}}!="x"' for name in NOT_RUN],
+        ([], [f"note r.rules:{line}: import not run: {name}" for line, name in enumerate(NOT_RUN, 1)]),
     ),
-    answered("types of RUN", ['RUN{builtin}+="b"', 'RUN+="a"', 'RUN{program}+="c"'], ([], ["run builtin b", "run program a", "run program c"])),
+    answered(
+        "types of RUN",
+        ['RUN{builtin}+="b"', 'RUN+="a"', 'RUN{program}+="c"'],
+        ([], ["run builtin b", "run program a", "run program c"]),
+    ),
     answered("a label keeps its module", ['SECLABEL{selinux}="u"'], ([], ["label selinux=u"])),
     # the operators that are read as another one
     answered("MODE+= is read as =", ['MODE+="1"', 'MODE+="2"'], ([], ["mode 2"])),
     answered("MODE:= is final", ['MODE:="1"', 'MODE="2"'], ([], ["mode 1"])),
     answered("ENV:= is read as =, and not final", ['ENV{A}:="1"', 'ENV{A}="2"'], ([], ["env A=2"])),
     answered("TAG:= is read as =, and not final", ['TAG:="a"', 'TAG+="b"'], (["G: x"], ["tag a", "tag b"])),
-    answered("PROGRAM and IMPORT are done whatever assigns", ['PROGRAM+="p", TAG="p"', 'IMPORT{builtin}:="kmod"', 'IMPORT{parent}="*", TAG+="i"'], (["Q: p", "R: 0"], ["tag p", "note r.rules:2: builtin not run: kmod"])),
-    answered("PROGRAM!= turns what came of it", ['PROGRAM!="p", TAG="p"', 'PROGRAM!="q", TAG="q"'], (["Q: p", "R: 0", "Q: q", "R: 1"], ["tag q"])),
+    answered(
+        "PROGRAM and IMPORT are done whatever assigns",
+        ['PROGRAM+="p", TAG="p"', 'IMPORT{builtin}:="kmod"', 'IMPORT{parent}="*", TAG+="i"'],
+        (["Q: p", "R: 0"], ["tag p", "note r.rules:2: builtin not run: kmod"]),
+    ),
+    answered(
+        "PROGRAM!= turns what came of it",
+        ['PROGRAM!="p", TAG="p"', 'PROGRAM!="q", TAG="q"'],
+        (["Q: p", "R: 0", "Q: q", "R: 1"], ["tag q"]),
+    ),
     # what a key is for its rule
     answered("KERNEL!= is a match of the event", ['KERNEL!="sd*", TAG="other"'], ([], ["tag other"])),
-    answered("NAME!= is a match of the name", ['NAME!="lan", TAG="other"', 'NAME="lan"', 'NAME!="lan", TAG+="again"'], (["U: net"], ["name lan", "tag other", "env SUBSYSTEM=net"])),
-    answered("TAGS is a match of one device of the chain", ['TAGS=="seat", TAG+="found"'], (["P: /p", "G: seat"], ["tag found"]), (["P: /p", "G: seats"], []), path="/p/d"),
-    answered("RESULT is a match of what a program said", ['PROGRAM=="p"', 'RESULT=="1", TAG="one"'], (["Q: p", "R: 0 1"], ["tag one"]), (["Q: p", "R: 0 2"], [])),
-    answered("IMPORT{parent}= imports", ['IMPORT{parent}="ID_*"'], (["P: /p", "E: ID_A=1", "E: X=2"], ["env ID_A=1"]), path="/p/d"),
+    answered(
+        "NAME!= is a match of the name",
+        ['NAME!="lan", TAG="other"', 'NAME="lan"', 'NAME!="lan", TAG+="again"'],
+        (["U: net"], ["name lan", "tag other", "env SUBSYSTEM=net"]),
+    ),
+    answered(
+        "TAGS is a match of one device of the chain",
+        ['TAGS=="seat", TAG+="found"'],
+        (["P: /p", "G: seat"], ["tag found"]),
+        (["P: /p", "G: seats"], []),
+        path="/p/d",
+    ),
+    answered(
+        "RESULT is a match of what a program said",
+        ['PROGRAM=="p"', 'RESULT=="1", TAG="one"'],
+        (["Q: p", "R: 0 1"], ["tag one"]),
+        (["Q: p", "R: 0 2"], []),
+    ),
+    answered(
+        "IMPORT{parent}= imports",
+        ['IMPORT{parent}="ID_*"'],
+        (["P: /p", "E: ID_A=1", "E: X=2"], ["env ID_A=1"]),
+        path="/p/d",
+    ),
     answered("GOTO is a jump", ['GOTO="end"', 'TAG="passed"', 'LABEL="end"'], ([], [])),
 ]

@@ -31,12 +31,24 @@ ROWS = [
         [f'OPTIONS="string_escape=none", SYMLINK+=e"{PATH}"'],
         ([], ["link by-id/a.b_c:d=e@f#g+h", "link \\x09!$\\x5Cx2F\\x5Cy"]),
     ),
-    answered("each whitespace parts links", ['SYMLINK+=e"a\\tb\\nc\\vd\\fe\\rf g"'], ([], [f"link {name}" for name in "abcdefg"])),
+    answered(
+        "each whitespace parts links",
+        ['SYMLINK+=e"a\\tb\\nc\\vd\\fe\\rf g"'],
+        ([], [f"link {name}" for name in "abcdefg"]),
+    ),
     answered("a link keeps UTF-8", [f'SYMLINK+="{UTF_8}"'], ([], [f"link {UTF_8}"])),
     answered("a name keeps UTF-8", [f'NAME="{UTF_8}"'], (["U: net"], [f"name {UTF_8}", "env SUBSYSTEM=net"])),
     answered("a link keeps nothing else over 0x7F", [b'SYMLINK+="' + NOT_UTF_8 + b'"'], ([], ["link __________"])),
-    answered("the longest and the shortest of each length", [b'SYMLINK+="\xC2\x80|\xE0\xA0\x80|\xEF\xBF\xBF|\xF0\x90\x80\x80|\xF4\x8F\xBF\xBF"'], ([], [b"link \xC2\x80_\xE0\xA0\x80_\xEF\xBF\xBF_\xF0\x90\x80\x80_\xF4\x8F\xBF\xBF"])),
-    answered("what is beyond them", [b'SYMLINK+="\xC1\xBF|\xE0\x9F\xBF|\xF0\x8F\xBF\xBF|\xF4\x90\x80\x80|\xF5\x80"'], ([], ["link " + "_" * 19])),
+    answered(
+        "the longest and the shortest of each length",
+        [b'SYMLINK+="\xC2\x80|\xE0\xA0\x80|\xEF\xBF\xBF|\xF0\x90\x80\x80|\xF4\x8F\xBF\xBF"'],
+        ([], [b"link \xC2\x80_\xE0\xA0\x80_\xEF\xBF\xBF_\xF0\x90\x80\x80_\xF4\x8F\xBF\xBF"]),
+    ),
+    answered(
+        "what is beyond them",
+        [b'SYMLINK+="\xC1\xBF|\xE0\x9F\xBF|\xF0\x8F\xBF\xBF|\xF4\x90\x80\x80|\xF5\x80"'],
+        ([], ["link " + "_" * 19]),
+    ),
     # an attribute keeps four bytes more, and a substitution is not cut at its spaces, but for a link
     answered(
         "an attribute in a text keeps more",

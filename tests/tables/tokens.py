@@ -90,8 +90,9 @@ ROWS = [
         *(
             bad(f'A=e"{escape}"', shown=f'A=e"{escape}"'.replace("\\", "\\x5C"))
             for escape in [
-                "\\400", "\\777", "\\8", "\\18", "\\189", "\\uD800", "\\uDFFF", "\\u00G0", "\\u0", "\\0", "\\000", "\\x00", "\\u0000",
-                "\\U00000000", "\\x4", "\\xG0", "\\U00110000", "\\UFFFFFFFF", "\\U0000D800", "\\U0001F60", "\\q", "\\S", "\\ ", "\\",
+                "\\400", "\\777", "\\8", "\\18", "\\189", "\\0", "\\000", "\\x00", "\\x4", "\\xG0",
+                "\\uD800", "\\uDFFF", "\\u00G0", "\\u0", "\\u0000", "\\U00000000", "\\U00110000", "\\UFFFFFFFF",
+                "\\U0000D800", "\\U0001F60", "\\q", "\\S", "\\ ", "\\",
             ]
         ),
     ),
@@ -132,7 +133,12 @@ ROWS = [
         "each operator, blanks before and behind it",
         'SYMLINK=="1", SYMLINK!="2", SYMLINK +="3", SYMLINK-= "4", SYMLINK := "5", SYMLINK\t=\t"6"',
     ),
-    answered("the two operators that compare", ['SYMLINK=="a", TAG+="equal"', 'SYMLINK !="b", TAG+="unequal"'], (["S: a"], ["link a", "tag equal", "tag unequal"]), (["S: b"], ["link b"])),
+    answered(
+        "the two operators that compare",
+        ['SYMLINK=="a", TAG+="equal"', 'SYMLINK !="b", TAG+="unequal"'],
+        (["S: a"], ["link a", "tag equal", "tag unequal"]),
+        (["S: b"], ["link b"]),
+    ),
     answered("adding", ['SYMLINK += "b"'], (["S: a"], ["link a", "link b"])),
     answered("removing", ['SYMLINK-= "b"'], (["S: a", "S: b"], ["link a"])),
     answered("assigning", ['SYMLINK="b"', 'SYMLINK+="c"'], (["S: a"], ["link b", "link c"])),

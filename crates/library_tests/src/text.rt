@@ -54,8 +54,14 @@ fn a_pattern_lends_its_items_and_is_copied(rt: HostRuntime) -> Result<(), Fail> 
 
 #[test]
 fn a_nul_byte_is_a_byte_like_others(rt: HostRuntime) -> Result<(), Fail> {
-    assert!(rt; Pattern::read(rt.alloc(), b"?")?.fits(b"\0"));
-    assert!(rt; !Pattern::read(rt.alloc(), b"[--a]")?.fits(b"\0"));
+    for (pattern, wanted) in [
+        (b"?".as_slice(), true),
+        (b"[!--a]", true),
+        (b"[--a]", false),
+        (b"[b-a]", false),
+    ] {
+        assert!(rt; Pattern::read(rt.alloc(), pattern)?.fits(b"\0") == wanted);
+    }
     Ok(())
 }
 
@@ -148,7 +154,10 @@ fn added_values<'a>(alloc: Global) -> Result<Table<'a, u8>, AllocError> {
 fn a_map_of_values_is_given_and_taken(rt: HostRuntime) -> Result<(), Fail> {
     let map: IndexMap<&[u8], u8> = added_values(rt.alloc())?.into_map();
     let table = Table::from_map(map);
+    assert!(rt; table.contains(b"b"));
+    assert!(rt; !table.contains(b"a"));
     assert!(rt; table.get(b"b").copied() == Some(2));
+    assert!(rt; table.as_map().len() == 1);
     assert!(rt; table.len() == 1);
     Ok(())
 }

@@ -54,8 +54,8 @@ def run_row(program, table, row):
 
 def main(program, tables):
     """Runs all rows of the tables, and answers whether each went as it says."""
-    names = [path.stem for path in (HERE / "tables").glob("*.py")]
-    tables = tables or sorted(name for name in names if name != "row" and not name.startswith("_"))
+    files = [path.stem for path in (HERE / "tables").glob("*.py")]
+    tables = tables or sorted(name for name in files if name != "row" and not name.startswith("_"))
     rows = [(table, row) for table in tables for row in importlib.import_module(f"tables.{table}").ROWS]
     names = [(table, row.name) for table, row in rows]
     twice = sorted({name for name in names if names.count(name) > 1})

@@ -79,7 +79,10 @@ BELOW = [
 
 TWICE = [
     below(b"C: add\n", 3, "given twice"),
-    *(below(line + line, 4, "given twice") for line in [b"U: x\n", b"V: x\n", b"N: x\n", b"D: 1:2\n", b"A: x=1\n", b"E: x=1\n", b"G: x\n", b"S: x\n", b"K: x=1\n"]),
+    *(
+        below(line + b"\n" + line + b"\n", 4, "given twice")
+        for line in [b"U: x", b"V: x", b"N: x", b"D: 1:2", b"A: x=1", b"E: x=1", b"G: x", b"S: x", b"K: x=1"]
+    ),
     below(b"A: x=1\nA: x=2\n", 4, "given twice"),
     below(b"U: x\nU: y\n", 4, "given twice"),
     below(b"Q: a\nR: 0\nQ: a\nR: 1\n", 5, "given twice"),
@@ -143,7 +146,10 @@ run program pci0 is above
 """
 
 # The event's own properties are set over those of the block, and kernel names have slashes where paths have none.
-DISK = "C: add\nP: /devices/x/cciss!c0d1\nN: cciss/c0d1\nA: a=a \t\nE: ACTION=old\nE: DEVNAME=old\nE: MAJOR=9\nP: /devices/x\n"
+DISK = (
+    "C: add\nP: /devices/x/cciss!c0d1\nN: cciss/c0d1\nA: a=a \t\nE: ACTION=old\nE: DEVNAME=old\nE: MAJOR=9\n"
+    "P: /devices/x\n"
+)
 ASKING = r"""KERNEL=="cciss/c0d1", ENV{X}=="", RUN+="$devnode"
 KERNELS=="x", RUN+="$id"
 ATTR{a}=="a", RUN+="[$attr{a}]"
@@ -166,8 +172,16 @@ READ = [
     answered("empty lines are passed over", "\n\nC: add\nP: /d\n\n\n\nC: add\nP: /d\n\n", ANSWER * 2),
     answered("no block", "", ""),
     answered("empty lines alone", "\n\n\n", ""),
-    answered("numbers of devices as they are written", "C: add\nP: /d\nD: 4294967295:0000000001\n", ANSWER[:-1] + "env MAJOR=4294967295\nenv MINOR=0000000001\n\n"),
-    answered("two devices may have the same", "C: add\nP: /d/e\nU: x\nA: x=1\nP: /d\nU: x\nA: x=1\n", "event add /d/e\nenv ACTION=add\nenv DEVPATH=/d/e\nenv SUBSYSTEM=x\n\n"),
+    answered(
+        "numbers of devices as they are written",
+        "C: add\nP: /d\nD: 4294967295:0000000001\n",
+        ANSWER[:-1] + "env MAJOR=4294967295\nenv MINOR=0000000001\n\n",
+    ),
+    answered(
+        "two devices may have the same",
+        "C: add\nP: /d/e\nU: x\nA: x=1\nP: /d\nU: x\nA: x=1\n",
+        "event add /d/e\nenv ACTION=add\nenv DEVPATH=/d/e\nenv SUBSYSTEM=x\n\n",
+    ),
     answered("constants and programs stand before a device", "C: add\nK: arch=x\nQ: a\nR: 255 t\nP: /d\n", ANSWER),
 ]
 
@@ -183,7 +197,11 @@ def chain(count):
 
 
 BOUNDS = [
-    answered("a block of 65,536 bytes", letters(65_509), "event add /devices/x\nenv ACTION=add\nenv DEVPATH=/devices/x\nenv X=" + "v" * 65_509 + "\n\n"),
+    answered(
+        "a block of 65,536 bytes",
+        letters(65_509),
+        "event add /devices/x\nenv ACTION=add\nenv DEVPATH=/devices/x\nenv X=" + "v" * 65_509 + "\n\n",
+    ),
     fault(letters(65_510), 3, "too long", "a block of 65,537 bytes"),
     fault("X: y\n" + letters(65_510), 4, "too long", "a block that is too long is told of that before all else"),
     answered("64 devices", chain(64), f"event add {'/a' * 64}\nenv ACTION=add\nenv DEVPATH={'/a' * 64}\n\n"),
@@ -199,7 +217,13 @@ RUNS = [
         messages="block 2, line 3: path\n",
         status=1,
     ),
-    Row("the first faulty line counts", EVENTS, input="C: add\nP: /d\nD: 8\nX: y\n", messages="block 1, line 3: number\n", status=1),
+    Row(
+        "the first faulty line counts",
+        EVENTS,
+        input="C: add\nP: /d\nD: 8\nX: y\n",
+        messages="block 1, line 3: number\n",
+        status=1,
+    ),
 ]
 
 ROWS = [*FIRST_LINES, *PATHS, *BELOW, *TWICE, *READ, *BOUNDS, *RUNS]

@@ -5,7 +5,13 @@ from tables.row import Row
 
 def query(name, text, modalias, output, messages=""):
     """`query` over t.hwdb, and what it answers."""
-    return Row(f"{name}, {modalias[:40]!r}", ["query", modalias, "t.hwdb"], {"t.hwdb": text}, output=output, messages=messages)
+    return Row(
+        f"{name}, {modalias[:40]!r}",
+        ["query", modalias, "t.hwdb"],
+        {"t.hwdb": text},
+        output=output,
+        messages=messages,
+    )
 
 
 def queries(name, text, *asked):
@@ -55,6 +61,9 @@ FOLDERS = {
 }
 MASKED = {**FOLDERS, "r/etc/udev/hwdb.d/70-b.hwdb": "z\n A=2\n"}
 
+# Each match of a record has each of its properties.
+PAIRS = {"60-a.hwdb": "ab*\n\tn\n A=1\n \t B=x=\n", "70-b.hwdb": "m1\n C="}
+
 NAMED = {"70-b.hwdb": "m*\n A=2\n", "60-a.hwdb": "m*\n A=1\n B=3\n", "80-c.txt": "m*\n A=4\n"}
 
 ANSWERS = [
@@ -83,7 +92,12 @@ ANSWERS = [
         ("cab", "1=\n4=\n6=\n"),
         ("ddd", "6=\n"),
     ),
-    query("keys in the order of their bytes", "m\n b=1\n B=2\n a=3\n A1=4\n A=5\n \xe9=6\n", "m", "A=5\nA1=4\nB=2\na=3\nb=1\n\xe9=6\n"),
+    query(
+        "keys in the order of their bytes",
+        "m\n b=1\n B=2\n a=3\n A1=4\n A=5\n \xe9=6\n",
+        "m",
+        "A=5\nA1=4\nB=2\na=3\nb=1\n\xe9=6\n",
+    ),
     query("a value as it stands", "m\n A= 1 \\x\t= \n", "m", "A= 1 \\x\t=\n"),
     query("a property with blanks before it", "m\n \t A=1\n", "m", "A=1\n"),
     query("a match that begins with a tab", "\tn\n A=1\n", "\tn", "A=1\n"),
@@ -97,15 +111,35 @@ ORDER = [
     Row("folders, and a file of the same name", "query -r r mx", FOLDERS, output="A=2\n"),
     Row("folders, and a file that stands for another", "query -r r mx", MASKED, output="A=1\n"),
     Row("named files are read in their order", "query mx 70-b.hwdb 60-a.hwdb 80-c.txt", NAMED, output="A=4\nB=3\n"),
-    sources("the file of the later entry", {"60-a.hwdb": "m*\n A=1\n", "70-b.hwdb": "m*\n A=2\n"}, "mx", "70-b.hwdb:2: A=2\n"),
+    sources(
+        "the file of the later entry",
+        {"60-a.hwdb": "m*\n A=1\n", "70-b.hwdb": "m*\n A=2\n"},
+        "mx",
+        "70-b.hwdb:2: A=2\n",
+    ),
     sources("each property has its line", {"t.hwdb": RECORDS}, "abc", "t.hwdb:6: A=3\nt.hwdb:3: B=2\n"),
-    sources("of twins the later counts", {"t.hwdb": "ab*\n A=1\n\n*[bc]\n A=2\n\nab*\n A=3\n\na?\n A=4\n"}, "abd", "t.hwdb:8: A=3\n"),
-    sources("each match with each property", {"60-a.hwdb": "ab*\n\tn\n A=1\n \t B=x=\n", "70-b.hwdb": "m1\n C="}, "abc", "60-a.hwdb:3: A=1\n60-a.hwdb:4: B=x=\n"),
-    sources("each match with each property", {"60-a.hwdb": "ab*\n\tn\n A=1\n \t B=x=\n", "70-b.hwdb": "m1\n C="}, "\tn", "60-a.hwdb:3: A=1\n60-a.hwdb:4: B=x=\n"),
-    sources("each match with each property", {"60-a.hwdb": "ab*\n\tn\n A=1\n \t B=x=\n", "70-b.hwdb": "m1\n C="}, "m1", "70-b.hwdb:2: C=\n"),
+    sources(
+        "of twins the later counts",
+        {"t.hwdb": "ab*\n A=1\n\n*[bc]\n A=2\n\nab*\n A=3\n\na?\n A=4\n"},
+        "abd",
+        "t.hwdb:8: A=3\n",
+    ),
+    sources("each match with each property", PAIRS, "abc", "60-a.hwdb:3: A=1\n60-a.hwdb:4: B=x=\n"),
+    sources("each match with each property", PAIRS, "\tn", "60-a.hwdb:3: A=1\n60-a.hwdb:4: B=x=\n"),
+    sources("each match with each property", PAIRS, "m1", "70-b.hwdb:2: C=\n"),
     sources("the last of ten thousand records", {"s.hwdb": "m*\n A=1\n\n" * 10_000}, "mx", "s.hwdb:29999: A=1\n"),
-    sources("a name that is escaped, and a value that is not", {"75-\\.hwdb": "m*\n\\=\t\n B=\\\t\n"}, "mx", "75-\\x5C.hwdb:3: B=\\\n"),
-    sources("a comment in a record counts as a line", {"t.hwdb": "m1 # one\n# skipped\n A=1 \t\r# two\n"}, "m1", "t.hwdb:3: A=1\n"),
+    sources(
+        "a name that is escaped, and a value that is not",
+        {"75-\\.hwdb": "m*\n\\=\t\n B=\\\t\n"},
+        "mx",
+        "75-\\x5C.hwdb:3: B=\\\n",
+    ),
+    sources(
+        "a comment in a record counts as a line",
+        {"t.hwdb": "m1 # one\n# skipped\n A=1 \t\r# two\n"},
+        "m1",
+        "t.hwdb:3: A=1\n",
+    ),
 ]
 
 COMMENTS = "m1 # one\n# skipped\n A=1 \t\r# two\n #x\n B=2\n"
@@ -113,10 +147,21 @@ COMMENTS = "m1 # one\n# skipped\n A=1 \t\r# two\n #x\n B=2\n"
 MESSAGES = [
     update("a message of each kind", FAULTY, *FAULTS),
     update("a message of each kind, strictly", FAULTY, *FAULTS, strict=True),
-    Row("a message of each kind, by query", "query m2 s.hwdb", {"s.hwdb": FAULTY}, messages="".join(f"s.hwdb:{told}\n" for told in FAULTS)),
+    Row(
+        "a message of each kind, by query",
+        "query m2 s.hwdb",
+        {"s.hwdb": FAULTY},
+        messages="".join(f"s.hwdb:{told}\n" for told in FAULTS),
+    ),
     update("no message, strictly", "# none\n", strict=True),
     query("comments", COMMENTS, "m1", "A=1\n", "t.hwdb:5: H1 property without a match: B=2\n"),
-    update("each property before a match, and a match without one", " A=1\n B=2\nm\n", "1: H1 property without a match: A=1", "2: H1 property without a match: B=2", "3: H2 match without a property: m"),
+    update(
+        "each property before a match, and a match without one",
+        " A=1\n B=2\nm\n",
+        "1: H1 property without a match: A=1",
+        "2: H1 property without a match: B=2",
+        "3: H2 match without a property: m",
+    ),
     update(
         "two messages of one line",
         " A=1\n B=2\n[[.a.]]\n",
@@ -131,10 +176,33 @@ MESSAGES = [
         "1: H2 match without a property: 0123456789abcdef0123456789abcdef",
     ),
     update("a word is escaped", "a\\b\x01\x7f\n", "1: H2 match without a property: a\\x5Cb\\x01\\x7F"),
-    update("the first match stands for all without a property", "m1\nm2\n\nm3\n", "1: H2 match without a property: m1", "4: H2 match without a property: m3"),
-    query("behind a match that follows a property nothing is told", "m\n A=1\nn\n B\n =2\n[[.a.]]\n C=3\n", "m", "A=1\n", "t.hwdb:3: H3 unindented line after properties: n\n"),
-    query("and a record begins behind an empty line", "m\n A=1\nn\n B=2\n\nm\n C=3\n", "m", "A=1\nC=3\n", "t.hwdb:3: H3 unindented line after properties: n\n"),
-    query("a match of 16,385 bytes beside a good one", "m\n" + "x" * 16_385 + "\n A=1\n", "m", "A=1\n", "t.hwdb:2: H6 pattern not supported: " + "x" * 32 + "\n"),
+    update(
+        "the first match stands for all without a property",
+        "m1\nm2\n\nm3\n",
+        "1: H2 match without a property: m1",
+        "4: H2 match without a property: m3",
+    ),
+    query(
+        "behind a match that follows a property nothing is told",
+        "m\n A=1\nn\n B\n =2\n[[.a.]]\n C=3\n",
+        "m",
+        "A=1\n",
+        "t.hwdb:3: H3 unindented line after properties: n\n",
+    ),
+    query(
+        "and a record begins behind an empty line",
+        "m\n A=1\nn\n B=2\n\nm\n C=3\n",
+        "m",
+        "A=1\nC=3\n",
+        "t.hwdb:3: H3 unindented line after properties: n\n",
+    ),
+    query(
+        "a match of 16,385 bytes beside a good one",
+        "m\n" + "x" * 16_385 + "\n A=1\n",
+        "m",
+        "A=1\n",
+        "t.hwdb:2: H6 pattern not supported: " + "x" * 32 + "\n",
+    ),
     query("a match of 16,384 bytes", "m\n" + "x" * 16_384 + "\n A=1\n", "m", "A=1\n"),
 ]
 

@@ -1,5 +1,6 @@
 """Indexes: what `update` writes, compared with bytes made by the format, and what `query` and `events` answer from one."""
-from tables._index_bytes import AMONG, BYTE, EMPTY, MANY, ONE, ROOT, WITH_FILE, WITHOUT_FILE, byte_set, index, node, with_bytes
+from tables._index_bytes import AMONG, BYTE, EMPTY, MANY, ONE, ROOT, WITH_FILE, WITHOUT_FILE
+from tables._index_bytes import byte_set, index, node, with_bytes
 from tables.row import Row
 
 
@@ -26,7 +27,14 @@ FOUR_FILES = {"z.hwdb": "b[xy]\n K=1\n\na?\n K=2\n", "y.hwdb": "b[xy]\n K=3\n\nb
 # files, sorted: y.hwdb at 8 and z.hwdb at 14.
 FOUR = index(
     2,
-    [node(ROOT, children=2), node(BYTE, "a", children=1), node(BYTE, "b", children=2), node(ONE, values=1), node(ONE, values=1), node(AMONG, values=2)],
+    [
+        node(ROOT, children=2),
+        node(BYTE, "a", children=1),
+        node(BYTE, "b", children=2),
+        node(ONE, values=1),
+        node(ONE, values=1),
+        node(AMONG, values=2),
+    ],
     [
         (0, 1, 1, 1, 1, 14, 6, 5),
         (2, 1, 3, 1, 3, 8, 6, 5),
@@ -65,7 +73,8 @@ PAIRS = index(
 # a 4 in byte 12 behind zeros, and [!a] begins with 255. A pattern that stands twice is one node with two values, and a
 # set that stands twice is written once.
 LABELS_FILES = {
-    "l.hwdb": b"[!a]\n A=1\n\n*\n A=2\n\n?\n A=3\n\n\xff\n A=4\n\n[b]\n A=5\n\n[a]\n A=6\n\nz\n A=7\n\n?[b]\n A=8\n\nz\n B=9\n"
+    "l.hwdb": b"[!a]\n A=1\n\n*\n A=2\n\n?\n A=3\n\n\xff\n A=4\n\n[b]\n A=5\n\n"
+    b"[a]\n A=6\n\nz\n A=7\n\n?[b]\n A=8\n\nz\n B=9\n"
 }
 LABELS = index(
     2,
@@ -109,12 +118,27 @@ def numbered(count):
 
 # 10,000 patterns of four digits: 11,116 nodes. The file's name stands behind the 20,000 bytes of keys and values.
 NUMBERS_FILES = {"t.hwdb": "".join(f"usb:v{number:04}\n K=V\n\n" for number in range(10_000))}
-NUMBERS = index(2, numbered(4), [(2 * at, 1, 2 * at + 1, 1, at, 20_000, 6, 3 * at + 2) for at in range(10_000)], b"KV" * 10_000 + b"t.hwdb")
+NUMBERS = index(
+    2,
+    numbered(4),
+    [(2 * at, 1, 2 * at + 1, 1, at, 20_000, 6, 3 * at + 2) for at in range(10_000)],
+    b"KV" * 10_000 + b"t.hwdb",
+)
 assert NUMBERS[12:16] == (11_116).to_bytes(4, "little")
 
 # One pattern, forty times a star and an a: 81 nodes.
 FORTY_FILES = {"t.hwdb": "*a" * 40 + "\n K=V\n"}
-FORTY = index(2, [node(ROOT, children=1), *[node(MANY, children=1), node(BYTE, "a", children=1)] * 39, node(MANY, children=1), node(BYTE, "a", values=1)], [(0, 1, 1, 1, 0, 2, 6, 2)], b"KVt.hwdb")
+FORTY = index(
+    2,
+    [
+        node(ROOT, children=1),
+        *[node(MANY, children=1), node(BYTE, "a", children=1)] * 39,
+        node(MANY, children=1),
+        node(BYTE, "a", values=1),
+    ],
+    [(0, 1, 1, 1, 0, 2, 6, 2)],
+    b"KVt.hwdb",
+)
 
 # One pattern of ten thousand entries, the last of them in line 29,999.
 LONG_FILES = {"s.hwdb": "m*\n A=1\n\n" * 10_000}
@@ -126,7 +150,11 @@ LONG = index(
 )
 
 # Files of the folders, in the order of their names: 70-b.hwdb is read once, where the rank is the least.
-FOLDERS_FILES = {"r/usr/lib/udev/hwdb.d/60-a.hwdb": "m*\n A=1\n", "r/usr/lib/udev/hwdb.d/70-b.hwdb": "m*\n A=2\n", "r/usr/lib/udev/hwdb.d/80-c.txt": "m*\n A=4\n"}
+FOLDERS_FILES = {
+    "r/usr/lib/udev/hwdb.d/60-a.hwdb": "m*\n A=1\n",
+    "r/usr/lib/udev/hwdb.d/70-b.hwdb": "m*\n A=2\n",
+    "r/usr/lib/udev/hwdb.d/80-c.txt": "m*\n A=4\n",
+}
 FOLDERS = index(
     2,
     [node(ROOT, children=1), node(BYTE, "m", children=1), node(MANY, values=2)],
@@ -143,10 +171,20 @@ MASKED = index(
 
 # The longest pattern.
 STARS_FILES = {"t.hwdb": "*" * 16_384 + "\n K=V\n"}
-STARS = index(2, [node(ROOT, children=1), *[node(MANY, children=1)] * 16_383, node(MANY, values=1)], [(0, 1, 1, 1, 0, 2, 6, 2)], b"KVt.hwdb")
+STARS = index(
+    2,
+    [node(ROOT, children=1), *[node(MANY, children=1)] * 16_383, node(MANY, values=1)],
+    [(0, 1, 1, 1, 0, 2, 6, 2)],
+    b"KVt.hwdb",
+)
 
 # A chain of 16,001 nodes, each but the root behind a and with K=V of order 0, in version 1: 704,058 bytes.
-CHAIN = index(1, [node(ROOT, children=1), *[node(BYTE, "a", children=1, values=1)] * 15_999, node(BYTE, "a", values=1)], [(0, 1, 1, 1, 0)] * 16_000, b"KV")
+CHAIN = index(
+    1,
+    [node(ROOT, children=1), *[node(BYTE, "a", children=1, values=1)] * 15_999, node(BYTE, "a", values=1)],
+    [(0, 1, 1, 1, 0)] * 16_000,
+    b"KV",
+)
 assert len(CHAIN) == 704_058
 
 # What `update` never writes: labels in no order and twice below one node, texts that share bytes, an empty text at the
@@ -175,11 +213,26 @@ FOREIGN = index(
 
 READ = [
     *queries("a pattern in version 1", WITHOUT_FILE, ("abc", "-: K=V\n"), ("a", "-: K=V\n"), ("bc", ""), ("", "")),
-    *queries("a pattern in version 2", WITH_FILE, ("abc", "t.hwdb:2: K=V\n"), ("a", "t.hwdb:2: K=V\n"), ("bc", ""), ("", "")),
+    *queries(
+        "a pattern in version 2",
+        WITH_FILE,
+        ("abc", "t.hwdb:2: K=V\n"),
+        ("a", "t.hwdb:2: K=V\n"),
+        ("bc", ""),
+        ("", ""),
+    ),
     query("no sources in version 1", WITHOUT_FILE, "abc", "K=V\n"),
     query("no sources in version 2", WITH_FILE, "abc", "K=V\n"),
     query("no entry", EMPTY, "x", ""),
-    *queries("two patterns with a set", FOUR, ("bx", "y.hwdb:5: K=4\n"), ("by", "y.hwdb:5: K=4\n"), ("bz", "y.hwdb:5: K=4\n"), ("ay", "z.hwdb:5: K=2\n"), ("b", "")),
+    *queries(
+        "two patterns with a set",
+        FOUR,
+        ("bx", "y.hwdb:5: K=4\n"),
+        ("by", "y.hwdb:5: K=4\n"),
+        ("bz", "y.hwdb:5: K=4\n"),
+        ("ay", "z.hwdb:5: K=2\n"),
+        ("b", ""),
+    ),
     *queries(
         "each match with each property",
         PAIRS,
@@ -197,7 +250,14 @@ READ = [
         ("xb", "l.hwdb:23: A=8\n"),
         ("", "l.hwdb:5: A=2\n"),
     ),
-    *queries("ten thousand patterns", NUMBERS, ("usb:v1234", "t.hwdb:3704: K=V\n"), ("usb:v9999", "t.hwdb:29999: K=V\n"), ("usb:v123", ""), ("usb:v12345", "")),
+    *queries(
+        "ten thousand patterns",
+        NUMBERS,
+        ("usb:v1234", "t.hwdb:3704: K=V\n"),
+        ("usb:v9999", "t.hwdb:29999: K=V\n"),
+        ("usb:v123", ""),
+        ("usb:v12345", ""),
+    ),
     *queries("forty stars", FORTY, ("a" * 200, "t.hwdb:2: K=V\n"), ("a" * 39, "")),
     query("forty stars and a last byte that none takes", FORTY, "a" * 200 + "b", ""),
     *queries("16,384 stars", STARS, ("a" * 10, "t.hwdb:2: K=V\n"), ("", "t.hwdb:2: K=V\n")),

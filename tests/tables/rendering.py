@@ -1,9 +1,9 @@
 """Substitutions: what each stands for, and what becomes of a text in the name of a link or of a network device."""
 from tables.row import Row, as_bytes
 
-# A disk without a node or a number, below another device; a program answers `ab cd ef`.
+# A disk without a node or a number, below another device; one program answers `ab cd ef`, another `ab cd`.
 DISK = (
-    b"C: add\nP: /devices/x/cciss!c0d1\nA: a=x;y? \nE: L= a  b \nE: A=\xa4\nQ: p\nR: 0 ab cd ef\n"
+    b"C: add\nP: /devices/x/cciss!c0d1\nA: a=x;y? \nE: L= a  b \nE: A=\xa4\nQ: p\nR: 0 ab cd ef\nQ: q\nR: 0 ab cd\n"
     b"P: /devices/x\nV: drive\nN: bus/x\nA: b=1\n"
 )
 DISK_EVENT = b"event add /devices/x/cciss!c0d1\n"
@@ -41,9 +41,9 @@ def of_network(name, *pairs):
     return events(name, rules, NETWORK, b"event add /devices/eth0\n", NETWORK_LINKS, NETWORK_ENV, runs)
 
 
-def safe(name, *pairs):
+def safe(name, *pairs, program=b"p"):
     """Templates as the name of a device that is no network device: the note tells the text, its spaces not yet turned."""
-    rules = [b'PROGRAM=="p"', *(b'NAME="' + template + b'"' for template, _text in pairs)]
+    rules = [b'PROGRAM=="' + program + b'"', *(b'NAME="' + template + b'"' for template, _text in pairs)]
     notes = [b"note r.rules:%d: name ignored: %b\n" % (line, text) for line, (_template, text) in enumerate(pairs, 2)]
     return events(name, rules, DISK, DISK_EVENT, DISK_ENV, *notes)
 
@@ -148,6 +148,7 @@ LINKS = [
         (b"09AZaz#+-.:=@_/", b"09AZaz#+-.:=@_/"),
         (b"!()*,;<>?[]^`{|}~", b"_" * 17),
     ),
+    safe("a result keeps its spaces", (b"%c", b"ab cd"), program=b"q"),
     safe("pieces are judged as one text", (b"\xc3$env{A}", b"\xc3\xa4"), (b"$env{A}", b"_"), (b"\\$kernel", b"_cciss/c0d1")),
     links(b'SYMLINK+="$env{L}"', b"a_b"),
     links(b'SYMLINK+="x/$env{L} y;z"', b"x/a_b", b"y_z"),

@@ -27,11 +27,15 @@ const HEADER: Header = Header {
     reserved: 0,
 };
 
-/// An entry of the key `A`, whose line is its order.
-fn entry(alloc: Global, pattern: &[u8], value: &[u8], order: u32) -> Result<Entry, Fail> {
+/// A property: its pattern, its key and its value.
+type Property<'a> = (&'a [u8], &'a [u8], &'a [u8]);
+
+/// The entry of a property in t.hwdb, whose line is its order.
+fn entry(alloc: Global, property: Property<'_>, order: u32) -> Result<Entry, Fail> {
+    let (pattern, key, value) = property;
     Ok(Entry {
         pattern: Pattern::read(alloc, pattern).map_err(|_fault| "no pattern")?,
-        key: Bytes::copy_of(alloc, b"A")?,
+        key: Bytes::copy_of(alloc, key)?,
         value: Bytes::copy_of(alloc, value)?,
         order,
         file: Bytes::copy_of(alloc, b"t.hwdb")?,
@@ -39,54 +43,77 @@ fn entry(alloc: Global, pattern: &[u8], value: &[u8], order: u32) -> Result<Entr
     })
 }
 
-/// An entry for each pattern, whose value is that pattern's text.
-fn entries(alloc: Global, patterns: &[&[u8]]) -> Result<Vec<Entry>, Fail> {
+/// The entries of some properties, of which each has the next order.
+fn entries(alloc: Global, properties: &[Property<'_>]) -> Result<Vec<Entry>, Fail> {
     let mut listed = Vec::new(alloc);
     let mut order = 0u32;
-    for pattern in patterns {
-        listed.push(entry(alloc, pattern, pattern, order)?)?;
+    for property in properties {
+        listed.push(entry(alloc, *property, order)?)?;
         order = order.wrapping_add(1);
     }
     Ok(listed)
 }
 
-/// The list of the entries for some patterns.
-fn list_of(alloc: Global, patterns: &[&[u8]]) -> Result<PlainDb, Fail> {
-    let listed = entries(alloc, patterns)?;
+/// The list of the entries of some properties.
+fn list_of(alloc: Global, properties: &[Property<'_>]) -> Result<PlainDb, Fail> {
+    let listed = entries(alloc, properties)?;
     if !rising(&listed) {
         return Err("the entries do not rise")?;
     }
     Ok(PlainDb::new(listed))
 }
 
-/// The trie of the entries for some patterns.
-fn trie_of(alloc: Global, patterns: &[&[u8]]) -> Result<Trie, Fail> {
-    let listed = entries(alloc, patterns)?;
+/// The trie of the entries of some properties.
+fn trie_of(alloc: Global, properties: &[Property<'_>]) -> Result<Trie, Fail> {
+    let listed = entries(alloc, properties)?;
     if !rising(&listed) {
         return Err("the entries do not rise")?;
     }
     Ok(Trie::build(alloc, listed)?)
 }
 
+/// Two records, of which the later has another A for abc.
+const RECORDS: [Property<'static>; 3] = [
+    (b"ab*", b"A", b"1"),
+    (b"ab*", b"B", b"2"),
+    (b"a?c", b"A", b"3"),
+];
+
+/// Whether a list answers a modalias with some properties and no others.
+fn answers(
+    alloc: Global,
+    list: &PlainDb,
+    modalias: &[u8],
+    wanted: &[(&[u8], &[u8])],
+) -> Result<bool, Fail> {
+    Ok(list.query(alloc, modalias)?.as_slice() == wanted)
+}
+
 #[test]
 fn a_list_answers_by_the_later_entry(rt: HostRuntime) -> Result<(), Fail> {
-    let list = list_of(rt.alloc(), &[b"ab*", b"a?c", b"x"])?;
+    let alloc = rt.alloc();
+    let list = list_of(alloc, &RECORDS)?;
+    assert!(rt; answers(alloc, &list, b"abc", &[(b"A", b"3"), (b"B", b"2")])?);
+    assert!(rt; answers(alloc, &list, b"ab", &[(b"A", b"1"), (b"B", b"2")])?);
+    assert!(rt; answers(alloc, &list, b"x", &[])?);
+    assert_eq!(rt; list.into_entries().len(), 3);
+    Ok(())
+}
+
+#[test]
+fn a_list_names_the_later_entry_s_line(rt: HostRuntime) -> Result<(), Fail> {
+    let list = list_of(rt.alloc(), &RECORDS)?;
     let found = list.query_sources(rt.alloc(), b"abc")?;
-    assert_eq!(rt; found.len(), 1);
+    assert_eq!(rt; found.len(), 2);
     assert!(rt;
         found[0]
             == Sourced {
                 key: b"A",
-                value: b"a?c",
+                value: b"3",
                 file: b"t.hwdb",
-                line: 1
+                line: 2
             }
     );
-    let first = list.query(rt.alloc(), b"ab")?;
-    assert!(rt; first.as_slice() == [(b"A".as_slice(), b"ab*".as_slice())].as_slice());
-    assert!(rt; list.query(rt.alloc(), b"y")?.is_empty());
-    let given_back = list_of(rt.alloc(), &[b"ab*", b"x"])?.into_entries();
-    assert!(rt; given_back.len() == 2 && given_back[1].order == 1);
     Ok(())
 }
 
@@ -95,16 +122,11 @@ fn entries_rise_by_their_orders_and_have_keys(rt: HostRuntime) -> Result<(), Fai
     let alloc = rt.alloc();
     let mut listed = Vec::new(alloc);
     assert!(rt; rising(&listed));
-    listed.push(entry(alloc, b"*", b"1", 4)?)?;
+    listed.push(entry(alloc, (b"*", b"A", b"1"), 4)?)?;
     assert!(rt; rising(&listed));
-    listed.push(entry(alloc, b"*", b"2", 4)?)?;
+    listed.push(entry(alloc, (b"*", b"A", b"2"), 4)?)?;
     assert!(rt; !rising(&listed));
-    let mut keyless = Vec::new(alloc);
-    keyless.push(Entry {
-        key: Bytes::copy_of(alloc, b"")?,
-        ..entry(alloc, b"*", b"1", 0)?
-    })?;
-    assert!(rt; !rising(&keyless));
+    assert!(rt; !rising(&entries(alloc, &[(b"*", b"", b"1")])?));
     Ok(())
 }
 
@@ -130,7 +152,7 @@ fn letters_and_stars(alloc: Global) -> Result<Vec<u8>, AllocError> {
 #[test]
 fn forty_stars_are_walked_in_line_with_the_text(rt: HostRuntime) -> Result<(), Fail> {
     let pattern = letters_and_stars(rt.alloc())?;
-    let trie = trie_of(rt.alloc(), &[&pattern])?;
+    let trie = trie_of(rt.alloc(), &[(&pattern, b"K", b"V")])?;
     let mut modalias = vec![in rt.alloc(); b'a'; 200]?;
     modalias.push(b'b')?;
     let (active, sum) = trie.visits(rt.alloc(), &modalias)?;
@@ -147,8 +169,17 @@ fn same_answer(alloc: Global, trie: &Trie, list: &PlainDb, modalias: &[u8]) -> R
 }
 
 /// Patterns of each kind of label, some of them twice or with one beginning.
-const PATTERNS: [&[u8]; 10] = [
-    b"ab*", b"*[bc]", b"ab*", b"a?", b"**b", b"?b*c", b"[!a]*", b"a*b?", b"", b"[a-c]?d",
+const PATTERNS: [Property<'static>; 10] = [
+    (b"ab*", b"A", b"0"),
+    (b"*[bc]", b"A", b"1"),
+    (b"ab*", b"A", b"2"),
+    (b"a?", b"A", b"3"),
+    (b"**b", b"A", b"4"),
+    (b"?b*c", b"A", b"5"),
+    (b"[!a]*", b"A", b"6"),
+    (b"a*b?", b"A", b"7"),
+    (b"", b"A", b"8"),
+    (b"[a-c]?d", b"A", b"9"),
 ];
 
 #[test]
@@ -183,7 +214,7 @@ fn answers_ten<L: Lookup>(alloc: Global, database: &L) -> Result<bool, Fail> {
 #[test]
 fn a_list_answers_the_longest_pattern(rt: HostRuntime) -> Result<(), Fail> {
     let pattern = stars(rt.alloc())?;
-    let list = list_of(rt.alloc(), &[&pattern])?;
+    let list = list_of(rt.alloc(), &[(&pattern, b"K", b"V")])?;
     assert!(rt; answers_ten(rt.alloc(), &list)?);
     Ok(())
 }
@@ -192,7 +223,7 @@ fn a_list_answers_the_longest_pattern(rt: HostRuntime) -> Result<(), Fail> {
 fn a_trie_and_its_index_walk_the_longest_pattern(rt: HostRuntime) -> Result<(), Fail> {
     let alloc = rt.alloc();
     let pattern = stars(alloc)?;
-    let trie = trie_of(alloc, &[&pattern])?;
+    let trie = trie_of(alloc, &[(&pattern, b"K", b"V")])?;
     assert_eq!(rt; trie.len(), 16_385);
     assert!(rt; answers_ten(alloc, &trie)?);
     assert_eq!(rt; trie.visits(alloc, b"aaaaaaaaaa")?.1, 180_225);
@@ -276,7 +307,7 @@ fn an_index_answers_its_caller(rt: HostRuntime) -> Result<(), Fail> {
     let nameless = with_zero(alloc, 128)?;
     let index = Index::open(&nameless).map_err(|_fault| "no index")?;
     let found = index.query_sources(alloc, b"abc")?;
-    assert!(rt; found[0].file.is_empty() && found[0].line == 2);
+    assert!(rt; found.len() == 1 && found[0].file.is_empty() && found[0].line == 2);
     Ok(())
 }
 

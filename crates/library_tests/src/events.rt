@@ -115,12 +115,17 @@ fn nothing_comes_after_the_end(rt: HostRuntime) -> Result<(), Fail> {
     Ok(())
 }
 
+/// Whether a block is refused for want of an action in its first line.
+fn has_no_action(alloc: Global, block: &[u8]) -> bool {
+    match read_block(alloc, block) {
+        Ok(_) => false,
+        Err(fault) => fault.line == 1 && fault.kind == BlockFaultKind::NoAction,
+    }
+}
+
 #[test]
 fn an_empty_text_is_no_block(rt: HostRuntime) {
-    match read_block(rt.alloc(), b"") {
-        Ok(_) => assert!(rt; false),
-        Err(fault) => assert!(rt; fault.line == 1 && fault.kind == BlockFaultKind::NoAction),
-    }
+    assert!(rt; has_no_action(rt.alloc(), b""));
 }
 
 /// A block with a constant, two programs and a parent that has one attribute alone.

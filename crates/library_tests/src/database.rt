@@ -101,7 +101,7 @@ fn a_list_answers_by_the_later_entry(rt: HostRuntime) -> Result<(), Fail> {
 }
 
 #[test]
-fn a_list_names_the_later_entry_s_line(rt: HostRuntime) -> Result<(), Fail> {
+fn a_list_names_the_line_of_the_later_entry(rt: HostRuntime) -> Result<(), Fail> {
     let list = list_of(rt.alloc(), &RECORDS)?;
     let found = list.query_sources(rt.alloc(), b"abc")?;
     assert_eq!(rt; found.len(), 2);

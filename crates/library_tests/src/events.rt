@@ -1,5 +1,7 @@
-//! Inputs in pieces of several sizes, and their blocks.
+//! Blocks as a caller cuts and reads them, and what is known of an event before any rule has run.
+use device_core::{BlockFaultKind, Event, ProgramAnswer, read_block};
 use device_runs::{SplitFault, Splitter, Taken};
+use eval_state::State;
 use std::alloc::{AllocError, Global};
 use std::test::Fail;
 
@@ -111,4 +113,119 @@ fn nothing_comes_after_the_end(rt: HostRuntime) -> Result<(), Fail> {
     assert!(rt; splitter.end() == Err(SplitFault::Ended));
     assert_eq!(rt; splitter.block(), b"".as_slice());
     Ok(())
+}
+
+/// Whether a block is refused for want of an action in its first line.
+fn has_no_action(alloc: Global, block: &[u8]) -> bool {
+    match read_block(alloc, block) {
+        Ok(_) => false,
+        Err(fault) => fault.line == 1 && fault.kind == BlockFaultKind::NoAction,
+    }
+}
+
+#[test]
+fn an_empty_text_is_no_block(rt: HostRuntime) {
+    assert!(rt; has_no_action(rt.alloc(), b""));
+}
+
+/// A block with a constant, two programs and a parent that has one attribute alone.
+const BLOCK: &[u8] = b"C: change
+K: arch=x86-64
+P: /devices/x/cciss!c0d1
+E: ACTION=old
+S: disk/x
+Q: blkid -o x
+R: 0 TYPE=ext4 
+P: /devices/x
+A: serial=8
+Q: false
+R: 255
+";
+
+/// Whether a program gave this answer.
+fn has_answer(answer: Option<&ProgramAnswer<'_>>, status: u8, text: &[u8]) -> bool {
+    match answer {
+        Some(answer) => answer.status() == status && answer.text() == text,
+        None => false,
+    }
+}
+
+/// Whether an event lends the answers of the block's programs, with the status of each.
+fn has_its_answers(event: &Event<'_>) -> bool {
+    event.programs().as_map().len() == 2
+        && has_answer(event.programs().get(b"blkid -o x"), 0, b"TYPE=ext4 ")
+        && has_answer(event.programs().get(b"false"), 255, b"")
+}
+
+/// Whether an event lends its two devices, and of the parent no more than the block says.
+fn has_its_devices(event: &Event<'_>) -> bool {
+    match event.device_at(1) {
+        Some(parent) => {
+            event.device_count() == 2
+                && event.device_at(2).is_none()
+                && event.constants().as_map().len() == 1
+                && parent.attrs().as_map().len() == 1
+                && parent.env().as_map().len() == 0
+                && parent.links().as_slice().len() == 0
+                && parent.number().is_none()
+        }
+        None => false,
+    }
+}
+
+/// Whether the block is read so.
+fn is_read(alloc: Global) -> bool {
+    match read_block(alloc, BLOCK) {
+        Ok(event) => has_its_answers(&event) && has_its_devices(&event),
+        Err(_fault) => false,
+    }
+}
+
+#[test]
+fn an_event_lends_what_its_block_says(rt: HostRuntime) {
+    assert!(rt; is_read(rt.alloc()));
+}
+
+/// Whether what is known begins with the event's own properties and links, and nothing is selected.
+fn is_begun(state: &State<'_>) -> bool {
+    state.property(b"ACTION") == b"change".as_slice()
+        && state.property(b"X").is_empty()
+        && state.selected.is_none()
+        && state.result.as_slice().is_empty()
+        && state.links.as_slice().len() == 1
+        && state.event.kernel_at(1) == Some(b"x".as_slice())
+}
+
+/// Whether all of it but the event is forgotten.
+fn is_cleared(state: &State<'_>) -> bool {
+    state.property(b"ACTION").is_empty()
+        && state.links.as_slice().is_empty()
+        && state.event.kernel() == b"cciss/c0d1".as_slice()
+}
+
+/// Whether both hold, one after the other, of what is known of an event.
+fn begins_and_clears(alloc: Global, event: &Event<'_>) -> bool {
+    let Ok(mut state) = State::new(alloc, event) else {
+        return false;
+    };
+    let is_begun = is_begun(&state);
+    state.clear(alloc);
+    let is_cleared = is_cleared(&state);
+    drop(state);
+    is_begun && is_cleared
+}
+
+/// Whether both hold of the block's event.
+fn block_begins_and_clears(alloc: Global) -> bool {
+    let Ok(event) = read_block(alloc, BLOCK) else {
+        return false;
+    };
+    let is_so = begins_and_clears(alloc, &event);
+    drop(event);
+    is_so
+}
+
+#[test]
+fn what_is_known_begins_with_the_event_and_is_cleared(rt: HostRuntime) {
+    assert!(rt; block_begins_and_clears(rt.alloc()));
 }

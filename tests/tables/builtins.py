@@ -1,0 +1,139 @@
+"""IMPORT{builtin}: what `hwdb` finds along the chain and by a modalias, and what is noted of other commands."""
+from tables.row import Row
+
+HUBS = "usb:v1D6B*\n ID_VENDOR=Linux\n"
+
+# A device without MODALIAS below a hub, and the same with a device of USB between the two.
+BELOW_HUB = "C: add\nP: /devices/h/p\nP: /devices/h\nU: usb\nE: MODALIAS=usb:v1D6Bp0002\n"
+BELOW_DEVICE = (
+    "C: add\nP: /devices/h/d/p\nP: /devices/h/d\nU: usb\nE: DEVTYPE=usb_device\n"
+    "P: /devices/h\nU: usb\nE: MODALIAS=usb:v1D6Bp0002\n"
+)
+
+# A device of which nothing but its path is known.
+ALONE = "C: add\nP: /devices/d\n"
+
+
+def beginning(lines, word):
+    """Those of some lines that begin with a word."""
+    return [line for line in lines if line.startswith(word)]
+
+
+def asked(name, rule, block, *lines, database=HUBS):
+    """What a rules file h.rules comes to over a block and a database: the lines that are not those of the event."""
+    path = block.splitlines()[1][3:]
+    env = sorted(["env ACTION=add", f"env DEVPATH={path}", *beginning(lines, "env ")])
+    answer = [f"event add {path}", *beginning(lines, "tag "), *env, *beginning(lines, "note ")]
+    files = {"h.rules": rule + "\n", "r/etc/udev/hwdb.d/u.hwdb": database}
+    return Row(name, "events -r r h.rules", files, block, "\n".join(answer) + "\n\n")
+
+
+def found(command, block, *lines, database=HUBS, name=None):
+    """A command that finds these properties."""
+    rule = f'IMPORT{{builtin}}=="{command}", TAG+="found"'
+    return asked(name or f"{command} finds something", rule, block, "tag found", *lines, database=database)
+
+
+def fails(command, block, *notes, database=HUBS, name=None):
+    """A command that fails, perhaps with a note."""
+    rule = f'IMPORT{{builtin}}!="{command}", TAG+="failed"'
+    lines = [f"note h.rules:1: {note}" for note in notes]
+    return asked(name or f"{command} fails", rule, block, "tag failed", *lines, database=database)
+
+
+LINUX = "env ID_VENDOR=Linux"
+
+CHAIN = [
+    asked("the device of USB above is looked up", 'IMPORT{builtin}="hwdb --subsystem=usb"', BELOW_HUB, LINUX),
+    found("hwdb --subsystem=usb", BELOW_HUB, LINUX),
+    fails("hwdb --subsystem=usb", BELOW_DEVICE, name="a device of USB ends the search"),
+    found("hwdb", BELOW_HUB, LINUX),
+    fails("hwdb --subsystem=pci", BELOW_HUB),
+    fails("hwdb --subsystem=", BELOW_HUB),
+    found("hwdb --subsystem=pci --subsystem=usb", BELOW_HUB, LINUX),
+    found(
+        "hwdb --subsystem=pci",
+        BELOW_DEVICE + "P: /devices\nU: pci\nE: MODALIAS=usb:v1D6B\n",
+        LINUX,
+        name="a device of USB that the subsystem passes over does not end the search",
+    ),
+    asked(
+        "a device without a subsystem is not looked up",
+        'IMPORT{builtin}!="hwdb", TAG+="failed"',
+        "C: add\nP: /devices/d\nE: MODALIAS=usb:v1D6B\n",
+        "tag failed",
+        "env MODALIAS=usb:v1D6B",
+    ),
+    fails("hwdb", ALONE, name="a device without a modalias is not looked up"),
+    found("hwdb --lookup-prefix=x", BELOW_HUB, "env A=1", database="xusb:*\n A=1\n"),
+]
+
+MODALIAS = [
+    found("hwdb usb:v1D6B", ALONE, LINUX),
+    found("hwdb --lookup-prefix=usb: 'v1D6B x' --filter=ID_*", ALONE, LINUX),
+    found(
+        "hwdb --lookup-prefix=usb: 'v1D6B x' --filter=ID_*",
+        BELOW_HUB,
+        LINUX,
+        database="usb:v1D6B x\n ID_VENDOR=Linux\n",
+        name="quotes and a prefix",
+    ),
+    found("hwdb u's'b:'v1D6B'x", ALONE, "env A=1", database="usb:v1D6Bx\n A=1\n"),
+    found("hwdb ''", ALONE, "env A=1", database="*\n A=1\n"),
+    fails("hwdb usb:v1D6B", ALONE, database="usb:v1D6\n A=1\n"),
+    asked(
+        "a command is rendered before its own rule sets a property",
+        'ENV{M}="usb:v1D6B", IMPORT{builtin}=="hwdb $env{M}"',
+        ALONE,
+    ),
+    asked(
+        "a command is rendered, with what earlier rules set",
+        'ENV{M}="usb:v1D6B"\nIMPORT{builtin}=="hwdb $env{M}"',
+        ALONE,
+        "env M=usb:v1D6B",
+        LINUX,
+    ),
+]
+
+FILTERS = [
+    fails("hwdb usb:v1D6B --filter=X*", BELOW_HUB),
+    fails("hwdb --lookup-prefix=usb: 'v1D6B x' --filter=X*", ALONE),
+    found("hwdb m --filter=ID_*", ALONE, "env ID_A=1", database="m\n ID_A=1\n B=2\n"),
+    found(
+        "hwdb m --filter=X* --filter=ID_*",
+        ALONE,
+        "env ID_A=1",
+        database="m\n ID_A=1\n B=2\n",
+        name="the last filter counts",
+    ),
+    found(
+        "hwdb m --filter=[[.a.]] --filter=ID_*",
+        ALONE,
+        "env ID_A=1",
+        database="m\n ID_A=1\n",
+        name="an earlier filter may be no pattern",
+    ),
+]
+
+FAULTY = [
+    fails("hwdb --filter=[[:alpha:]]", BELOW_HUB, "bad hwdb arguments: hwdb --filter=[[:alpha:]]"),
+    fails(
+        "hwdb --lookup-prefix=usb: 'v1D6B x' --filter=[[:alpha:]]",
+        ALONE,
+        "bad hwdb arguments: hwdb --lookup-prefix=usb: 'v1D6B",
+    ),
+    fails("kmod 'load", BELOW_HUB, "bad hwdb arguments: kmod 'load"),
+    fails("hwdb a ''", BELOW_HUB, "bad hwdb arguments: hwdb a ''"),
+    fails("hwdb a b", ALONE, "bad hwdb arguments: hwdb a b"),
+    fails("hwdb --none", ALONE, "bad hwdb arguments: hwdb --none"),
+    fails("hwdb -s", ALONE, "bad hwdb arguments: hwdb -s"),
+]
+
+OTHERS = [
+    asked("another builtin is named", 'IMPORT{builtin}="kmod load"', ALONE, "note h.rules:1: builtin not run: kmod"),
+    fails("kmod load", ALONE, "builtin not run: kmod"),
+    fails("", ALONE, "builtin not run", name="no word is no builtin"),
+    fails("''", ALONE, "builtin not run", name="nor is an empty one"),
+]
+
+ROWS = [*CHAIN, *MODALIAS, *FILTERS, *FAULTY, *OTHERS]

@@ -1,6 +1,6 @@
 #!/usr/bin/env python3
-"""What holds of the wrong bodies in crates/*/must-fail and crates/*/mutants, without a prover: a line `ok CASE` for each
-case, or `not ok CASE` with what was found below it.
+"""What holds of the wrong bodies in crates/*/must-fail and crates/*/mutants, without a prover: a line `ok CASE` for
+each case, or `not ok CASE` with what was found below it.
 usage: tests/edits.py [TOP]"""
 
 import pathlib
@@ -64,7 +64,10 @@ def main(top):
     folders = [path for crate in crates for path in (crate / "must-fail", crate / "mutants") if path.is_dir()]
     count = sum(len(found) for found in edits.values())
 
-    tell("each old text of a wrong body stands just once in its file", [line for edit in every for line in applied(edit)])
+    tell(
+        "each old text of a wrong body stands just once in its file",
+        [line for edit in every for line in applied(edit)],
+    )
     tell("wrong bodies are files .edit", [line for folder in folders for line in strays(folder)])
     tell(f"at most {MOST_EDITS} wrong bodies are the gate's", [f"there are {count}"] if count > MOST_EDITS else [])
     tell("no crate has one wrong body alone in the gate", [str(crate) for crate in crates if len(edits[crate]) == 1])

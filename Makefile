@@ -32,7 +32,7 @@ FILES := $(shell find $(wildcard $(foreach crate,$(CRATES),$(addprefix crates/$(
 # What a proof rests on beside the crates' own files: the kit.
 KIT := $(wildcard $(dir $(realpath $(RT)))../KIT-ID)
 
-.PHONY: all check check-uses install uninstall deb clean
+.PHONY: all check check-uses mutants install uninstall deb clean
 
 all: build/devdry
 
@@ -56,6 +56,12 @@ check:
 # What a user meets beside the proofs: less than a minute.
 check-uses: $(PROGRAM)
 	tests/run.sh $(PROGRAM)
+
+# Tries the wrong bodies that the prover has to refuse and that `make check` leaves out, those in crates/*/mutants: to
+# be run for each crate that a change touches, as `make mutants NAME="text_core hwdb_core"`, of what is committed.
+# Without NAME it tries those of all crates, which takes hours.
+mutants:
+	RT=$(RT) tests/mutants.sh $(NAME)
 
 install: $(PROGRAM)
 	install -D -m 755 $(PROGRAM) $(DESTDIR)$(BINDIR)/devdry

@@ -1,0 +1,86 @@
+#!/usr/bin/env python3
+"""What holds of the wrong bodies in crates/*/must-fail and crates/*/mutants, without a prover: a line `ok CASE` for
+each case, or `not ok CASE` with what was found below it.
+usage: tests/edits.py [TOP]"""
+
+import pathlib
+import sys
+
+# The most edits that the gate tries.
+MOST_EDITS = 100
+
+# How a line of an edit begins; no other line is read.
+MARKS = ("file: ", "old: ", "new:")
+
+
+def applied(edit):
+    """What keeps an edit from being applied: its pairs in turn, each to what the pairs before it have made."""
+    crate = edit.parent.parent
+    path, old, pairs, texts = None, None, 0, {}
+    for line in edit.read_text(encoding="utf-8").splitlines():
+        if not line.startswith(MARKS):
+            yield f"{edit}: this line is not read: {line}"
+        elif line.startswith("file: "):
+            path = crate / line.removeprefix("file: ").strip()
+            if not path.is_file():
+                yield f"{edit}: there is no file {path}"
+                return
+            texts.setdefault(path, path.read_text(encoding="utf-8"))
+        elif path is None:
+            yield f"{edit}: a pair stands before any file"
+            return
+        elif line.startswith("old: "):
+            old = line.removeprefix("old: ")
+        elif old is None:
+            yield f"{edit}: a new text stands behind no old one: {line}"
+        else:
+            count = texts[path].count(old)
+            if count != 1:
+                yield f"{edit}: this stands {count} times in {path}: {old}"
+            texts[path] = texts[path].replace(old, line.removeprefix("new:").removeprefix(" "), 1)
+            old, pairs = None, pairs + 1
+    if old is not None:
+        yield f"{edit}: no new text stands behind the last old one"
+    if pairs == 0:
+        yield f"{edit}: it changes nothing"
+
+
+def strays(folder):
+    """Files of a folder of edits that are none, nor notes beside them."""
+    return [f"{path}: no edit" for path in folder.iterdir() if path.suffix not in (".edit", ".md")]
+
+
+def tell(case, found):
+    print(f"not ok {case}" if found else f"ok {case}")
+    for line in found:
+        print(f"    {line}")
+
+
+def main(top):
+    crates = sorted(path for path in (top / "crates").iterdir() if path.is_dir())
+    edits = {crate: sorted(crate.glob("must-fail/*.edit")) for crate in crates}
+    mutants = {crate: sorted(crate.glob("mutants/*.edit")) for crate in crates}
+    every = [edit for crate in crates for edit in edits[crate] + mutants[crate]]
+    folders = [path for crate in crates for path in (crate / "must-fail", crate / "mutants") if path.is_dir()]
+    count = sum(len(found) for found in edits.values())
+
+    tell(
+        "each old text of a wrong body stands just once in its file",
+        [line for edit in every for line in applied(edit)],
+    )
+    tell("wrong bodies are files .edit", [line for folder in folders for line in strays(folder)])
+    tell(f"at most {MOST_EDITS} wrong bodies are the gate's", [f"there are {count}"] if count > MOST_EDITS else [])
+    tell("no crate has one wrong body alone in the gate", [str(crate) for crate in crates if len(edits[crate]) == 1])
+    tell(
+        "no crate has two wrong bodies of one name",
+        [
+            str(mutant)
+            for crate in crates
+            for mutant in mutants[crate]
+            if mutant.name in [edit.name for edit in edits[crate]]
+        ],
+    )
+
+
+if __name__ == "__main__":
+    main(pathlib.Path(sys.argv[1] if len(sys.argv) > 1 else "."))

@@ -1,0 +1,8 @@
+#!/usr/bin/env bash
+# Wrong bodies, those of the gate and those that are tried on demand: whether each can still be applied, so that none is
+# lost when code changes, and whether the gate's are as many as it has time for. No prover is asked.
+set -uo pipefail
+# shellcheck source=lib.sh
+. "$(dirname "$0")/lib.sh"
+cd "$top" || exit 1
+PYTHONDONTWRITEBYTECODE=1 python3 tests/edits.py

@@ -43,7 +43,7 @@ TEMPLATES = (
 def block(properties):
     """A block of two devices; the first has so many properties."""
     lines = ["C: add", "P: /devices/pci0/usb1/1-1/block/sda", "U: block", "N: sda", "D: 8:0"]
-    lines += [f"E: NAME{number}=a value of some length" for number in range(properties)]
+    lines += [f"E: NAME{number}=value" for number in range(properties)]
     return "\n".join([*lines, "P: /devices/pci0/usb1", "U: usb", "A: serial=7", "", ""])
 
 

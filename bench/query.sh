@@ -52,7 +52,7 @@ with tempfile.TemporaryDirectory() as work:
     runs["query"] = Run([program, "query", "-r", root, KINDS["usb"]])
     for part in (4, 2, 1):
         some = b"".join(lines[:len(lines) // part])
-        runs[f"query, one file of {len(some) / MILLION:.1f} MB"] = Run([program, "query", KINDS["usb"], put(f"{part}.hwdb", some)])
+        runs[f"query, 1/{part} of the lines in one file of {len(some) / MILLION:.1f} MB"] = Run([program, "query", KINDS["usb"], put(f"{part}.hwdb", some)])
     runs["query --index"] = Run([program, "query", "--index", index, KINDS["usb"]])
     runs["cat of that index"] = Run(["cat", index])
     taken = least(runs, turns=7)

@@ -52,14 +52,14 @@ with tempfile.TemporaryDirectory() as work:
     texts = [open(path, "rb").read() for path in paths]
     add(f"{len(paths)} files of a distribution, copied to about 200", *(texts * (200 // len(texts) + 1)))
     for part in (4, 2, 1):
-        add("rules of one file" if part == 1 else f"1/{part} of them", repeated(b"\n".join(texts), SIZE // part))
+        add(f"rules in one file, 1/{part} of it", repeated(b"\n".join(texts), SIZE // part))
     for name, line in LINES.items():
         add(name, repeated(line + b"\n", SIZE))
     for lines in (5000, 10000, 20000):
         add(f"{lines} jumps and labels", *(
             b"".join(form % number for form in (b'GOTO="label_%d"\n', b'LABEL="label_%d"\n') for number in range(lines // 2)),))
-    taken = least(runs)
-    beside = taken["rules of one file"].seconds / sizes["rules of one file"]
+    taken, whole = least(runs), "rules in one file, 1/1 of it"
+    beside = taken[whole].seconds / sizes[whole]
     for name, (seconds, peak) in taken.items():
         print(f"{name}: {sizes[name] / MILLION:.2f} MB, {seconds * 1000:.1f} ms, {sizes[name] / seconds / MILLION:.0f} MB/s, "
               f"{seconds / sizes[name] / beside:.2f} of a byte of rules, peak {peak:.0f} MB", flush=True)

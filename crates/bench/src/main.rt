@@ -50,10 +50,12 @@ enum Rules {
 impl Rules {
     fn evaluate(&self, alloc: Global, event: &Event<'_>) -> Result<Outcome, AllocError> {
         let lookup = PlainDb::new(Vec::new(alloc));
-        match self {
+        let outcome = match self {
             Rules::Plain(rules) => evaluate_plain(alloc, rules, event, &lookup),
             Rules::Compiled(program) => program.evaluate(alloc, event, &lookup),
-        }
+        };
+        drop(lookup);
+        outcome
     }
 }
 
@@ -86,7 +88,18 @@ fn files_of(alloc: Global, text: &[u8]) -> Result<Vec<SourceFile>, AllocError> {
 /// The rules of a text, as they are read.
 fn rules_of(alloc: Global, text: &[u8]) -> Result<RuleSet, RulesFault> {
     let files = files_of(alloc, text)?;
-    read_rules(alloc, &files)
+    let rules = read_rules(alloc, &files);
+    drop(files);
+    rules
+}
+
+/// Rules as they are read, or their program.
+fn rules_by(alloc: Global, way: &[u8], rules: RuleSet) -> Result<Rules, AllocError> {
+    if way == b"plain".as_slice() {
+        Ok(Rules::Plain(rules))
+    } else {
+        Ok(Rules::Compiled(compile(alloc, rules)?))
+    }
 }
 
 /// The counts with one event, as often as it is evaluated.
@@ -117,38 +130,32 @@ fn count(alloc: Global, rules: &Rules, times: u64, text: &[u8]) -> Result<Counts
     for part in text.split(|byte| *byte == BETWEEN) {
         if part.starts_with(b"C:") {
             if let Ok(event) = read_block(alloc, part) {
-                counts = with_event(alloc, rules, times, &event, counts)?;
+                let more = with_event(alloc, rules, times, &event, counts);
                 drop(event);
+                counts = more?;
             }
         }
     }
     Ok(counts)
 }
 
-/// Evaluates the blocks of a text, and tells what they come to.
-fn tell(out: &impl Print, alloc: Global, rules: &Rules, times: u64, text: &[u8]) -> io::Result<()> {
-    match count(alloc, rules, times, text) {
-        Ok(counts) => println!(out;
-            "{} events, {} properties, {} links, {} notes",
-            counts.events, counts.properties, counts.links, counts.notes
-        ),
-        Err(_) => println!(out; "out of memory"),
-    }
-}
-
-/// Evaluates by rules as they are read or by their program, and tells how many rules there are.
+/// Evaluates the blocks of a text by its rules, and tells what they come to.
 fn run(out: &impl Print, alloc: Global, way: &[u8], times: u64, text: &[u8]) -> io::Result<()> {
     let Ok(read) = rules_of(alloc, text) else {
         return println!(out; "no rules");
     };
-    print!(out; "{} rules, ", read.rules().len())?;
-    if way == b"plain".as_slice() {
-        tell(out, alloc, &Rules::Plain(read), times, text)
-    } else {
-        match compile(alloc, read) {
-            Ok(program) => tell(out, alloc, &Rules::Compiled(program), times, text),
-            Err(_) => println!(out; "out of memory"),
-        }
+    let number = read.rules().len();
+    let Ok(rules) = rules_by(alloc, way, read) else {
+        return println!(out; "out of memory");
+    };
+    let counted = count(alloc, &rules, times, text);
+    drop(rules);
+    match counted {
+        Ok(counts) => println!(out;
+            "{number} rules, {} events, {} properties, {} links, {} notes",
+            counts.events, counts.properties, counts.links, counts.notes
+        ),
+        Err(_) => println!(out; "out of memory"),
     }
 }
 

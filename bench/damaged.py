@@ -1,18 +1,19 @@
-"""Runs the program over files that are damaged by a seed: no run may crash, hang or end in a status of its own.
+"""Runs the program over files that are damaged by a seed: no run may crash, hang or end in a status of its own, and an
+index is refused as a plain reading of its bytes says, or answers as that does.
 
-usage: damaged.py PROGRAM COUNT SEED
+usage: damaged.py PROGRAM COUNT SEED [KIND]    COUNT files of each kind, or of rules, blocks, database or indexes alone
 """
 import collections
 import multiprocessing
 import os
 import random
 import signal
-import subprocess
 import sys
 import tempfile
 import time
 
-TOP = os.path.dirname(os.path.dirname(os.path.abspath(__file__)))
+import damaged_indexes
+
 STATUSES = range(5)
 SECOND = 1.0
 # A run that waits for something would take no processor time: it is ended after so many seconds.
@@ -20,7 +21,9 @@ PATIENCE = 60
 # How many damaged files are read by one run of a command that reads many.
 BATCH = 250
 # How many cases a processor takes at once.
-SHARE = 1000
+SHARE = 250
+# Of so many damaged indexes each fault has to be met.
+MANY = 2000
 
 RULES = rb'''# Each key, and each kind of value.
 ACTION=="add|change", SUBSYSTEM=="block", KERNEL=="sd[a-z]*[!0-9]", DEVPATH=="*/x?", DRIVER!="none", NAME=="?*"
@@ -121,14 +124,6 @@ def damage(chance, text):
     return bytes(text)
 
 
-def damaged_number(chance, index):
-    """A copy of an index in which one number or byte is another."""
-    at = chance.randrange(max(1, len(index) // 4)) * 4
-    number = int.from_bytes(index[at:at + 4], "little")
-    number = chance.choice((0, 2 ** 32 - 1, number + 1, number - 1, chance.randrange(8), chance.randrange(2 ** 32)))
-    return index[:at] + (number % 2 ** 32).to_bytes(4, "little") + index[at + 4:]
-
-
 class Runs:
     """Runs of the program in a folder of their own: how they ended, and what went wrong."""
 
@@ -143,80 +138,87 @@ class Runs:
             file.write(text)
         return path
 
-    def run(self, case, words, source=os.devnull):
-        """Runs the program; what it must not do is noted for the case."""
+    def spawn(self, words, source, outputs):
+        """Runs the program; answers its status and the processor time that it took."""
         child = os.posix_spawn(self.program, [self.program, *words], {}, setsigdef=[signal.SIGPIPE], file_actions=[
             (os.POSIX_SPAWN_OPEN, 0, source, os.O_RDONLY, 0),
-            (os.POSIX_SPAWN_OPEN, 1, os.devnull, os.O_WRONLY, 0), (os.POSIX_SPAWN_OPEN, 2, os.devnull, os.O_WRONLY, 0)])
+            *((os.POSIX_SPAWN_OPEN, number, path, os.O_WRONLY | os.O_CREAT | os.O_TRUNC, 0o600)
+              for number, path in enumerate(outputs, 1))])
         signal.signal(signal.SIGALRM, lambda *_: os.kill(child, signal.SIGKILL))
         signal.alarm(PATIENCE)
         _, status, used = os.wait4(child, 0)
         signal.alarm(0)
-        status = os.waitstatus_to_exitcode(status)
-        took = used.ru_utime + used.ru_stime
-        self.ends[status] += 1
+        return os.waitstatus_to_exitcode(status), used.ru_utime + used.ru_stime
+
+    def run(self, case, words, source=os.devnull, outputs=(os.devnull, os.devnull)):
+        """Runs the program; what it must not do is noted for the case. Answers its status."""
+        status, took = self.spawn(words, source, outputs)
+        if took > SECOND:
+            # A busy machine may count what the run did not take; what is slow is slow again.
+            status, took = self.spawn(words, source, outputs)
         self.slowest = max(self.slowest, took)
         if status not in STATUSES or took > SECOND:
             self.faults.append(f"{case}: status {status}, {took:.2f} s: {' '.join(words)}")
+        return status
+
+    def answer(self, case, words, source=os.devnull):
+        """Runs the program; answers its status and what it wrote to its output and its error output."""
+        outputs = [os.path.join(self.folder, name) for name in ("output", "errors")]
+        written = [self.run(case, words, source, outputs)]
+        for path in outputs:
+            with open(path, "rb") as file:
+                written.append(file.read())
+        return tuple(written)
 
 
 def rules(runs, chance, case):
     """Damaged rules files, many to a run."""
     files = [runs.write(f"{k}.rules", damage(chance, RULES)) for k in range(BATCH)]
-    runs.run(case, ["verify", *files])
+    runs.ends[f"status {runs.run(case, ['verify', *files])}"] += 1
 
 
 def blocks(runs, chance, case):
     """Damaged blocks, answered by damaged rules."""
     source = runs.write("blocks", damage(chance, BLOCKS))
     file = runs.write("a.rules", damage(chance, RULES) if chance.randrange(2) else RULES)
-    runs.run(case, ["events", "-r", "none", file], source)
+    runs.ends[f"status {runs.run(case, ['events', '-r', 'none', file], source)}"] += 1
 
 
 def hwdb(runs, chance, case):
     """Damaged database files, many to a run."""
     files = [runs.write(f"{k}.hwdb", damage(chance, HWDB)) for k in range(BATCH)]
-    runs.run(case, ["query", "usb:v1D6Bp0002d0510", *files])
+    runs.ends[f"status {runs.run(case, ['query', 'usb:v1D6Bp0002d0510', *files])}"] += 1
 
 
 def indexes(runs, chance, case):
-    """Damaged indexes, asked by `query` or by `events`."""
-    with open(os.path.join(runs.folder, "index"), "rb") as file:
-        index = file.read()
-    for _ in range(chance.choice((1, 1, 2))):
-        index = damaged_number(chance, index) if chance.randrange(3) else damage(chance, index)
-    path = runs.write("damaged", index)
-    if chance.randrange(8):
-        runs.run(case, ["query", "--index", path, "usb:v1D6Bp0002d0510"])
-    else:
-        runs.run(case, ["events", "--index", path, runs.write("a.rules", RULES)], runs.write("blocks", BLOCKS))
+    """A damaged index, compared with a plain reading of its bytes."""
+    index, modaliases = chance.choice(damaged_indexes.originals(runs.program))
+    damaged_indexes.compare(runs, chance, case, damaged_indexes.damaged(chance, index), chance.choice(modaliases))
 
 
+# What each kind is, who makes a case of it, and how many files that is.
 KINDS = {
-    "rules files": (rules, BATCH), "blocks, by rules of which half are damaged": (blocks, 1),
-    "database files": (hwdb, BATCH), "indexes": (indexes, 1),
+    "rules": ("rules files", rules, BATCH), "blocks": ("blocks, by rules of which half are damaged", blocks, 1),
+    "database": ("database files", hwdb, BATCH), "indexes": ("indexes", indexes, 1),
 }
 
 
 def share(job):
     """Some of the cases of a kind, by a seed of their own."""
     program, kind, seed, count = job
-    make, batch = KINDS[kind]
+    _, make, batch = KINDS[kind]
     with tempfile.TemporaryDirectory() as folder:
         runs = Runs(program, folder)
-        if kind == "indexes":
-            text = runs.write("whole.hwdb", HWDB)
-            runs.write("index", subprocess.run([program, "update", text], stdout=subprocess.PIPE, stderr=subprocess.DEVNULL, check=True).stdout)
         chance = random.Random(f"{seed} {kind}")
         for number in range(0, count, batch):
             make(runs, chance, f"{kind}, share {seed}, number {number}")
         return runs.ends, runs.faults, runs.slowest
 
 
-def main(program, count, seed):
+def main(program, count, seed, kinds):
     faults = []
     with multiprocessing.Pool() as pool:
-        for kind in KINDS:
+        for kind in kinds:
             begin = time.monotonic()
             jobs = [(program, kind, f"{seed}.{n}", min(SHARE, count - n)) for n in range(0, count, SHARE)]
             ends, slowest = collections.Counter(), 0
@@ -224,8 +226,10 @@ def main(program, count, seed):
                 ends += ended
                 faults += wrong
                 slowest = max(slowest, took)
-            told = ", ".join(f"{ends[status]} in {status}" for status in sorted(ends))
-            print(f"{count} damaged {kind}: runs that end {told}; the slowest {slowest:.2f} s; "
+            if kind == "indexes" and count >= MANY:
+                faults += damaged_indexes.missing(ends)
+            told = ", ".join(f"{ends[end]} {end}" for end in sorted(ends))
+            print(f"{count} damaged {KINDS[kind][0]}: {told}; the slowest {slowest:.2f} s; "
                   f"{time.monotonic() - begin:.0f} s in all", flush=True)
     for fault in faults[:20]:
         print(fault)
@@ -234,4 +238,4 @@ def main(program, count, seed):
 
 
 if __name__ == "__main__":
-    sys.exit(main(sys.argv[1], int(sys.argv[2]), sys.argv[3]))
+    sys.exit(main(os.path.realpath(sys.argv[1]), int(sys.argv[2]), sys.argv[3], sys.argv[4:] or KINDS))

@@ -1,20 +1,20 @@
 #!/usr/bin/env bash
-# How long one event takes, by the rules as they are read and by their program. Two times are told of each:
-# evaluation alone, by one block that is read once and evaluated 2,001 times and once, and the whole event, its
+# How long one event takes, by the rules as they are read and by their program, both in turns. Two times are told of
+# each: evaluation alone, by one block that is read once and evaluated 2,001 times and once, and the whole event, its
 # block read each time, by 2,001 blocks and by one; the difference, divided, is what each takes. The rules are made
 # ones of which most fail at their first match, 4,600, half of them and twice as many; by each first key alone, and
 # what a rule costs where all of them stay in the processor's cache; the same rules where every tenth one changes a
 # property, so that one sees what a rule costs whose end is reached; then the rules of a distribution, once and
-# copied to about 200 files, with events as a machine has them. Times are the processor's, as the program uses it.
+# copied to about 200 files, with events as a machine has them. The program is crates/bench, which is proved first.
 # usage: bench/event.sh [DIR]    DIR holds usr/lib/udev/rules.d, as tools that unpack packages leave it
 set -euo pipefail
 root=$(cd "${1:-/nonexistent}" 2> /dev/null && pwd || true)
 top=$(cd "$(dirname "$0")/.." && pwd)
-program=$top/crates/bench_event/out/bench_event
-(cd "$top/crates/bench_event" && rt run > /dev/null)
+program=$top/crates/bench/out/bench
+(cd "$top/crates/bench" && rt run < stdin > /dev/null)
 PYTHONPATH=$top/bench exec python3 - "$program" "$root" <<'P'
 import glob, os, sys, tempfile
-from timing import user_time_of_five
+from timing import Run, least
 
 program, root = sys.argv[1:]
 EVENTS = 2000
@@ -23,7 +23,7 @@ DISK = "/devices/pci0000:00/0000:00:14.0/usb1/1-1/1-1:1.0/host6/target6:0:0/6:0:
 BLOCK = "\n".join([
     "C: add", "P: /devices/pci0000:00/0000:00:14.0/usb1/1-1/block/sda", "U: block", "N: sda", "D: 8:0",
     *(f"E: K{n}=value" for n in range(20)), "P: /devices/pci0000:00/0000:00:14.0/usb1/1-1", "U: usb",
-    "A: serial=7", "", ""])
+    "A: serial=7", ""])
 USB = ["P: /devices/pci0000:00/0000:00:14.0/usb1/1-1", "U: usb", "V: usb", "E: DEVTYPE=usb_device",
        "E: MODALIAS=usb:v0781p5567d0126dc00dsc00dp00", "A: idVendor=0781", "A: idProduct=5567",
        "A: manufacturer=SanDisk", "A: product=Cruzer Blade", "A: serial=4C530001",
@@ -67,28 +67,25 @@ def rule(number, firsts, changing):
     return f'{firsts[number % len(firsts)]}, ATTRS{{idVendor}}=="{number:04x}", SYMLINK+="x/{number}"'
 
 
-def run(way, rules, block, blocks, times):
-    """The processor time of a run over so many blocks, each evaluated so often, by the least of five, and what it told."""
-    with tempfile.NamedTemporaryFile(mode="w") as file:
-        file.write(f"{way}\n{times}\n{rules}{block * blocks}")
-        file.flush()
-        return user_time_of_five([program], file.name)
-
-
-def time_of(way, rules, block):
-    """The processor time of one evaluation, that of one whole event, and what the events come to."""
-    once, _ = run(way, rules, block, 1, 1)
-    evaluated, answer = run(way, rules, block, 1, EVENTS + 1)
-    read, again = run(way, rules, block, EVENTS + 1, 1)
-    assert answer == again, (answer, again)
-    return (evaluated - once) / EVENTS, (read - once) / EVENTS, answer
+def times_of(rules, block):
+    """The times of one evaluation and of one whole event, for both ways, and what the events come to."""
+    with tempfile.TemporaryDirectory() as work:
+        runs, answers = {}, {}
+        for way in ("plain", "compiled"):
+            for name, blocks, times in (("once", 1, 1), ("evaluated", 1, EVENTS + 1), ("read", EVENTS + 1, 1)):
+                source, answers[way, name] = (os.path.join(work, f"{way}-{name}-{part}") for part in ("in", "out"))
+                with open(source, "w", encoding="latin-1") as file:
+                    file.write(f"{way}\n{times}\n" + "\x1e".join([*rules, *[block] * blocks]))
+                runs[way, name] = Run([program], source, answers[way, name])
+        taken = {key: value.seconds for key, value in least(runs).items()}
+        told = {key: open(path, encoding="ascii").read().strip() for key, path in answers.items() if key[1] != "once"}
+    assert len(set(told.values())) == 1, told
+    return [[(taken[way, name] - taken[way, "once"]) / EVENTS for name in ("evaluated", "read")] for way in ("plain", "compiled")], told.popitem()[1]
 
 
 def measure(name, rules, block):
     """The times of one event, as the rules are read and by their program; gives the first evaluation's."""
-    plain, plain_whole, answer = time_of("plain", rules, block)
-    compiled, compiled_whole, again = time_of("compiled", rules, block)
-    assert answer == again, (answer, again)
+    ((plain, plain_whole), (compiled, compiled_whole)), answer = times_of(rules, block)
     count = int(answer.split()[0])
     print(f"{name}: {answer}; evaluation {plain * 1e6:.1f} us, {plain / count * 1e9:.0f} ns a rule; compiled "
           f"{compiled * 1e6:.1f} us, {plain / compiled:.2f} times as fast; with reading the block {plain_whole * 1e6:.1f} us, "
@@ -98,16 +95,13 @@ def measure(name, rules, block):
 
 def made(count, firsts=FIRST, changing=False):
     """So many rules, as one file."""
-    return "".join(rule(number, firsts, changing) + "\n" for number in range(count)) + "\n"
+    return ["".join(rule(number, firsts, changing) + "\n" for number in range(count))]
 
 
 def distribution(copies):
-    """The rules of a distribution, so many times, each file with an empty line behind it and none inside."""
-    texts = []
-    for path in sorted(glob.glob(os.path.join(root, "usr/lib/udev/rules.d/*.rules"))):
-        with open(path, encoding="latin-1") as file:
-            texts.append("".join((line or " ") + "\n" for line in file.read().split("\n")) + "\n")
-    return "".join(texts) * copies
+    """The files of a distribution's rules, so many times."""
+    paths = sorted(glob.glob(os.path.join(root, "usr/lib/udev/rules.d/*.rules")))
+    return [open(path, encoding="latin-1").read() for path in paths] * copies
 
 
 for count in (2300, 4600, 9200):
@@ -119,7 +113,7 @@ measure("every tenth rule changes a property", made(4600, changing=True), BLOCK)
 if root:
     for name, lines in REAL.items():
         for copies, said in ((1, "rules of a distribution"), (3, "three copies of them")):
-            measure(f"{said}, {name}", distribution(copies), "\n".join(lines) + "\n\n")
+            measure(f"{said}, {name}", distribution(copies), "\n".join(lines) + "\n")
     name, lines = next(iter(REAL.items()))
-    measure(f"twice as many, {name}", distribution(6), "\n".join(lines) + "\n\n")
+    measure(f"twice as many, {name}", distribution(6), "\n".join(lines) + "\n")
 P

@@ -6,7 +6,7 @@
 # usage: bench/hostile.sh [COUNT] [SEED]    COUNT damaged files of each kind, 100,000 unless one is given
 set -euo pipefail
 top=$(cd "$(dirname "$0")/.." && pwd)
-program=$top/build/devdry
+program=${PROGRAM:-$top/build/devdry}
 failed=0
 "$top/bench/odd_files.sh" "$program" || failed=1
 python3 "$top/bench/endless.py" "$program" || failed=1

@@ -1,32 +1,32 @@
-"""The least of five times that a program takes, for the scripts beside this file."""
+"""What runs take, for the scripts beside this file: the processor's time, the least of some runs that take turns, so that
+all of them meet the same machine."""
 import os
-import subprocess
-import time
+import sys
+from collections import namedtuple
 
 MILLION = 1000 * 1000
+TURNS = 5
+
+# The words of a command, the path of its input, that of the file for what it prints, and how it may end.
+Run = namedtuple("Run", "words source answer statuses", defaults=(os.devnull, os.devnull, (0,)))
+# Seconds, and the peak memory in MB (that of the script at least).
+Taken = namedtuple("Taken", "seconds peak")
 
 
-def best_of_five(command, path=None):
-    """The least time in seconds, and what the last run printed; `path` is its input."""
-    best = None
-    for _ in range(5):
-        source = open(path, "rb") if path else subprocess.DEVNULL
-        start = time.monotonic()
-        done = subprocess.run(command, stdin=source, capture_output=True)
-        took = time.monotonic() - start
-        if path:
-            source.close()
-        best = took if best is None else min(best, took)
-    return best, done.stdout.decode().strip()
+def take(run):
+    """Runs a command."""
+    child = os.posix_spawnp(run.words[0], run.words, os.environ, file_actions=[
+        (os.POSIX_SPAWN_OPEN, 0, run.source, os.O_RDONLY, 0),
+        (os.POSIX_SPAWN_OPEN, 1, run.answer, os.O_WRONLY | os.O_CREAT | os.O_TRUNC, 0o600),
+        (os.POSIX_SPAWN_OPEN, 2, os.devnull, os.O_WRONLY, 0)])
+    _, status, used = os.wait4(child, 0)
+    status = os.waitstatus_to_exitcode(status)
+    if status not in run.statuses:
+        sys.exit(f"status {status}: {' '.join(run.words)}")
+    return Taken(used.ru_utime + used.ru_stime, used.ru_maxrss / 1024)
 
 
-def user_time_of_five(command, path):
-    """The same by the processor's time that the program itself uses, which says the same beside others."""
-    best = None
-    for _ in range(5):
-        with open(path, "rb") as source:
-            run = subprocess.Popen(command, stdin=source, stdout=subprocess.PIPE)
-            answer = run.stdout.read().decode().strip()
-            _, _, used = os.wait4(run.pid, 0)
-        best = used.ru_utime if best is None else min(best, used.ru_utime)
-    return best, answer
+def least(runs, turns=TURNS):
+    """The least that each of some runs takes, by their names."""
+    taken = [{name: take(run) for name, run in runs.items()} for _ in range(turns)]
+    return {name: min(turn[name] for turn in taken) for name in runs}

@@ -1,0 +1,8 @@
+#!/usr/bin/env bash
+# Small indexes that are damaged by a seed: each is refused as a plain reading of its bytes says, or answers as that
+# does. bench/hostile.sh tries as many more as it is asked for.
+set -uo pipefail
+# shellcheck source=lib.sh
+. "$(dirname "$0")/lib.sh"
+PYTHONDONTWRITEBYTECODE=1 goes_well "3,000 damaged indexes are read as a plain reading says" \
+    python3 "$top/bench/damaged.py" "$program" 3000 1 indexes

@@ -16,7 +16,7 @@ from pathlib import Path
 
 HERE = Path(__file__).resolve().parent
 sys.path.insert(0, str(HERE))
-from tables.row import Begins, as_bytes  # noqa: E402
+from tables.row import FOLDER, Begins, Link, as_bytes  # noqa: E402
 
 SECONDS = 60
 
@@ -26,7 +26,12 @@ def make_files(folder, files):
     for name, text in files.items():
         path = Path(folder, os.fsdecode(name))
         path.parent.mkdir(parents=True, exist_ok=True)
-        path.write_bytes(as_bytes(text))
+        if text is FOLDER:
+            path.mkdir()
+        elif isinstance(text, Link):
+            path.symlink_to(text)
+        else:
+            path.write_bytes(as_bytes(text))
 
 
 def differences(what, wanted, got):

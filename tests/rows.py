@@ -75,4 +75,9 @@ def main(program, tables):
 if __name__ == "__main__":
     if len(sys.argv) < 2:
         sys.exit(__doc__)
-    sys.exit(not main(os.path.realpath(sys.argv[1]), sys.argv[2:]))
+    try:
+        sys.exit(not main(os.path.realpath(sys.argv[1]), sys.argv[2:]))
+    except Exception as fault:
+        # (whoever counts the lines sees a table that can't be read, too)
+        print(f"not ok the rows are all run: {fault!r}")
+        raise

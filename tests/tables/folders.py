@@ -4,7 +4,7 @@ The run of a row may be root's, whom no permission stops. So what can't be read 
 can't be listed is a file in place of a folder; bench/odd_files.sh shows a folder without permission to another user.
 """
 from tables.row import FOLDER, Link, Row
-from tables.words import FIRST_VERSION
+from tables.words import EMPTY_INDEX, FIRST_VERSION
 
 ETC, LIB = "mnt/etc/udev/hwdb.d", "mnt/usr/lib/udev/hwdb.d"
 RULES = ["mnt/etc/udev/rules.d", "mnt/run/udev/rules.d", "mnt/usr/local/lib/udev/rules.d", "mnt/usr/lib/udev/rules.d"]
@@ -44,10 +44,6 @@ QUERIED = [
      {f"{ETC}/60-a.hwdb": record("A=1\n B=1"), f"{LIB}/70-b.hwdb": record("A=2\n C=2"), f"{ETC}/9.hwdb": record("D=3"),
       f"{LIB}/90-d.hwdb": record("D=4")},
      "70-b.hwdb:2: A=2\n60-a.hwdb:3: B=1\n70-b.hwdb:3: C=2\n90-d.hwdb:2: D=4\n"),
-    ("names are ordered byte by byte",
-     {f"{ETC}/B.hwdb": record("A=1"), f"{ETC}/a.hwdb": record("A=2"), f"{ETC}/a-b.hwdb": record("A=3"),
-      f"{ETC}/10.hwdb": record("A=4")},
-     "a.hwdb:2: A=2\n"),
     ("a link to /dev/null is an empty file, which hides that of its name",
      {f"{LIB}/a.hwdb": record("A=1"), f"{ETC}/a.hwdb": Link("/dev/null"), f"{LIB}/b.hwdb": record("B=1")},
      "b.hwdb:2: B=1\n"),
@@ -129,6 +125,9 @@ ROWS = [
         messages=f"{RULES[0]}/b:1: V1 bad syntax: B\na:1: V1 bad syntax: A\n{RULES[0]}/b:1: V1 bad syntax: B\n", status=1),
     Row("named files stand in place of the folders", "query -r mnt m t.hwdb", {ETC: "", LIB: "", "t.hwdb": record("A=1")},
         output="A=1\n"),
+    Row("named files stand in place of the folders, for update too", "update -r mnt t.hwdb",
+        {ETC: "", LIB: "", RULES[0]: "", "t.hwdb": ""}, output=EMPTY_INDEX),
+    Row("folders of rules are not asked by update", "update -r mnt", {RULES[0]: "", RULES[3]: ""}, output=EMPTY_INDEX),
     Row("named rules stand in place of the folders", "verify -r mnt a.rules", {RULES[0]: "", RULES[3]: "", "a.rules": ""},
         output="1 files checked, 1 good, 0 bad\n"),
     Row("named rules stand beside the folders of the database", "events -r mnt a.rules",

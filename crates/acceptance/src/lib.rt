@@ -13,15 +13,9 @@ mod evaluations;
 #[cfg(test)]
 mod events;
 #[cfg(test)]
-mod failures;
-#[cfg(test)]
 mod indexes;
 #[cfg(test)]
 mod inputs;
-#[cfg(test)]
-mod lengths;
-#[cfg(test)]
-mod refusals;
 #[cfg(test)]
 mod rules;
 #[cfg(test)]

@@ -8,7 +8,7 @@ from tables.words import EMPTY_INDEX, FIRST_VERSION
 
 ETC, LIB = "mnt/etc/udev/hwdb.d", "mnt/usr/lib/udev/hwdb.d"
 RULES = ["mnt/etc/udev/rules.d", "mnt/run/udev/rules.d", "mnt/usr/local/lib/udev/rules.d", "mnt/usr/lib/udev/rules.d"]
-EMPTY_BLOCK = "C: add\nP: /x\n"
+BLOCK = "C: add\nP: /x\n"
 ANSWER = "event add /x\nenv ACTION=add\nenv DEVPATH=/x\n\n"
 
 
@@ -131,14 +131,14 @@ ROWS = [
     Row("named rules stand in place of the folders", "verify -r mnt a.rules", {RULES[0]: "", RULES[3]: "", "a.rules": ""},
         output="1 files checked, 1 good, 0 bad\n"),
     Row("named rules stand beside the folders of the database", "events -r mnt a.rules",
-        {RULES[0]: "", f"{LIB}/a.hwdb": record("A=1"), **ASKING}, EMPTY_BLOCK, ASKED),
+        {RULES[0]: "", f"{LIB}/a.hwdb": record("A=1"), **ASKING}, BLOCK, ASKED),
     Row("an index stands in place of the folders of the database", "query -r mnt --index a.index abc",
         {ETC: "", LIB: "", "a.index": FIRST_VERSION}, output="K=V\n"),
     Row("an index stands beside the folders of rules", "events -r mnt --index a.index",
-        {ETC: "", f"{RULES[2]}/a.rules": 'IMPORT{builtin}="hwdb abc"\n', "a.index": FIRST_VERSION}, EMPTY_BLOCK,
+        {ETC: "", f"{RULES[2]}/a.rules": 'IMPORT{builtin}="hwdb abc"\n', "a.index": FIRST_VERSION}, BLOCK,
         "event add /x\nenv ACTION=add\nenv DEVPATH=/x\nenv K=V\n\n"),
     Row("an index stands beside named rules", "events -r mnt --index a.index a.rules",
-        {ETC: "", RULES[0]: "", "a.rules": 'FOO=="x"\n', "a.index": FIRST_VERSION}, EMPTY_BLOCK, ANSWER,
+        {ETC: "", RULES[0]: "", "a.rules": 'FOO=="x"\n', "a.index": FIRST_VERSION}, BLOCK, ANSWER,
         "a.rules:1: V2 unknown key: FOO\n"),
     Row("a file whose length is not told is read to its end", "verify --no-summary /proc/sys/kernel/ostype",
         messages="/proc/sys/kernel/ostype:1: V1 bad syntax: Linux\n", status=1),

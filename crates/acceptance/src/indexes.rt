@@ -250,9 +250,17 @@ fn forty_stars(alloc: Global) -> Result<String, Fail> {
 fn stars_are_walked_without_going_back(rt: HostRuntime) -> Result<(), Fail> {
     let text = forty_stars(rt.alloc())?;
     let index = index_of(rt.alloc(), &[(FileKind::Hwdb, 1, "t.hwdb", text.as_str())])?;
-    let mut modalias = Vec::from_elem(rt.alloc(), b'a', 200)?;
-    modalias.push(b'b')?;
-    assert_eq!(rt; visits(rt.alloc(), &index, &modalias)?, (40, 14_521));
+    let mut modalias = String::new(rt.alloc());
+    for _letter in 0..200 {
+        modalias.push('a')?;
+    }
+    modalias.push('b')?;
+    let modalias = modalias.as_str();
+    assert_query(&rt, &index, modalias, false, "")?;
+    assert_eq!(rt;
+        visits(rt.alloc(), &index, modalias.as_bytes())?,
+        (40, 14_521)
+    );
     Ok(())
 }
 

@@ -71,15 +71,16 @@ fn assert_block(
     Ok(())
 }
 
-/// Asserts what an answer to an input by the rules of a file comes to.
+/// Asserts what an answer to an input by the rules of a file of this name comes to.
 fn assert_answer(
     rt: &(impl Abort + AllocGlobal),
+    name: &str,
     rules: &str,
     input: &[u8],
     wanted: Expected<'_>,
 ) -> Result<(), Fail> {
     let events = line(rt.alloc(), Verb::Events, "");
-    let given = [(FileKind::Rules, 0, "r.rules", rules)];
+    let given = [(FileKind::Rules, 0, name, rules)];
     let done = run_by(rt.alloc(), &events, &given, None, input)?;
     assert_outcome(rt, &done, wanted);
     Ok(())
@@ -176,24 +177,25 @@ const FAULTY: &[u8] =
 
 #[test]
 fn inputs_are_answered(rt: HostRuntime) -> Result<(), Fail> {
-    for (rules, input, output, messages, status) in [
-        ("", b"".as_slice(), b"".as_slice(), "", 0),
-        (RULE, THREE_BLOCKS, THREE_ANSWERS, "", 0),
+    for (name, rules, input, output, messages, status) in [
+        ("r.rules", "", b"".as_slice(), b"".as_slice(), "", 0),
+        ("r.rules", RULE, THREE_BLOCKS, THREE_ANSWERS, "", 0),
         (
+            "60-x.rules",
             "KERNEL==\"sd*\n",
             b"C: add\nP: /devices/x\n",
             ABOUT_X,
-            "r.rules:1: V1 bad syntax: KERNEL==\"sd*\n",
+            "60-x.rules:1: V1 bad syntax: KERNEL==\"sd*\n",
             0,
         ),
-        ("", FAULTY, ABOUT_X, "block 2, line 3: path\n", 1),
+        ("r.rules", "", FAULTY, ABOUT_X, "block 2, line 3: path\n", 1),
     ] {
         let wanted = Expected {
             output,
             messages: messages.as_bytes(),
             status,
         };
-        assert_answer(&rt, rules, input, wanted)?;
+        assert_answer(&rt, name, rules, input, wanted)?;
     }
     Ok(())
 }
@@ -211,6 +213,7 @@ fn a_block_has_room_for_65536_bytes(rt: HostRuntime) -> Result<(), Fail> {
     let too_long = block_with(rt.alloc(), b'v', 65_510)?;
     assert_answer(
         &rt,
+        "r.rules",
         "",
         &too_long,
         wanted("", "block 1, line 3: too long\n", 1),
@@ -276,25 +279,4 @@ fn an_input_may_fail_after_each_byte(rt: HostRuntime) -> Result<(), Fail> {
         assert_read(&rt, read, b"")?;
     }
     assert_read(&rt, BLOCK.len(), ANSWER)
-}
-
-#[test]
-fn without_its_messages_nothing_is_answered(rt: HostRuntime) -> Result<(), Fail> {
-    let alloc = rt.alloc();
-    let events = line(alloc, Verb::Events, "");
-    let files = files_of(
-        alloc,
-        &[(FileKind::Rules, 0, "60-x.rules", "KERNEL==\"sd*\n")],
-    )?;
-    let mut input = input_of(alloc, BLOCK, 4096)?;
-    let done = run_in(
-        alloc,
-        &events,
-        files,
-        None,
-        &mut input,
-        (AMPLE, room_for(0)),
-    )?;
-    assert_outcome(&rt, &done, wanted("", "", 3));
-    Ok(())
 }

@@ -13,6 +13,8 @@ mod evaluations;
 #[cfg(test)]
 mod events;
 #[cfg(test)]
+mod failures;
+#[cfg(test)]
 mod indexes;
 #[cfg(test)]
 mod inputs;

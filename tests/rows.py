@@ -16,7 +16,7 @@ from pathlib import Path
 
 HERE = Path(__file__).resolve().parent
 sys.path.insert(0, str(HERE))
-from tables.row import Begins, as_bytes  # noqa: E402
+from tables.row import FOLDER, Begins, Link, as_bytes  # noqa: E402
 
 SECONDS = 60
 
@@ -26,7 +26,12 @@ def make_files(folder, files):
     for name, text in files.items():
         path = Path(folder, os.fsdecode(name))
         path.parent.mkdir(parents=True, exist_ok=True)
-        path.write_bytes(as_bytes(text))
+        if text is FOLDER:
+            path.mkdir()
+        elif isinstance(text, Link):
+            path.symlink_to(text)
+        else:
+            path.write_bytes(as_bytes(text))
 
 
 def differences(what, wanted, got):
@@ -71,4 +76,9 @@ def main(program, tables):
 if __name__ == "__main__":
     if len(sys.argv) < 2:
         sys.exit(__doc__)
-    sys.exit(not main(os.path.realpath(sys.argv[1]), sys.argv[2:]))
+    try:
+        sys.exit(not main(os.path.realpath(sys.argv[1]), sys.argv[2:]))
+    except Exception as fault:
+        # (whoever counts the lines sees a table that can't be read, too)
+        print(f"not ok the rows are all run: {fault!r}")
+        raise

@@ -6,6 +6,14 @@ class Begins(bytes):
     """The text that an output begins with, where the rest belongs to a library, as clap's usage does."""
 
 
+class Link(str):
+    """The path that a symbolic link leads to, among the files of a row."""
+
+
+# an empty folder, among the files of a row
+FOLDER = None
+
+
 @dataclass
 class Row:
     """One run. The name says what is asked. Texts are `str` (UTF-8) or `bytes`; what is not named is empty."""
@@ -13,7 +21,7 @@ class Row:
     name: str
     # the words of the command line; a str is cut at its spaces
     words: list | str
-    # the files of the folder that the program is run in: path to content; a path may lead through folders
+    # the files of the folder that the program is run in: path to content, a Link or FOLDER; a path may lead through folders
     files: dict = field(default_factory=dict)
     # the standard input
     input: bytes | str = b""

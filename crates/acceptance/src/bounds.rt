@@ -1,5 +1,4 @@
-//! Blocks, chains and rules as large as they may be, and one more.
-use crate::evaluations::agree;
+//! Blocks and chains as large as they may be, and one more.
 use crate::running::{line, run_by};
 use crate::sessions::{block_with, tables_of, take_all};
 use device_core::BlockFaultKind;
@@ -8,7 +7,6 @@ use hwdb_core::PlainDb;
 use std::alloc::Global;
 use std::process::Abort;
 use std::test::Fail;
-use text_files::FileKind;
 
 /// Hands an input to a session in pieces of so many bytes, and puts the answers behind a text.
 fn feed_in_pieces(
@@ -175,84 +173,5 @@ fn a_chain_has_at_most_64_devices(rt: HostRuntime) -> Result<(), Fail> {
     ] {
         assert_chain(&rt, count, written, told, status)?;
     }
-    Ok(())
-}
-
-/// The answer to a block by one rules file, which goes well.
-fn answer_by(alloc: Global, rules: &str, block: &str) -> Result<Vec<u8>, Fail> {
-    let events = line(alloc, Verb::Events, "");
-    let rules = [(FileKind::Rules, 0, "r.rules", rules)];
-    let done = run_by(alloc, &events, &rules, None, block.as_bytes())?;
-    if done.status != 0 || !done.messages.is_empty() {
-        Err("the run does not go well")?;
-    }
-    agree(alloc, &rules, "", block.as_bytes(), &done.output)?;
-    Ok(done.output)
-}
-
-/// How many lines of an answer begin so.
-fn lines_with(answer: &[u8], first: &[u8]) -> usize {
-    answer
-        .split(|byte| *byte == b'\n')
-        .filter(|line| line.starts_with(first))
-        .count()
-}
-
-/// A rule that matches the properties P000 to P999 with `1`.
-fn thousand_matches(alloc: Global) -> Result<String, Fail> {
-    let mut rule = String::new(alloc);
-    for number in 0..1000u32 {
-        rule.push_str(format!(in alloc; "ENV{{P{number:03}}}==\"1\", ")?.as_str())?;
-    }
-    rule.push_str("ENV{HIT}=\"1\"\n")?;
-    Ok(rule)
-}
-
-/// A block with these properties, `1` but for the last.
-fn thousand_properties(alloc: Global, last: &str) -> Result<String, Fail> {
-    let mut block = String::from_str(alloc, "C: add\nP: /x\n")?;
-    for number in 0..999u32 {
-        block.push_str(format!(in alloc; "E: P{number:03}=1\n")?.as_str())?;
-    }
-    block.push_str(last)?;
-    Ok(block)
-}
-
-/// How often a block with these properties is answered by `HIT`.
-fn hits_of(alloc: Global, rule: &str, last: &str) -> Result<usize, Fail> {
-    let block = thousand_properties(alloc, last)?;
-    let answer = answer_by(alloc, rule, block.as_str())?;
-    Ok(lines_with(&answer, b"env HIT=1"))
-}
-
-#[test]
-fn a_rule_matches_a_thousand_properties(rt: HostRuntime) -> Result<(), Fail> {
-    let alloc = rt.alloc();
-    let rule = thousand_matches(alloc)?;
-    for (last, hits) in [("E: P999=1\n", 1), ("E: P999=2\n", 0), ("", 0)] {
-        assert_eq!(rt; hits_of(alloc, rule.as_str(), last)?, hits);
-    }
-    Ok(())
-}
-
-/// A rule of the longest line but some, which adds so many links: 000, 001, .. of hexadecimal digits.
-fn links_rule(alloc: Global, count: u32) -> Result<String, Fail> {
-    let mut rule = String::from_str(alloc, "SYMLINK+=\"")?;
-    for number in 0..count {
-        rule.push_str(format!(in alloc; "{number:03x} ")?.as_str())?;
-    }
-    rule.push_str("\"\n")?;
-    Ok(rule)
-}
-
-#[test]
-fn a_rule_adds_4000_links(rt: HostRuntime) -> Result<(), Fail> {
-    let alloc = rt.alloc();
-    let rule = links_rule(alloc, 4000)?;
-    let answer = answer_by(alloc, rule.as_str(), "C: add\nP: /x\n")?;
-    assert_eq!(rt; lines_with(&answer, b"link "), 4000);
-    assert_eq!(rt; lines_with(&answer, b"link f9f"), 1);
-    // event add /x, the links, env ACTION=add, env DEVPATH=/x and an empty line
-    assert_eq!(rt; answer.len(), 13 + 4000 * 9 + 15 + 15 + 1);
     Ok(())
 }

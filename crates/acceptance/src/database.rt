@@ -2,7 +2,6 @@
 use crate::indexes::EMPTY_INDEX;
 use crate::running::{Expected, Given, assert_run, line, wanted};
 use engine_core::Verb;
-use std::alloc::Global;
 use std::process::Abort;
 use std::test::Fail;
 use text_files::FileKind;
@@ -12,6 +11,21 @@ const RECORDS: &str = "ab*\n A=1\n B=2\n\na?c\n A=3\n";
 
 /// A record of the hardware database.
 pub(crate) const TRACKBALL: &str = "mouse:*:name:*[tT]rack[bB]all*:*\n ID_INPUT_TRACKBALL=1\n";
+
+/// Two files of one rank, and one whose name does not count.
+pub(crate) const OF_ONE_RANK: [Given<'static>; 3] = [
+    (FileKind::Hwdb, 1, "60-a.hwdb", "m*\n A=1\n"),
+    (FileKind::Hwdb, 1, "70-b.hwdb", "m*\n A=2\n"),
+    (FileKind::Hwdb, 1, "80-c.txt", "m*\n A=4\n"),
+];
+
+/// The same, and a file of less rank that hides the second of them.
+pub(crate) const WITH_LESS_RANK: [Given<'static>; 4] = [
+    (FileKind::Hwdb, 1, "60-a.hwdb", "m*\n A=1\n"),
+    (FileKind::Hwdb, 1, "70-b.hwdb", "m*\n A=2\n"),
+    (FileKind::Hwdb, 1, "80-c.txt", "m*\n A=4\n"),
+    (FileKind::Hwdb, 0, "70-b.hwdb", "z\n A=2\n"),
+];
 
 /// A file with a message of each kind.
 const FAULTY: &str = " A=1\n\nm1\n\nm2\n =x\n B\nm3\n C=1\n\n[[.a.]]\n D=1\n";
@@ -51,46 +65,22 @@ fn queries_answer_the_properties_that_fit(rt: HostRuntime) -> Result<(), Fail> {
         let given = [(FileKind::Hwdb, 1, "t.hwdb", text)];
         assert_query(&rt, &given, modalias, output, "")?;
     }
-    Ok(())
-}
-
-#[test]
-fn files_are_ordered(rt: HostRuntime) -> Result<(), Fail> {
-    for (rank, text, output) in [(1, "m*\n A=2\n", "A=2\n"), (0, "z\n A=2\n", "A=1\n")] {
-        let given = [
-            (FileKind::Hwdb, rank, "70-b.hwdb", text),
-            (FileKind::Hwdb, 1, "70-b.hwdb", "m*\n B=3\n"),
-            (FileKind::Hwdb, 1, "60-a.hwdb", "m*\n A=1\n"),
-            (FileKind::Hwdb, 1, "80-c.txt", "m*\n A=4\n"),
-        ];
-        assert_query(&rt, &given, "mx", output, "")?;
-    }
-    Ok(())
-}
-
-#[test]
-fn named_files_are_read_in_their_order(rt: HostRuntime) -> Result<(), Fail> {
-    let given = [
-        (FileKind::Hwdb, 0, "70-b.hwdb", "m*\n A=2\n"),
-        (FileKind::Hwdb, 0, "60-a.hwdb", "m*\n A=1\n B=3\n"),
-        (FileKind::Hwdb, 0, "80-c.txt", "m*\n A=4\n"),
-    ];
-    let mut query = line(rt.alloc(), Verb::Query, "mx");
-    query.files.push("70-b.hwdb")?;
-    assert_run(&rt, &query, &given, wanted("A=4\nB=3\n", "", 0))
+    assert_query(&rt, &[], "x", "", "")?;
+    assert_query(&rt, &OF_ONE_RANK, "mx", "A=2\n", "")?;
+    assert_query(&rt, &WITH_LESS_RANK, "mx", "A=1\n", "")
 }
 
 #[test]
 fn sources_say_where_a_property_comes_from(rt: HostRuntime) -> Result<(), Fail> {
     let given = [
-        (FileKind::Hwdb, 1, "60-a.hwdb", "m*\n A=1\n"),
-        (FileKind::Hwdb, 1, "70-b.hwdb", "m*\n A=2\n"),
-        (FileKind::Hwdb, 1, "75-\\.hwdb", "m*\n\\=\t\n B=\\\t\n"),
+        (FileKind::Hwdb, 0, "60-a.hwdb", "m*\n A=1\n"),
+        (FileKind::Hwdb, 0, "70-b.hwdb", "m*\n A=2\n"),
     ];
     let mut query = line(rt.alloc(), Verb::Query, "mx");
+    query.files.push("60-a.hwdb")?;
+    query.files.push("70-b.hwdb")?;
     query.sources = true;
-    let output = "70-b.hwdb:2: A=2\n75-\\x5C.hwdb:3: B=\\\n";
-    assert_run(&rt, &query, &given, wanted(output, "", 0))
+    assert_run(&rt, &query, &given, wanted("70-b.hwdb:2: A=2\n", "", 0))
 }
 
 #[test]
@@ -106,46 +96,6 @@ fn messages_stand_on_the_error_output(rt: HostRuntime) -> Result<(), Fail> {
             status,
         };
         assert_run(&rt, &update, &given, wanted)?;
-    }
-    Ok(())
-}
-
-#[test]
-fn names_and_words_are_escaped(rt: HostRuntime) -> Result<(), Fail> {
-    // Words of 40 bytes, of which the first 32 are shown: the backslash is the 32nd byte, then the next.
-    for (text, messages) in [
-        (
-            "m\n A=1\nxxxxxxxxxxxxxxxxxxxxxxxxxxxxxxx\\yyyyyyyy\n B=1\n",
-            "a\\x01b.hwdb:3: H3 unindented line after properties: xxxxxxxxxxxxxxxxxxxxxxxxxxxxxxx\\x5C\n",
-        ),
-        (
-            "m\n A=1\nxxxxxxxxxxxxxxxxxxxxxxxxxxxxxxxx\\yyyyyyy\n B=1\n",
-            "a\\x01b.hwdb:3: H3 unindented line after properties: xxxxxxxxxxxxxxxxxxxxxxxxxxxxxxxx\n",
-        ),
-    ] {
-        let given = [(FileKind::Hwdb, 1, "a\u{1}b.hwdb", text)];
-        assert_query(&rt, &given, "", "", messages)?;
-    }
-    Ok(())
-}
-
-/// A match, one of so many bytes, and a property.
-fn long_match(alloc: Global, length: u32) -> Result<String, Fail> {
-    let mut text = String::from_str(alloc, "m\n")?;
-    for _ in 0..length {
-        text.push('x')?;
-    }
-    text.push_str("\n A=1\n")?;
-    Ok(text)
-}
-
-#[test]
-fn a_match_that_is_too_long_is_told_beside_a_good_one(rt: HostRuntime) -> Result<(), Fail> {
-    let too_long = "t.hwdb:2: H6 pattern not supported: xxxxxxxxxxxxxxxxxxxxxxxxxxxxxxxx\n";
-    for (length, messages) in [(16_384, ""), (16_385, too_long)] {
-        let text = long_match(rt.alloc(), length)?;
-        let given = [(FileKind::Hwdb, 1, "t.hwdb", text.as_str())];
-        assert_query(&rt, &given, "m", "A=1\n", messages)?;
     }
     Ok(())
 }

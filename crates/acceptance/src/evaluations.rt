@@ -88,7 +88,7 @@ fn both_answer_block(
 
 /// Fails where either evaluation, over files of rules and a text of the database, gives a block
 /// another answer than this one.
-pub(crate) fn agree(
+fn agree(
     alloc: Global,
     rules: &[Given<'_>],
     database: &str,

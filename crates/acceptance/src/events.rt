@@ -1,8 +1,7 @@
 //! Rules over one event: lines of the answer that the program gives, as both evaluations do.
-use crate::evaluations::{agree, answered_alike};
+use crate::evaluations::answered_alike;
 use crate::rules::{JUMP_BY_JUMP, LABELS};
-use crate::running::{assert_outcome, line, run_by, wanted};
-use engine_core::Verb;
+use crate::running::Given;
 use std::alloc::Global;
 use std::process::Abort;
 use std::test::Fail;
@@ -14,23 +13,23 @@ const DISK: &str = "C: add\nP: /devices/pci0/block/sda\nU: block\nN: sda\nD: 8:0
 /// A device of which nothing is known but its path.
 const BARE: &str = "C: add\nP: /x\n";
 
-/// A terminal below a USB device.
-const BELOW_USB: &str = "C: add\nP: /devices/b/h/d/t0\nU: tty\nP: /devices/b/h/d\nU: usb\n";
-
 /// A device whose kernel's name has capitals.
 const MIXED: &str = "C: add\nP: /x/SdA\n";
 
 /// An attribute with whitespace at its end.
-const PADDED: &str = "C: add\nP: /x\nA: m=Disk  \n";
+const PADDED: &str = "C: add\nP: /x\nA: model=Disk  \n";
 
 /// A device of USB, and above it another one with a serial number.
-const APART: &str = "C: add\nP: /a/b/c\nP: /a/b\nU: usb\nP: /a\nU: pci\nA: serial=7\n";
+const APART: &str =
+    "C: add\nP: /devices/b/h/d/t0\nU: tty\nP: /devices/b/h/d\nU: usb\nP: /devices/b/h\nU: pci\nA: serial=7\n";
 
 /// A device of USB with a serial number.
-const TOGETHER: &str = "C: add\nP: /a/b/c\nP: /a/b\nU: usb\nA: serial=7\nP: /a\nU: pci\n";
+const TOGETHER: &str =
+    "C: add\nP: /devices/b/h/d/t0\nU: tty\nP: /devices/b/h/d\nU: usb\nA: serial=7\nP: /devices/b/h\nU: pci\n";
 
-/// An attribute that is named as the parent.
-const NAMED_AS_PARENT: &str = "C: add\nP: /b/h/d/t0\nA: d=1\nP: /b/h/d\nU: usb\n";
+/// The same, and an attribute that is named as the parent.
+const NAMED_AS_PARENT: &str =
+    "C: add\nP: /devices/b/h/d/t0\nU: tty\nA: d=1\nP: /devices/b/h/d\nU: usb\nA: serial=7\nP: /devices/b/h\nU: pci\n";
 
 /// What a program answers about a disk.
 const ANSWERED: &str = "C: add\nP: /a/sda\nQ: /bin/id sda\nR: 0 ab cd ef\n";
@@ -41,11 +40,15 @@ const WITH_PARENT: &str = "C: add\nP: /a/b\nP: /a\nE: ID_A=1\nE: X=2\n";
 /// A property with whitespace in it.
 const SPACED: &str = "C: add\nP: /x\nE: L= a  b \n";
 
-/// A network device.
-const NETWORK: &str = "C: add\nP: /x/eth0\nU: net\n";
+/// A device below one of USB that the database knows.
+const BELOW_USB: &str = "C: add\nP: /a/b\nP: /a\nU: usb\nE: MODALIAS=usb:v1D6Bp0002\n";
 
-/// Two links, and constants that are known and that are not.
-const LINKED: &str = "C: add\nP: /x\nK: arch=x86-64\nK: x=1\nS: one\nS: two\n";
+/// The same with another one between, at which the search ends.
+const BELOW_USB_DEVICE: &str =
+    "C: add\nP: /a/b/c\nP: /a/b\nU: usb\nE: DEVTYPE=usb_device\nP: /a\nU: usb\nE: MODALIAS=usb:v1D6Bp0002\n";
+
+/// What the database knows.
+const DATABASE: &str = "usb:v1D6B*\n ID_VENDOR=Linux\n";
 
 /// Matches at one device of the chain.
 const USB_WITH_SERIAL: &str = "SUBSYSTEMS==\"usb\", ATTRS{serial}==\"7\", ENV{HIT}=\"$id\"\n";
@@ -54,13 +57,6 @@ const USB_WITH_SERIAL: &str = "SUBSYSTEMS==\"usb\", ATTRS{serial}==\"7\", ENV{HI
 const SELECTIONS: &str =
     "SUBSYSTEMS==\"usb\", RUN+=\"/bin/x $id\"\nENV{P}=\"$id\"\nSUBSYSTEMS==\"none\", ENV{N}=\"1\"\nENV{Q}=\"$id\"\n";
 
-/// A jump to a label of its file, and one whose label stands above it alone.
-const JUMPS_DOWN_AND_UP: &str =
-    "GOTO=\"x\"\nENV{A}=\"1\"\nLABEL=\"x\", ENV{B}=\"1\"\nGOTO=\"x\"\nENV{C}=\"1\"\n";
-
-/// A jump to a label of its file, behind a rule.
-const RULE_AND_JUMP: &str = "ENV{D}=\"1\"\nGOTO=\"x\"\nENV{E}=\"1\"\nLABEL=\"x\", ENV{F}=\"1\"\n";
-
 /// A program, its result, and a word of it.
 const PROGRAM: &str = "PROGRAM==\"/bin/id %k\", RESULT==\"a*\", ENV{R}=\"$result{2+}\"\n";
 
@@ -68,19 +64,22 @@ const PROGRAM: &str = "PROGRAM==\"/bin/id %k\", RESULT==\"a*\", ENV{R}=\"$result
 const FINAL: &str =
     "OWNER:=\"a\"\nOWNER=\"b\"\nOPTIONS:=\"link_priority=5\"\nOPTIONS=\"link_priority=7\"\n";
 
-/// The answer to a block by the rules of two files and a database file.
-fn answer_by(
-    alloc: Global,
-    first: &str,
-    second: &str,
-    database: &str,
-    block: &str,
-) -> Result<Vec<u8>, Fail> {
-    let rules = [
-        (FileKind::Rules, 0, "10-a.rules", first),
-        (FileKind::Rules, 0, "20-b.rules", second),
-    ];
-    answered_alike(alloc, &rules, database, block.as_bytes())
+/// A question to the database for a device of USB.
+const OF_USB: &str = "IMPORT{builtin}=\"hwdb --subsystem=usb\"\n";
+
+/// Questions to the database with words in quotes and a filter.
+const FILTERED: &str = "IMPORT{builtin}=\"hwdb --lookup-prefix=usb: 'v1D6B x' --filter=ID_*\"\n";
+
+const FILTERED_AWAY: &str =
+    "IMPORT{builtin}=\"hwdb --lookup-prefix=usb: 'v1D6B x' --filter=X*\", ENV{Z}=\"1\"\n";
+
+const FILTERED_BADLY: &str =
+    "IMPORT{builtin}=\"hwdb --lookup-prefix=usb: 'v1D6B x' --filter=[[:alpha:]]\", ENV{Z}=\"1\"\n";
+
+/// The answer to a block by the rules of a file of this name, with the database.
+fn answer_by(alloc: Global, name: &str, rules: &str, block: &str) -> Result<Vec<u8>, Fail> {
+    let rules = [(FileKind::Rules, 0, name, rules)];
+    answered_alike(alloc, &rules, DATABASE, block.as_bytes())
 }
 
 /// Whether an answer has a line.
@@ -90,144 +89,125 @@ fn has_line(answer: &[u8], wanted: &str) -> bool {
         .any(|line| line == wanted.as_bytes())
 }
 
-/// Whether the answer by the rules of one file has a line.
-fn tells(alloc: Global, rules: &str, block: &str, line: &str) -> Result<bool, Fail> {
-    let answer = answer_by(alloc, rules, "", "", block)?;
+/// How many lines of an answer begin so.
+fn lines_with(answer: &[u8], first: &[u8]) -> usize {
+    answer
+        .split(|byte| *byte == b'\n')
+        .filter(|line| line.starts_with(first))
+        .count()
+}
+
+/// Whether the answer by the rules of a file has a line.
+fn tells(alloc: Global, name: &str, rules: &str, block: &str, line: &str) -> Result<bool, Fail> {
+    let answer = answer_by(alloc, name, rules, block)?;
     Ok(has_line(&answer, line))
 }
 
+/// How many lines of the answer by the rules of a file begin so.
+fn lines_told(alloc: Global, rules: &str, block: &str, first: &str) -> Result<usize, Fail> {
+    let answer = answer_by(alloc, "r.rules", rules, block)?;
+    Ok(lines_with(&answer, first.as_bytes()))
+}
+
 #[test]
-fn matches_hold(rt: HostRuntime) -> Result<(), Fail> {
+fn rules_change_an_event(rt: HostRuntime) -> Result<(), Fail> {
     for (rules, block, line) in [
-        (USB_WITH_SERIAL, TOGETHER, "env HIT=b"),
+        (USB_WITH_SERIAL, TOGETHER, "env HIT=d"),
+        (SELECTIONS, TOGETHER, "env P=d"),
+        (SELECTIONS, TOGETHER, "run program /bin/x d"),
+        (LABELS, DISK, "env A=1"),
+        (LABELS, DISK, "env C=1"),
+        ("GOTO=\"y\", ENV{D}=\"1\"\n", DISK, "env D=1"),
         ("ENV{X}==\"\", ENV{A}=\"1\"\n", DISK, "env A=1"),
         ("ATTR{x}!=\"y\", ENV{A}=\"1\"\n", DISK, "env A=1"),
-        ("ATTR{m}==\"Disk\", ENV{A}=\"1\"\n", PADDED, "env A=1"),
-        ("KERNEL==i\"SDA\", ENV{HIT}=\"1\"\n", MIXED, "env HIT=1"),
-        ("KERNEL==i\"SDA\", ENV{HIT}=\"1\"\n", DISK, "env HIT=1"),
-        ("SYMLINK==\"t*\", ENV{A}=\"1\"\n", LINKED, "env A=1"),
-        ("CONST{arch}==\"x86*\", ENV{A}=\"1\"\n", LINKED, "env A=1"),
-    ] {
-        assert!(rt; tells(rt.alloc(), rules, block, line)?);
-    }
-    Ok(())
-}
-
-#[test]
-fn matches_do_not_hold(rt: HostRuntime) -> Result<(), Fail> {
-    for (rules, block, line) in [
-        (USB_WITH_SERIAL, APART, "env HIT=b"),
-        ("ENV{X}!=\"\", ENV{A}=\"1\"\n", DISK, "env A=1"),
-        ("ATTR{x}==\"*\", ENV{A}=\"1\"\n", DISK, "env A=1"),
-        ("ATTR{m}==\"Disk \", ENV{A}=\"1\"\n", PADDED, "env A=1"),
-        ("KERNEL!=i\"SDA\", ENV{MISS}=\"1\"\n", MIXED, "env MISS=1"),
-        ("KERNEL!=i\"SDA\", ENV{MISS}=\"1\"\n", DISK, "env MISS=1"),
-        ("KERNEL==\"x\", OWNER=\"a\"\n", DISK, "owner a"),
-        ("SYMLINK!=\"t*\", ENV{A}=\"1\"\n", LINKED, "env A=1"),
-        ("CONST{x}!=\"2\", ENV{A}=\"1\"\n", LINKED, "env A=1"),
-    ] {
-        assert!(rt; !tells(rt.alloc(), rules, block, line)?);
-    }
-    Ok(())
-}
-
-#[test]
-fn assignments_are_made(rt: HostRuntime) -> Result<(), Fail> {
-    for (rules, block, line) in [
-        ("SYMLINK+=\"disk/%k\"\n", DISK, "link disk/sda"),
-        ("SYMLINK+=\"l$env{X}\", ENV{X}=\"1\"\n", DISK, "link l1"),
-        ("SYMLINK+=\"x/$env{L} y;z\"\n", SPACED, "link x/a_b"),
-        ("SYMLINK+=\"x/$env{L} y;z\"\n", SPACED, "link y_z"),
-        (FINAL, DISK, "owner a"),
-        (FINAL, DISK, "priority 5"),
+        ("ATTR{model}==\"Disk\", ENV{A}=\"1\"\n", PADDED, "env A=1"),
         (
             "RUN+=\"/bin/n $env{V}\"\nENV{V}=\"2\"\n",
             DISK,
             "run program /bin/n 2",
         ),
+        ("SYMLINK+=\"l$env{X}\", ENV{X}=\"1\"\n", DISK, "link l1"),
+        ("SYMLINK+=\"x/$env{L} y;z\"\n", SPACED, "link x/a_b"),
+        ("SYMLINK+=\"x/$env{L} y;z\"\n", SPACED, "link y_z"),
+        (FINAL, DISK, "owner a"),
+        (FINAL, DISK, "priority 5"),
+        ("KERNEL==i\"SDA\", ENV{HIT}=\"1\"\n", MIXED, "env HIT=1"),
+        ("KERNEL==i\"SDA\", ENV{HIT}=\"1\"\n", DISK, "env HIT=1"),
     ] {
-        assert!(rt; tells(rt.alloc(), rules, block, line)?);
-    }
-    Ok(())
-}
-
-#[test]
-fn each_key_is_assigned(rt: HostRuntime) -> Result<(), Fail> {
-    for (rules, block, line) in [
-        ("GROUP=\"disk\"\n", DISK, "group disk"),
-        ("MODE=\"0600\"\n", DISK, "mode 0600"),
-        ("TAG+=\"x\"\n", DISK, "tag x"),
-        ("SECLABEL{m}=\"u\"\n", DISK, "label m=u"),
-        ("ENV{A}=\"1\"\nENV{A}+=\"2\"\n", DISK, "env A=1 2"),
-        ("NAME=\"lan 0\"\n", NETWORK, "name lan_0"),
-        ("NAME=\"x\"\n", DISK, "note 10-a.rules:1: name ignored: x"),
-        ("ATTR{mtu}=\"1400\"\n", DISK, "attr mtu=1400"),
-        ("SYSCTL{x}=\"1\"\n", DISK, "sysctl x=1"),
-        ("OPTIONS+=\"nowatch\"\n", DISK, "nowatch"),
-        ("OPTIONS+=\"db_persist\"\n", DISK, "persist"),
-    ] {
-        assert!(rt; tells(rt.alloc(), rules, block, line)?);
+        assert!(rt; tells(rt.alloc(), "r.rules", rules, block, line)?);
     }
     Ok(())
 }
 
 #[test]
 fn acts_are_done(rt: HostRuntime) -> Result<(), Fail> {
-    for (rules, block, line) in [
-        (PROGRAM, ANSWERED, "env R=cd ef"),
+    for (name, rules, block, line) in [
+        ("p.rules", PROGRAM, ANSWERED, "env R=cd ef"),
         (
+            "p.rules",
             PROGRAM,
             DISK,
-            "note 10-a.rules:1: no answer for program: /bin/id sda",
+            "note p.rules:1: no answer for program: /bin/id sda",
         ),
-        ("IMPORT{parent}=\"ID_*\"\n", WITH_PARENT, "env ID_A=1"),
-        ("IMPORT{parent}!=\"*\", ENV{Z}=\"1\"\n", DISK, "env Z=1"),
         (
-            "SYSCTL{x}!=\"1\"\n",
+            "r.rules",
+            "IMPORT{parent}=\"ID_*\"\n",
+            WITH_PARENT,
+            "env ID_A=1",
+        ),
+        (
+            "r.rules",
+            "IMPORT{parent}!=\"*\", ENV{Z}=\"1\"\n",
             DISK,
-            "note 10-a.rules:1: sysctl not read: x",
+            "env Z=1",
         ),
         (
+            "r.rules",
             "TEST==\"$id\", SUBSYSTEMS==\"usb\", ENV{T}=\"1\"\n",
             NAMED_AS_PARENT,
             "env T=1",
         ),
+        ("r.rules", OF_USB, BELOW_USB, "env ID_VENDOR=Linux"),
+        ("r.rules", FILTERED, BARE, "env ID_VENDOR=Linux"),
         (
+            "r.rules",
+            FILTERED_BADLY,
+            BARE,
+            "note r.rules:1: bad hwdb arguments: hwdb --lookup-prefix=usb: 'v1D6B",
+        ),
+        (
+            "h.rules",
             "IMPORT{builtin}=\"kmod load\"\n",
             DISK,
-            "note 10-a.rules:1: builtin not run: kmod",
+            "note h.rules:1: builtin not run: kmod",
         ),
     ] {
-        assert!(rt; tells(rt.alloc(), rules, block, line)?);
+        assert!(rt; tells(rt.alloc(), name, rules, block, line)?);
     }
-    assert!(rt;
-        !tells(
-            rt.alloc(),
-            "IMPORT{parent}=\"ID_*\"\n",
-            WITH_PARENT,
-            "env X=2"
-        )?
-    );
     Ok(())
 }
 
 #[test]
-fn rules_stand_one_behind_another(rt: HostRuntime) -> Result<(), Fail> {
-    for (rules, block, line) in [
-        (SELECTIONS, BELOW_USB, "env P=d"),
-        (SELECTIONS, BELOW_USB, "run program /bin/x d"),
-        (LABELS, DISK, "env A=1"),
-        (LABELS, DISK, "env C=1"),
-        ("GOTO=\"y\", ENV{D}=\"1\"\nENV{E}=\"1\"\n", DISK, "env E=1"),
+fn nothing_else_is_changed(rt: HostRuntime) -> Result<(), Fail> {
+    for (rules, block, first) in [
+        (USB_WITH_SERIAL, APART, "env HIT="),
+        (SELECTIONS, TOGETHER, "env N="),
+        (SELECTIONS, TOGETHER, "env Q="),
+        (LABELS, DISK, "env B="),
+        ("ENV{X}!=\"\", ENV{A}=\"1\"\n", DISK, "env A="),
+        ("ATTR{x}==\"*\", ENV{A}=\"1\"\n", DISK, "env A="),
+        ("ATTR{model}==\"Disk \", ENV{A}=\"1\"\n", PADDED, "env A="),
+        ("KERNEL!=i\"SDA\", ENV{MISS}=\"1\"\n", MIXED, "env MISS="),
+        ("KERNEL!=i\"SDA\", ENV{MISS}=\"1\"\n", DISK, "env MISS="),
+        (PROGRAM, DISK, "env R="),
+        ("IMPORT{parent}=\"ID_*\"\n", WITH_PARENT, "env X="),
+        ("IMPORT{parent}=\"*\", ENV{Z}=\"1\"\n", DISK, "env Z="),
+        (OF_USB, BELOW_USB_DEVICE, "env ID_VENDOR="),
+        (FILTERED_AWAY, BARE, "env ID_VENDOR="),
+        (FILTERED_AWAY, BARE, "env Z="),
+        (FILTERED_BADLY, BARE, "env ID_VENDOR="),
     ] {
-        assert!(rt; tells(rt.alloc(), rules, block, line)?);
-    }
-    for (rules, block, line) in [
-        (SELECTIONS, BELOW_USB, "env N=1"),
-        (SELECTIONS, BELOW_USB, "env Q="),
-        (LABELS, DISK, "env B=1"),
-    ] {
-        assert!(rt; !tells(rt.alloc(), rules, block, line)?);
+        assert_eq!(rt; lines_told(rt.alloc(), rules, block, first)?, 0);
     }
     Ok(())
 }
@@ -239,7 +219,7 @@ fn assert_answer(
     block: &str,
     wanted: &str,
 ) -> Result<(), Fail> {
-    let answer = answer_by(rt.alloc(), rules, "", "", block)?;
+    let answer = answer_by(rt.alloc(), "r.rules", rules, block)?;
     assert_eq!(rt; answer.as_slice(), wanted.as_bytes());
     Ok(())
 }
@@ -268,42 +248,17 @@ fn answers_are_written_whole(rt: HostRuntime) -> Result<(), Fail> {
     Ok(())
 }
 
-#[test]
-fn no_jump_leaves_its_file(rt: HostRuntime) -> Result<(), Fail> {
-    let alloc = rt.alloc();
-    let rules = [
-        (FileKind::Rules, 0, "x.rules", JUMPS_DOWN_AND_UP),
-        (FileKind::Rules, 0, "x.rules", RULE_AND_JUMP),
-    ];
-    let mut events = line(alloc, Verb::Events, "");
-    events.files.push("x.rules")?;
-    events.files.push("x.rules")?;
-    let done = run_by(alloc, &events, &rules, None, BARE.as_bytes())?;
-    let output =
-        "event add /x\nenv ACTION=add\nenv B=1\nenv C=1\nenv D=1\nenv DEVPATH=/x\nenv F=1\n\n";
-    let messages = "x.rules:4: V7 no later label: x\n";
-    assert_outcome(&rt, &done, wanted(output, messages, 0));
-    agree(alloc, &rules, "", BARE.as_bytes(), output.as_bytes())
-}
+/// A file of rules whose assignment of links is final, and one behind it that adds a link.
+const FINAL_LINKS: [Given<'static>; 2] = [
+    (FileKind::Rules, 0, "10-a.rules", "SYMLINK:=\"a\"\n"),
+    (FileKind::Rules, 0, "20-b.rules", "SYMLINK+=\"b\"\n"),
+];
 
 #[test]
 fn final_keys_stay_over_files(rt: HostRuntime) -> Result<(), Fail> {
-    let answer = answer_by(rt.alloc(), "SYMLINK:=\"a\"\n", "SYMLINK+=\"b\"\n", "", DISK)?;
+    let answer = answered_alike(rt.alloc(), &FINAL_LINKS, "", DISK.as_bytes())?;
     assert!(rt; has_line(&answer, "link a"));
-    assert!(rt; !has_line(&answer, "link b"));
-    Ok(())
-}
-
-#[test]
-fn the_database_is_asked_for_a_parent(rt: HostRuntime) -> Result<(), Fail> {
-    let answer = answer_by(
-        rt.alloc(),
-        "IMPORT{builtin}=\"hwdb --subsystem=usb\"\n",
-        "",
-        "usb:v1D6B*\n ID_VENDOR=Linux\n",
-        "C: add\nP: /a/b\nP: /a\nU: usb\nE: MODALIAS=usb:v1D6Bp0002\n",
-    )?;
-    assert!(rt; has_line(&answer, "env ID_VENDOR=Linux"));
+    assert_eq!(rt; lines_with(&answer, b"link "), 1);
     Ok(())
 }
 
@@ -317,46 +272,19 @@ fn block_with(alloc: Global, letters: usize) -> Result<String, Fail> {
 }
 
 #[test]
-fn texts_that_are_too_long_are_left_out(rt: HostRuntime) -> Result<(), Fail> {
-    let rules = "ENV{X}=\"$env{X}$env{X}\"\n";
-    let note = "note 10-a.rules:1: text too long: ENV{X}";
-    let (fits, too_long) = (block_with(rt.alloc(), 8192)?, block_with(rt.alloc(), 8193)?);
-    assert!(rt; !tells(rt.alloc(), rules, fits.as_str(), note)?);
-    assert!(rt; tells(rt.alloc(), rules, too_long.as_str(), note)?);
-    Ok(())
-}
-
-#[test]
-fn a_note_names_a_command_as_it_is_written(rt: HostRuntime) -> Result<(), Fail> {
-    let rules = "RUN{program}+=\"$env{X}$env{X}\"\nRUN+=\"$env{X}-$env{X}\"\n";
-    let block = block_with(rt.alloc(), 8193)?;
-    for note in [
-        "note 10-a.rules:1: text too long: RUN{program}",
-        "note 10-a.rules:2: text too long: RUN",
-    ] {
-        assert!(rt; tells(rt.alloc(), rules, block.as_str(), note)?);
-    }
-    Ok(())
-}
-
-#[test]
 fn a_text_is_doubled_until_it_would_be_too_long(rt: HostRuntime) -> Result<(), Fail> {
     let mut rules = String::from_str(rt.alloc(), "")?;
     for _line in 0..30 {
         rules.push_str("ENV{X}=\"$env{X}$env{X}\"\n")?;
     }
     let block = block_with(rt.alloc(), 1000)?;
-    let answer = answer_by(rt.alloc(), rules.as_str(), "", "", block.as_str())?;
+    let answer = answer_by(rt.alloc(), "d.rules", rules.as_str(), block.as_str())?;
     assert_eq!(rt; lines_with(&answer, b"note "), 26);
-    assert!(rt; has_line(&answer, "note 10-a.rules:5: text too long: ENV{X}"));
-    assert!(rt; answer.len() > 16_000);
+    assert!(rt; has_line(&answer, "note d.rules:5: text too long: ENV{X}"));
+    // event add /x, env ACTION=add, env DEVPATH=/x, env X= and 16,000 letters, the notes, and an empty line
+    assert_eq!(rt;
+        answer.len(),
+        13 + 15 + 15 + 6 + 16_000 + 1 + 5 * 38 + 21 * 39 + 1
+    );
     Ok(())
-}
-
-/// How many lines of an answer begin so.
-fn lines_with(answer: &[u8], first: &[u8]) -> usize {
-    answer
-        .split(|byte| *byte == b'\n')
-        .filter(|line| line.starts_with(first))
-        .count()
 }

@@ -1,4 +1,4 @@
-//! What stands after a device failed.
+//! Outputs that fail at once, in each command.
 use crate::running::{
     AMPLE, Expected, Outcome, Room, assert_outcome, files_of, input_of, line, room_for, run_in,
 };
@@ -8,108 +8,65 @@ use std::process::Abort;
 use std::test::Fail;
 use text_files::FileKind;
 
-/// A file with one message, and its only match.
-const FILE: &str = "a*\n A=1\n B=2\n\n C=3\n";
+/// A rules file with one message.
+const RULES: &str = "KERNEL==\"sd*\n";
 
-const MESSAGE: &[u8] = b"t.hwdb:5: H1 property without a match: C=3\n";
+/// A database file with an entry and one message.
+const SOURCE: &str = "m\n B=2\n\n A=1\n";
 
-const ANSWER: &[u8] = b"A=1\nB=2\n";
+/// An output that can't be flushed.
+const UNFLUSHED: Room = Room {
+    bytes: 4096,
+    each: 4096,
+    flushes: false,
+};
 
-/// The message, and the line on an output that failed.
-const MESSAGE_AND_FAILURE: &[u8] =
-    b"t.hwdb:5: H1 property without a match: C=3\ndevdry: write failed\n";
-
-/// Runs the query over outputs of so much room.
-fn run_query(alloc: Global, room: Room, error_room: Room) -> Result<Outcome, Fail> {
-    let query = line(alloc, Verb::Query, "ax");
-    let files = files_of(alloc, &[(FileKind::Hwdb, 1, "t.hwdb", FILE)])?;
-    let mut input = input_of(alloc, b"", 1)?;
-    Ok(run_in(alloc, &query, files, None, &mut input, (room, error_room))?)
+/// Runs a command over both files and outputs of so much room.
+fn run_over(alloc: Global, verb: Verb, room: Room, error_room: Room) -> Result<Outcome, Fail> {
+    let asked = line(alloc, verb, "m");
+    let given = [
+        (FileKind::Rules, 0, "60-x.rules", RULES),
+        (FileKind::Hwdb, 0, "s.hwdb", SOURCE),
+    ];
+    let files = files_of(alloc, &given)?;
+    let mut input = input_of(alloc, b"C: add\nP: /x\n", 4096)?;
+    Ok(run_in(alloc, &asked, files, None, &mut input, (room, error_room))?)
 }
 
-/// Asserts what the query comes to over outputs of so much room.
-fn assert_query(
+/// Asserts that a command over outputs of so much room fails, with nothing on its output and this told.
+fn assert_failed(
     rt: &(impl Abort + AllocGlobal),
+    verb: Verb,
     room: Room,
     error_room: Room,
-    wanted: Expected<'_>,
+    told: &str,
 ) -> Result<(), Fail> {
-    let done = run_query(rt.alloc(), room, error_room)?;
+    let done = run_over(rt.alloc(), verb, room, error_room)?;
+    let wanted = Expected {
+        output: b"",
+        messages: told.as_bytes(),
+        status: 3,
+    };
     assert_outcome(rt, &done, wanted);
     Ok(())
 }
 
-/// An output of so much room that takes so much in a call.
-fn in_pieces(bytes: usize, each: usize) -> Room {
-    Room {
-        bytes,
-        each,
-        flushes: true,
-    }
-}
-
-/// What stands where the output takes the beginning of the answer alone.
-fn broken_off(taken: &[u8]) -> Expected<'_> {
-    Expected {
-        output: taken,
-        messages: MESSAGE_AND_FAILURE,
-        status: 3,
-    }
-}
-
 #[test]
-fn an_output_may_fail_at_each_byte(rt: HostRuntime) -> Result<(), Fail> {
-    for each in [1, 3, 99] {
-        for room in 0..ANSWER.len() {
-            let (output, error) = (in_pieces(room, each), in_pieces(4096, each));
-            assert_query(&rt, output, error, broken_off(&ANSWER[..room]))?;
-        }
+fn each_command_ends_where_an_output_fails(rt: HostRuntime) -> Result<(), Fail> {
+    let about_rules = "60-x.rules:1: V1 bad syntax: KERNEL==\"sd*\n";
+    let about_source = "s.hwdb:4: H1 property without a match: A=1\n";
+    let about_both = "60-x.rules:1: V1 bad syntax: KERNEL==\"sd*\n\
+s.hwdb:4: H1 property without a match: A=1\n";
+    for (verb, told) in [
+        (Verb::Query, about_source),
+        (Verb::Update, about_source),
+        (Verb::Verify, about_rules),
+        (Verb::Events, about_both),
+    ] {
+        let told_and_failed = format!(in rt.alloc(); "{told}devdry: write failed\n")?;
+        assert_failed(&rt, verb, room_for(0), AMPLE, told_and_failed.as_str())?;
+        assert_failed(&rt, verb, AMPLE, room_for(0), "")?;
+        assert_failed(&rt, verb, AMPLE, UNFLUSHED, told)?;
     }
     Ok(())
-}
-
-#[test]
-fn an_output_may_just_have_room(rt: HostRuntime) -> Result<(), Fail> {
-    let wanted = Expected {
-        output: ANSWER,
-        messages: MESSAGE,
-        status: 0,
-    };
-    for each in [1, 3, 99] {
-        assert_query(
-            &rt,
-            in_pieces(ANSWER.len(), each),
-            in_pieces(4096, each),
-            wanted,
-        )?;
-    }
-    Ok(())
-}
-
-#[test]
-fn an_error_output_may_fail_at_each_byte(rt: HostRuntime) -> Result<(), Fail> {
-    for room in 0..MESSAGE.len() {
-        let wanted = Expected {
-            output: b"",
-            messages: &MESSAGE[..room],
-            status: 3,
-        };
-        assert_query(&rt, AMPLE, room_for(room), wanted)?;
-    }
-    Ok(())
-}
-
-#[test]
-fn an_output_may_take_nothing(rt: HostRuntime) -> Result<(), Fail> {
-    assert_query(&rt, in_pieces(99, 0), AMPLE, broken_off(b""))
-}
-
-#[test]
-fn an_output_may_flush_nothing(rt: HostRuntime) -> Result<(), Fail> {
-    let unflushed = Room {
-        bytes: 99,
-        each: 99,
-        flushes: false,
-    };
-    assert_query(&rt, unflushed, AMPLE, broken_off(ANSWER))
 }

@@ -1,5 +1,5 @@
 //! Indexes that `update` writes, and that `query` and `events` answer from.
-use crate::database::TRACKBALL;
+use crate::database::{OF_ONE_RANK, TRACKBALL, WITH_LESS_RANK};
 use crate::running::{Expected, Given, assert_outcome, line, run, run_by, wanted};
 use engine_core::{Index, Line, Verb};
 use std::alloc::Global;
@@ -141,7 +141,14 @@ fn assert_change_refused(
 }
 
 #[test]
-fn damaged_indexes_are_refused(rt: HostRuntime) -> Result<(), Fail> {
+fn what_is_no_index_is_refused(rt: HostRuntime) -> Result<(), Fail> {
+    for (index, message) in [
+        (&FIRST_VERSION[..31], "devdry: index: short\n"),
+        (&FIRST_VERSION[..125], "devdry: index: size\n"),
+        (&SECOND_VERSION[..143], "devdry: index: size\n"),
+    ] {
+        assert_refused(&rt, index, message)?;
+    }
     for (index, at, byte, message) in [
         (FIRST_VERSION, 0, b'D', "devdry: index: magic\n"),
         (FIRST_VERSION, 8, 9, "devdry: index: version\n"),
@@ -152,18 +159,6 @@ fn damaged_indexes_are_refused(rt: HostRuntime) -> Result<(), Fail> {
         (SECOND_VERSION, 128, 7, "devdry: index: text\n"),
     ] {
         assert_change_refused(&rt, index, at, byte, message)?;
-    }
-    Ok(())
-}
-
-#[test]
-fn cut_indexes_are_refused(rt: HostRuntime) -> Result<(), Fail> {
-    for (index, message) in [
-        (&FIRST_VERSION[..31], "devdry: index: short\n"),
-        (&FIRST_VERSION[..125], "devdry: index: size\n"),
-        (&SECOND_VERSION[..143], "devdry: index: size\n"),
-    ] {
-        assert_refused(&rt, index, message)?;
     }
     Ok(())
 }
@@ -183,33 +178,17 @@ fn values_out_of_order_are_refused(rt: HostRuntime) -> Result<(), Fail> {
 }
 
 #[test]
-fn update_looks_at_no_index(rt: HostRuntime) -> Result<(), Fail> {
-    let wanted = Expected {
-        output: EMPTY_INDEX,
-        messages: b"",
-        status: 0,
-    };
-    assert_by(
-        &rt,
-        &line(rt.alloc(), Verb::Update, ""),
-        &[],
-        b"x",
-        b"",
-        wanted,
-    )
-}
-
-#[test]
-fn verify_looks_at_no_index(rt: HostRuntime) -> Result<(), Fail> {
-    let wanted = wanted("0 files checked, 0 good, 0 bad\n", "", 0);
-    assert_by(
-        &rt,
-        &line(rt.alloc(), Verb::Verify, ""),
-        &[],
-        b"x",
-        b"",
-        wanted,
-    )
+fn other_commands_look_at_no_index(rt: HostRuntime) -> Result<(), Fail> {
+    let nothing_checked = b"0 files checked, 0 good, 0 bad\n".as_slice();
+    for (verb, output) in [(Verb::Update, EMPTY_INDEX), (Verb::Verify, nothing_checked)] {
+        let wanted = Expected {
+            output,
+            messages: b"",
+            status: 0,
+        };
+        assert_by(&rt, &line(rt.alloc(), verb, ""), &[], b"x", b"", wanted)?;
+    }
+    Ok(())
 }
 
 #[test]
@@ -225,24 +204,8 @@ fn an_index_answers_as_its_files(rt: HostRuntime) -> Result<(), Fail> {
         let given = [(FileKind::Hwdb, 1, "t.hwdb", text)];
         assert_query_of(&rt, &given, modalias, false, output)?;
     }
-    Ok(())
-}
-
-#[test]
-fn an_index_keeps_the_order_of_files(rt: HostRuntime) -> Result<(), Fail> {
-    for (rank, text, output) in [
-        (1, "m*\n A=2\n", "70-b.hwdb:2: A=2\n"),
-        (0, "z\n A=2\n", "60-a.hwdb:2: A=1\n"),
-    ] {
-        let given = [
-            (FileKind::Hwdb, rank, "70-b.hwdb", text),
-            (FileKind::Hwdb, 1, "70-b.hwdb", "m*\n B=3\n"),
-            (FileKind::Hwdb, 1, "60-a.hwdb", "m*\n A=1\n"),
-            (FileKind::Hwdb, 1, "80-c.txt", "m*\n A=4\n"),
-        ];
-        assert_query_of(&rt, &given, "mx", true, output)?;
-    }
-    Ok(())
+    assert_query_of(&rt, &OF_ONE_RANK, "mx", true, "70-b.hwdb:2: A=2\n")?;
+    assert_query_of(&rt, &WITH_LESS_RANK, "mx", true, "60-a.hwdb:2: A=1\n")
 }
 
 #[test]
@@ -287,9 +250,17 @@ fn forty_stars(alloc: Global) -> Result<String, Fail> {
 fn stars_are_walked_without_going_back(rt: HostRuntime) -> Result<(), Fail> {
     let text = forty_stars(rt.alloc())?;
     let index = index_of(rt.alloc(), &[(FileKind::Hwdb, 1, "t.hwdb", text.as_str())])?;
-    let mut modalias = Vec::from_elem(rt.alloc(), b'a', 200)?;
-    modalias.push(b'b')?;
-    assert_eq!(rt; visits(rt.alloc(), &index, &modalias)?, (40, 14_521));
+    let mut modalias = String::new(rt.alloc());
+    for _letter in 0..200 {
+        modalias.push('a')?;
+    }
+    modalias.push('b')?;
+    let modalias = modalias.as_str();
+    assert_query(&rt, &index, modalias, false, "")?;
+    assert_eq!(rt;
+        visits(rt.alloc(), &index, modalias.as_bytes())?,
+        (40, 14_521)
+    );
     Ok(())
 }
 

@@ -14,12 +14,29 @@ use text_files::FileKind;
 /// A rule for disks.
 const RULE: &str = "SUBSYSTEM==\"block\", KERNEL==\"sd[a-z]\", SYMLINK+=\"disk/%k\"\n";
 
-/// A disk, with the empty line behind its block.
+/// A disk.
+const DISK: &[u8] = b"C: add\nP: /devices/pci0/block/sda\nU: block\nN: sda\nD: 8:0\n";
+
+/// The same, with the empty line behind its block.
 const BLOCK: &[u8] = b"C: add\nP: /devices/pci0/block/sda\nU: block\nN: sda\nD: 8:0\n\n";
 
 /// The answer to it.
 const ANSWER: &[u8] =
     b"event add /devices/pci0/block/sda\nlink disk/sda\nenv ACTION=add\nenv DEVNAME=/dev/sda\nenv DEVPATH=/devices/pci0/block/sda\nenv MAJOR=8\nenv MINOR=0\nenv SUBSYSTEM=block\n\n";
+
+/// Three such blocks.
+const THREE_BLOCKS: &[u8] = b"C: add\nP: /devices/pci0/block/sda\nU: block\nN: sda\nD: 8:0\n\n\
+C: add\nP: /devices/pci0/block/sda\nU: block\nN: sda\nD: 8:0\n\n\
+C: add\nP: /devices/pci0/block/sda\nU: block\nN: sda\nD: 8:0\n\n";
+
+/// The answers to them.
+const THREE_ANSWERS: &[u8] =
+    b"event add /devices/pci0/block/sda\nlink disk/sda\nenv ACTION=add\nenv DEVNAME=/dev/sda\nenv DEVPATH=/devices/pci0/block/sda\nenv MAJOR=8\nenv MINOR=0\nenv SUBSYSTEM=block\n\n\
+event add /devices/pci0/block/sda\nlink disk/sda\nenv ACTION=add\nenv DEVNAME=/dev/sda\nenv DEVPATH=/devices/pci0/block/sda\nenv MAJOR=8\nenv MINOR=0\nenv SUBSYSTEM=block\n\n\
+event add /devices/pci0/block/sda\nlink disk/sda\nenv ACTION=add\nenv DEVNAME=/dev/sda\nenv DEVPATH=/devices/pci0/block/sda\nenv MAJOR=8\nenv MINOR=0\nenv SUBSYSTEM=block\n\n";
+
+/// The answer to a device of which nothing is known but its path.
+const ABOUT_X: &[u8] = b"event add /devices/x\nenv ACTION=add\nenv DEVPATH=/devices/x\n\n";
 
 const READ_FAILED: &[u8] = b"devdry: read failed\n";
 
@@ -42,55 +59,48 @@ fn run_over(
     Ok(run_in(alloc, &events, files, None, input, (room, error_room))?)
 }
 
-/// Asserts what an answer to the block by the rule comes to, with an output of so much room.
+/// Asserts what an answer to the disk by the rule comes to, with an output of so much room.
 fn assert_block(
     rt: &(impl Abort + AllocGlobal),
     room: Room,
     wanted: Expected<'_>,
 ) -> Result<(), Fail> {
-    let mut input = input_of(rt.alloc(), BLOCK, 4096)?;
+    let mut input = input_of(rt.alloc(), DISK, 4096)?;
     let done = run_over(rt.alloc(), &mut input, room, AMPLE)?;
     assert_outcome(rt, &done, wanted);
     Ok(())
 }
 
-/// Asserts what an answer to an input by the rules of a file comes to.
+/// Asserts what an answer to an input by the rules of a file of this name comes to.
 fn assert_answer(
     rt: &(impl Abort + AllocGlobal),
+    name: &str,
     rules: &str,
     input: &[u8],
     wanted: Expected<'_>,
 ) -> Result<(), Fail> {
     let events = line(rt.alloc(), Verb::Events, "");
-    let given = [(FileKind::Rules, 0, "r.rules", rules)];
+    let given = [(FileKind::Rules, 0, name, rules)];
     let done = run_by(rt.alloc(), &events, &given, None, input)?;
     assert_outcome(rt, &done, wanted);
     Ok(())
 }
 
-/// Whether the block is answered where it is cut at two places.
-fn is_answered_cut_at(
-    alloc: Global,
-    tables: &Tables<PlainDb>,
-    first: usize,
-    second: usize,
-) -> Result<bool, Fail> {
+/// Whether the block is answered where it is cut at a place.
+fn is_answered_cut_at(alloc: Global, tables: &Tables<PlainDb>, at: usize) -> Result<bool, Fail> {
     let mut session = Session::new(alloc, tables)?;
     let mut text = Vec::new(alloc);
-    let (start, rest) = BLOCK.split_at(first.min(BLOCK.len()));
-    let (middle, end) = rest.split_at(second.min(rest.len()));
-    let taken = take_each(alloc, &mut session, &[start, middle, end], &mut text);
+    let (start, rest) = BLOCK.split_at(at.min(BLOCK.len()));
+    let taken = take_each(alloc, &mut session, &[start, rest], &mut text);
     drop(session);
     Ok(taken.is_ok() && text.as_slice() == ANSWER)
 }
 
-/// Whether the block is answered wherever it is cut at two places.
+/// Whether the block is answered wherever it is cut.
 fn is_answered_in_any_pieces(alloc: Global, tables: &Tables<PlainDb>) -> Result<bool, Fail> {
-    for first in 0..BLOCK.len() {
-        for second in 0..BLOCK.len() {
-            if !is_answered_cut_at(alloc, tables, first, second)? {
-                return Ok(false);
-            }
+    for at in 0..BLOCK.len() {
+        if !is_answered_cut_at(alloc, tables, at)? {
+            return Ok(false);
         }
     }
     Ok(true)
@@ -161,48 +171,31 @@ fn an_answer_goes_out_in_the_turn_of_its_last_byte(rt: HostRuntime) -> Result<()
     Ok(())
 }
 
+/// Three blocks, of which the second has a wrong path in its third line.
+const FAULTY: &[u8] =
+    b"C: add\nP: /devices/x\n\nC: add\nP: /devices/a\nP: /devices/b\n\nC: add\nP: /devices/y\n";
+
 #[test]
 fn inputs_are_answered(rt: HostRuntime) -> Result<(), Fail> {
-    let without_link = "event add /devices/a\nenv ACTION=add\nenv DEVPATH=/devices/a\nenv X=1\n\n";
-    for (rules, input, output, messages, status) in [
-        ("", "", "", "", 0),
+    for (name, rules, input, output, messages, status) in [
+        ("r.rules", "", b"".as_slice(), b"".as_slice(), "", 0),
+        ("r.rules", RULE, THREE_BLOCKS, THREE_ANSWERS, "", 0),
         (
-            "KERNEL==\"sd*\nENV{X}=\"1\" , TAG-=\"t\"\n",
-            "C: add\nP: /devices/a\n",
-            without_link,
-            "r.rules:1: V1 bad syntax: KERNEL==\"sd*\n",
+            "60-x.rules",
+            "KERNEL==\"sd*\n",
+            b"C: add\nP: /devices/x\n",
+            ABOUT_X,
+            "60-x.rules:1: V1 bad syntax: KERNEL==\"sd*\n",
             0,
         ),
-        (
-            "ENV{X}=\"1\"\n",
-            "C: add\nP: /devices/a\n\nC: add\nP: /devices/a\nP: /devices/b\n\nC: add\nP: /devices/c\n",
-            without_link,
-            "block 2, line 3: path\n",
-            1,
-        ),
-        ("", "C: \n", "", "block 1, line 1: no action\n", 1),
-        ("", "C: add\n", "", "block 1, line 1: no device\n", 1),
-        (
-            "",
-            "C: add\nP: /a\nX: 1\n",
-            "",
-            "block 1, line 3: unknown line\n",
-            1,
-        ),
-        (
-            "",
-            "C: add\nP: /a\nD: x\n",
-            "",
-            "block 1, line 3: number\n",
-            1,
-        ),
+        ("r.rules", "", FAULTY, ABOUT_X, "block 2, line 3: path\n", 1),
     ] {
-        assert_answer(
-            &rt,
-            rules,
-            input.as_bytes(),
-            wanted(output, messages, status),
-        )?;
+        let wanted = Expected {
+            output,
+            messages: messages.as_bytes(),
+            status,
+        };
+        assert_answer(&rt, name, rules, input, wanted)?;
     }
     Ok(())
 }
@@ -220,6 +213,7 @@ fn a_block_has_room_for_65536_bytes(rt: HostRuntime) -> Result<(), Fail> {
     let too_long = block_with(rt.alloc(), b'v', 65_510)?;
     assert_answer(
         &rt,
+        "r.rules",
         "",
         &too_long,
         wanted("", "block 1, line 3: too long\n", 1),
@@ -243,39 +237,25 @@ fn an_output_may_fail_at_each_byte(rt: HostRuntime) -> Result<(), Fail> {
     Ok(())
 }
 
-#[test]
-fn an_output_may_take_a_byte_in_a_call(rt: HostRuntime) -> Result<(), Fail> {
-    let room = Room {
+/// An output that takes so much in a call, and can be flushed or not.
+fn room_by(each: usize, flushes: bool) -> Room {
+    Room {
         bytes: 4096,
-        each: 1,
-        flushes: true,
-    };
-    let wanted = Expected {
+        each,
+        flushes,
+    }
+}
+
+#[test]
+fn an_output_may_take_little_and_flush_nothing(rt: HostRuntime) -> Result<(), Fail> {
+    let whole = Expected {
         output: ANSWER,
         messages: b"",
         status: 0,
     };
-    assert_block(&rt, room, wanted)
-}
-
-#[test]
-fn an_output_may_take_nothing(rt: HostRuntime) -> Result<(), Fail> {
-    let room = Room {
-        bytes: 4096,
-        each: 0,
-        flushes: true,
-    };
-    assert_block(&rt, room, broken_off(b""))
-}
-
-#[test]
-fn an_output_may_flush_nothing(rt: HostRuntime) -> Result<(), Fail> {
-    let room = Room {
-        bytes: 4096,
-        each: 4096,
-        flushes: false,
-    };
-    assert_block(&rt, room, broken_off(ANSWER))
+    assert_block(&rt, room_by(1, true), whole)?;
+    assert_block(&rt, room_by(0, true), broken_off(b""))?;
+    assert_block(&rt, room_by(4096, false), broken_off(ANSWER))
 }
 
 /// Asserts what goes out where the reads of the block fail after so many bytes.
@@ -299,22 +279,4 @@ fn an_input_may_fail_after_each_byte(rt: HostRuntime) -> Result<(), Fail> {
         assert_read(&rt, read, b"")?;
     }
     assert_read(&rt, BLOCK.len(), ANSWER)
-}
-
-#[test]
-fn without_its_messages_nothing_is_answered(rt: HostRuntime) -> Result<(), Fail> {
-    let alloc = rt.alloc();
-    let events = line(alloc, Verb::Events, "");
-    let files = files_of(alloc, &[(FileKind::Rules, 0, "r.rules", "FOO==\"x\"\n")])?;
-    let mut input = input_of(alloc, BLOCK, 4096)?;
-    let done = run_in(
-        alloc,
-        &events,
-        files,
-        None,
-        &mut input,
-        (AMPLE, room_for(0)),
-    )?;
-    assert_outcome(&rt, &done, wanted("", "", 3));
-    Ok(())
 }

@@ -19,10 +19,6 @@ mod indexes;
 #[cfg(test)]
 mod inputs;
 #[cfg(test)]
-mod lengths;
-#[cfg(test)]
-mod refusals;
-#[cfg(test)]
 mod rules;
 #[cfg(test)]
 mod running;

@@ -30,37 +30,22 @@ pub(crate) const LABELS: &str =
 pub(crate) const JUMP_BY_JUMP: &str =
     "GOTO=\"e\"\nLABEL=\"m\", ENV{A}=\"1\"\nLABEL=\"e\", GOTO=\"f\"\nLABEL=\"m\", ENV{B}=\"1\"\nLABEL=\"f\", ENV{C}=\"1\"\n";
 
-#[test]
-fn each_fault_of_a_token_is_told(rt: HostRuntime) -> Result<(), Fail> {
-    let text = "KERNEL==\"a\" FOO=\"b\"\nSUBSYSTEM==\"x\",ACTION-=\"y\"\nENV{A}:=\"1\",TAG+=\"t\"\n\
+/// Seven lines with a message each, and one with two.
+const FAULTS: &str =
+    "KERNEL==\"a\" FOO=\"b\"\nSUBSYSTEM==\"x\",ACTION-=\"y\"\nENV{A}:=\"1\",TAG+=\"t\"\n\
 OPTIONS=\"link_priority=x\"\nKERNEL==\"[[:alpha:]]\"\nENV{B}=\"$nope\"\nATTR==\"x\"\n";
-    let messages = "v.rules:1: V2 unknown key: FOO\nv.rules:2: V3 operator not allowed: ACTION\n\
+
+/// Their messages.
+const MESSAGES: &str =
+    "v.rules:1: V2 unknown key: FOO\nv.rules:2: V3 operator not allowed: ACTION\n\
 v.rules:3: S3 operator read as =: ENV\nv.rules:3: S2 blank after a comma expected: TAG\n\
 v.rules:4: V5 bad value: link_priority=x\nv.rules:5: V11 set not supported: [[:alpha:]]\n\
 v.rules:6: V6 bad substitution: $nope\nv.rules:7: V4 attribute missing or not allowed: ATTR\n";
-    assert_verified(&rt, "v.rules", text, wanted(ONE_BAD, messages, 1))
-}
 
 #[test]
-fn style_and_summary_may_be_left_out(rt: HostRuntime) -> Result<(), Fail> {
-    let unused = "f.rules:1: S4 label unused: x\n";
-    for (summary, style, output, messages, status) in [
-        (true, true, ONE_BAD, unused, 1),
-        (true, false, ONE_GOOD, "", 0),
-        (false, true, "", unused, 1),
-    ] {
-        let mut verify = line(rt.alloc(), Verb::Verify, "");
-        verify.summary = summary;
-        verify.style = style;
-        let given = [(FileKind::Rules, 3, "f.rules", LABELS)];
-        assert_run(&rt, &verify, &given, wanted(output, messages, status))?;
-    }
-    Ok(())
-}
-
-#[test]
-fn lines_are_joined_and_jumps_looked_up(rt: HostRuntime) -> Result<(), Fail> {
+fn bad_files_are_told(rt: HostRuntime) -> Result<(), Fail> {
     for (name, text, messages) in [
+        ("v.rules", FAULTS, MESSAGES),
         (
             "g.rules",
             "GOTO=\"y\", ENV{D}=\"1\"\n",
@@ -86,50 +71,41 @@ fn lines_are_joined_and_jumps_looked_up(rt: HostRuntime) -> Result<(), Fail> {
             JUMP_BY_JUMP,
             "m.rules:2: S4 label unused: m\nm.rules:4: S4 label unused: m\n",
         ),
+        (
+            "q.rules",
+            "SYMLINK=i\"x\"\n",
+            "q.rules:1: V10 bad quote prefix: i\n",
+        ),
+        (
+            "q.rules",
+            "KERNEL==ii\"x\"\n",
+            "q.rules:1: V10 bad quote prefix: ii\n",
+        ),
+        ("q.rules", "TEST==i\"x\"\n", "q.rules:1: V5 bad value: x\n"),
     ] {
         assert_verified(&rt, name, text, wanted(ONE_BAD, messages, 1))?;
     }
-    Ok(())
+    assert_verified(
+        &rt,
+        "q.rules",
+        "KERNEL==i\"SDA\"\n",
+        wanted(ONE_GOOD, "", 0),
+    )
 }
 
 #[test]
-fn prefixes_of_values(rt: HostRuntime) -> Result<(), Fail> {
-    for (text, output, messages, status) in [
-        ("KERNEL==i\"SDA\"\n", ONE_GOOD, "", 0),
-        (
-            "SYMLINK=i\"x\"\n",
-            ONE_BAD,
-            "q.rules:1: V10 bad quote prefix: i\n",
-            1,
-        ),
-        (
-            "KERNEL==ii\"x\"\n",
-            ONE_BAD,
-            "q.rules:1: V10 bad quote prefix: ii\n",
-            1,
-        ),
-        ("TEST==i\"x\"\n", ONE_BAD, "q.rules:1: V5 bad value: x\n", 1),
+fn style_and_summary_may_be_left_out(rt: HostRuntime) -> Result<(), Fail> {
+    let unused = "f.rules:1: S4 label unused: x\n";
+    for (summary, style, output, messages, status) in [
+        (true, true, ONE_BAD, unused, 1),
+        (true, false, ONE_GOOD, "", 0),
+        (false, true, "", unused, 1),
     ] {
-        assert_verified(&rt, "q.rules", text, wanted(output, messages, status))?;
+        let mut verify = line(rt.alloc(), Verb::Verify, "");
+        verify.summary = summary;
+        verify.style = style;
+        let given = [(FileKind::Rules, 3, "f.rules", LABELS)];
+        assert_run(&rt, &verify, &given, wanted(output, messages, status))?;
     }
     Ok(())
-}
-
-#[test]
-fn rules_of_folders_are_ordered(rt: HostRuntime) -> Result<(), Fail> {
-    let given = [
-        (FileKind::Rules, 3, "b.rules", "A\n"),
-        (FileKind::Rules, 1, "b.rules", "B\n"),
-        (FileKind::Rules, 3, "c.txt", "C\n"),
-        (FileKind::Hwdb, 0, "d.rules", "D\n"),
-        (FileKind::Rules, 3, "a.rules", "\n"),
-    ];
-    let verify = line(rt.alloc(), Verb::Verify, "");
-    let output = "2 files checked, 1 good, 1 bad\n";
-    assert_run(
-        &rt,
-        &verify,
-        &given,
-        wanted(output, "b.rules:1: V1 bad syntax: B\n", 1),
-    )
 }

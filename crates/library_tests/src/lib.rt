@@ -10,8 +10,16 @@
 #[cfg(test)]
 mod database;
 #[cfg(test)]
+mod engine;
+#[cfg(test)]
 mod events;
 #[cfg(test)]
+mod memory_disk;
+#[cfg(test)]
 mod rules;
+#[cfg(test)]
+mod slow_disk;
+#[cfg(test)]
+mod streams;
 #[cfg(test)]
 mod text;

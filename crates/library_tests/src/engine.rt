@@ -170,37 +170,6 @@ fn a_faulty_block_ends_the_session(rt: HostRuntime) -> Result<(), Fail> {
     Ok(())
 }
 
-/// Whether so many turns go on, one behind another.
-fn goes_on(
-    alloc: Global,
-    count: usize,
-    session: &mut Session<'_, Brief>,
-    input: &mut MemorySource,
-    output: &mut MemorySink,
-) -> bool {
-    for _ in 0..count {
-        match one_turn(alloc, session, input, output) {
-            Ok(true) => {}
-            _ => return false,
-        }
-    }
-    true
-}
-
-#[test]
-fn an_answer_is_flushed_in_the_turn_that_completes_its_block(rt: HostRuntime) -> Result<(), Fail> {
-    let alloc = rt.alloc();
-    let brief = Brief;
-    let mut session = Session::new(alloc, &brief)?;
-    let mut input = MemorySource::new(alloc, disks(alloc, 2)?, 200, 1, 200)?;
-    let mut output = MemorySink::new(alloc, 200, 5)?;
-    assert!(rt; goes_on(alloc, 57, &mut session, &mut input, &mut output));
-    assert!(rt; output.bytes_taken().is_empty());
-    assert!(rt; goes_on(alloc, 1, &mut session, &mut input, &mut output));
-    assert_eq!(rt; output.bytes_flushed(), DISK_ANSWER);
-    Ok(())
-}
-
 #[test]
 fn a_turn_of_an_ended_session_does_nothing(rt: HostRuntime) -> Result<(), Fail> {
     let alloc = rt.alloc();

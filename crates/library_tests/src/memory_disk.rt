@@ -1,13 +1,11 @@
 //! A disk over memory.
 
 use devdry_files::{
-    Disk, DiskFault, MemoryDisk, MemoryEntry, MemoryPlace, ReadFault, Stands, read_all, read_index,
-    wanted,
+    Disk, DiskFault, MemoryDisk, MemoryEntry, MemoryPlace, ReadFault, Stands, read_all, wanted,
 };
 use engine_line::{Line, Verb};
 use std::alloc::{AllocError, Global};
 use std::test::Fail;
-use text_bytes::Bytes;
 use text_files::SourceFile;
 
 const ENTRIES: [MemoryEntry; 4] = [
@@ -54,22 +52,19 @@ const PLACES: [MemoryPlace; 5] = [
 
 const DISK: MemoryDisk = MemoryDisk { places: &PLACES };
 
-fn line<'a>(alloc: Global, verb: Verb, root: &'a str, index: Option<&'a str>) -> Line<'a> {
-    Line {
-        verb,
+// The files that a check of all rules below a root reads of the disk.
+fn read(alloc: Global, root: &str) -> Result<Vec<SourceFile>, ReadFault> {
+    let line = Line {
+        verb: Verb::Verify,
         root,
         files: Vec::new(alloc),
-        index,
+        index: None,
         strict: false,
         sources: false,
         modalias: "",
         summary: true,
         style: true,
-    }
-}
-
-fn read(alloc: Global, root: &str) -> Result<Vec<SourceFile>, ReadFault> {
-    let line = line(alloc, Verb::Verify, root, None);
+    };
     let wanted = wanted(alloc, &line)?;
     read_all(alloc, &DISK, &wanted)
 }
@@ -120,52 +115,5 @@ fn tells_why_it_has_no_answer(rt: HostRuntime) -> Result<(), Fail> {
         DISK.read(rt.alloc(), folder).err(),
         Some(DiskFault::Unreadable)
     );
-    Ok(())
-}
-
-fn index_at(alloc: Global, index: Option<&str>) -> Result<Option<Bytes>, ReadFault> {
-    let line = line(alloc, Verb::Query, "/r", index);
-    let wanted = wanted(alloc, &line)?;
-    read_index(alloc, &DISK, &wanted)
-}
-
-fn unread_index(alloc: Global, path: &str) -> Result<Option<String>, AllocError> {
-    match index_at(alloc, Some(path)) {
-        Err(ReadFault::Path(path)) => Ok(Some(path)),
-        _ => Ok(None),
-    }
-}
-
-#[test]
-fn reads_the_index_that_is_named(rt: HostRuntime) -> Result<(), Fail> {
-    let path = "/r/etc/udev/rules.d/b.rules";
-    let index = index_at(rt.alloc(), Some(path))?.ok_or("no index")?;
-    assert_eq!(rt; index.as_slice(), b"B".as_slice());
-    assert!(rt; index_at(rt.alloc(), None)?.is_none());
-    Ok(())
-}
-
-#[test]
-fn tells_which_index_is_not_read(rt: HostRuntime) -> Result<(), Fail> {
-    for path in ["b.rules", "/r/etc/udev/rules.d", "/s/run/udev/rules.d"] {
-        let told = unread_index(rt.alloc(), path)?;
-        assert_eq!(rt; told.as_deref(), Some(path));
-    }
-    Ok(())
-}
-
-#[test]
-fn an_index_stands_for_the_folders_of_the_database(rt: HostRuntime) -> Result<(), Fail> {
-    for (verb, index, count) in [
-        (Verb::Query, None, 2),
-        (Verb::Query, Some("i"), 0),
-        (Verb::Events, None, 6),
-        (Verb::Events, Some("i"), 4),
-    ] {
-        let line = line(rt.alloc(), verb, "", index);
-        let wanted = wanted(rt.alloc(), &line)?;
-        assert_eq!(rt; wanted.folders.len(), count);
-        assert_eq!(rt; wanted.index, index);
-    }
     Ok(())
 }

@@ -1,0 +1,146 @@
+"""Which files and folders of the disk are read, in which order, and what is told where one can't be read.
+
+The run of a row may be root's, whom no permission stops. So what can't be read is a link that leads to itself, and what
+can't be listed is a file in place of a folder; bench/odd_files.sh shows a folder without permission to another user.
+"""
+from tables.row import FOLDER, Link, Row
+from tables.words import EMPTY_INDEX, FIRST_VERSION
+
+ETC, LIB = "mnt/etc/udev/hwdb.d", "mnt/usr/lib/udev/hwdb.d"
+RULES = ["mnt/etc/udev/rules.d", "mnt/run/udev/rules.d", "mnt/usr/local/lib/udev/rules.d", "mnt/usr/lib/udev/rules.d"]
+BLOCK = "C: add\nP: /x\n"
+ANSWER = "event add /x\nenv ACTION=add\nenv DEVPATH=/x\n\n"
+
+
+def record(value, match="m"):
+    """A record of one property."""
+    return f"{match}\n {value}\n"
+
+
+def cannot_read(path):
+    """The line on a file, a folder or an index that can't be read."""
+    return f"devdry: cannot read {path}\n"
+
+
+# (what is asked, files, output) of `query -r mnt --sources m`
+QUERIED = [
+    ("a name counts where it ends in the suffix, a hidden one and the suffix alone too",
+     {f"{ETC}/b.hwdb": record("B=1"), f"{ETC}/a.hwdb": record("A=1"), f"{ETC}/c.txt": record("C=1"),
+      f"{ETC}/ahwdb": record("D=1"), f"{ETC}/.e.hwdb": record("E=1"), f"{ETC}/.hwdb": record("F=1"),
+      f"{ETC}/a.hwdb.rpmnew": record("G=1"), f"{ETC}/a.rules": record("H=1")},
+     "a.hwdb:2: A=1\nb.hwdb:2: B=1\n.e.hwdb:2: E=1\n.hwdb:2: F=1\n"),
+    ("a folder is passed over, and a link to one",
+     {f"{ETC}/0.hwdb/a.hwdb": record("A=1"), f"{ETC}/1.hwdb": Link("0.hwdb"), f"{ETC}/2.hwdb": record("B=1")},
+     "2.hwdb:2: B=1\n"),
+    ("a link to a file is a file of its own name",
+     {f"{ETC}/a.hwdb": record("A=1"), f"{ETC}/c.hwdb": Link("a.hwdb"), f"{ETC}/d.hwdb": Link("../c.txt"),
+      "mnt/etc/udev/c.txt": record("D=1")},
+     "c.hwdb:2: A=1\nd.hwdb:2: D=1\n"),
+    ("a file of less rank hides that of its name",
+     {f"{LIB}/60-a.hwdb": record("A=1", "m*"), f"{LIB}/70-b.hwdb": record("A=2", "m*"),
+      f"{ETC}/70-b.hwdb": record("A=2", "z"), f"{LIB}/80-c.txt": record("A=3", "m*")},
+     "60-a.hwdb:2: A=1\n"),
+    ("files of both folders are ordered together by name",
+     {f"{ETC}/60-a.hwdb": record("A=1\n B=1"), f"{LIB}/70-b.hwdb": record("A=2\n C=2"), f"{ETC}/9.hwdb": record("D=3"),
+      f"{LIB}/90-d.hwdb": record("D=4")},
+     "70-b.hwdb:2: A=2\n60-a.hwdb:3: B=1\n70-b.hwdb:3: C=2\n90-d.hwdb:2: D=4\n"),
+    ("a link to /dev/null is an empty file, which hides that of its name",
+     {f"{LIB}/a.hwdb": record("A=1"), f"{ETC}/a.hwdb": Link("/dev/null"), f"{LIB}/b.hwdb": record("B=1")},
+     "b.hwdb:2: B=1\n"),
+    ("an empty folder, and an absent one", {ETC: FOLDER}, ""),
+    ("an absent root", {}, ""),
+    ("a link to nothing is an absent folder", {f"{ETC}/a.hwdb": record("A=1"), LIB: Link("nothing")}, "a.hwdb:2: A=1\n"),
+    ("a link to a folder is that folder", {"other/a.hwdb": record("A=1"), LIB: Link("../../../../other")}, "a.hwdb:2: A=1\n"),
+    ("folders of rules are not asked by a query", {RULES[0]: "", RULES[3]: "", f"{ETC}/a.hwdb": record("A=1")},
+     "a.hwdb:2: A=1\n"),
+    ("a name is escaped, and shown whole",
+     {f"{LIB}/60-a.hwdb": record("A=1"), f"{LIB}/70-b.hwdb": record("A=2"), f"{LIB}/75-\\.hwdb": "m*\n\\=\t\n B=\\\t\n"},
+     "70-b.hwdb:2: A=2\n75-\\x5C.hwdb:3: B=\\\n"),
+]
+
+# (what is asked, words, files, the path that can't be read)
+UNREAD = [
+    ("a named file that is not there", "verify a.rules none.rules", {"a.rules": ""}, "none.rules"),
+    ("a named file in a folder that is not there", "query m no/t.hwdb", {}, "no/t.hwdb"),
+    ("a folder as a named file", "verify .", {}, "."),
+    ("a folder as a named file, by a path", f"query m {ETC}/", {ETC: FOLDER}, f"{ETC}/"),
+    ("- is a file of that name", "verify -", {}, "-"),
+    ("a file as a folder of the database", "query m -r mnt", {ETC: ""}, ETC),
+    ("a file as the other folder of the database", "update -r mnt", {LIB: Link("/proc/self/status")}, LIB),
+    ("a folder that links to itself", "query m -r mnt", {LIB: Link("hwdb.d")}, LIB),
+    ("a file as a folder of rules", "verify -r mnt", {RULES[0]: ""}, RULES[0]),
+    ("a name that links to nothing", "query m -r mnt", {f"{ETC}/a.hwdb": "", f"{ETC}/d.hwdb": Link("nothing")}, f"{ETC}/d.hwdb"),
+    ("a name that links to itself", "query m -r mnt", {f"{ETC}/a.hwdb": "", f"{ETC}/d.hwdb": Link("d.hwdb")}, f"{ETC}/d.hwdb"),
+    ("a name that is not UTF-8", "query m -r mnt", {f"{ETC}/".encode() + b"\xff.hwdb": ""}, ETC),
+    ("an index that is not there", "query m --index b.index", {}, "b.index"),
+    ("an index that is not there, for events", "events --index b.index a.rules", {"a.rules": ""}, "b.index"),
+    ("a folder as an index", f"query m --index {ETC}", {ETC: FOLDER}, ETC),
+    ("an index that links to itself", "events --index i -r none", {"i": Link("i")}, "i"),
+    ("an index is not looked for below the root", "query m --index a.index -r mnt", {"mnt/a.index": FIRST_VERSION}, "a.index"),
+    ("a named file is not looked for below the root", "verify a.rules -r mnt", {"mnt/a.rules": ""}, "a.rules"),
+]
+
+# (words, files of which several can't be read, the path that is read first: of the others nothing is told)
+ENDLESS = Link("b.rules")
+BROKEN = [
+    ("verify x b.rules", {"b.rules": ENDLESS}, "x"),
+    ("verify b.rules x", {"b.rules": ENDLESS}, "b.rules"),
+    ("events -r mnt --index i", {f"{RULES[0]}/a.rules": Link("a.rules"), f"{RULES[0]}/b.rules": ENDLESS}, f"{RULES[0]}/a.rules"),
+    ("events -r mnt", {f"{RULES[0]}/b.rules": ENDLESS, f"{RULES[1]}/a.rules": Link("a.rules")}, f"{RULES[0]}/b.rules"),
+    ("events -r mnt", {RULES[1]: "", f"{RULES[2]}/a.rules": Link("a.rules")}, RULES[1]),
+    ("events -r mnt", {RULES[2]: "", f"{RULES[3]}/a.rules": Link("a.rules")}, RULES[2]),
+    ("events -r mnt", {f"{RULES[3]}/b.rules": ENDLESS, ETC: ""}, f"{RULES[3]}/b.rules"),
+    ("events -r mnt", {ETC: "", LIB: ""}, ETC),
+    ("events -r mnt", {f"{RULES[3]}/b.rules": "", LIB: ""}, LIB),
+    ("events -r mnt none.rules", {LIB: ""}, "none.rules"),
+    ("events -r mnt --index i", {RULES[3]: "", ETC: ""}, RULES[3]),
+    ("events -r mnt --index i", {f"{RULES[3]}/b.rules": "FOO\n", ETC: ""}, "i"),
+    ("events --index i b.rules", {"b.rules": ENDLESS}, "b.rules"),
+]
+
+ONE_OF_EACH = {f"{folder}/{name}.rules": f"{name}\n" for folder, name in zip(RULES, "dcba")}
+ASKING = {"a.rules": 'IMPORT{builtin}="hwdb m"\n'}
+ASKED = "event add /x\nenv A=1\nenv ACTION=add\nenv DEVPATH=/x\n\n"
+
+ROWS = [
+    *(Row(name, "query -r mnt --sources m", files, output=output) for name, files, output in QUERIED),
+    *(Row(name, words, files, messages=cannot_read(path), status=3) for name, words, files, path in UNREAD),
+    *(Row(f"{path} is read first by {words}, of {' and '.join(files)}", words, files, messages=cannot_read(path), status=3)
+      for words, files, path in BROKEN),
+    Row("the four folders of rules", "verify -r mnt", {**ONE_OF_EACH, f"{RULES[0]}/e.hwdb": "e\n"},
+        output="4 files checked, 0 good, 4 bad\n",
+        messages="".join(f"{name}.rules:1: V1 bad syntax: {name}\n" for name in "abcd"), status=1),
+    Row("rules of less rank hide those of their name", "verify -r mnt",
+        {f"{folder}/b.rules": f"{place}\n" for place, folder in enumerate(RULES[1:])} | {f"{RULES[3]}/a.rules": "\n",
+         f"{RULES[3]}/c.txt": "C\n", f"{ETC}/d.rules": "D\n"},
+        output="2 files checked, 1 good, 1 bad\n", messages="b.rules:1: V1 bad syntax: 0\n", status=1),
+    Row("no folder of rules", "verify -r none", output="0 files checked, 0 good, 0 bad\n"),
+    Row("the folders of the database are not asked by verify", "verify -r mnt", {ETC: "", LIB: ""},
+        output="0 files checked, 0 good, 0 bad\n"),
+    Row("named files are read in their order, whatever their names end in", "query --sources m 70-b.hwdb 60-a.hwdb 80-c.txt",
+        {"70-b.hwdb": record("A=2", "m*"), "60-a.hwdb": record("A=1\n B=3", "m*"), "80-c.txt": record("A=4", "m*")},
+        output="80-c.txt:2: A=4\n60-a.hwdb:3: B=3\n"),
+    Row("a file that is named twice is read twice", f"verify {RULES[0]}/b a {RULES[0]}/b",
+        {f"{RULES[0]}/b": "B\n", "a": "A\n"}, output="3 files checked, 0 good, 3 bad\n",
+        messages=f"{RULES[0]}/b:1: V1 bad syntax: B\na:1: V1 bad syntax: A\n{RULES[0]}/b:1: V1 bad syntax: B\n", status=1),
+    Row("named files stand in place of the folders", "query -r mnt m t.hwdb", {ETC: "", LIB: "", "t.hwdb": record("A=1")},
+        output="A=1\n"),
+    Row("named files stand in place of the folders, for update too", "update -r mnt t.hwdb",
+        {ETC: "", LIB: "", RULES[0]: "", "t.hwdb": ""}, output=EMPTY_INDEX),
+    Row("folders of rules are not asked by update", "update -r mnt", {RULES[0]: "", RULES[3]: ""}, output=EMPTY_INDEX),
+    Row("named rules stand in place of the folders", "verify -r mnt a.rules", {RULES[0]: "", RULES[3]: "", "a.rules": ""},
+        output="1 files checked, 1 good, 0 bad\n"),
+    Row("named rules stand beside the folders of the database", "events -r mnt a.rules",
+        {RULES[0]: "", f"{LIB}/a.hwdb": record("A=1"), **ASKING}, BLOCK, ASKED),
+    Row("an index stands in place of the folders of the database", "query -r mnt --index a.index abc",
+        {ETC: "", LIB: "", "a.index": FIRST_VERSION}, output="K=V\n"),
+    Row("an index stands beside the folders of rules", "events -r mnt --index a.index",
+        {ETC: "", f"{RULES[2]}/a.rules": 'IMPORT{builtin}="hwdb abc"\n', "a.index": FIRST_VERSION}, BLOCK,
+        "event add /x\nenv ACTION=add\nenv DEVPATH=/x\nenv K=V\n\n"),
+    Row("an index stands beside named rules", "events -r mnt --index a.index a.rules",
+        {ETC: "", RULES[0]: "", "a.rules": 'FOO=="x"\n', "a.index": FIRST_VERSION}, BLOCK, ANSWER,
+        "a.rules:1: V2 unknown key: FOO\n"),
+    Row("a file whose length is not told is read to its end", "verify --no-summary /proc/sys/kernel/ostype",
+        messages="/proc/sys/kernel/ostype:1: V1 bad syntax: Linux\n", status=1),
+    Row("a file of 3 MB", "query m t.hwdb", {"t.hwdb": "# a line that is skipped\n" * 125_000 + record("A=1")}, output="A=1\n"),
+]

@@ -1,0 +1,210 @@
+"""Whole runs: an event by rules and a database, faulty blocks, and texts as long as they may be.
+
+What rows of the other tables ask of one part is asked here of an answer as a whole. The lines of an answer stand in this
+order: event, name, owner, group, mode, priority, watch, persist, label, link, tag, env by key, attr, sysctl, run, note.
+"""
+from tables.row import Row
+
+BARE = "C: add\nP: /x\n"
+DISK = "C: add\nP: /devices/pci0/block/sda\nU: block\nN: sda\nD: 8:0\n"
+NETWORK = "C: add\nP: /x/eth0\nU: net\n"
+# two links, and constants that are known and that are not
+LINKED = "C: add\nP: /x\nK: arch=x86-64\nK: x=1\nS: one\nS: two\n"
+
+
+def bare(before="", env="", after=""):
+    """The answer to a device of which nothing is known but its path: lines before its properties, those whose keys
+    come behind its own, and lines behind them."""
+    return f"event add /x\n{before}env ACTION=add\nenv DEVPATH=/x\n{env}{after}\n"
+
+
+def disk(before="", env="", after=""):
+    """The answer to a disk, with lines before its properties, those whose keys come before its own, and lines behind."""
+    return (
+        f"event add /devices/pci0/block/sda\n{before}{env}env ACTION=add\nenv DEVNAME=/dev/sda\n"
+        f"env DEVPATH=/devices/pci0/block/sda\nenv MAJOR=8\nenv MINOR=0\nenv SUBSYSTEM=block\n{after}\n"
+    )
+
+
+EACH_KEY = """\
+OWNER="root"
+GROUP="disk"
+MODE="0600"
+TAG+="x"
+SECLABEL{m}="u"
+ENV{A}="1"
+ENV{A}+="2"
+NAME="x"
+SYMLINK+="a"
+ATTR{mtu}="1400"
+SYSCTL{x}="1"
+OPTIONS+="nowatch"
+OPTIONS+="db_persist"
+OPTIONS+="link_priority=-7"
+RUN+="/bin/a"
+RUN{builtin}+="b"
+"""
+EACH_KEY_ANSWER = disk(
+    "owner root\ngroup disk\nmode 0600\npriority -7\nnowatch\npersist\nlabel m=u\nlink a\ntag x\n", "env A=1 2\n",
+    "attr mtu=1400\nsysctl x=1\nrun program /bin/a\nrun builtin b\nnote r.rules:8: name ignored: x\n")
+
+# each line sets a property of its own where it matches
+MATCHES = """\
+SYMLINK=="t*", ENV{Y1}="1"
+SYMLINK!="t*", ENV{N1}="1"
+CONST{arch}=="x86*", ENV{Y2}="1"
+CONST{x}!="2", ENV{N2}="1"
+CONST{x}=="1", ENV{N3}="1"
+KERNEL=="y", OWNER="a"
+ATTR{x}=="*", ENV{N4}="1"
+ATTR{x}!="y", ENV{Y3}="1"
+ENV{X}=="", ENV{Y4}="1"
+ENV{X}!="", ENV{N5}="1"
+"""
+
+# a jump to a label of its file, and one whose label stands above it alone; and the same label in the file behind it
+JUMPS_DOWN_AND_UP = 'GOTO="x"\nENV{A}="1"\nLABEL="x", ENV{E}="1"\nGOTO="x"\nENV{F}="1"\n'
+RULE_AND_JUMP = 'ENV{G}="1"\nGOTO="x"\nENV{H}="1"\nLABEL="x", ENV{I}="1"\n'
+
+# (what is asked, rules, block, output)
+ANSWERED = [
+    ("each key is assigned", EACH_KEY, DISK, EACH_KEY_ANSWER),
+    ("a network device is named", 'NAME="lan 0"\n', NETWORK,
+     "event add /x/eth0\nname lan_0\nenv ACTION=add\nenv DEVPATH=/x/eth0\nenv SUBSYSTEM=net\n\n"),
+    ("matches of links, constants, attributes and properties", MATCHES, LINKED,
+     bare("link one\nlink two\n", "env Y1=1\nenv Y2=1\nenv Y3=1\nenv Y4=1\n")),
+    ("a match of a kernel setting is noted", 'SYSCTL{x}!="1"\n', DISK, disk(after="note r.rules:1: sysctl not read: x\n")),
+    ("no rule", "", DISK, disk()),
+    ("no block", 'TAG+="x"\n', "", ""),
+    ("empty lines alone", 'TAG+="x"\n', "\n" * 10, ""),
+    ("empty lines around blocks", 'TAG+="x"\n', "\n\n" + BARE + "\n\n\n" + BARE + "\n\n", bare("tag x\n") * 2),
+]
+
+# (text that is told, the block's lines behind C: add and P: /x, the line)
+FAULTY = [
+    ("unknown line", "X: 1\n", 3),
+    ("number", "D: x\n", 3),
+    ("path", "P: /y\n", 3),
+    ("given twice", "U: a\nU: a\n", 4),
+    ("pair", "E: =x\n", 3),
+    ("nul byte", "E: k=\0\n", 3),
+]
+
+
+def block_with(letter, count):
+    """A block of 27 bytes and of so many times this letter, as the value of its property X."""
+    return "C: add\nP: /devices/x\nE: X=" + letter * count + "\n"
+
+
+def answer_with(before, x, env, after):
+    """The answer to it, where X ends as this text."""
+    return f"event add /devices/x\n{before}env ACTION=add\nenv DEVPATH=/devices/x\nenv X={x}\n{env}{after}\n"
+
+
+LONGEST = 16_384
+ONES = "\\x01" * LONGEST
+EACH_LONG_KEY = """\
+OWNER="$env{X}"
+GROUP="$env{X}"
+SECLABEL{m}="$env{X}"
+ENV{Y}="$env{X}"
+ATTR{a}="$env{X}"
+SYSCTL{s}="$env{X}"
+RUN+="$env{X}"
+ENV{Z}="$env{X}-"
+"""
+# Each key that keeps a text, with the longest one, of bytes that are all escaped; the last would be too long by a byte.
+LONG_ANSWER = answer_with(
+    f"owner {ONES}\ngroup {ONES}\nlabel m={ONES}\n", ONES, f"env Y={ONES}\n",
+    f"attr a={ONES}\nsysctl s={ONES}\nrun program {ONES}\nnote r.rules:8: text too long: ENV{{Z}}\n")
+LONGEST_VALUE = 65_509
+LONG_VALUE_ANSWER = answer_with("", "\\x01" * LONGEST_VALUE, "", "")
+WHOLE_DATABASE = "*\n" + "".join(f" {number:03}=v\n" for number in range(1000))
+WHOLE_DATABASE_ANSWER = (
+    "event add /x\n" + "".join(f"env {number:03}=v\n" for number in range(1000)) + "env ACTION=add\nenv DEVPATH=/x\n\n")
+
+DOUBLING = 'ENV{X}="$env{X}$env{X}"\n'
+COMMANDS = 'RUN{program}+="$env{X}$env{X}"\nRUN+="$env{X}-$env{X}"\n'
+
+THOUSAND_MATCHES = "".join(f'ENV{{P{number:03}}}=="1", ' for number in range(1000)) + 'ENV{HIT}="1"\n'
+
+
+def thousand(last, hit=""):
+    """A block with a thousand properties, of which the last is this one, and its answer with this line."""
+    ones = [f"P{number:03}=1" for number in range(999)] + last
+    block = BARE + "".join(f"E: {one}\n" for one in ones)
+    return block, bare(env=hit + "".join(f"env {one}\n" for one in ones))
+
+
+LINKS = [f"{number:03x}" for number in range(4000)]
+LINKS_RULE = 'SYMLINK+="' + "".join(f"{link} " for link in LINKS) + '"\n'
+
+# (what is asked, rules, block, output)
+LARGE = [
+    ("the longest text of each key", EACH_LONG_KEY, block_with("\1", LONGEST), LONG_ANSWER),
+    ("the longest property of a block", "", block_with("\1", LONGEST_VALUE), LONG_VALUE_ANSWER),
+    ("a text of 16,384 bytes is kept", DOUBLING, block_with("v", 8192), answer_with("", "v" * LONGEST, "", "")),
+    ("a text of 16,386 bytes is left out", DOUBLING, block_with("v", 8193),
+     answer_with("", "v" * 8193, "", "note r.rules:1: text too long: ENV{X}\n")),
+    ("a note names a command as it is written", COMMANDS, block_with("v", 8193),
+     answer_with("", "v" * 8193, "", "note r.rules:1: text too long: RUN{program}\nnote r.rules:2: text too long: RUN\n")),
+    ("a rule matches a thousand properties", THOUSAND_MATCHES, *thousand(["P999=1"], "env HIT=1\n")),
+    ("the last of a thousand properties is another", THOUSAND_MATCHES, *thousand(["P999=2"])),
+    ("the last of a thousand properties is absent", THOUSAND_MATCHES, *thousand([])),
+    ("a rule adds 4,000 links", LINKS_RULE, BARE, bare("".join(f"link {link}\n" for link in LINKS))),
+]
+
+# An answer weighs what its texts have, each with one more. It weighs at most four times its block and 128, and for each
+# part of a rule 32,896, the length of its attribute and that of its file's name, and for an IMPORT besides twice the block
+# and all keys and values, each with one more. It is at most eight times its weight, four times its block and 64 bytes long.
+#
+# (answer, its block's length, its weight, the most that it may weigh)
+WEIGHED = [
+    # the longest texts; m, ACTION, add, DEVPATH, /devices/x, X, Y, a, s and program; the note's three
+    (LONG_ANSWER, 27 + LONGEST,
+     8 * (LONGEST + 1) + (2 + 7 + 4 + 8 + 11 + 2 + 2 + 2 + 2 + 8) + (8 + 14 + 7),
+     4 * (27 + LONGEST) + 128 + 8 * (32_896 + 7) + 5),
+    (LONG_VALUE_ANSWER, 27 + LONGEST_VALUE, (7 + 4) + (8 + 11) + (2 + LONGEST_VALUE + 1), 4 * (27 + LONGEST_VALUE) + 128),
+    (WHOLE_DATABASE_ANSWER, 13, (7 + 4) + (8 + 3) + 1000 * (4 + 2), 4 * 13 + 128 + (32_896 + 7 + 7) + 2 * 13 + 1000 * (4 + 2)),
+]
+for answer, block, weight, most in WEIGHED:
+    assert weight <= most and len(answer) <= 8 * weight + 4 * block + 64
+
+# A word of a message is its first 32 bytes: the backslash is the 32nd, then the next.
+ODD_NAME = "mnt/etc/udev/hwdb.d/a\1b.hwdb"
+LATE_MATCH = "m\n A=1\n{}yyyyyyy\n B=1\n"
+LATE_MATCH_TOLD = "a\\x01b.hwdb:3: H3 unindented line after properties: {}\n"
+LONG_MATCH = "m\n{}\n A=1\n"
+LONG_MATCH_TOLD = "t.hwdb:2: H6 pattern not supported: " + "x" * 32 + "\n"
+
+
+def of_rules(name, rules, block, output):
+    """A run of events by one rules file and no database."""
+    return Row(name, "events -r none r.rules", {"r.rules": rules}, block, output)
+
+
+ROWS = [
+    *(of_rules(*row) for row in ANSWERED),
+    *(of_rules(*row) for row in LARGE),
+    *(Row(f"a block with a fault: {text}", "events -r none r.rules", {"r.rules": ""}, BARE + "\n" + BARE + lines, bare(),
+          f"block 2, line {line}: {text}\n", 1) for text, lines, line in FAULTY),
+    Row("a block without an action", "events -r none r.rules", {"r.rules": ""}, "C: \n", "", "block 1, line 1: no action\n", 1),
+    Row("a block without a device", "events -r none r.rules", {"r.rules": ""}, "C: add\n", "", "block 1, line 1: no device\n", 1),
+    Row("no jump leaves its file", "events -r none d/x.rules x.rules",
+        {"d/x.rules": JUMPS_DOWN_AND_UP, "x.rules": RULE_AND_JUMP}, BARE,
+        bare(env="env E=1\nenv F=1\nenv G=1\nenv I=1\n"), "d/x.rules:4: V7 no later label: x\n"),
+    Row("a file read twice keeps its jumps apart", "events -r none x.rules x.rules", {"x.rules": JUMPS_DOWN_AND_UP}, BARE,
+        bare(env="env E=1\nenv F=1\n"), "x.rules:4: V7 no later label: x\n" * 2),
+    Row("a thousand properties of the database", "events -r mnt r.rules",
+        {"r.rules": 'IMPORT{builtin}="hwdb x"\n', "mnt/usr/lib/udev/hwdb.d/a.hwdb": WHOLE_DATABASE}, BARE, WHOLE_DATABASE_ANSWER),
+    Row("messages of rules stand before those of the database, those of style are left out", "events -r mnt r.rules",
+        {"r.rules": 'KERNEL=="a" TAG+="t"\nFOO\n', "mnt/usr/lib/udev/hwdb.d/a.hwdb": " A=1\n"}, BARE, bare(),
+        "r.rules:2: V1 bad syntax: FOO\na.hwdb:1: H1 property without a match: A=1\n"),
+    Row("a name in a message is escaped, and a word cut behind 32 bytes", ["query", "-r", "mnt", ""],
+        {ODD_NAME: LATE_MATCH.format("x" * 31 + "\\y")}, messages=LATE_MATCH_TOLD.format("x" * 31 + "\\x5C")),
+    Row("a word is cut before its 33rd byte", ["query", "-r", "mnt", ""],
+        {ODD_NAME: LATE_MATCH.format("x" * 32 + "\\")}, messages=LATE_MATCH_TOLD.format("x" * 32)),
+    Row("a match of 16,384 bytes", "query m t.hwdb", {"t.hwdb": LONG_MATCH.format("x" * LONGEST)}, output="A=1\n"),
+    Row("a match of 16,385 bytes is told beside a good one", "query m t.hwdb",
+        {"t.hwdb": LONG_MATCH.format("x" * (LONGEST + 1))}, output="A=1\n", messages=LONG_MATCH_TOLD),
+]

@@ -1,0 +1,226 @@
+"""The words of the command line: help, what is not understood, and what each option does.
+
+The texts of usage begin as clap writes them; what stands behind their first lines is clap's own.
+"""
+from tables.row import Begins, Row
+
+HELP = """\
+A dry run of udev's rules and hardware database
+
+Usage: devdry <COMMAND>
+
+Commands:
+  update  Checks the files of the hardware database and writes its index
+  query   Prints the properties that the hardware database has for a device
+  verify  Checks rules files
+  events  Answers the event blocks of the standard input
+  help    Print this message or the help of the given subcommand(s)
+
+Options:
+  -h, --help     Print help
+  -V, --version  Print version
+
+Status:
+  0  all went well, or help was asked for
+  1  verify found a bad file, or there was a message and
+     --strict was given, or an event block is faulty, or there
+     are too many rules or entries, or the index is refused
+  2  the words of the command are not understood
+  3  a file, the input or an output failed
+  4  out of memory
+
+Examples:
+  devdry verify 60-mine.rules
+  devdry query usb:v1D6Bp0002 20-usb.hwdb
+  devdry events 60-mine.rules < disk.block
+  devdry update 20-usb.hwdb > hwdb.index
+  devdry query --index hwdb.index usb:v1D6Bp0002
+"""
+
+UPDATE_HELP = """\
+Checks the files of the hardware database and writes its index
+
+Usage: devdry update [OPTIONS] [FILE]...
+
+Arguments:
+  [FILE]...  Database files to read in place of the folders
+
+Options:
+  -r, --root <DIR>  Folder to put before each folder that is read
+  -s, --strict      Exit with status 1 if there is a message
+  -h, --help        Print help
+  -V, --version     Print version
+"""
+
+QUERY_HELP = """\
+Prints the properties that the hardware database has for a device
+
+Usage: devdry query [OPTIONS] <MODALIAS> [FILE]...
+
+Arguments:
+  <MODALIAS>  Device to look up, by its modalias
+  [FILE]...   Database files to read in place of the folders
+
+Options:
+  -r, --root <DIR>    Folder to put before each folder that is read
+      --sources       Say where each property comes from
+      --index <FILE>  Index to read in place of the database's folders
+  -h, --help          Print help
+  -V, --version       Print version
+"""
+
+VERIFY_HELP = """\
+Checks rules files
+
+Usage: devdry verify [OPTIONS] [FILE]...
+
+Arguments:
+  [FILE]...  Rules files to read in place of the folders
+
+Options:
+  -r, --root <DIR>  Folder to put before each folder that is read
+      --no-summary  Do not count the good and the bad files
+      --no-style    Give no messages about style
+  -h, --help        Print help
+  -V, --version     Print version
+"""
+
+EVENTS_HELP = """\
+Answers the event blocks of the standard input
+
+Usage: devdry events [OPTIONS] [FILE]...
+
+Arguments:
+  [FILE]...  Rules files to read in place of the folders
+
+Options:
+  -r, --root <DIR>    Folder to put before each folder that is read
+      --index <FILE>  Index to read in place of the database's folders
+  -h, --help          Print help
+  -V, --version       Print version
+"""
+
+TWO_DATABASES = """\
+error: the argument '--index <FILE>' cannot be used with '[FILE]...'
+
+Usage: devdry query --index <FILE> <MODALIAS>
+
+For more information, try '--help'.
+"""
+
+NO_MODALIAS = """\
+error: the following required arguments were not provided:
+  <MODALIAS>
+
+Usage: devdry query <MODALIAS> [FILE]...
+"""
+
+# (words, what is answered)
+ASKED = [
+    ("--help", HELP),
+    ("-h", HELP),
+    ("help", HELP),
+    ("help update", UPDATE_HELP),
+    ("update -h", UPDATE_HELP),
+    ("query --help", QUERY_HELP),
+    ("help verify", VERIFY_HELP),
+    ("verify -h", VERIFY_HELP),
+    ("verify --help", VERIFY_HELP),
+    ("events --help", EVENTS_HELP),
+    ("--version", "devdry 0.1.0\n"),
+    ("-V", "devdry 0.1.0\n"),
+    ("query --version", "devdry-query 0.1.0\n"),
+]
+
+# (words, how the text begins that tells what is wrong with them)
+NOT_UNDERSTOOD = [
+    ("", HELP),
+    ("none", "error: unrecognized subcommand 'none'\n\nUsage: devdry <COMMAND>\n"),
+    ("install", "error: unrecognized subcommand 'install'\n\nUsage: devdry <COMMAND>\n"),
+    ("query", NO_MODALIAS),
+    ("verify --none", "error: unexpected argument '--none' found\n"),
+    ("verify --strict", "error: unexpected argument '--strict' found\n"),
+    ("verify --sources", "error: unexpected argument '--sources' found\n"),
+    ("query m --strict", "error: unexpected argument '--strict' found\n"),
+    ("update --index a.index", "error: unexpected argument '--index' found\n"),
+    ("update -s -s", "error: the argument '--strict' cannot be used multiple times\n"),
+    ("verify -r a -r b", "error: the argument '--root <DIR>' cannot be used multiple times\n"),
+    ("update --root", "error: a value is required for '--root <DIR>' but none was supplied\n"),
+    ("query m --index", "error: a value is required for '--index <FILE>' but none was supplied\n"),
+    ("query --index a.index m a.hwdb", TWO_DATABASES),
+    ("query m a.hwdb b.hwdb --index=a.index", TWO_DATABASES),
+    (["verify", b"\xff"], "error: an argument is not UTF-8\n"),
+]
+
+
+def begins(text):
+    """A text that a message begins with."""
+    return Begins(text.encode())
+
+
+# The index of ` K=V` behind `a*` in version 1, and in version 2 as of line 2 of t.hwdb; and the one of no entry.
+FIRST_VERSION = bytes.fromhex("""\
+6465766472796877 01000000 03000000 01000000 00000000 02000000 00000000
+00000000 00000000 01000000 01000000 00000000 00000000
+01610000 00000000 02000000 01000000 00000000 00000000
+03000000 00000000 03000000 00000000 00000000 01000000
+00000000 01000000 01000000 01000000 00000000
+4b56""")
+SECOND_VERSION = bytes.fromhex("""\
+6465766472796877 02000000 03000000 01000000 00000000 08000000 00000000
+00000000 00000000 01000000 01000000 00000000 00000000
+01610000 00000000 02000000 01000000 00000000 00000000
+03000000 00000000 03000000 00000000 00000000 01000000
+00000000 01000000 01000000 01000000 00000000 02000000 06000000 02000000
+4b56742e68776462""")
+EMPTY_INDEX = bytes.fromhex("""\
+6465766472796877 02000000 01000000 00000000 00000000 00000000 00000000
+00000000 00000000 01000000 00000000 00000000 00000000""")
+
+# two rules files: the first has a mistake and a point of style, the second a point of style alone
+RULES = {"b.rules": 'FOO=="x"\nKERNEL=="a",TAG+="t"\n', "a.rules": 'KERNEL=="a" TAG+="t"\n'}
+MISTAKE = "b.rules:1: V2 unknown key: FOO\n"
+STYLE = "b.rules:2: S2 blank after a comma expected: TAG\na.rules:1: S1 one comma expected: TAG\n"
+# two whose order is seen in what they answer
+ADDING = {"b.rules": 'ENV{A}+="b"\n', "a.rules": 'ENV{A}+="a"\nIMPORT{builtin}="hwdb abc"\n'}
+BLOCK = "C: add\nP: /x\n"
+ADDED = "event add /x\nenv A=b a\nenv ACTION=add\nenv DEVPATH=/x\n\n"
+ADDED_WITH_INDEX = "event add /x\nenv A=b a\nenv ACTION=add\nenv DEVPATH=/x\nenv K=V\n\n"
+
+# (words, files, input, output, messages, status)
+UNDERSTOOD = [
+    ("query -r /mnt usb:v1 --sources a.hwdb -- -b", {"a.hwdb": "usb:*\n A=1\n", "-b": "usb:v?\n B=2\n"}, "",
+     "a.hwdb:2: A=1\n-b:2: B=2\n", "", 0),
+    ("query --index a.index abc", {"a.index": FIRST_VERSION}, "", "K=V\n", "", 0),
+    ("query abc --index=- --sources", {"-": FIRST_VERSION}, "", "-: K=V\n", "", 0),
+    ("query --sources --index a.index abc", {"a.index": SECOND_VERSION}, "", "t.hwdb:2: K=V\n", "", 0),
+    ("query --index a.index xbc", {"a.index": FIRST_VERSION}, "", "", "", 0),
+    ("query --index t.hwdb abc", {"t.hwdb": "m*\n A=1\n"}, "", "", "devdry: index: short\n", 1),
+    ("events --index t.hwdb a.rules", {"t.hwdb": "m*\n A=1\n", "a.rules": 'FOO=="x"\n'}, "C: ", "",
+     "devdry: index: short\n", 1),
+    ("update -- t.hwdb", {"t.hwdb": "a*\n K=V\n"}, "", SECOND_VERSION, "", 0),
+    ("update t.hwdb", {"t.hwdb": " A=1\n"}, "", EMPTY_INDEX, "t.hwdb:1: H1 property without a match: A=1\n", 0),
+    ("update -s t.hwdb", {"t.hwdb": " A=1\n"}, "", EMPTY_INDEX, "t.hwdb:1: H1 property without a match: A=1\n", 1),
+    ("update t.hwdb --strict", {"t.hwdb": " A=1\n"}, "", EMPTY_INDEX, "t.hwdb:1: H1 property without a match: A=1\n", 1),
+    ("update --strict -r none", {}, "", EMPTY_INDEX, "", 0),
+    ("verify b.rules a.rules", RULES, "", "2 files checked, 0 good, 2 bad\n", MISTAKE + STYLE, 1),
+    ("verify --root /mnt --no-style b.rules a.rules", RULES, "", "2 files checked, 1 good, 1 bad\n", MISTAKE, 1),
+    ("verify --no-summary b.rules a.rules", RULES, "", "", MISTAKE + STYLE, 1),
+    ("verify --no-summary --no-style a.rules", RULES, "", "", "", 0),
+    ("events -r none b.rules a.rules", ADDING, BLOCK, ADDED, "", 0),
+    ("events b.rules --index i a.rules", {**ADDING, "i": FIRST_VERSION}, BLOCK, ADDED_WITH_INDEX, "", 0),
+    ("events --index a.index -r .", {"a.index": FIRST_VERSION, "run/udev/rules.d/a.rules": ADDING["a.rules"]}, BLOCK,
+     "event add /x\nenv A=a\nenv ACTION=add\nenv DEVPATH=/x\nenv K=V\n\n", "", 0),
+]
+
+
+def named(words):
+    """The words as the name of a row."""
+    return "no words" if not words else words if isinstance(words, str) else "a word that is not UTF-8"
+
+
+ROWS = [
+    *(Row(named(words), words, output=output) for words, output in ASKED),
+    *(Row(named(words), words, messages=begins(text), status=2) for words, text in NOT_UNDERSTOOD),
+    *(Row(named(words), words, *rest) for words, *rest in UNDERSTOOD),
+]

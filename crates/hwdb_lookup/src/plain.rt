@@ -75,36 +75,3 @@ impl Lookup for PlainDb {
         Ok(found)
     }
 }
-
-#[cfg(test)]
-mod tests {
-    use super::*;
-    use crate::rising;
-    use std::test::Fail;
-    use text_core::{Bytes, GlobFault, Pattern};
-
-    fn entry(alloc: Global, value: &[u8], order: u32) -> Result<Entry, GlobFault> {
-        Ok(Entry {
-            pattern: Pattern::read(alloc, b"*")?,
-            key: Bytes::copy_of(alloc, b"A")?,
-            value: Bytes::copy_of(alloc, value)?,
-            order,
-            file: Bytes::new(Vec::new(alloc)),
-            line: 1,
-        })
-    }
-
-    #[test]
-    fn of_equal_orders_the_last_listed_wins(rt: HostRuntime) -> Result<(), Fail> {
-        let alloc = rt.alloc();
-        let mut listed = Vec::new(alloc);
-        for (order, value) in [(7, b"1"), (7, b"2"), (6, b"3")] {
-            listed.push(entry(alloc, value, order)?)?;
-        }
-        assert!(rt; !rising(&listed));
-        let won = winners(alloc, &listed, b"x")?;
-        assert_eq!(rt; won.len(), 1);
-        assert!(rt; won[0].value.as_slice() == b"2".as_slice());
-        Ok(())
-    }
-}

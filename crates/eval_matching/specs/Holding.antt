@@ -11,11 +11,11 @@ use Rattle.rule_keys.specs.declared.roles.MatchOperator.TheVariants.{Equal, NotE
 use Rattle.rule_parts.specs.declared.part.Comparison.{Comparison}
 use Rattle.eval_state.specs.Texts.{trimmed}
 
--- what a match looks at: one text; an attribute, which may be absent; texts, of which some member may fit; what no match
--- holds of; what is not read in a dry run
+-- what a match looks at: one text; an attribute or a constant, each of which may be absent; texts, of which some member
+-- may fit; what no match holds of; what is not read in a dry run
 pub data Subject : Type 0 where
   one : Text → Subject
-  attribute : Option Text → Subject
+  attribute constant : Option Text → Subject
   members : List Text → Subject
   never unread : Subject
 
@@ -51,6 +51,8 @@ unfoldable pub holds : Subject → Comparison → Bool
 holds (one text) wanted = agrees wanted.operator (choice_fits wanted.choice text)
 holds (attribute None) wanted = agrees wanted.operator false
 holds (attribute (Some text)) wanted = agrees wanted.operator (choice_fits wanted.choice (as_compared wanted.choice text))
+holds (constant None) wanted = agrees wanted.operator false
+holds (constant (Some text)) wanted = agrees wanted.operator (choice_fits wanted.choice text)
 holds (members texts) wanted = agrees wanted.operator (list_any (choice_fits wanted.choice) texts)
 holds never wanted = false
 holds unread wanted = agrees wanted.operator false

@@ -13,15 +13,15 @@ use Rattle.rule_parts.specs.declared.part.UpMatch.{UpMatch}
 use Rattle.eval_state.specs.Chains.{device_at, kernel_of}
 use Rattle.eval_state.specs.declared.state.State.{State}
 use Rattle.eval_state.specs.Texts.{or_empty}
-use Rattle.eval_matching.specs.Holding.{Subject, one, attribute, members, never, unread, holds}
+use Rattle.eval_matching.specs.Holding.{Subject, one, attribute, constant, members, never, unread, holds}
 
 -- whether a constant is one that CONST knows
 abbrev pub is_known : Text → Bool
 is_known name = same_text name (codes "arch") || same_text name (codes "virt") || same_text name (codes "cvm")
 
 -- what CONST looks at
-abbrev pub constant : Text → State → Subject
-constant name state = if is_known name then attribute (value_of state.event.constants name) else never
+abbrev pub named_constant : Text → State → Subject
+named_constant name state = if is_known name then constant (value_of state.event.constants name) else never
 
 -- what each match of the event looks at
 abbrev pub plain_subject : PlainKey → State → Subject
@@ -36,7 +36,7 @@ plain_subject plain.Tag state = members state.tags
 plain_subject (plain.Attr name) state = attribute (value_of state.event.device.attrs name)
 plain_subject (plain.Sysctl name) state = unread
 plain_subject (plain.Env name) state = one (or_empty (value_of state.env name))
-plain_subject (plain.Const name) state = constant name state
+plain_subject (plain.Const name) state = named_constant name state
 
 -- the tags of the device at a place of the chain; those of the event device are the current ones
 abbrev pub tags_at : State → ℕ → List Text

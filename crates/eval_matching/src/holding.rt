@@ -2,7 +2,7 @@
 ghost use Rattle.std.specs.Prelude.{◌≡◌, map, option_map, false};
 ghost use Rattle.std.specs.List.{list_any};
 ghost use Rattle.text_core.specs.Choices.{choice_fits};
-ghost use Rattle.eval_matching.specs.Holding.{agrees, as_compared, attribute, ends_in_whitespace, holds, is_whitespace_item, last_is, members, one, unread};
+ghost use Rattle.eval_matching.specs.Holding.{agrees, as_compared, attribute, constant, ends_in_whitespace, holds, is_whitespace_item, last_is, members, one, unread};
 
 use eval_state::trimmed;
 use rule_keys::MatchOperator;
@@ -79,6 +79,17 @@ pub(crate) fn attribute_holds(wanted: &Comparison, value: Option<&[u8]>) -> bool
             wanted.operator,
             wanted.choice.fits(as_compared(&wanted.choice, text)),
         ),
+        None => agrees(wanted.operator, false),
+    }
+}
+
+/// Whether a comparison holds of a constant, which may be absent.
+#[tactic(auto, unfolding(crate::specs::Holding::holds))]
+pub(crate) fn constant_holds(wanted: &Comparison, value: Option<&[u8]>) -> bool
+    ensures { result ≡ holds (constant (option_map (λ t. t.now) value.entry)) wanted.now }
+{
+    match value {
+        Some(text) => agrees(wanted.operator, wanted.choice.fits(text)),
         None => agrees(wanted.operator, false),
     }
 }

@@ -2,9 +2,9 @@
 ghost use Rattle.std.specs.Prelude.{◌≡◌};
 ghost use Rattle.eval_state.specs.Texts.{or_empty};
 ghost use Rattle.eval_matching.specs.Holding.{holds, one};
-ghost use Rattle.eval_matching.specs.Subjects.{constant, is_known, plain_subject};
+ghost use Rattle.eval_matching.specs.Subjects.{is_known, named_constant, plain_subject};
 
-use crate::holding::{attribute_holds, members_hold, text_holds, unread_holds};
+use crate::holding::{attribute_holds, constant_holds, members_hold, text_holds, unread_holds};
 use eval_state::State;
 use rule_keys::PlainKey;
 use rule_parts::{Comparison, PlainMatch};
@@ -26,13 +26,13 @@ fn is_known(name: &[u8]) -> bool
     name == b"arch".as_slice() || name == b"virt".as_slice() || name == b"cvm".as_slice()
 }
 
-/// Whether a comparison holds of a constant of the event.
+/// Whether a comparison holds of the constant of a name.
 #[tactic(auto, unfolding(crate::specs::Holding::holds))]
-fn constant_holds(wanted: &Comparison, name: &[u8], state: &State<'_>) -> bool
-    ensures { result ≡ holds (constant name.now state.now) wanted.now }
+fn named_constant_holds(wanted: &Comparison, name: &[u8], state: &State<'_>) -> bool
+    ensures { result ≡ holds (named_constant name.now state.now) wanted.now }
 {
     if is_known(name) {
-        attribute_holds(wanted, state.event.event().constants().get(name))
+        constant_holds(wanted, state.event.event().constants().get(name))
     } else {
         false
     }
@@ -40,7 +40,8 @@ fn constant_holds(wanted: &Comparison, name: &[u8], state: &State<'_>) -> bool
 
 /// Whether a match of the event holds, as udev(7) has it: for each key what it looks at is compared
 /// with the choice. Of SYMLINK and TAG, `!=` holds where no member fits; an absent attribute or constant
-/// fails `==` and meets `!=`; SYSCTL is not read, and counts as absent.
+/// fails `==` and meets `!=`; whitespace at the end of an attribute counts only where the choice ends in
+/// whitespace; SYSCTL is not read, and counts as absent.
 pub fn plain_holds(part: &PlainMatch, state: &State<'_>) -> bool
     ensures { result ≡ holds (plain_subject part.now.key state.now) part.now.wanted }
 {
@@ -58,7 +59,7 @@ pub fn plain_holds(part: &PlainMatch, state: &State<'_>) -> bool
         PlainKey::Attr(name) => attribute_holds(wanted, device.attrs().get(name.as_slice())),
         PlainKey::Sysctl(_) => unread_holds(wanted),
         PlainKey::Env(name) => text_holds(wanted, state.property(name.as_slice())),
-        PlainKey::Const(name) => constant_holds(wanted, name.as_slice(), state),
+        PlainKey::Const(name) => named_constant_holds(wanted, name.as_slice(), state),
     }
 }
 

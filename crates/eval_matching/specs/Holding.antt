@@ -1,5 +1,5 @@
 -- How a comparison holds, by what it looks at.
-use Rattle.std.specs.Prelude.{◌-◌, Bool, true, false, not, if◌then◌else◌, List, [], ◌∷◌, length, slice_get, Option, Some, None}
+use Rattle.std.specs.Prelude.{◌-◌, Bool, false, not, if◌then◌else◌, List, length, slice_get, Option, Some, None}
 use Rattle.std.specs.List.{list_any}
 use Rattle.text_bytes.specs.Names.{is_whitespace}
 use Rattle.text_tables.specs.Texts.{Text}

@@ -1,10 +1,10 @@
 -- What each match looks at.
-use Rattle.std.specs.Prelude.{ℕ, zero, suc, Bool, ◌||◌, if◌then◌else◌, List, [], length, Option, Some, None, option_map, unwrap_or, position, codes}
+use Rattle.std.specs.Prelude.{ℕ, zero, suc, Bool, ◌||◌, if◌then◌else◌, List, [], length, Option, option_map, unwrap_or, position, codes}
 use Rattle.std.specs.List.{list_all, range_with_len}
 use Rattle.std.specs.Option.{option_and_then}
 use Rattle.text_tables.specs.Texts.{Text, same_text}
 use Rattle.text_tables.specs.Pairs.{value_of}
-use Rattle.device_core.specs.Values.{DeviceValue, chain}
+use Rattle.device_core.specs.Values.{chain}
 use Rattle.rule_keys.specs.declared.roles.PlainKey.{PlainKey}
 use Rattle.rule_keys.specs.declared.roles.PlainKey.TheVariants as plain
 use Rattle.rule_keys.specs.declared.roles.UpKey.{UpKey}

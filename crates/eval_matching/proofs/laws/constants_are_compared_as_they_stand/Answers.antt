@@ -1,4 +1,4 @@
-use Rattle.std.proofs.Common.{cond, Some, None, ap, ◌∙◌}
+use Rattle.std.proofs.Common.{cond, ap, ◌∙◌}
 use Rattle.text_tables.specs.Pairs.{value_of}
 use Rattle.eval_matching.specs.Holding.{constant, holds, never}
 use Rattle.eval_matching.proofs.laws.constants_are_compared_as_they_stand.Goals as goal

@@ -4,7 +4,7 @@ use crate::running::{Expected, Given, assert_run, line, wanted};
 use engine_core::Verb;
 use std::process::Abort;
 use std::test::Fail;
-use text_files::FileKind;
+use text_bytes::FileKind;
 
 /// Two records.
 const RECORDS: &str = "ab*\n A=1\n B=2\n\na?c\n A=3\n";

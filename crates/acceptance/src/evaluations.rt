@@ -7,13 +7,12 @@ use crate::running::{Given, files_of, line, run_by};
 use device_core::{Event, read_block};
 use engine_answers::answer;
 use engine_core::Verb;
-use eval_core::evaluate_plain;
-use eval_programs::{Program, compile};
+use eval_core::{Program, compile, evaluate_plain};
 use hwdb_core::{PlainDb, read_sources};
 use rule_core::{RuleSet, read_rules};
 use std::alloc::{AllocError, Global};
 use std::test::Fail;
-use text_files::FileKind;
+use text_bytes::FileKind;
 
 /// A database of one file of this text.
 fn database_of(alloc: Global, text: &str) -> Result<PlainDb, Fail> {

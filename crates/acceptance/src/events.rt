@@ -5,7 +5,7 @@ use crate::running::Given;
 use std::alloc::Global;
 use std::process::Abort;
 use std::test::Fail;
-use text_files::FileKind;
+use text_bytes::FileKind;
 
 /// A disk.
 const DISK: &str = "C: add\nP: /devices/pci0/block/sda\nU: block\nN: sda\nD: 8:0\n";

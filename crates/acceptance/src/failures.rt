@@ -6,7 +6,7 @@ use engine_core::Verb;
 use std::alloc::Global;
 use std::process::Abort;
 use std::test::Fail;
-use text_files::FileKind;
+use text_bytes::FileKind;
 
 /// A rules file with one message.
 const RULES: &str = "KERNEL==\"sd*\n";

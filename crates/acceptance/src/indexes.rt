@@ -5,7 +5,7 @@ use engine_core::{Index, Line, Verb};
 use std::alloc::Global;
 use std::process::Abort;
 use std::test::Fail;
-use text_files::FileKind;
+use text_bytes::FileKind;
 
 /// The index of no entries.
 pub(crate) const EMPTY_INDEX: &[u8] =

@@ -9,7 +9,7 @@ use hwdb_core::PlainDb;
 use std::alloc::Global;
 use std::process::Abort;
 use std::test::Fail;
-use text_files::FileKind;
+use text_bytes::FileKind;
 
 /// A rule for disks.
 const RULE: &str = "SUBSYSTEM==\"block\", KERNEL==\"sd[a-z]\", SYMLINK+=\"disk/%k\"\n";

@@ -3,7 +3,7 @@ use crate::running::{Expected, assert_run, line, wanted};
 use engine_core::Verb;
 use std::process::Abort;
 use std::test::Fail;
-use text_files::FileKind;
+use text_bytes::FileKind;
 
 /// Asserts what `verify` says of one file of a folder.
 fn assert_verified(

@@ -6,8 +6,7 @@ use engine_core::{Line, MemorySink, MemorySource, Verb, serve};
 use std::alloc::{AllocError, Global};
 use std::process::Abort;
 use std::test::Fail;
-use text_bytes::Bytes;
-use text_files::{FileKind, SourceFile};
+use text_bytes::{Bytes, FileKind, SourceFile};
 
 /// A file of a folder: its kind, its rank, its name and its text.
 pub(crate) type Given<'a> = (FileKind, u8, &'a str, &'a str);

@@ -7,15 +7,12 @@
 #![tactic(auto)]
 
 use device_core::{Event, read_block};
-use eval_core::{Outcome, evaluate_plain};
-use eval_programs::{Program, compile};
+use eval_core::{Outcome, Program, compile, evaluate_plain};
 use hwdb_lookup::PlainDb;
 use rule_core::{RuleSet, RulesFault, read_rules};
 use std::alloc::{AllocError, Global};
 use std::io::{self, Read};
-use text_bytes::Bytes;
-use text_files::{FileKind, SourceFile};
-use text_words::split_once;
+use text_bytes::{Bytes, FileKind, SourceFile, split_once};
 
 /// The byte between two parts of the input.
 const BETWEEN: u8 = 0x1e;

@@ -1,11 +1,11 @@
 -- What a run of the program does with its words, at a disk that may give these answers.
 use Rattle.std.specs.Prelude.{◌≡◌, ℕ, ◌⊎◌, List, [], Option, false}
 use Rattle.clap.specs.Words.{fault_of, subcommand_of}
-use Rattle.text_files.specs.declared.source_file.SourceFile.{SourceFile}
-use Rattle.engine_line.specs.declared.Line.{Line}
-use Rattle.engine_line.specs.declared.LineFault.{LineFault}
-use Rattle.engine_streams.specs.Sources.{SourceState}
-use Rattle.engine_streams.specs.Sinks.{SinkState}
+use Rattle.text_bytes.specs.declared.source_file.SourceFile.{SourceFile}
+use Rattle.engine_ends.specs.declared.line.Line.{Line}
+use Rattle.engine_ends.specs.declared.line.LineFault.{LineFault}
+use Rattle.engine_ends.specs.Sources.{SourceState}
+use Rattle.engine_ends.specs.Sinks.{SinkState}
 use Rattle.engine_core.specs.Runs.{RunsOver}
 use Rattle.devdry_files.specs.Answers.{Answer}
 use Rattle.devdry_files.specs.Faults.{HasPath, IsFaultyIndex, IsFaultyWanted}

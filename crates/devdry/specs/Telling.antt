@@ -1,10 +1,10 @@
 -- What is told of words, of lines and of files that can't be used, by the status.
 use Rattle.std.specs.Prelude.{◌≡◌, ℕ, List, [], ◌∷◌, ◌++◌, codes, string_bytes}
 use Rattle.text_bytes.specs.Names.{newline}
-use Rattle.engine_line.specs.declared.LineFault.{LineFault}
-use Rattle.engine_line.specs.declared.LineFault.TheVariants.{Help, Usage, Memory}
-use Rattle.engine_streams.specs.Sinks.{SinkState}
-use Rattle.engine_delivery.specs.Delivery.{Delivers, Tells, out_of_memory}
+use Rattle.engine_ends.specs.declared.line.LineFault.{LineFault}
+use Rattle.engine_ends.specs.declared.line.LineFault.TheVariants.{Help, Usage, Memory}
+use Rattle.engine_ends.specs.Sinks.{SinkState}
+use Rattle.engine_ends.specs.Delivery.{Delivers, Tells, out_of_memory}
 use Rattle.devdry_files.specs.declared.fault.ReadFault.{ReadFault}
 use Rattle.devdry_files.specs.declared.fault.ReadFault.TheVariants as read
 

@@ -12,7 +12,7 @@ mod telling;
 use crate::running::run_words;
 use crate::telling::tell_arguments_fault;
 use devdry_files::RealDisk;
-use engine_core::{SinkOver, SourceOver};
+use engine_ends::{SinkOver, SourceOver};
 use std::process::ExitCode;
 use std::rt::Env;
 use std::{env, io};

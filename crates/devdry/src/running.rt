@@ -5,10 +5,10 @@ ghost use Rattle.devdry.specs.Runs.{AreReadFor, IsFaultOf, Runs, RunsLine};
 use crate::telling::{tell_line_fault, tell_read_fault};
 use devdry_files::{Disk, ReadFault, read_all, read_index, wanted};
 use devdry_words::parse_line;
-use engine_core::{Line, Sink, Source, serve};
+use engine_core::serve;
+use engine_ends::{Line, Sink, Source};
 use std::alloc::Global;
-use text_bytes::Bytes;
-use text_files::SourceFile;
+use text_bytes::{Bytes, SourceFile};
 
 /// What a line asks for, as it was read.
 #[derive(Drop)]

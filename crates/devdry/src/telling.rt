@@ -3,11 +3,11 @@
 //! Nothing here takes memory: a line on a failure is written from the texts that are there.
 ghost use Rattle.std.specs.IoError.{error_kind};
 ghost use Rattle.std.specs.Prelude.{◌≡◌};
-ghost use Rattle.engine_delivery.specs.Delivery.{Tells, out_of_memory};
+ghost use Rattle.engine_ends.specs.Delivery.{Tells, out_of_memory};
 ghost use Rattle.devdry.specs.Telling.{TellsLineFault, TellsReadFault, cannot_read, not_text};
 
 use devdry_files::ReadFault;
-use engine_core::{LineFault, Sink, deliver, tell, tell_in_pieces, tell_out_of_memory};
+use engine_ends::{LineFault, Sink, deliver, tell, tell_in_pieces, tell_out_of_memory};
 use std::io::{self, ErrorKind};
 
 /// Help was given; `serve` gives the other statuses of a run that goes well.

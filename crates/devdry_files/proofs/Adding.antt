@@ -3,8 +3,8 @@ use Rattle.std.proofs.Common.{◌≡◌, ◌∙◌, ◌++◌, ◌<◌, ℕ, ap, 
 use Rattle.std.proofs.Math.Seq.{split_at}
 use Rattle.std.proofs.lemmas.List.{map-append}
 use Rattle.std.specs.declared.alloc.Global.{Global}
-use Rattle.text_files.specs.declared.source_file.FileKind.{FileKind}
-use Rattle.text_files.specs.declared.source_file.SourceFile.{SourceFile}
+use Rattle.text_bytes.specs.declared.source_file.FileKind.{FileKind}
+use Rattle.text_bytes.specs.declared.source_file.SourceFile.{SourceFile}
 use Rattle.devdry_files.specs.Answers.{Answer}
 use Rattle.devdry_files.specs.Faults.{HasPath, IsFaultyIn, IsFaultyInOneOf, IsFaultyNamed, IsUnread}
 use Rattle.devdry_files.specs.Found.{AreFilesAt, AreInFolder, AreInFolders, AreNamed, AreNamesIn, path_in}

@@ -2,8 +2,8 @@
 use Rattle.std.specs.Prelude.{◌≡◌, ◌++◌, ◌∷◌, ◌⊎◌, ⊤, ℕ, List, Some, String, map, string_bytes}
 use Rattle.std.specs.Option.{option_copied}
 use Rattle.std.specs.declared.alloc.Global.{Global}
-use Rattle.text_files.specs.declared.source_file.FileKind.{FileKind}
-use Rattle.text_files.specs.declared.source_file.SourceFile.{SourceFile}
+use Rattle.text_bytes.specs.declared.source_file.FileKind.{FileKind}
+use Rattle.text_bytes.specs.declared.source_file.SourceFile.{SourceFile}
 use Rattle.devdry_files.specs.Answers.{Answer}
 use Rattle.devdry_files.specs.Answers.Answer.{NoContent, NoListing}
 use Rattle.devdry_files.specs.Found.{AreFilesAt, AreInFolders, AreNamed, AreNamesIn, path_in}

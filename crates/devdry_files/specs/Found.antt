@@ -5,10 +5,10 @@ use Rattle.std.specs.List.{ends_with}
 use Rattle.std.specs.Option.{option_copied}
 use Rattle.std.specs.String.{string_cmp}
 use Rattle.std.specs.declared.alloc.Global.{Global}
-use Rattle.text_files.specs.Kinds.{suffix_of}
+use Rattle.text_bytes.specs.Kinds.{suffix_of}
 use Rattle.text_bytes.specs.Names.{slash}
-use Rattle.text_files.specs.declared.source_file.FileKind.{FileKind}
-use Rattle.text_files.specs.declared.source_file.SourceFile.{SourceFile}
+use Rattle.text_bytes.specs.declared.source_file.FileKind.{FileKind}
+use Rattle.text_bytes.specs.declared.source_file.SourceFile.{SourceFile}
 use Rattle.devdry_files.specs.Answers.{Answer}
 use Rattle.devdry_files.specs.Answers.Answer.{Content, Listing, NoListing}
 use Rattle.devdry_files.specs.declared.disk.DiskFault.TheVariants.{Absent}

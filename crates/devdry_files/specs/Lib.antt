@@ -1,6 +1,6 @@
-pub mod Answers
-pub mod Errors
-pub mod Faults
 pub mod Found
-pub mod Memory
+pub mod Errors
 pub mod Places
+pub mod Answers
+pub mod Memory
+pub mod Faults

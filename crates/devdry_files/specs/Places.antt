@@ -2,10 +2,10 @@
 use Rattle.std.specs.Prelude.{◌≡◌, ◌++◌, ℕ, List, [], ◌∷◌, codes, if◌then◌else◌, map, string_bytes}
 use Rattle.std.specs.List.{flat_map}
 use Rattle.std.specs.Option.{option_copied}
-use Rattle.engine_line.specs.Kinds.{kind_named, kinds_read, reads_folders_of}
-use Rattle.engine_line.specs.declared.Line.{Line}
-use Rattle.text_files.specs.declared.source_file.FileKind.{FileKind}
-use Rattle.text_files.specs.declared.source_file.FileKind.TheVariants.{Hwdb, Rules}
+use Rattle.engine_ends.specs.Kinds.{kind_named, kinds_read, reads_folders_of}
+use Rattle.engine_ends.specs.declared.line.Line.{Line}
+use Rattle.text_bytes.specs.declared.source_file.FileKind.{FileKind}
+use Rattle.text_bytes.specs.declared.source_file.FileKind.TheVariants.{Hwdb, Rules}
 use Rattle.devdry_files.specs.declared.places.Folder.{Folder}
 use Rattle.devdry_files.specs.declared.places.Wanted.{Wanted}
 

@@ -3,9 +3,9 @@ ghost use Rattle.std.specs.Prelude.{◌≡◌, IfOk};
 ghost use Rattle.devdry_files.specs.Places.{Wants, folders_for, folders_of, place, place_of, places_of};
 
 use crate::places::{Folder, Wanted};
-use engine_line::Line;
+use engine_ends::Line;
 use std::alloc::{AllocError, Global};
-use text_files::FileKind;
+use text_bytes::FileKind;
 
 fn folder(
     alloc: Global,

@@ -8,7 +8,7 @@ use crate::disk::{Disk, DiskFault, Entry};
 use crate::fault::{ReadFault, fault_at};
 use crate::places::Folder;
 use std::alloc::{AllocError, Global};
-use text_files::FileKind;
+use text_bytes::FileKind;
 
 // Whether an entry is a file of the kind.
 fn counts(kind: FileKind, entry: &Entry) -> bool

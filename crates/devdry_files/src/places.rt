@@ -1,6 +1,6 @@
 //! What is to be read: the files that are named, folders, and an index.
 
-use text_files::FileKind;
+use text_bytes::FileKind;
 
 /// A folder whose files are to be read.
 #[derive(Debug, Drop)]

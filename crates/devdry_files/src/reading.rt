@@ -10,8 +10,7 @@ use crate::fault::{ReadFault, fault_at};
 use crate::listing::names_in;
 use crate::places::{Folder, Wanted};
 use std::alloc::{AllocError, Global};
-use text_bytes::Bytes;
-use text_files::{FileKind, SourceFile};
+use text_bytes::{Bytes, FileKind, SourceFile};
 
 // The bytes of the file at a path.
 fn bytes_at<D: Disk>(alloc: Global, disk: &D, path: String) -> Result<Bytes, ReadFault>

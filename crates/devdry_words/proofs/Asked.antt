@@ -12,7 +12,7 @@ use Rattle.clap.specs.Walk.{Held, Names, Row, Text, answers_to, finished, nothin
 use Rattle.clap.specs.Simple.{Shape, built, entered, is_simple, label_of, names_of, rows_at, subcommand_of}
 use Rattle.devdry_words.specs.Commands.{devdry}
 use Rattle.devdry_words.specs.Lines.{IsVerbName, NamesVerb}
-use Rattle.engine_line.specs.declared.Verb.TheVariants.{Update, Query, Verify, Events}
+use Rattle.engine_ends.specs.declared.line.Verb.TheVariants.{Update, Query, Verify, Events}
 use Rattle.devdry_words.proofs.Stops.{StopsWell, neither, walk_stops}
 
 pub devdry_is_simple : is_simple devdry ≡ true

@@ -6,11 +6,11 @@ use Rattle.std.specs.Str.{bytes_eq}
 use Rattle.clap.specs.Words.{IsAmong, Kinds, Row, Text, all_of, first_of}
 use Rattle.clap.specs.declared.error.kind.ErrorKind.{ErrorKind}
 use Rattle.clap.specs.declared.error.kind.ErrorKind.TheVariants as kind
-use Rattle.engine_line.specs.declared.Line.{Line}
-use Rattle.engine_line.specs.declared.LineFault.{LineFault}
-use Rattle.engine_line.specs.declared.LineFault.TheVariants.{Help, Usage, Memory}
-use Rattle.engine_line.specs.declared.Verb.{Verb}
-use Rattle.engine_line.specs.declared.Verb.TheVariants.{Update, Query, Verify, Events}
+use Rattle.engine_ends.specs.declared.line.Line.{Line}
+use Rattle.engine_ends.specs.declared.line.LineFault.{LineFault}
+use Rattle.engine_ends.specs.declared.line.LineFault.TheVariants.{Help, Usage, Memory}
+use Rattle.engine_ends.specs.declared.line.Verb.{Verb}
+use Rattle.engine_ends.specs.declared.line.Verb.TheVariants.{Update, Query, Verify, Events}
 
 -- the subcommand of a verb
 abbrev pub name_of : Verb → Text

@@ -5,7 +5,7 @@ ghost use Rattle.devdry_words.specs.Lines.{IsVerbName, Reads, name_of};
 
 use crate::values::{files, is_given, text, value};
 use clap::ArgMatches;
-use engine_line::{Line, Verb};
+use engine_ends::{Line, Verb};
 use std::alloc::{AllocError, Global};
 
 /// The verb of a subcommand.

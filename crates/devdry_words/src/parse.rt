@@ -12,7 +12,7 @@ use crate::commands::devdry_command;
 use crate::line_reading::{line_with, verb_of};
 use clap::error::ErrorKind;
 use clap::{ArgMatches, Error};
-use engine_line::{Line, LineFault, Verb};
+use engine_ends::{Line, LineFault, Verb};
 use std::alloc::Global;
 
 const TWO_DATABASES: &str = "error: the argument '--index <FILE>' cannot be used with '[FILE]...'

@@ -6,7 +6,7 @@ use Rattle.text_tables.specs.Texts.{Text}
 use Rattle.device_core.specs.Values.{DeviceValue, most_devices}
 use Rattle.device_core.specs.Lines.{Row}
 use Rattle.device_core.specs.Parts.{is_parent_path, is_device_path}
-use Rattle.text_words.specs.Texts.{is_empty}
+use Rattle.text_bytes.specs.Texts.{is_empty}
 use Rattle.device_core.specs.Steps.{Sofar, if_ok, begun, unasked, path_step, device_step, above_step, pair_step, command_step, answer_step, row_step, plain_row, then_row, line_step}
 use Rattle.device_core.specs.declared.lines.LineKind.{LineKind}
 use Rattle.device_core.specs.declared.lines.LineKind.TheVariants.{Action, Device, Field, Constant, Command, Answer}

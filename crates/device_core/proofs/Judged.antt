@@ -3,7 +3,7 @@ use Rattle.std.proofs.Common.{◌≡◌, ℕ, ◌+◌, Bool, true, false, not, �
 use Rattle.std.proofs.lemmas.List.{append-nil, length-append}
 use Rattle.std.specs.Option.{option_to_list}
 use Rattle.std.specs.List.{zip}
-use Rattle.text_words.specs.Texts.{is_empty}
+use Rattle.text_bytes.specs.Texts.{is_empty}
 use Rattle.text_tables.specs.Texts.{Text, is_among}
 use Rattle.text_tables.specs.Pairs.{Pair as NameAndValue, named}
 use Rattle.device_core.specs.Lines.{Row, row_of, kind_of, begins_answer}

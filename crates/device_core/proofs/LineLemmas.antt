@@ -3,7 +3,7 @@ use Rattle.std.proofs.Common.{◌≡◌, ℕ, Bool, true, false, not, ◌&&◌, 
 use Rattle.std.specs.List.{starts_with, list_all, onto_first}
 use Rattle.std.specs.Cmp.Lexicographic.{pointwise}
 use Rattle.text_bytes.specs.Names.{newline, colon, space}
-use Rattle.text_words.specs.Lines.{lines}
+use Rattle.text_bytes.specs.Lines.{lines}
 use Rattle.device_core.specs.Lines.{begins_answer, letter_of}
 use Rattle.device_core.specs.declared.lines.LineKind.TheVariants.{Answer}
 

@@ -2,7 +2,7 @@
 use Rattle.std.proofs.Common.{◌≡◌, ℕ, Bool, true, false, ◌&&◌, List, [], ◌∷◌, ◌++◌, length, drop, refl, ap, sym, ◌∙◌, nat_eq, ◌==◌, arith}
 use Rattle.std.specs.List.{starts_with}
 use Rattle.text_bytes.specs.Names.{slash}
-use Rattle.text_words.specs.Texts.{is_empty, begins_with}
+use Rattle.text_bytes.specs.Texts.{is_empty, begins_with}
 use Rattle.device_core.specs.Parts.{is_parent_path}
 
 same_both : (a b : ℕ) → nat_eq a b ≡ nat_eq b a

@@ -1,8 +1,8 @@
 -- A block as it is read, a line after another.
 use Rattle.std.proofs.Common.{◌≡◌, ◌≢◌, ℕ, ◌+◌, ◌<◌, ◌≤◌, true, false, List, [], ◌∷◌, length, nat_lt, ◌==◌, Result, Ok, Err, IfOk, IfErr, refl, ap, sym, ◌∙◌, arith}
 use Rattle.device_core.specs.Lines.{begins_answer}
-use Rattle.text_words.specs.Lines.{lines}
-use Rattle.device_runs.specs.Blocks.{line_of_excess, most_bytes}
+use Rattle.text_bytes.specs.Lines.{lines}
+use Rattle.device_core.specs.RunBlocks.{line_of_excess, most_bytes}
 use Rattle.device_core.specs.Faults.{block_gives}
 use Rattle.device_core.specs.Steps.{Fails, unless_memory, GivesAt, Sofar, steps, line_step, read_lines, then_steps}
 use Rattle.device_core.specs.declared.events.Event.{Event}

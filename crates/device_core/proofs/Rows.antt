@@ -4,7 +4,7 @@ use Rattle.std.proofs.lemmas.List.{append-nil, map-append}
 use Rattle.std.proofs.lemmas.List.Elements.{filter_map-append}
 use Rattle.std.specs.Option.{option_and_then}
 use Rattle.std.specs.List.{filter_map, cons_option}
-use Rattle.text_words.specs.Texts.{is_empty}
+use Rattle.text_bytes.specs.Texts.{is_empty}
 use Rattle.text_tables.specs.Texts.{Text}
 use Rattle.device_core.specs.Lines.{Row}
 use Rattle.device_core.specs.Parts.{pair_of, number_of, answer_of}

@@ -2,11 +2,11 @@
 use Rattle.std.specs.Prelude.{ℕ, ◌+◌, Bool, false, not, ◌&&◌, ◌||◌, List, [], ◌∷◌, ◌++◌, length, position, ◌==◌, nat_le, Option, Some, None, Result, Ok, Err, if◌then◌else◌, is_some, is_none}
 use Rattle.std.specs.Option.{option_to_list}
 use Rattle.text_bytes.specs.Names.{nul}
-use Rattle.text_words.specs.Texts.{is_empty}
-use Rattle.text_words.specs.Lines.{lines}
+use Rattle.text_bytes.specs.Texts.{is_empty}
+use Rattle.text_bytes.specs.Lines.{lines}
 use Rattle.text_tables.specs.Texts.{Text, is_among}
 use Rattle.text_tables.specs.Pairs.{Pair as NameAndValue, named}
-use Rattle.device_runs.specs.Blocks.{is_too_long, line_of_excess}
+use Rattle.device_core.specs.RunBlocks.{is_too_long, line_of_excess}
 use Rattle.device_core.specs.Lines.{Row, row_of, begins_answer}
 use Rattle.device_core.specs.Parts.{pair_of, number_of, answer_of, is_device_path, is_parent_path}
 use Rattle.device_core.specs.Values.{DeviceValue, EventValue, most_devices}

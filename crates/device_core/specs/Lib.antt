@@ -1,8 +1,11 @@
-pub mod Values
-pub mod Lines
+pub mod Runs
+pub mod RunBlocks
+pub mod Filling
+pub mod Holding
+pub mod Splits
 pub mod Parts
 pub mod Blocks
-pub mod Faults
 pub mod Steps
-pub mod Weights
-pub mod Laws
+pub mod Lines
+pub mod Values
+pub mod Faults

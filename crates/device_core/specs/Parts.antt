@@ -3,8 +3,8 @@ use Rattle.std.specs.Prelude.{ℕ, ◌^◌, Bool, true, false, not, ◌&&◌, []
 use Rattle.std.specs.Option.{option_and_then}
 use Rattle.std.specs.List.{starts_with}
 use Rattle.text_bytes.specs.Names.{slash, colon, equals, space}
-use Rattle.text_words.specs.Texts.{is_empty, split_once}
-use Rattle.text_words.specs.Numbers.{decimal_below}
+use Rattle.text_bytes.specs.Texts.{is_empty, split_once}
+use Rattle.text_bytes.specs.Numbers.{decimal_below}
 use Rattle.text_tables.specs.Texts.{Text}
 use Rattle.text_tables.specs.Pairs.{Pair}
 use Rattle.device_core.specs.Values.{NumberValue, AnswerValue}

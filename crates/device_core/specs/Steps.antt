@@ -2,7 +2,7 @@
 -- `read_block` names none of this; it only carries the proof from one function to the next.
 use Rattle.std.specs.Prelude.{◌≡◌, ℕ, ◌+◌, Bool, not, ◌||◌, List, [], ◌∷◌, ◌++◌, length, nat_le, Option, Some, None, option_map, Result, Ok, Err, if◌then◌else◌, is_some}
 use Rattle.std.specs.Option.{option_to_list}
-use Rattle.text_words.specs.Texts.{is_empty}
+use Rattle.text_bytes.specs.Texts.{is_empty}
 use Rattle.text_tables.specs.Texts.{Text, is_among}
 use Rattle.text_tables.specs.Pairs.{Pair as NameAndValue, named}
 use Rattle.device_core.specs.Lines.{Row, row_of, begins_answer}

@@ -4,7 +4,7 @@ ghost use Rattle.device_core.specs.Parts.{pair_of, number_of, answer_of, number_
 
 use crate::devices::DeviceNumber;
 use crate::programs::ProgramAnswer;
-use text_words::{begins_with, decimal_below, split_once};
+use text_bytes::{begins_with, decimal_below, split_once};
 
 /// A name that is not empty, and its value.
 #[tactic(auto, unfolding(crate::specs::Parts::pair_of))]

@@ -1,10 +1,10 @@
 //! A whole block: its lines one after another, and the event at the end.
 ghost use Rattle.std.specs.Prelude.{◌≡◌, ◌≢◌, ◌∷◌, ◌++◌, ◌+◌, ◌<◌, ◌≤◌, length, Ok, Err, IfOk, IfErr, nat_eq};
 ghost use Rattle.std.specs.Option.{option_to_list};
-ghost use Rattle.text_words.specs.Lines.{lines};
+ghost use Rattle.text_bytes.specs.Lines.{lines};
 ghost use Rattle.device_core.specs.Values.{most_devices};
 ghost use Rattle.device_core.specs.Lines.{begins_answer};
-ghost use Rattle.device_runs.specs.Blocks.{line_of_excess, most_bytes};
+ghost use Rattle.device_core.specs.RunBlocks.{line_of_excess, most_bytes};
 ghost use Rattle.device_core.specs.Faults.{block_gives};
 ghost use Rattle.device_core.specs.Steps.{Gives, GivesAt, sofar, start, first_step, line_step, steps, some_devices, finished, read_lines};
 
@@ -14,7 +14,7 @@ use crate::events::Event;
 use crate::faults::{BlockFault, BlockFaultKind};
 use crate::lines::{LineKind, plain_row};
 use std::alloc::Global;
-use text_words::first_line;
+use text_bytes::first_line;
 
 /// The most bytes of a block.
 const MOST_BYTES: usize = 65536;
@@ -134,7 +134,7 @@ fn finish<'a>(action: &'a [u8], draft: Draft<'a>, count: usize) -> Result<Event<
 }
 
 /// The line that holds the first byte too many.
-#[tactic(auto, unfolding(device_runs::specs::Blocks::line_of_excess))]
+#[tactic(auto, unfolding(crate::specs::RunBlocks::line_of_excess))]
 fn line_of_excess(block: &[u8]) -> usize
     requires { most_bytes < length block.now }
     ensures { result ≡ line_of_excess block.now }

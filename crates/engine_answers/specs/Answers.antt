@@ -3,8 +3,8 @@ use Rattle.std.specs.Prelude.{List, [], ◌∷◌, ◌++◌, codes, flat_map}
 use Rattle.text_bytes.specs.Names.{newline}
 use Rattle.text_tables.specs.Texts.{Text}
 use Rattle.device_core.specs.Values.{EventValue}
-use Rattle.eval_core.specs.declared.outcome.Command.{Command}
-use Rattle.eval_core.specs.declared.outcome.Outcome.{Outcome}
+use Rattle.eval_rules.specs.declared.outcome.Command.{Command}
+use Rattle.eval_rules.specs.declared.outcome.Outcome.{Outcome}
 use Rattle.engine_answers.specs.Lines.{event_line, given_line, priority_line, watch_line, persist_line, pair_lines, text_lines, env_lines, run_line, note_lines}
 
 -- the lines on the device's node

@@ -2,14 +2,14 @@
 use Rattle.std.specs.Prelude.{ℕ, ℤ, Bool, true, false, ◌==◌, cond, List, [], ◌∷◌, ◌++◌, Option, Some, None, codes, flat_map}
 use Rattle.std.specs.Fmt.{signed_decimal}
 use Rattle.text_bytes.specs.Names.{space, equals, dot, newline}
-use Rattle.text_files.specs.Escapes.{escape_text}
+use Rattle.text_bytes.specs.Escapes.{escape_text}
 use Rattle.text_tables.specs.Texts.{Text}
 use Rattle.text_tables.specs.Pairs.{Pair}
-use Rattle.rule_keys.specs.Names.{run_name}
-use Rattle.rule_keys.specs.declared.types.RunType.{RunType}
-use Rattle.eval_scene.specs.Notes.{text_of}
-use Rattle.eval_scene.specs.declared.notes.Note.{Note}
-use Rattle.engine_places.specs.Places.{place_of, word_part}
+use Rattle.rule_types.specs.Names.{run_name}
+use Rattle.rule_types.specs.declared.types.RunType.{RunType}
+use Rattle.eval_state.specs.Notes.{text_of}
+use Rattle.eval_state.specs.declared.notes.Note.{Note}
+use Rattle.engine_ends.specs.Places.{place_of, word_part}
 
 -- a line: its word, a space, and what it says
 abbrev pub line : Text → Text → Text

@@ -5,7 +5,7 @@ ghost use Rattle.engine_answers.specs.Answers.{answer, node_lines, run_lines};
 use crate::lines::{push_event, push_given, push_persist, push_priority, push_run, push_watch};
 use crate::lists::{push_env, push_notes, push_pairs, push_texts};
 use device_core::Event;
-use eval_core::{Commands, Outcome};
+use eval_rules::{Commands, Outcome};
 use std::alloc::{AllocError, Global};
 use text_bytes::Bytes;
 

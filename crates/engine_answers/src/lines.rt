@@ -2,13 +2,12 @@
 ghost use Rattle.std.specs.Prelude.{◌≡◌, ◌++◌, codes, OnOk, option_map};
 ghost use Rattle.engine_answers.specs.Lines.{event_line, given_line, is_hidden, note_line, pair_line, persist_line, priority_line, run_line, shown_line, text_line, watch_line};
 
-use engine_places::{push_place, push_word};
-use eval_scene::Note;
+use engine_ends::{push_place, push_word};
+use eval_state::Note;
 use itoa::Buffer;
-use rule_core::RunType;
+use rule_types::RunType;
 use std::alloc::{AllocError, Global};
-use text_bytes::Bytes;
-use text_files::escape;
+use text_bytes::{Bytes, escape};
 
 /// Puts a line with a text behind others.
 #[tactic(auto, unfolding(crate::specs::Lines::text_line))]

@@ -3,7 +3,7 @@ ghost use Rattle.std.specs.Prelude.{◌≡◌, ◌++◌, OnOk};
 ghost use Rattle.engine_answers.specs.Lines.{env_lines, note_lines, pair_lines, text_lines};
 
 use crate::lines::{push_note, push_pair, push_shown, push_text};
-use eval_scene::Notes;
+use eval_state::Notes;
 use std::alloc::{AllocError, Global};
 use text_tables::{OwnedPairs, OwnedTexts};
 

@@ -1,17 +1,16 @@
 -- From the steps of a run to what it serves.
-use Rattle.std.proofs.Common.{◌≡◌, ℕ, List, [], inl, inr, refl, Result, Ok, Err}
-use Rattle.text_tables.specs.Texts.{Text}
-use Rattle.engine_streams.specs.Sources.{SourceState}
-use Rattle.engine_streams.specs.Sinks.{SinkState}
-use Rattle.engine_delivery.specs.Delivery.{Outcome, Delivers, Tells, TellsFaults, out_of_memory}
+use Rattle.std.proofs.Common.{◌≡◌, ℕ, [], inl, inr, refl, Result, Ok, Err}
+use Rattle.engine_ends.specs.Sources.{SourceState}
+use Rattle.engine_ends.specs.Sinks.{SinkState}
+use Rattle.engine_ends.specs.Delivery.{Outcome, Delivers, Tells, TellsFaults, out_of_memory}
 use Rattle.engine_reports.specs.Openings.{OpeningValue}
 use Rattle.engine_reports.specs.Indexes.{refused_index}
 use Rattle.engine_reports.specs.Outcomes.{too_many_entries, too_many_rules}
 use Rattle.engine_reports.specs.Reports.{IsRefused, IsSaid}
 use Rattle.engine_reports.specs.declared.refusal.Refusal.{Refusal}
 use Rattle.engine_reports.specs.declared.refusal.Refusal.TheVariants.{TooManyEntries, TooManyRules, Index, Memory}
-use Rattle.engine_turns.specs.Serves.{Serves}
-use Rattle.engine_turns.proofs.Serving.{answers_serve, reports_serve}
+use Rattle.engine_sessions.specs.Serves.{Serves}
+use Rattle.engine_sessions.proofs.Serving.{answers_serve, reports_serve}
 use Rattle.engine_core.specs.Outcomes.{answer_with, events_outcome}
 use Rattle.engine_core.specs.Runs.{RunsEvents}
 

@@ -1,2 +1,3 @@
-pub mod Outcomes
+pub mod Answering
 pub mod Runs
+pub mod Outcomes

@@ -1,20 +1,20 @@
 -- What a run says: its outcome, as a function of the command line, of the files handed in, of what comes of an index and of the input.
 use Rattle.std.specs.Prelude.{List, Option, Result, Ok, Err}
 use Rattle.text_tables.specs.Texts.{Text}
-use Rattle.text_files.specs.declared.source_file.SourceFile.{SourceFile}
-use Rattle.text_files.specs.declared.source_file.FileKind.TheVariants.{Hwdb}
-use Rattle.index_checks.specs.declared.fault.IndexFault.{IndexFault}
+use Rattle.text_bytes.specs.declared.source_file.SourceFile.{SourceFile}
+use Rattle.text_bytes.specs.declared.source_file.FileKind.TheVariants.{Hwdb}
+use Rattle.index_reading.specs.declared.fault.IndexFault.{IndexFault}
 use Rattle.index_reading.specs.Contents.{Contents}
 use Rattle.device_core.specs.Values.{EventValue}
-use Rattle.engine_line.specs.declared.Line.{Line}
-use Rattle.engine_line.specs.declared.Verb.{Verb}
-use Rattle.engine_line.specs.declared.Verb.TheVariants.{Update, Query, Verify, Events}
-use Rattle.engine_delivery.specs.Delivery.{Outcome}
+use Rattle.engine_ends.specs.declared.line.Line.{Line}
+use Rattle.engine_ends.specs.declared.line.Verb.{Verb}
+use Rattle.engine_ends.specs.declared.line.Verb.TheVariants.{Update, Query, Verify, Events}
+use Rattle.engine_ends.specs.Delivery.{Outcome}
 use Rattle.engine_reports.specs.FilesRead.{files_read}
 use Rattle.engine_reports.specs.Openings.{OpeningValue, opening}
 use Rattle.engine_reports.specs.Outcomes.{database_outcome, query_over, update_outcome, verify_outcome}
-use Rattle.engine_tables.specs.Answering.{answer_by}
-use Rattle.engine_turns.specs.Outcomes.{input_outcome}
+use Rattle.engine_core.specs.Answering.{answer_by}
+use Rattle.engine_sessions.specs.Outcomes.{input_outcome}
 
 -- the answer to an event, by the rules and entries of an opening
 abbrev pub answer_with : OpeningValue → EventValue → Text

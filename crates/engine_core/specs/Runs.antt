@@ -1,18 +1,18 @@
 -- A run step by step.
 use Rattle.std.specs.Prelude.{ℕ, List, [], Option, Result, Ok, Err}
-use Rattle.text_files.specs.declared.source_file.SourceFile.{SourceFile}
+use Rattle.text_bytes.specs.declared.source_file.SourceFile.{SourceFile}
 use Rattle.text_tables.specs.Texts.{Text}
-use Rattle.index_checks.specs.declared.fault.IndexFault.{IndexFault}
+use Rattle.index_reading.specs.declared.fault.IndexFault.{IndexFault}
 use Rattle.index_reading.specs.Contents.{Contents}
-use Rattle.engine_line.specs.declared.Line.{Line}
-use Rattle.engine_line.specs.declared.Verb.{Verb}
-use Rattle.engine_line.specs.declared.Verb.TheVariants.{Update, Query, Verify, Events}
-use Rattle.engine_streams.specs.Sources.{SourceState}
-use Rattle.engine_streams.specs.Sinks.{SinkState}
-use Rattle.engine_delivery.specs.Delivery.{Outcome}
+use Rattle.engine_ends.specs.declared.line.Line.{Line}
+use Rattle.engine_ends.specs.declared.line.Verb.{Verb}
+use Rattle.engine_ends.specs.declared.line.Verb.TheVariants.{Update, Query, Verify, Events}
+use Rattle.engine_ends.specs.Sources.{SourceState}
+use Rattle.engine_ends.specs.Sinks.{SinkState}
+use Rattle.engine_ends.specs.Delivery.{Outcome}
 use Rattle.engine_reports.specs.Indexes.{Opens}
 use Rattle.engine_reports.specs.Openings.{OpeningValue, opening}
-use Rattle.engine_turns.specs.Serves.{AnswersAll, Reports, Serves}
+use Rattle.engine_sessions.specs.Serves.{AnswersAll, Reports, Serves}
 use Rattle.engine_core.specs.Outcomes.{answer_with, outcome, outcome_by}
 
 -- `events`, by what comes of its files

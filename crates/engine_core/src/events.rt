@@ -1,21 +1,19 @@
 //! `events`: the messages, and then the answers to the blocks of the input.
 ghost use Rattle.std.specs.Prelude.{◌≡◌, Ok, IfOk, IfErr, None, Some, Result};
-ghost use Rattle.engine_delivery.specs.Delivery.{Outcome};
+ghost use Rattle.engine_ends.specs.Delivery.{Outcome};
 ghost use Rattle.engine_core.specs.Runs.{RunsEvents};
 ghost use Rattle.engine_reports.specs.Openings.{OpeningValue, opening};
 ghost use Rattle.engine_reports.specs.Reports.{IsRefused};
 
-use engine_line::Line;
+use crate::tables::Tables;
+use engine_ends::{Line, Sink, Source};
 use engine_reports::{Opening, Refusal, RulesRead, deliver_refusal, open_files, open_rules};
-use engine_streams::{Sink, Source};
-use engine_tables::Tables;
-use engine_turns::answer_behind;
+use engine_sessions::answer_behind;
 use hwdb_lookup::Lookup;
-use index_core::{Index, IndexFault};
+use index_reading::{Index, IndexFault};
 use std::alloc::Global;
-use text_files::SourceFile;
-use trie_core::Trie;
-use trie_sources::trie_of;
+use text_bytes::SourceFile;
+use trie_build::{Trie, trie_of};
 
 /// Reads what events are answered by, writes the messages about it, answers the input, and gives the
 /// status to exit with. The database is the index that was opened, or else that of the files.

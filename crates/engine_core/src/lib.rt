@@ -8,14 +8,13 @@
 
 mod events;
 mod serving;
+mod tables;
 
-pub use engine_delivery::{deliver, tell, tell_in_pieces, tell_out_of_memory};
-pub use engine_line::{Line, LineFault, Verb};
-pub use engine_sessions::{Answering, Session, SessionFault, Step, TurnFault, turn};
-pub use engine_streams::{
-    DeviceFault, MemorySink, MemorySource, Sink, SinkOver, Source, SourceOver, hand_on,
-    hand_on_each, write_all,
+pub use engine_ends::{
+    DeviceFault, Line, LineFault, MemorySink, MemorySource, Sink, SinkOver, Source, SourceOver,
+    Verb, deliver, hand_on, hand_on_each, tell, tell_in_pieces, tell_out_of_memory, write_all,
 };
-pub use engine_tables::Tables;
-pub use index_core::{Index, IndexFault};
+pub use engine_sessions::{Answering, Session, SessionFault, Step, TurnFault, turn};
+pub use index_reading::{Index, IndexFault};
 pub use serving::serve;
+pub use tables::Tables;

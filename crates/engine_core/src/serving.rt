@@ -2,17 +2,16 @@
 ghost use Rattle.std.specs.Prelude.{◌≡◌, option_map};
 ghost use Rattle.engine_core.specs.Outcomes.{outcome};
 ghost use Rattle.engine_core.specs.Runs.{RunsBy, RunsOver};
-ghost use Rattle.engine_turns.specs.Serves.{Serves};
+ghost use Rattle.engine_sessions.specs.Serves.{Serves};
 
 use crate::events::serve_events;
-use engine_line::{Line, Verb};
+use engine_ends::{Line, Sink, Source, Verb};
 use engine_reports::{
     deliver_report, open_index, report_on_query, report_on_rules, report_on_update,
 };
-use engine_streams::{Sink, Source};
-use index_core::{Index, IndexFault};
+use index_reading::{Index, IndexFault};
 use std::alloc::Global;
-use text_files::SourceFile;
+use text_bytes::SourceFile;
 
 /// Runs a command over files that were read, writes what it says, and gives the status to exit with.
 ///

@@ -2,19 +2,20 @@
 use Rattle.std.proofs.Common.{◌≡◌, ℕ, ◌-◌, ◌^◌, ◌<◌, ◌≤◌, Bool, true, false, ◌&&◌, List, Ok, Err, length, refl, sum_by, subst, arith}
 use Rattle.std.proofs.lemmas.Bool.{leb-true, le-leb, false_from_ne_true}
 use Rattle.std.proofs.Math.Dec.{leb}
-use Rattle.text_files.specs.declared.source_file.SourceFile.{SourceFile}
-use Rattle.text_files.specs.declared.message.Message.{Message}
+use Rattle.text_bytes.specs.declared.source_file.SourceFile.{SourceFile}
+use Rattle.text_bytes.specs.declared.message.Message.{Message}
 use Rattle.hwdb_lookup.specs.declared.entry.Entry.{Entry}
 use Rattle.hwdb_core.specs.Sources.{WithinBounds, entries_of, match_bytes_of, messages_of, properties_of, text_len}
 use Rattle.hwdb_core.specs.declared.fault.HwdbFault.{HwdbFault}
 use Rattle.hwdb_core.specs.declared.fault.HwdbFault.TheVariants as hwdb
-use Rattle.rule_core.specs.Rules.{set_of, tokens_in}
+use Rattle.rule_types.specs.Rules.{tokens_in}
+use Rattle.rule_core.specs.Rules.{set_of}
 use Rattle.rule_core.specs.declared.fault.RulesFault.{RulesFault}
 use Rattle.rule_core.specs.declared.fault.RulesFault.TheVariants as rules
-use Rattle.index_checks.specs.declared.fault.IndexFault.{IndexFault}
-use Rattle.engine_line.specs.declared.Line.{Line}
+use Rattle.index_reading.specs.declared.fault.IndexFault.{IndexFault}
+use Rattle.engine_ends.specs.declared.line.Line.{Line}
 use Rattle.engine_reports.specs.Checks.{said_of, told}
-use Rattle.engine_delivery.specs.Delivery.{Outcome}
+use Rattle.engine_ends.specs.Delivery.{Outcome}
 use Rattle.engine_reports.specs.Outcomes.{are_few, database_outcome, rules_outcome, too_many_entries, too_many_rules}
 use Rattle.engine_reports.specs.Indexes.{refused_index}
 use Rattle.engine_reports.specs.declared.refusal.Refusal.{Refusal}

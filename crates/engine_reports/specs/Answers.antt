@@ -3,7 +3,7 @@ use Rattle.std.specs.Prelude.{ℕ, Bool, ◌==◌, if◌then◌else◌, List, []
 use Rattle.text_bytes.specs.Names.{equals, newline}
 use Rattle.hwdb_lookup.specs.Query.{Origin, query, sourced}
 use Rattle.hwdb_lookup.specs.declared.entry.Entry.{Entry}
-use Rattle.engine_places.specs.Places.{place_of}
+use Rattle.engine_ends.specs.Places.{place_of}
 
 -- a property's line, `KEY=VALUE`, both as they stand in the database
 unfoldable pub property_line : List ℕ → List ℕ → List ℕ

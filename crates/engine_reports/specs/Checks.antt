@@ -1,12 +1,12 @@
 -- What `verify` says of rules files.
 use Rattle.std.specs.Prelude.{ℕ, ◌-◌, Bool, true, false, ◌==◌, not, if◌then◌else◌, List, [], ◌++◌, length, codes, decimal, filter}
 use Rattle.std.specs.List.{count_by, list_any}
-use Rattle.text_files.specs.declared.source_file.SourceFile.{SourceFile}
-use Rattle.text_files.specs.declared.message.Message.{Message}
-use Rattle.text_files.specs.declared.message.MessageKind.{MessageKind}
-use Rattle.text_files.specs.declared.message.MessageKind.TheVariants.{CommaExpected, BlankExpected, ReadAsAssign, LabelUnused}
+use Rattle.text_bytes.specs.declared.source_file.SourceFile.{SourceFile}
+use Rattle.text_bytes.specs.declared.message.Message.{Message}
+use Rattle.text_bytes.specs.declared.message.MessageKind.{MessageKind}
+use Rattle.text_bytes.specs.declared.message.MessageKind.TheVariants.{CommaExpected, BlankExpected, ReadAsAssign, LabelUnused}
 use Rattle.text_tables.specs.Texts.{same_text}
-use Rattle.engine_delivery.specs.Delivery.{Outcome}
+use Rattle.engine_ends.specs.Delivery.{Outcome}
 use Rattle.engine_reports.specs.Messages.{message_lines}
 
 -- whether a kind of message is about style: the S messages

@@ -1,11 +1,11 @@
 -- Which of the files handed in are read, and in which order.
 use Rattle.std.specs.Prelude.{if◌then◌else◌, List, filter}
-use Rattle.text_files.specs.FileOrder.{ordered}
-use Rattle.text_files.specs.Kinds.{suffix_of}
-use Rattle.text_files.specs.declared.source_file.SourceFile.{SourceFile}
-use Rattle.text_files.specs.declared.source_file.FileKind.{FileKind}
-use Rattle.engine_line.specs.Kinds.{names_files_of, same_kind}
-use Rattle.engine_line.specs.declared.Line.{Line}
+use Rattle.text_bytes.specs.FileOrder.{ordered}
+use Rattle.text_bytes.specs.Kinds.{suffix_of}
+use Rattle.text_bytes.specs.declared.source_file.SourceFile.{SourceFile}
+use Rattle.text_bytes.specs.declared.source_file.FileKind.{FileKind}
+use Rattle.engine_ends.specs.Kinds.{names_files_of, same_kind}
+use Rattle.engine_ends.specs.declared.line.Line.{Line}
 
 -- those of the files that are of a kind
 abbrev pub of_kind : FileKind → List SourceFile → List SourceFile

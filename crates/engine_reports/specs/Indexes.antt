@@ -3,11 +3,11 @@ use Rattle.std.specs.Prelude.{◌≡◌, ◌⊎◌, List, [], Option, Some, None
 use Rattle.text_tables.specs.Texts.{Text}
 use Rattle.hwdb_lookup.specs.declared.entry.Entry.{Entry}
 use Rattle.trie_nodes.specs.Values.{listed}
-use Rattle.index_checks.specs.Accepted.{Accepted, FailsFirst}
-use Rattle.index_checks.specs.declared.fault.IndexFault.{IndexFault}
-use Rattle.index_checks.specs.declared.fault.IndexFault.TheVariants.{Short, Magic, Version, Size, Shape, Label, Text as TextFault, Order}
+use Rattle.index_reading.specs.Accepted.{Accepted, FailsFirst}
+use Rattle.index_reading.specs.declared.fault.IndexFault.{IndexFault}
+use Rattle.index_reading.specs.declared.fault.IndexFault.TheVariants.{Short, Magic, Version, Size, Shape, Label, Text as TextFault, Order}
 use Rattle.index_reading.specs.Contents.{Contents, contents}
-use Rattle.engine_delivery.specs.Delivery.{Outcome}
+use Rattle.engine_ends.specs.Delivery.{Outcome}
 
 -- What comes of an index: nothing where none is handed in; what its bytes hold where they are accepted, and else the first check
 -- that they fail.

@@ -1,8 +1,8 @@
-pub mod Messages
-pub mod Answers
+pub mod Reports
 pub mod FilesRead
 pub mod Checks
+pub mod Openings
 pub mod Indexes
 pub mod Outcomes
-pub mod Openings
-pub mod Reports
+pub mod Messages
+pub mod Answers

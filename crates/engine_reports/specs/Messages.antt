@@ -1,10 +1,10 @@
 -- The lines of messages: `FILE:LINE: CODE TEXT: WORD`.
 use Rattle.std.specs.Prelude.{ℕ, List, [], ◌∷◌, ◌++◌, codes, flat_map}
 use Rattle.text_bytes.specs.Names.{newline}
-use Rattle.engine_places.specs.Places.{place_of, word_part}
-use Rattle.text_files.specs.declared.message.Message.{Message}
-use Rattle.text_files.specs.declared.message.MessageKind.{MessageKind}
-use Rattle.text_files.specs.declared.message.MessageKind.TheVariants.{PropertyWithoutMatch, MatchWithoutProperty, UnindentedLine, NoEquals, EmptyKey, PatternNotSupported, BadSyntax, UnknownKey, OperatorNotAllowed, WrongAttribute, BadValue, BadSubstitution, NoLaterLabel, GivenTwice, LineTooLong, BadPrefix, SetNotSupported, OpenAtEnd, CommaExpected, BlankExpected, ReadAsAssign, LabelUnused}
+use Rattle.engine_ends.specs.Places.{place_of, word_part}
+use Rattle.text_bytes.specs.declared.message.Message.{Message}
+use Rattle.text_bytes.specs.declared.message.MessageKind.{MessageKind}
+use Rattle.text_bytes.specs.declared.message.MessageKind.TheVariants.{PropertyWithoutMatch, MatchWithoutProperty, UnindentedLine, NoEquals, EmptyKey, PatternNotSupported, BadSyntax, UnknownKey, OperatorNotAllowed, WrongAttribute, BadValue, BadSubstitution, NoLaterLabel, GivenTwice, LineTooLong, BadPrefix, SetNotSupported, OpenAtEnd, CommaExpected, BlankExpected, ReadAsAssign, LabelUnused}
 
 -- the code of a kind of message, and what it says
 abbrev pub heading_of : MessageKind → List ℕ

@@ -1,17 +1,18 @@
 -- What comes before the first answer to an event: the messages, and what events are answered by.
 use Rattle.std.specs.Prelude.{◌^◌, false, if◌then◌else◌, List, [], ◌++◌, Option, Some, None, Result, Ok, Err, nat_le}
 use Rattle.text_tables.specs.Texts.{Text}
-use Rattle.text_files.specs.declared.message.Message.{Message}
-use Rattle.text_files.specs.declared.source_file.SourceFile.{SourceFile}
-use Rattle.text_files.specs.declared.source_file.FileKind.TheVariants.{Hwdb, Rules}
+use Rattle.text_bytes.specs.declared.message.Message.{Message}
+use Rattle.text_bytes.specs.declared.source_file.SourceFile.{SourceFile}
+use Rattle.text_bytes.specs.declared.source_file.FileKind.TheVariants.{Hwdb, Rules}
 use Rattle.hwdb_lookup.specs.declared.entry.Entry.{Entry}
 use Rattle.hwdb_core.specs.Sources.{entries_of, messages_of}
-use Rattle.rule_core.specs.Rules.{Rule, set_of, tokens_in}
-use Rattle.index_checks.specs.declared.fault.IndexFault.{IndexFault}
+use Rattle.rule_types.specs.Rules.{Rule, tokens_in}
+use Rattle.rule_core.specs.Rules.{set_of}
+use Rattle.index_reading.specs.declared.fault.IndexFault.{IndexFault}
 use Rattle.index_reading.specs.Contents.{Contents}
-use Rattle.engine_line.specs.declared.Line.{Line}
+use Rattle.engine_ends.specs.declared.line.Line.{Line}
 use Rattle.engine_reports.specs.Checks.{told}
-use Rattle.engine_delivery.specs.Delivery.{Outcome}
+use Rattle.engine_ends.specs.Delivery.{Outcome}
 use Rattle.engine_reports.specs.FilesRead.{files_read}
 use Rattle.engine_reports.specs.Indexes.{entries_in, refused_index}
 use Rattle.engine_reports.specs.Messages.{message_lines}

@@ -1,19 +1,20 @@
 -- What a run says: its outcome, as a function of the command line and of the files handed in.
 use Rattle.std.specs.Prelude.{ℕ, ◌^◌, Bool, ◌==◌, ◌&&◌, nat_le, not, if◌then◌else◌, List, [], Option, Some, None, Result, Ok, Err, length, sum_by, codes}
-use Rattle.text_files.specs.declared.source_file.SourceFile.{SourceFile}
-use Rattle.text_files.specs.declared.source_file.FileKind.TheVariants.{Hwdb, Rules}
-use Rattle.text_files.specs.declared.message.Message.{Message}
+use Rattle.text_bytes.specs.declared.source_file.SourceFile.{SourceFile}
+use Rattle.text_bytes.specs.declared.source_file.FileKind.TheVariants.{Hwdb, Rules}
+use Rattle.text_bytes.specs.declared.message.Message.{Message}
 use Rattle.hwdb_lookup.specs.Bounds.{max_entries, max_match_bytes, max_name_bytes, max_text_bytes}
 use Rattle.hwdb_lookup.specs.declared.entry.Entry.{Entry}
 use Rattle.hwdb_core.specs.Sources.{entries_of, match_bytes_of, messages_of, properties_of, text_len}
-use Rattle.rule_core.specs.Rules.{set_of, tokens_in}
-use Rattle.index_checks.specs.declared.fault.IndexFault.{IndexFault}
-use Rattle.index_image.specs.Image.{image}
+use Rattle.rule_types.specs.Rules.{tokens_in}
+use Rattle.rule_core.specs.Rules.{set_of}
+use Rattle.index_reading.specs.declared.fault.IndexFault.{IndexFault}
+use Rattle.trie_core.specs.Image.{image}
 use Rattle.index_reading.specs.Contents.{Contents}
-use Rattle.engine_line.specs.declared.Line.{Line}
+use Rattle.engine_ends.specs.declared.line.Line.{Line}
 use Rattle.engine_reports.specs.Answers.{answer_lines}
 use Rattle.engine_reports.specs.Checks.{said_of, told}
-use Rattle.engine_delivery.specs.Delivery.{Outcome}
+use Rattle.engine_ends.specs.Delivery.{Outcome}
 use Rattle.engine_reports.specs.FilesRead.{files_read}
 use Rattle.engine_reports.specs.Indexes.{entries_in, refused_index}
 use Rattle.engine_reports.specs.Messages.{message_lines}

@@ -6,7 +6,7 @@ use Rattle.hwdb_core.specs.declared.fault.HwdbFault as hwdb
 use Rattle.hwdb_core.specs.declared.fault.HwdbFault.TheVariants as database
 use Rattle.rule_core.specs.declared.fault.RulesFault.{RulesFault}
 use Rattle.rule_core.specs.declared.fault.RulesFault.TheVariants as rules
-use Rattle.engine_delivery.specs.Delivery.{Outcome}
+use Rattle.engine_ends.specs.Delivery.{Outcome}
 use Rattle.engine_reports.specs.Indexes.{refused_index}
 use Rattle.engine_reports.specs.Outcomes.{too_many_entries, too_many_rules}
 use Rattle.engine_reports.specs.Openings.{OpeningValue}

@@ -3,7 +3,7 @@ ghost use Rattle.std.specs.Prelude.{◌≡◌, ◌++◌, map, flat_map, IfOk, On
 ghost use Rattle.hwdb_lookup.specs.Query.{shown, shown_origin};
 ghost use Rattle.engine_reports.specs.Answers.{answer_lines, origin_line, origin_of, pair_line, property_line};
 
-use engine_places::push_place;
+use engine_ends::push_place;
 use hwdb_lookup::{Lookup, Sourced};
 use std::alloc::{AllocError, Global};
 

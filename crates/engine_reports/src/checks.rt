@@ -10,11 +10,11 @@ use crate::files_read::files_read;
 use crate::messages::message_lines;
 use crate::refusal::Refusal;
 use crate::report::Report;
-use engine_line::Line;
+use engine_ends::Line;
 use itoa::Buffer;
 use rule_core::{RuleSet, read_rules};
 use std::alloc::{AllocError, Global};
-use text_files::{FileKind, Message, MessageKind, SourceFile};
+use text_bytes::{FileKind, Message, MessageKind, SourceFile};
 use text_tables::Texts;
 
 /// The messages about rules files, and how many of the files are bad.

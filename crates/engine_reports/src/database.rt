@@ -4,8 +4,8 @@
 //! events do. `update` makes the same trie, of which the index is written.
 ghost use Rattle.std.specs.Prelude.{◌≡◌, ◌<◌, length, IfOk, IfErr};
 ghost use Rattle.hwdb_lookup.specs.Orders.{Rising};
-ghost use Rattle.trie_paths.specs.Sizes.{KeepsBounds};
-ghost use Rattle.index_image.specs.Image.{image};
+ghost use Rattle.trie_build.specs.Sizes.{KeepsBounds};
+ghost use Rattle.trie_core.specs.Image.{image};
 ghost use Rattle.engine_reports.specs.Outcomes.{database_outcome, query_outcome, query_over, update_outcome, update_status};
 ghost use Rattle.engine_reports.specs.FilesRead.{files_read};
 ghost use Rattle.engine_reports.specs.Reports.{IsSaid, said};
@@ -15,13 +15,14 @@ use crate::files_read::files_read;
 use crate::messages::message_lines;
 use crate::refusal::Refusal;
 use crate::report::Report;
-use engine_line::Line;
+use engine_ends::Line;
 use hwdb_core::{Database, read_sources};
 use hwdb_lookup::{Entry, Lookup};
-use index_core::{Index, IndexFault, write_index};
+use index_reading::{Index, IndexFault};
 use std::alloc::{AllocError, Global};
-use text_files::{FileKind, Message, SourceFile};
-use trie_sources::trie_of;
+use text_bytes::{FileKind, Message, SourceFile};
+use trie_build::trie_of;
+use trie_core::write_index;
 
 /// What `query` says of the files of the database, or of the index that was opened in their place.
 ///

@@ -1,13 +1,12 @@
 //! Writing a report, or why there is none.
 ghost use Rattle.std.specs.Prelude.{◌≡◌, ◌<◌, IfOk};
-ghost use Rattle.engine_delivery.specs.Delivery.{Delivers, Outcome, Tells, TellsFaults, out_of_memory};
+ghost use Rattle.engine_ends.specs.Delivery.{Delivers, Outcome, Tells, TellsFaults, out_of_memory};
 ghost use Rattle.engine_reports.specs.Reports.{IsReport, IsSaid};
 
 use crate::indexes::index_line;
 use crate::refusal::Refusal;
 use crate::report::Report;
-use engine_delivery::{deliver, tell_out_of_memory};
-use engine_streams::Sink;
+use engine_ends::{Sink, deliver, tell_out_of_memory};
 
 /// The line on files that hold more than a database may.
 const TOO_MANY_ENTRIES: &[u8] = b"devdry: hwdb: too many\n";

@@ -2,9 +2,9 @@
 ghost use Rattle.std.specs.Prelude.{◌≡◌, IfOk};
 ghost use Rattle.engine_reports.specs.FilesRead.{chosen, files_read, of_kind};
 
-use engine_line::{Line, same_kind};
+use engine_ends::{Line, same_kind};
 use std::alloc::{AllocError, Global};
-use text_files::{FileKind, SourceFile, order_files};
+use text_bytes::{FileKind, SourceFile, order_files};
 
 /// The files of a kind that a run reads: those handed in where the line names files of that kind,
 /// and else those of the folders, by suffix, rank and name.

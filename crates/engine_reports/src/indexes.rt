@@ -5,7 +5,7 @@
 ghost use Rattle.std.specs.Prelude.{◌≡◌, option_map};
 ghost use Rattle.engine_reports.specs.Indexes.{Opens, index_line};
 
-use index_core::{Index, IndexFault};
+use index_reading::{Index, IndexFault};
 
 /// What comes of an index file, if one is handed in: the index, or the first check that it fails.
 ///

@@ -1,7 +1,7 @@
 //! Why an index has one meaning.
 ghost use Rattle.std.specs.Prelude.{◌≡◌, Option, Result};
 ghost use Rattle.text_tables.specs.Texts.{Text};
-ghost use Rattle.index_checks.specs.declared.fault.IndexFault.{IndexFault};
+ghost use Rattle.index_reading.specs.declared.fault.IndexFault.{IndexFault};
 ghost use Rattle.index_reading.specs.Contents.{Contents};
 ghost use Rattle.engine_reports.specs.Indexes.{Opens};
 

@@ -7,9 +7,9 @@ ghost use Rattle.engine_reports.specs.Messages.{heading_of, message_line, messag
 ghost use Rattle.engine_reports.specs.Checks.{told};
 
 use crate::checks::is_style;
-use engine_places::{push_place, push_word};
+use engine_ends::{push_place, push_word};
 use std::alloc::{AllocError, Global};
-use text_files::{Message, MessageKind};
+use text_bytes::{Message, MessageKind};
 
 /// The lines of messages, in the order given.
 pub(crate) fn message_lines(alloc: Global, messages: &[Message]) -> Result<Vec<u8>, AllocError>

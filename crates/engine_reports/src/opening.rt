@@ -1,7 +1,7 @@
 //! What comes before the first answer to an event.
 ghost use Rattle.std.specs.Prelude.{◌≡◌, List, [], None, Ok, IfOk, IfErr};
 ghost use Rattle.hwdb_lookup.specs.Orders.{Rising};
-ghost use Rattle.trie_paths.specs.Sizes.{KeepsBounds};
+ghost use Rattle.trie_build.specs.Sizes.{KeepsBounds};
 ghost use Rattle.hwdb_lookup.specs.declared.entry.Entry.{Entry};
 ghost use Rattle.engine_reports.specs.FilesRead.{files_read};
 ghost use Rattle.engine_reports.specs.Openings.{opening, opening_by, opening_messages, opening_within};
@@ -10,12 +10,12 @@ ghost use Rattle.engine_reports.specs.Reports.{IsRefused, shown_opening, shown_r
 use crate::files_read::{both_read, files_read};
 use crate::messages::{message_lines, plain_message_lines};
 use crate::refusal::Refusal;
-use engine_line::Line;
+use engine_ends::Line;
 use hwdb_core::read_sources;
 use hwdb_lookup::Entry;
 use rule_core::{RuleSet, read_rules};
 use std::alloc::{AllocError, Global};
-use text_files::{FileKind, Message, SourceFile};
+use text_bytes::{FileKind, Message, SourceFile};
 
 /// What comes before the first answer to an event.
 #[derive(Drop)]

@@ -2,7 +2,7 @@
 ghost use Rattle.std.specs.Prelude.{◌≡◌};
 
 use hwdb_core::HwdbFault;
-use index_core::IndexFault;
+use index_reading::IndexFault;
 use rule_core::RulesFault;
 use std::alloc::{AllocError, AllocFailed};
 

@@ -2,10 +2,10 @@
 use Rattle.std.proofs.Common.{◌≡◌, ℕ, true, false, [], ◌∷◌, ◌++◌, take, refl, ap, sym, ◌∙◌, subst}
 use Rattle.std.proofs.lemmas.List.{append-nil}
 use Rattle.text_tables.specs.Texts.{Text}
-use Rattle.device_runs.specs.Runs.{complete_runs}
-use Rattle.device_runs.specs.Splits.{Split, BeginsTooLong, FailsBy as SplitFailsBy}
-use Rattle.device_runs.specs.declared.splitter.SplitFault.{SplitFault}
-use Rattle.device_runs.specs.declared.splitter.SplitFault.TheVariants.{TooLong, Ended as SplitEnded}
+use Rattle.device_core.specs.Runs.{complete_runs}
+use Rattle.device_core.specs.Splits.{Split, BeginsTooLong, FailsBy as SplitFailsBy}
+use Rattle.device_core.specs.declared.splitter.SplitFault.{SplitFault}
+use Rattle.device_core.specs.declared.splitter.SplitFault.TheVariants.{TooLong, Ended as SplitEnded}
 use Rattle.engine_sessions.specs.Answers.{number_behind}
 use Rattle.engine_sessions.specs.Known.{known_blocks}
 use Rattle.engine_sessions.specs.Sessions.{Held, closed, FailsBy}

@@ -3,11 +3,11 @@ use Rattle.std.proofs.Common.{◌≡◌, ℕ, ◌<◌, ◌≤◌, Bool, true, fa
 use Rattle.std.proofs.lemmas.Bool.Decides.{nat_tests}
 use Rattle.std.proofs.lemmas.List.{append-nil, take-append-drop}
 use Rattle.text_tables.specs.Texts.{Text}
-use Rattle.device_runs.specs.Runs.{complete_runs, rest_of, not_empty}
-use Rattle.device_runs.specs.Blocks.{is_too_long, most_bytes, line_of_excess}
-use Rattle.device_runs.specs.Splits.{BeginsTooLong}
-use Rattle.device_runs.proofs.Law.{complete_runs-append, rest_of-append, runs-append}
-use Rattle.device_runs.proofs.BlockLemmas.{fits_is_good}
+use Rattle.device_core.specs.Runs.{complete_runs, rest_of, not_empty}
+use Rattle.device_core.specs.RunBlocks.{is_too_long, most_bytes, line_of_excess}
+use Rattle.device_core.specs.Splits.{BeginsTooLong}
+use Rattle.device_core.proofs.Law.{complete_runs-append, rest_of-append, runs-append}
+use Rattle.device_core.proofs.BlockLemmas.{fits_is_good}
 use Rattle.device_core.specs.Faults.{block_gives}
 use Rattle.device_core.specs.declared.faults.BlockFaultKind.TheVariants.{TooLong}
 use Rattle.engine_sessions.specs.Known.{overlong, known_blocks}

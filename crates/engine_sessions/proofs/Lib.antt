@@ -1,6 +1,8 @@
-pub mod KnownLemmas
-pub mod Failing
+pub mod LawLemmas
+pub mod TurnLemmas
 pub mod AnswerLemmas
 pub mod SendLemmas
-pub mod TurnLemmas
-pub mod LawLemmas
+pub mod Failing
+pub mod KnownLemmas
+pub mod Turns
+pub mod Serving

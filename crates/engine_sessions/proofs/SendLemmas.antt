@@ -3,9 +3,9 @@ use Rattle.std.proofs.Common.{List, [], ◌∷◌, ◌++◌, refl, ap, sym, ◌�
 use Rattle.std.proofs.lemmas.List.{append-nil}
 use Rattle.std.proofs.lemmas.Grind.{flat_map-append}
 use Rattle.text_tables.specs.Texts.{Text}
-use Rattle.engine_streams.specs.Told.{followed_by}
-use Rattle.engine_streams.specs.Sinks.{SinkState, HandsOn}
-use Rattle.engine_streams.proofs.Told.{followed_by-append, followed_by-nil}
+use Rattle.engine_ends.specs.Told.{followed_by}
+use Rattle.engine_ends.specs.Sinks.{SinkState, HandsOn}
+use Rattle.engine_ends.proofs.Told.{followed_by-append, followed_by-nil}
 use Rattle.engine_sessions.specs.Turns.{Sends, joined}
 
 pub sends-none : (sink : SinkState) → Sends sink [] sink

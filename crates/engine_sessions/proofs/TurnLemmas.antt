@@ -5,13 +5,13 @@ use Rattle.std.proofs.lemmas.List.{append-nil, take-append-drop}
 use Rattle.std.proofs.lemmas.Grind.{common_steps}
 use Rattle.std.proofs.Math.Seq.{take-add}
 use Rattle.text_tables.specs.Texts.{Text}
-use Rattle.device_runs.specs.Runs.{complete_runs, rest_of, runs}
-use Rattle.device_runs.specs.Blocks.{most_bytes}
-use Rattle.device_runs.specs.Splits.{Split}
-use Rattle.device_runs.proofs.Law.{complete_runs-append, rest_of-append}
+use Rattle.device_core.specs.Runs.{complete_runs, rest_of, runs}
+use Rattle.device_core.specs.RunBlocks.{most_bytes}
+use Rattle.device_core.specs.Splits.{Split}
+use Rattle.device_core.proofs.Law.{complete_runs-append, rest_of-append}
 use Rattle.device_core.specs.Values.{EventValue}
-use Rattle.engine_streams.specs.Sinks.{SinkState}
-use Rattle.engine_streams.specs.Sources.{SourceState}
+use Rattle.engine_ends.specs.Sinks.{SinkState}
+use Rattle.engine_ends.specs.Sources.{SourceState}
 use Rattle.engine_sessions.specs.Answers.{answers_to, well, counted, number_behind}
 use Rattle.engine_sessions.specs.Known.{known_blocks}
 use Rattle.engine_sessions.specs.Sessions.{Held, Takes, Ends, FailsBy}

@@ -1,7 +1,7 @@
 -- The answers to the blocks of an input.
 use Rattle.std.specs.Prelude.{ℕ, ◌+◌, ◌-◌, ◌^◌, List, [], ◌∷◌, Option, Some, None, Result, Ok, Err, min}
 use Rattle.text_tables.specs.Texts.{Text}
-use Rattle.device_runs.specs.Runs.{runs}
+use Rattle.device_core.specs.Runs.{runs}
 use Rattle.device_core.specs.Values.{EventValue}
 use Rattle.device_core.specs.Faults.{block_gives}
 use Rattle.device_core.specs.declared.faults.BlockFault.{BlockFault}

@@ -2,7 +2,7 @@
 use Rattle.std.specs.Prelude.{◌≡◌, ℕ, List, [], ◌∷◌, ◌++◌, Option, Some, length, take}
 use Rattle.std.specs.Option.{option_to_list}
 use Rattle.text_tables.specs.Texts.{Text}
-use Rattle.device_runs.specs.Runs.{complete_runs, rest_of}
+use Rattle.device_core.specs.Runs.{complete_runs, rest_of}
 use Rattle.device_core.specs.Values.{EventValue}
 use Rattle.device_core.specs.declared.faults.BlockFault.{BlockFault}
 use Rattle.engine_sessions.specs.Answers.{answers_to, answers_of, well, counted, number_behind}

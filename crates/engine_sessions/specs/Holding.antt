@@ -1,15 +1,15 @@
 -- For proofs only, no reader has to believe it: how a session's fields hang together, and what its helpers answer.
 use Rattle.std.specs.Prelude.{◌≡◌, ℕ, ◌≤◌, Bool, true, false, [], ◌∷◌, Err, Option, Some, None, length}
 use Rattle.text_tables.specs.Texts.{Text}
-use Rattle.device_runs.specs.Runs.{complete_runs, rest_of}
-use Rattle.device_runs.specs.Blocks.{most_bytes}
-use Rattle.device_runs.specs.Splits.{Split}
-use Rattle.device_runs.specs.declared.splitter.SplitFault.{SplitFault}
-use Rattle.device_runs.specs.declared.splitter.SplitFault.TheVariants.{TooLong, Ended as SplitEnded}
+use Rattle.device_core.specs.Runs.{complete_runs, rest_of}
+use Rattle.device_core.specs.RunBlocks.{most_bytes}
+use Rattle.device_core.specs.Splits.{Split}
+use Rattle.device_core.specs.declared.splitter.SplitFault.{SplitFault}
+use Rattle.device_core.specs.declared.splitter.SplitFault.TheVariants.{TooLong, Ended as SplitEnded}
 use Rattle.device_core.specs.Values.{EventValue}
 use Rattle.device_core.specs.Faults.{block_gives}
 use Rattle.device_core.specs.declared.faults.BlockFaultKind.TheVariants.{TooLong as BlockTooLong}
-use Rattle.engine_streams.specs.Sinks.{SinkState, BreaksOff}
+use Rattle.engine_ends.specs.Sinks.{SinkState, BreaksOff}
 use Rattle.engine_sessions.specs.Answers.{answers_to, well, counted}
 use Rattle.engine_sessions.specs.Sessions.{Held}
 use Rattle.engine_sessions.specs.declared.session.SessionFault.{SessionFault}

@@ -1,8 +1,8 @@
 -- Which blocks of an input are known once its first bytes were read.
 use Rattle.std.specs.Prelude.{Bool, true, false, List, [], ◌∷◌, ◌++◌, if◌then◌else◌}
 use Rattle.text_tables.specs.Texts.{Text}
-use Rattle.device_runs.specs.Runs.{complete_runs, rest_of, runs}
-use Rattle.device_runs.specs.Blocks.{is_too_long}
+use Rattle.device_core.specs.Runs.{complete_runs, rest_of, runs}
+use Rattle.device_core.specs.RunBlocks.{is_too_long}
 
 -- a rest that is too long already: however it goes on, it is a faulty block
 abbrev pub overlong : Text → List Text

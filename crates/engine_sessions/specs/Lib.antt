@@ -1,6 +1,10 @@
-pub mod Answers
-pub mod Known
 pub mod Sessions
-pub mod Calls
 pub mod Turns
+pub mod Calls
 pub mod Holding
+pub mod Known
+pub mod Answers
+pub mod Outcomes
+pub mod Inputs
+pub mod Serves
+pub mod BlockFaults

@@ -2,8 +2,8 @@
 use Rattle.std.specs.Prelude.{◌≡◌, ℕ, ◌+◌, ◌<◌, ◌≤◌, Bool, true, false, List, [], ◌∷◌, ◌++◌, Option, None, Err, length, take}
 use Rattle.std.specs.Option.{option_to_list}
 use Rattle.text_tables.specs.Texts.{Text}
-use Rattle.device_runs.specs.Runs.{complete_runs, rest_of, runs}
-use Rattle.device_runs.specs.Blocks.{most_bytes}
+use Rattle.device_core.specs.Runs.{complete_runs, rest_of, runs}
+use Rattle.device_core.specs.RunBlocks.{most_bytes}
 use Rattle.device_core.specs.Values.{EventValue}
 use Rattle.device_core.specs.Faults.{block_gives}
 use Rattle.device_core.specs.declared.faults.BlockFault.{BlockFault}

@@ -1,12 +1,12 @@
 -- What a turn reads and sends.
 use Rattle.std.specs.Prelude.{◌≡◌, ◌↔◌, ℕ, ◌+◌, ◌≤◌, Bool, true, false, not, List, [], ◌∷◌, ◌++◌, Some, length, flat_map, if◌then◌else◌}
 use Rattle.text_tables.specs.Texts.{Text}
-use Rattle.device_runs.specs.Runs.{rest_of}
+use Rattle.device_core.specs.Runs.{rest_of}
 use Rattle.device_core.specs.Values.{EventValue}
 use Rattle.device_core.specs.declared.faults.BlockFault.{BlockFault}
-use Rattle.engine_streams.specs.Told.{followed_by, NoneLeft}
-use Rattle.engine_streams.specs.Sources.{SourceState, Gives, SourceFails}
-use Rattle.engine_streams.specs.Sinks.{SinkState, BreaksOff}
+use Rattle.engine_ends.specs.Told.{followed_by, NoneLeft}
+use Rattle.engine_ends.specs.Sources.{SourceState, Gives, SourceFails}
+use Rattle.engine_ends.specs.Sinks.{SinkState, BreaksOff}
 use Rattle.engine_sessions.specs.Answers.{Answers, answers_to, well, counted, number_behind}
 use Rattle.engine_sessions.specs.Known.{known_blocks}
 use Rattle.engine_sessions.specs.Sessions.{Held}

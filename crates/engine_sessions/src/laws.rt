@@ -2,7 +2,7 @@
 //! input is cut. Each law is the contract of a function that does nothing.
 ghost use Rattle.std.specs.Prelude.{◌≡◌, List, ℕ, true, false, [], ◌∷◌, ◌++◌, map, Ok, Err, Option, Some, None};
 ghost use Rattle.text_tables.specs.Texts.{Text};
-ghost use Rattle.device_runs.specs.Runs.{rest_of};
+ghost use Rattle.device_core.specs.Runs.{rest_of};
 ghost use Rattle.device_core.specs.Values.{EventValue};
 ghost use Rattle.device_core.specs.Faults.{block_gives};
 ghost use Rattle.device_core.specs.declared.faults.BlockFault.{BlockFault};
@@ -12,7 +12,7 @@ ghost use Rattle.engine_sessions.specs.Sessions.{Held, opened, Ends, FailsBy};
 ghost use Rattle.engine_sessions.specs.Calls.{Call, TakesAll, GiveAnswers, GiveAll, GiveUntil, used_by, given_by};
 ghost use Rattle.engine_sessions.specs.declared.session.SessionFault.TheVariants.{Block};
 
-use crate::Answering;
+use crate::answering::Answering;
 
 /// Where no block is faulty, the answers are those to the events of all blocks. Else they are those
 /// to the events of the blocks before the first faulty one, and its fault, whatever stands behind it.

@@ -1,16 +1,17 @@
-//! Sessions: the blocks of an input answered one by one, and turns of one read and the answers then
-//! due.
-//!
-//! What is answered to an event is left to a trait, so that sessions stand apart from rules and
-//! their evaluation; a contract here says of any such answering which answers an input gets.
+//! The blocks of an input answered one by one, and a whole input answered turn by turn, for any answering of events.
 #![tactic(auto)]
 
 mod answering;
+mod behind;
+mod block_faults;
+mod inputs;
 mod laws;
 mod session;
 mod turning;
 
 pub use answering::Answering;
+pub use behind::answer_behind;
+pub use inputs::answer_input;
 pub use laws::{
     answers_do_not_depend_on_the_pieces, answers_end_at_the_first_fault, known_answers_stay,
 };

@@ -3,13 +3,13 @@
 //! The splitter keeps the only bytes that wait, in room that it took once; a block is read and
 //! answered where it is lent, and only the answer is handed out.
 ghost use Rattle.std.specs.Prelude.{◌≡◌, ◌≤◌, ◌+◌, true, false, IfOk, IfErr, length, Ok, Err, ◌++◌};
-ghost use Rattle.device_runs.specs.Blocks.{most_bytes};
+ghost use Rattle.device_core.specs.RunBlocks.{most_bytes};
 ghost use Rattle.device_core.specs.Faults.{block_gives};
 ghost use Rattle.engine_sessions.specs.Known.{known_blocks};
 ghost use Rattle.engine_sessions.specs.Sessions.{opened, closed, Takes, Ends, FailsBy};
 ghost use Rattle.engine_sessions.specs.Holding.{IsGoing, IsAnswer, IsRefused, IsSplitRefused};
 
-use crate::Answering;
+use crate::answering::Answering;
 use device_core::{BlockFault, BlockFaultKind, SplitFault, Splitter, read_block};
 use std::alloc::{AllocError, Global};
 use std::marker::Model;

@@ -4,12 +4,13 @@
 //! whoever feeds one event and waits gets its answer, and a fault takes none of those before it away.
 ghost use Rattle.std.specs.Prelude.{◌≡◌, true, false, [], IfOk, IfErr, OnOk, OnErr};
 ghost use Rattle.std.specs.Option.{option_to_list};
-ghost use Rattle.engine_streams.specs.Sinks.{SinkState};
+ghost use Rattle.engine_ends.specs.Sinks.{SinkState};
 ghost use Rattle.engine_sessions.specs.Turns.{due, Sends, SendsDue, SendsUntil, Turns, FailsBy};
 ghost use Rattle.engine_sessions.specs.Holding.{IsGoing, BreaksOffAt};
 
-use crate::{Answering, Session, SessionFault};
-use engine_streams::{DeviceFault, Sink, Source, hand_on};
+use crate::answering::Answering;
+use crate::session::{Session, SessionFault};
+use engine_ends::{DeviceFault, Sink, Source, hand_on};
 use std::alloc::Global;
 use text_bytes::Bytes;
 

@@ -2,23 +2,23 @@
 use Rattle.std.specs.Prelude.{Bool, false, List, []}
 use Rattle.text_tables.specs.Texts.{Text}
 use Rattle.hwdb_lookup.specs.declared.entry.Entry.{Entry}
-use Rattle.rule_parts.specs.Written.{attribute_of_deed, key_of_deed}
-use Rattle.rule_parts.specs.declared.part.Act.{Act}
-use Rattle.rule_parts.specs.declared.part.Deed.{Deed}
-use Rattle.rule_parts.specs.declared.part.Deed.TheVariants as deed
-use Rattle.rule_parts.specs.declared.part.Import.{Import}
-use Rattle.rule_parts.specs.declared.part.Import.TheVariants as import
-use Rattle.rule_core.specs.Rules.{Rule}
+use Rattle.rule_types.specs.WrittenParts.{attribute_of_deed, key_of_deed}
+use Rattle.rule_types.specs.declared.part.Act.{Act}
+use Rattle.rule_types.specs.declared.part.Deed.{Deed}
+use Rattle.rule_types.specs.declared.part.Deed.TheVariants as deed
+use Rattle.rule_types.specs.declared.part.Import.{Import}
+use Rattle.rule_types.specs.declared.part.Import.TheVariants as import
+use Rattle.rule_types.specs.Rules.{Rule}
 use Rattle.eval_state.specs.Chains.{device_at}
 use Rattle.eval_rendering.specs.Rendering.{render}
 use Rattle.eval_rendering.specs.declared.rendered.Mode.TheVariants.{Plain}
 use Rattle.eval_rendering.specs.declared.rendered.Rendered.{Rendered}
 use Rattle.eval_rendering.specs.declared.rendered.Rendered.TheVariants as rendered
 use Rattle.eval_matching.specs.Holding.{agrees}
-use Rattle.eval_scene.specs.Notes.{word_of_key}
-use Rattle.eval_scene.specs.Scenes.{noted}
-use Rattle.eval_scene.specs.declared.note_kind.NoteKind.TheVariants.{TextTooLong}
-use Rattle.eval_scene.specs.declared.scene.Scene.{Scene}
+use Rattle.eval_state.specs.Notes.{word_of_key}
+use Rattle.eval_state.specs.Scenes.{noted}
+use Rattle.eval_state.specs.declared.note_kind.NoteKind.TheVariants.{TextTooLong}
+use Rattle.eval_state.specs.declared.scene.Scene.{Scene}
 use Rattle.eval_acts.specs.Imports.{from_parent, not_run, run_builtin}
 use Rattle.eval_acts.specs.Questions.{asked, tested, with_result}
 

@@ -6,17 +6,17 @@ use Rattle.text_core.specs.Choices.{choice_fits}
 use Rattle.text_core.specs.declared.item.Item.{Item}
 use Rattle.hwdb_lookup.specs.declared.entry.Entry.{Entry}
 use Rattle.device_core.specs.Values.{DeviceValue}
-use Rattle.rule_keys.specs.Names.{import_name}
-use Rattle.rule_parts.specs.Written.{type_of}
-use Rattle.rule_parts.specs.declared.part.Import.{Import}
-use Rattle.rule_core.specs.Rules.{Rule}
-use Rattle.eval_builtins.specs.Builtins.{builtin}
-use Rattle.eval_builtins.specs.LookUps.{found}
-use Rattle.eval_builtins.specs.declared.builtin.Builtin.{Builtin}
-use Rattle.eval_builtins.specs.declared.builtin.Builtin.TheVariants as asked
-use Rattle.eval_scene.specs.Scenes.{noted, with_env}
-use Rattle.eval_scene.specs.declared.note_kind.NoteKind.TheVariants.{BadHwdbArguments, BuiltinNotRun, ImportNotRun}
-use Rattle.eval_scene.specs.declared.scene.Scene.{Scene}
+use Rattle.rule_types.specs.Names.{import_name}
+use Rattle.rule_types.specs.WrittenParts.{type_of}
+use Rattle.rule_types.specs.declared.part.Import.{Import}
+use Rattle.rule_types.specs.Rules.{Rule}
+use Rattle.eval_acts.specs.Builtins.{builtin}
+use Rattle.eval_acts.specs.LookUps.{found}
+use Rattle.eval_acts.specs.declared.builtin.Builtin.{Builtin}
+use Rattle.eval_acts.specs.declared.builtin.Builtin.TheVariants as asked
+use Rattle.eval_state.specs.Scenes.{noted, with_env}
+use Rattle.eval_state.specs.declared.note_kind.NoteKind.TheVariants.{BadHwdbArguments, BuiltinNotRun, ImportNotRun}
+use Rattle.eval_state.specs.declared.scene.Scene.{Scene}
 
 -- properties are set one behind another; it was done where there are any
 abbrev pub taken : List Pair → Scene → Scene × Bool

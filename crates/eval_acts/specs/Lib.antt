@@ -1,4 +1,8 @@
-pub mod Questions
+pub mod LookUps
+pub mod Builtins
+pub mod Words
+pub mod Hwdb
 pub mod Imports
-pub mod Acts
 pub mod Reaching
+pub mod Acts
+pub mod Questions

@@ -1,14 +1,14 @@
 -- TEST and PROGRAM: what the event answers. Each comes to the scene after it, and whether it was done.
 use Rattle.std.specs.Prelude.{Bool, true, false, ◌==◌, ◌||◌, if◌then◌else◌, Option, Some, None, is_some}
 use Rattle.text_bytes.specs.Names.{slash}
-use Rattle.text_words.specs.Texts.{begins_with}
+use Rattle.text_bytes.specs.Texts.{begins_with}
 use Rattle.text_tables.specs.Texts.{Text}
 use Rattle.text_tables.specs.Pairs.{value_of}
 use Rattle.device_core.specs.Values.{AnswerValue}
-use Rattle.rule_core.specs.Rules.{Rule}
-use Rattle.eval_scene.specs.Scenes.{noted}
-use Rattle.eval_scene.specs.declared.note_kind.NoteKind.TheVariants.{TestNotMade, NoAnswer}
-use Rattle.eval_scene.specs.declared.scene.Scene.{Scene}
+use Rattle.rule_types.specs.Rules.{Rule}
+use Rattle.eval_state.specs.Scenes.{noted}
+use Rattle.eval_state.specs.declared.note_kind.NoteKind.TheVariants.{TestNotMade, NoAnswer}
+use Rattle.eval_state.specs.declared.scene.Scene.{Scene}
 
 -- the result, changed
 abbrev pub with_result : Text → Scene → Scene

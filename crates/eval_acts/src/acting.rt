@@ -1,6 +1,6 @@
 //! An act of a rule, by what it does.
 ghost use Rattle.std.specs.Prelude.{◌≡◌, [], IfOk, OnErr, option_copied};
-ghost use Rattle.eval_scene.specs.Scenes.{IsBlank};
+ghost use Rattle.eval_state.specs.Scenes.{IsBlank};
 ghost use Rattle.eval_rendering.specs.Rendering.{render};
 ghost use Rattle.eval_rendering.specs.declared.rendered.Mode.TheVariants.{Plain};
 ghost use Rattle.eval_matching.specs.Holding.{agrees};
@@ -11,9 +11,10 @@ ghost use Rattle.eval_acts.specs.Questions.{asked, tested, with_result};
 use crate::imports::{import_parent, not_run, run_builtin};
 use crate::questions::{ask, clear_result, look_for};
 use eval_rendering::{Mode, Rendered, render};
-use eval_scene::Scene;
+use eval_state::Scene;
 use hwdb_lookup::Lookup;
-use rule_core::{Act, Deed, Import, MatchOperator, Rule, Template};
+use rule_templates::Template;
+use rule_types::{Act, Deed, Import, MatchOperator, Rule};
 use std::alloc::{AllocError, Global};
 use text_bytes::Bytes;
 

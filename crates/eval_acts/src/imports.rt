@@ -5,10 +5,11 @@ ghost use Rattle.hwdb_lookup.specs.Query.{shown};
 ghost use Rattle.eval_state.specs.Chains.{device_at};
 ghost use Rattle.eval_acts.specs.Imports.{from_parent, names_fitting, not_run, run_builtin, taken};
 
-use eval_builtins::{Builtin, look_up};
-use eval_scene::{NoteKind, Scene};
+use crate::builtin::Builtin;
+use crate::lookups::look_up;
+use eval_state::{NoteKind, Scene};
 use hwdb_lookup::Lookup;
-use rule_core::{Import, Rule};
+use rule_types::{Import, Rule};
 use std::alloc::{AllocError, Global};
 use text_core::Choice;
 use text_tables::{OwnedPairs, Pairs};

@@ -1,16 +1,18 @@
-//! What rules do while they are matched: TEST, PROGRAM and IMPORT.
-//!
-//! Each act gives whether it was done, and changes the result or the properties of the event; what a
-//! dry run does not do leaves a note. Whether the rule goes on is told last, by the operator, so that
-//! an act whose `!=` stops its rule keeps what it changed.
+//! What TEST, PROGRAM and IMPORT do, what a builtin's command asks for, and what a match leaves that is reached.
 #![tactic(auto)]
 
 mod acting;
+mod builtin;
+mod candidates;
+mod hwdb;
 mod imports;
-mod laws;
+mod lookups;
 mod questions;
 mod reaching;
+mod words;
 
 pub use acting::act_step;
-pub use laws::an_operator_tells_only_whether_a_rule_goes_on;
+pub use builtin::Builtin;
+pub use hwdb::Hwdb;
+pub use lookups::look_up;
 pub use reaching::reached;

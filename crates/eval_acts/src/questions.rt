@@ -3,11 +3,10 @@ ghost use Rattle.std.specs.Prelude.{◌≡◌, [], IfOk};
 ghost use Rattle.eval_acts.specs.Questions.{answered, asked, tested_unless, with_result};
 
 use device_core::ProgramAnswer;
-use eval_scene::{NoteKind, Scene};
-use rule_core::Rule;
+use eval_state::{NoteKind, Scene};
+use rule_types::Rule;
 use std::alloc::{AllocError, Global};
-use text_bytes::Bytes;
-use text_words::begins_with;
+use text_bytes::{Bytes, begins_with};
 
 /// Looks whether the event device has an attribute of a path, which is not done with a mask.
 pub(crate) fn look_for(

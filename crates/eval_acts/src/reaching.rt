@@ -2,8 +2,8 @@
 ghost use Rattle.std.specs.Prelude.{◌≡◌, OnOk, OnErr};
 ghost use Rattle.eval_acts.specs.Reaching.{reached};
 
-use eval_scene::{NoteKind, Scene};
-use rule_core::{PlainKey, PlainMatch, Rule};
+use eval_state::{NoteKind, Scene};
+use rule_types::{PlainKey, PlainMatch, Rule};
 use std::alloc::{AllocError, Global};
 
 /// Leaves what a match of the event leaves when it is reached, whether it holds or not: that of SYSCTL,

@@ -1,4 +1,1 @@
 pub mod Names
-pub mod Gone
-pub mod Runs
-pub mod Keeping

@@ -2,7 +2,7 @@
 use Rattle.std.proofs.Common.{◌≡◌, ℕ, ◌+◌, ◌==◌, Bool, true, false, cond, not, List, ◌∷◌, [], ◌++◌, take, drop, Option, Some, None, option_map, unwrap_or, refl, sym, ◌∙◌, ap, append_assoc}
 use Rattle.std.specs.List.{slice_split, position}
 use Rattle.text_bytes.specs.Names.{space}
-use Rattle.text_words.specs.Texts.{is_empty, split_once}
+use Rattle.text_bytes.specs.Texts.{is_empty, split_once}
 use Rattle.text_core.proofs.Cutting.{split_none, split_some}
 use Rattle.eval_assignments.specs.Lists.{not_empty, names}
 

@@ -2,14 +2,14 @@
 use Rattle.std.specs.Prelude.{true, false, List, [], ◌∷◌, Option, Some, None}
 use Rattle.text_tables.specs.Texts.{Text}
 use Rattle.text_tables.specs.Pairs.{Pair, with_value}
-use Rattle.rule_keys.specs.declared.roles.AssignOperator.{AssignOperator}
-use Rattle.rule_keys.specs.declared.roles.AssignOperator.TheVariants.{Add}
-use Rattle.rule_keys.specs.declared.roles.Target.{Target}
-use Rattle.rule_keys.specs.declared.roles.Target.TheVariants as target
-use Rattle.rule_parts.specs.declared.options.RuleOption.{RuleOption}
-use Rattle.rule_parts.specs.declared.options.RuleOption.TheVariants as option
-use Rattle.rule_core.specs.Rules.{Rule}
-use Rattle.eval_scene.specs.declared.scene.Scene.{Scene}
+use Rattle.rule_types.specs.declared.roles.AssignOperator.{AssignOperator}
+use Rattle.rule_types.specs.declared.roles.AssignOperator.TheVariants.{Add}
+use Rattle.rule_types.specs.declared.roles.Target.{Target}
+use Rattle.rule_types.specs.declared.roles.Target.TheVariants as target
+use Rattle.rule_types.specs.declared.rule_option.RuleOption.{RuleOption}
+use Rattle.rule_types.specs.declared.rule_option.RuleOption.TheVariants as option
+use Rattle.rule_types.specs.Rules.{Rule}
+use Rattle.eval_state.specs.declared.scene.Scene.{Scene}
 use Rattle.eval_assignments.specs.Escapes.{turned}
 use Rattle.eval_assignments.specs.Lists.{changed, names, one_tag}
 use Rattle.eval_assignments.specs.Properties.{property_changed}

@@ -2,12 +2,12 @@
 use Rattle.std.specs.Prelude.{ℕ, ◌==◌, if◌then◌else◌, map, fold, List}
 use Rattle.text_bytes.specs.Names.{space, underscore}
 use Rattle.text_tables.specs.Texts.{Text}
-use Rattle.rule_keys.specs.declared.roles.Target.{Target}
-use Rattle.rule_keys.specs.declared.roles.Target.TheVariants as target
-use Rattle.rule_parts.specs.declared.options.RuleOption.TheVariants.{KeepEscapes, ReplaceEscapes}
-use Rattle.rule_parts.specs.declared.part.Assignment.{Assignment}
-use Rattle.rule_parts.specs.declared.part.Change.{Change}
-use Rattle.rule_parts.specs.declared.part.Change.TheVariants as change
+use Rattle.rule_types.specs.declared.roles.Target.{Target}
+use Rattle.rule_types.specs.declared.roles.Target.TheVariants as target
+use Rattle.rule_types.specs.declared.rule_option.RuleOption.TheVariants.{KeepEscapes, ReplaceEscapes}
+use Rattle.rule_types.specs.declared.part.Assignment.{Assignment}
+use Rattle.rule_types.specs.declared.part.Change.{Change}
+use Rattle.rule_types.specs.declared.part.Change.TheVariants as change
 use Rattle.eval_rendering.specs.declared.rendered.Mode.{Mode}
 use Rattle.eval_rendering.specs.declared.rendered.Mode.TheVariants.{Plain, Link}
 use Rattle.eval_assignments.specs.declared.escapes.Escape.{Escape}

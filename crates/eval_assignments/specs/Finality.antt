@@ -1,18 +1,18 @@
 -- Which keys `:=` makes final, and when an assignment comes too late.
 use Rattle.std.specs.Prelude.{Bool, false, Option, Some, None}
-use Rattle.rule_keys.specs.declared.roles.AssignOperator.{AssignOperator}
-use Rattle.rule_keys.specs.declared.roles.AssignOperator.TheVariants.{AssignFinal}
-use Rattle.rule_keys.specs.declared.roles.Target.{Target}
-use Rattle.rule_keys.specs.declared.roles.Target.TheVariants as target
-use Rattle.rule_parts.specs.declared.options.RuleOption.{RuleOption}
-use Rattle.rule_parts.specs.declared.options.RuleOption.TheVariants as option
-use Rattle.rule_parts.specs.declared.part.Change.{Change}
-use Rattle.rule_parts.specs.declared.part.Change.TheVariants as change
-use Rattle.eval_scene.specs.Finals.{is_final, made_final}
-use Rattle.eval_scene.specs.declared.finals.FinalKey.{FinalKey}
-use Rattle.eval_scene.specs.declared.finals.FinalKey.TheVariants.{Owner, Group, Mode, Name, Symlink, Run, Priority, Watch}
-use Rattle.eval_scene.specs.declared.finals.Finals.{Finals}
-use Rattle.eval_scene.specs.declared.scene.Scene.{Scene}
+use Rattle.rule_types.specs.declared.roles.AssignOperator.{AssignOperator}
+use Rattle.rule_types.specs.declared.roles.AssignOperator.TheVariants.{AssignFinal}
+use Rattle.rule_types.specs.declared.roles.Target.{Target}
+use Rattle.rule_types.specs.declared.roles.Target.TheVariants as target
+use Rattle.rule_types.specs.declared.rule_option.RuleOption.{RuleOption}
+use Rattle.rule_types.specs.declared.rule_option.RuleOption.TheVariants as option
+use Rattle.rule_types.specs.declared.part.Change.{Change}
+use Rattle.rule_types.specs.declared.part.Change.TheVariants as change
+use Rattle.eval_state.specs.Finals.{is_final, made_final}
+use Rattle.eval_state.specs.declared.finals.FinalKey.{FinalKey}
+use Rattle.eval_state.specs.declared.finals.FinalKey.TheVariants.{Owner, Group, Mode, Name, Symlink, Run, Priority, Watch}
+use Rattle.eval_state.specs.declared.finals.Finals.{Finals}
+use Rattle.eval_state.specs.declared.scene.Scene.{Scene}
 
 -- the key of a text that `:=` makes final, if there is one
 abbrev pub final_target : Target → Option FinalKey

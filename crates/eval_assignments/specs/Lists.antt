@@ -2,10 +2,10 @@
 use Rattle.std.specs.Prelude.{not, ◌==◌, List, [], ◌∷◌, filter, fold}
 use Rattle.std.specs.List.{slice_split}
 use Rattle.text_bytes.specs.Names.{space}
-use Rattle.text_words.specs.Texts.{is_empty}
+use Rattle.text_bytes.specs.Texts.{is_empty}
 use Rattle.text_tables.specs.Texts.{Text, with_texts, without_text}
-use Rattle.rule_keys.specs.declared.roles.AssignOperator.{AssignOperator}
-use Rattle.rule_keys.specs.declared.roles.AssignOperator.TheVariants.{Assign, Add, Remove, AssignFinal}
+use Rattle.rule_types.specs.declared.roles.AssignOperator.{AssignOperator}
+use Rattle.rule_types.specs.declared.roles.AssignOperator.TheVariants.{Assign, Add, Remove, AssignFinal}
 
 -- each of these texts is taken away
 abbrev pub without_texts : List Text → List Text → List Text

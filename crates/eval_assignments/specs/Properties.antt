@@ -3,16 +3,16 @@ use Rattle.std.specs.Prelude.{List, [], ◌∷◌, ◌++◌, Option, Some, None}
 use Rattle.text_bytes.specs.Names.{space}
 use Rattle.text_tables.specs.Texts.{Text}
 use Rattle.text_tables.specs.Pairs.{Pair, value_of, with_value, without_name}
-use Rattle.rule_keys.specs.declared.keys.Key.TheVariants as key
-use Rattle.rule_keys.specs.declared.roles.AssignOperator.{AssignOperator}
-use Rattle.rule_keys.specs.declared.roles.AssignOperator.TheVariants.{Add}
-use Rattle.rule_core.specs.Rules.{Rule}
+use Rattle.rule_types.specs.declared.keys.Key.TheVariants as key
+use Rattle.rule_types.specs.declared.roles.AssignOperator.{AssignOperator}
+use Rattle.rule_types.specs.declared.roles.AssignOperator.TheVariants.{Add}
+use Rattle.rule_types.specs.Rules.{Rule}
 use Rattle.eval_state.specs.Texts.{or_empty}
 use Rattle.eval_rendering.specs.Bounds.{bounded}
-use Rattle.eval_scene.specs.Notes.{word_of_key}
-use Rattle.eval_scene.specs.Scenes.{noted, with_env}
-use Rattle.eval_scene.specs.declared.note_kind.NoteKind.TheVariants.{TextTooLong}
-use Rattle.eval_scene.specs.declared.scene.Scene.{Scene}
+use Rattle.eval_state.specs.Notes.{word_of_key}
+use Rattle.eval_state.specs.Scenes.{noted, with_env}
+use Rattle.eval_state.specs.declared.note_kind.NoteKind.TheVariants.{TextTooLong}
+use Rattle.eval_state.specs.declared.scene.Scene.{Scene}
 
 -- a property is set; the empty text takes it away
 abbrev pub property_set : Text → Text → List Pair → List Pair

@@ -1,25 +1,25 @@
 -- One assignment of a rule.
 use Rattle.std.specs.Prelude.{Bool, false, not, codes, if◌then◌else◌, Option, Some, None}
 use Rattle.text_tables.specs.Texts.{Text, same_text}
-use Rattle.rule_keys.specs.Written.{attribute_of_target, key_of_target}
-use Rattle.rule_keys.specs.declared.roles.AssignOperator.{AssignOperator}
-use Rattle.rule_keys.specs.declared.roles.Target.{Target}
-use Rattle.rule_keys.specs.declared.roles.Target.TheVariants as target
-use Rattle.rule_keys.specs.declared.types.RunType.{RunType}
+use Rattle.rule_types.specs.Written.{attribute_of_target, key_of_target}
+use Rattle.rule_types.specs.declared.roles.AssignOperator.{AssignOperator}
+use Rattle.rule_types.specs.declared.roles.Target.{Target}
+use Rattle.rule_types.specs.declared.roles.Target.TheVariants as target
+use Rattle.rule_types.specs.declared.types.RunType.{RunType}
 use Rattle.rule_templates.specs.Template.{Parts as Template}
-use Rattle.rule_parts.specs.declared.part.Assignment.{Assignment}
-use Rattle.rule_parts.specs.declared.part.Change.{Change}
-use Rattle.rule_parts.specs.declared.part.Change.TheVariants as change
-use Rattle.rule_core.specs.Rules.{Rule}
+use Rattle.rule_types.specs.declared.part.Assignment.{Assignment}
+use Rattle.rule_types.specs.declared.part.Change.{Change}
+use Rattle.rule_types.specs.declared.part.Change.TheVariants as change
+use Rattle.rule_types.specs.Rules.{Rule}
 use Rattle.eval_rendering.specs.Rendering.{render}
 use Rattle.eval_rendering.specs.declared.rendered.Rendered.{Rendered}
 use Rattle.eval_rendering.specs.declared.rendered.Rendered.TheVariants as rendered
-use Rattle.eval_scene.specs.Notes.{word_of_key}
-use Rattle.eval_scene.specs.Runs.{RunValue, runs_after}
-use Rattle.eval_scene.specs.Scenes.{noted}
-use Rattle.eval_scene.specs.declared.finals.FinalKey.TheVariants as final
-use Rattle.eval_scene.specs.declared.note_kind.NoteKind.TheVariants.{TextTooLong, NameIgnored}
-use Rattle.eval_scene.specs.declared.scene.Scene.{Scene}
+use Rattle.eval_state.specs.Notes.{word_of_key}
+use Rattle.eval_state.specs.Runs.{RunValue, runs_after}
+use Rattle.eval_state.specs.Scenes.{noted}
+use Rattle.eval_state.specs.declared.finals.FinalKey.TheVariants as final
+use Rattle.eval_state.specs.declared.note_kind.NoteKind.TheVariants.{TextTooLong, NameIgnored}
+use Rattle.eval_state.specs.declared.scene.Scene.{Scene}
 use Rattle.eval_assignments.specs.Assigning.{assigned, with_option}
 use Rattle.eval_assignments.specs.Escapes.{escape_of, mode_of}
 use Rattle.eval_assignments.specs.Finality.{final_key, final_option, final_target, finally, is_settled}

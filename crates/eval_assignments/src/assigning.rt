@@ -6,8 +6,8 @@ ghost use Rattle.eval_assignments.specs.Assigning.{assigned, given, labels_befor
 use crate::escapes::{Escape, turned};
 use crate::lists::{change_links, change_tags};
 use crate::properties::change_property;
-use eval_scene::Scene;
-use rule_core::{AssignOperator, Rule, Target};
+use eval_state::Scene;
+use rule_types::{AssignOperator, Rule, Target};
 use std::alloc::{AllocError, Global};
 use text_bytes::Bytes;
 use text_tables::OwnedPairs;

@@ -3,7 +3,7 @@ ghost use Rattle.std.specs.Prelude.{◌≡◌, IfOk};
 ghost use Rattle.eval_assignments.specs.Escapes.{escape_after, escape_of, mode_in, mode_of, turned, turned_byte};
 
 use eval_rendering::Mode;
-use rule_core::{Assignment, Change, RuleOption, Target};
+use rule_types::{Assignment, Change, RuleOption, Target};
 use std::alloc::{AllocError, Global};
 
 /// How a rule treats the bytes of links and names.

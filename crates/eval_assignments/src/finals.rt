@@ -2,8 +2,8 @@
 ghost use Rattle.std.specs.Prelude.{◌≡◌};
 ghost use Rattle.eval_assignments.specs.Finality.{final_key, final_option, final_target, finally, is_settled, settled};
 
-use eval_scene::{FinalKey, Finals, Scene};
-use rule_core::{AssignOperator, Change, RuleOption, Target};
+use eval_state::{FinalKey, Finals, Scene};
+use rule_types::{AssignOperator, Change, RuleOption, Target};
 
 /// The key of a text that `:=` makes final, if there is one.
 pub(crate) fn final_target(target: &Target) -> Option<FinalKey>

@@ -8,14 +8,9 @@
 mod assigning;
 mod escapes;
 mod finals;
-mod laws;
 mod lists;
 mod options;
 mod properties;
 mod step;
 
-pub use laws::{
-    additions_that_are_there_change_nothing, final_keys_stay, removed_texts_are_gone,
-    runs_that_are_there_stay_alone,
-};
 pub use step::set_step;

@@ -3,10 +3,10 @@ ghost use Rattle.std.specs.Prelude.{◌≡◌, ◌++◌, ◌∷◌, [], map, OnO
 ghost use Rattle.text_tables.specs.Texts.{with_texts};
 ghost use Rattle.eval_assignments.specs.Lists.{changed, names, not_empty, one_tag, without_texts};
 
-use rule_core::AssignOperator;
+use rule_types::AssignOperator;
 use std::alloc::{AllocError, Global};
+use text_bytes::split_once;
 use text_tables::OwnedTexts;
-use text_words::split_once;
 
 /// Adds each of these texts.
 fn add_each(alloc: Global, texts: &mut OwnedTexts, more: &[&[u8]]) -> Result<(), AllocError>

@@ -2,8 +2,8 @@
 ghost use Rattle.std.specs.Prelude.{◌≡◌};
 ghost use Rattle.eval_assignments.specs.Assigning.{with_option};
 
-use eval_scene::Scene;
-use rule_core::RuleOption;
+use eval_state::Scene;
+use rule_types::RuleOption;
 
 /// Makes the change that an option asks for.
 pub(crate) fn set_option(option: RuleOption, scene: &mut Scene<'_>)

@@ -2,8 +2,8 @@
 ghost use Rattle.std.specs.Prelude.{◌≡◌, OnOk, IfOk, option_map};
 ghost use Rattle.eval_assignments.specs.Properties.{appended, property_added, property_changed, property_joined, property_set};
 
-use eval_scene::Scene;
-use rule_core::{AssignOperator, Key, Rule};
+use eval_state::Scene;
+use rule_types::{AssignOperator, Key, Rule};
 use std::alloc::{AllocError, Global};
 use text_bytes::Bytes;
 use text_tables::OwnedPairs;

@@ -1,6 +1,6 @@
 //! One assignment of a rule.
 ghost use Rattle.std.specs.Prelude.{◌≡◌, OnOk, OnErr, option_map};
-ghost use Rattle.eval_scene.specs.Scenes.{IsBlank};
+ghost use Rattle.eval_state.specs.Scenes.{IsBlank};
 ghost use Rattle.eval_assignments.specs.Steps.{is_ignored, is_net, run_kept, set_step, step_by, text_set};
 ghost use Rattle.eval_assignments.specs.Steps.{text_given};
 
@@ -9,8 +9,9 @@ use crate::escapes::{Escape, escape_of, mode_of};
 use crate::finals::{final_key, final_option, final_target, finish, is_settled};
 use crate::options::set_option;
 use eval_rendering::{Rendered, render};
-use eval_scene::{FinalKey, NoteKind, Run, Scene};
-use rule_core::{AssignOperator, Assignment, Change, Rule, RunType, Target, Template};
+use eval_state::{FinalKey, NoteKind, Run, Scene};
+use rule_templates::Template;
+use rule_types::{AssignOperator, Assignment, Change, Rule, RunType, Target};
 use std::alloc::{AllocError, Global};
 use text_bytes::Bytes;
 

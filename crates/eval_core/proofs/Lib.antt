@@ -1,8 +1,8 @@
-pub mod Walks
-pub mod Running
-pub mod Rendering
-pub mod ByName
-pub mod Unmatched
-pub mod Meeting
-pub mod Landing
-pub mod Keeping
+pub mod Placing
+pub mod Sketching
+pub mod Heading
+mod Coursing
+mod Skipping
+mod Ruling
+mod Staying
+mod Marking

@@ -1,5 +1,5 @@
-pub mod Steps
-pub mod Jumps
-pub mod Outcomes
-pub mod Laws
-pub mod Inner
+pub mod Sketches
+pub mod Courses
+pub mod Checks
+pub mod Layout
+pub mod Marks

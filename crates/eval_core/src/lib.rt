@@ -1,26 +1,28 @@
-//! All rules over one event: the crate that the crates above evaluate events with.
+//! Programs: rules laid out for evaluation, which answer as the rules that were read, sooner.
 //!
-//! A rule is five steps, each of them parts one behind another that may stop it; the rules of all files
-//! are one list, and a jump passes rules over until one has its label. Both are told as folds over what
-//! an event has come to, so that what holds of each step holds of all rules. What is to be run is
-//! rendered when no rule is left, and only then is the outcome made. What an event is evaluated by, over
-//! and into is handed on from the crates below.
+//! What is decided once is decided when rules are laid out: for each rule how many rules its jump passes
+//! over, the check by which it can be passed over without a look at it, and its course, by which it is
+//! known without a look at it how it ends. What rules can't change of an event is looked up once for each
+//! event.
 #![tactic(auto)]
 
-mod evaluating;
-pub mod laws;
-mod outcome;
-mod rules;
-mod sorting;
-mod steps;
+mod checks;
+mod courses;
+mod heads;
+mod marks;
+mod program;
+mod running;
+mod seen;
+mod sketches;
 
 pub use device_core::Event;
 pub use eval_rendering::{Mode, Rendered, render};
-pub use eval_scene::{Note, NoteKind, Notes};
-pub use eval_state::{Chain, State};
-pub use evaluating::{evaluate_plain, finish};
+pub use eval_rules::{Command, Commands, Outcome, apply, evaluate_plain, finish};
+pub use eval_state::{Chain, Note, NoteKind, Notes, Scene, State};
+pub use heads::{exact_head, first_byte};
 pub use hwdb_lookup::Lookup;
-pub use outcome::{Command, Commands, Outcome};
-pub use rule_core::{RuleSet, RunType};
-pub use steps::apply;
+pub use program::{Program, compile};
+pub use rule_core::RuleSet;
+pub use rule_types::{Rule, RunType};
+pub use sketches::{exact_sketch, sketch};
 pub use text_tables::{OwnedPairs, OwnedTexts};

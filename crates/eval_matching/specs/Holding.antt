@@ -6,9 +6,9 @@ use Rattle.text_tables.specs.Texts.{Text}
 use Rattle.text_core.specs.Choices.{choice_fits}
 use Rattle.text_core.specs.declared.item.Item.{Item}
 use Rattle.text_core.specs.declared.item.Item.TheVariants as item
-use Rattle.rule_keys.specs.declared.roles.MatchOperator.{MatchOperator}
-use Rattle.rule_keys.specs.declared.roles.MatchOperator.TheVariants.{Equal, NotEqual}
-use Rattle.rule_parts.specs.declared.part.Comparison.{Comparison}
+use Rattle.rule_types.specs.declared.roles.MatchOperator.{MatchOperator}
+use Rattle.rule_types.specs.declared.roles.MatchOperator.TheVariants.{Equal, NotEqual}
+use Rattle.rule_types.specs.declared.part.Comparison.{Comparison}
 use Rattle.eval_state.specs.Texts.{trimmed}
 
 -- what a match looks at: one text; an attribute or a constant, each of which may be absent; texts, of which some member

@@ -2,7 +2,7 @@
 use Rattle.std.specs.Prelude.{◌≡◌, ℕ, ◌<◌, true, false, List, length}
 use Rattle.std.specs.List.{list_all}
 use Rattle.device_core.specs.Values.{chain}
-use Rattle.rule_parts.specs.declared.part.UpMatch.{UpMatch}
+use Rattle.rule_types.specs.declared.part.UpMatch.{UpMatch}
 use Rattle.eval_state.specs.declared.state.State.{State}
 use Rattle.eval_matching.specs.Subjects.{holds_at}
 

@@ -5,11 +5,11 @@ use Rattle.std.specs.Option.{option_and_then}
 use Rattle.text_tables.specs.Texts.{Text, same_text}
 use Rattle.text_tables.specs.Pairs.{value_of}
 use Rattle.device_core.specs.Values.{chain}
-use Rattle.rule_keys.specs.declared.roles.PlainKey.{PlainKey}
-use Rattle.rule_keys.specs.declared.roles.PlainKey.TheVariants as plain
-use Rattle.rule_keys.specs.declared.roles.UpKey.{UpKey}
-use Rattle.rule_keys.specs.declared.roles.UpKey.TheVariants as up
-use Rattle.rule_parts.specs.declared.part.UpMatch.{UpMatch}
+use Rattle.rule_types.specs.declared.roles.PlainKey.{PlainKey}
+use Rattle.rule_types.specs.declared.roles.PlainKey.TheVariants as plain
+use Rattle.rule_types.specs.declared.roles.UpKey.{UpKey}
+use Rattle.rule_types.specs.declared.roles.UpKey.TheVariants as up
+use Rattle.rule_types.specs.declared.part.UpMatch.{UpMatch}
 use Rattle.eval_state.specs.Chains.{device_at, kernel_of}
 use Rattle.eval_state.specs.declared.state.State.{State}
 use Rattle.eval_state.specs.Texts.{or_empty}

@@ -5,10 +5,9 @@ ghost use Rattle.text_core.specs.Choices.{choice_fits};
 ghost use Rattle.eval_matching.specs.Holding.{agrees, as_compared, attribute, constant, ends_in_whitespace, holds, is_whitespace_item, last_is, members, one, unread};
 
 use eval_state::trimmed;
-use rule_keys::MatchOperator;
-use rule_parts::Comparison;
+use rule_types::{Comparison, MatchOperator};
+use text_bytes::is_whitespace;
 use text_core::{Choice, Item, Pattern};
-use text_words::is_whitespace;
 
 /// `!=` turns the answer round.
 fn agrees(operator: MatchOperator, fits: bool) -> bool

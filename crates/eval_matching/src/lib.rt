@@ -6,14 +6,8 @@
 #![tactic(auto)]
 
 mod holding;
-mod laws;
 mod plain;
 mod upward;
 
-pub use laws::{
-    a_list_differs_where_no_member_fits, attributes_are_compared_without_their_end,
-    constants_are_compared_as_they_stand, nothing_is_found_where_no_device_meets_all_matches,
-    one_device_meets_all_matches, texts_are_compared_as_they_stand,
-};
 pub use plain::{plain_holds, result_holds};
 pub use upward::found_place;

@@ -6,8 +6,7 @@ ghost use Rattle.eval_matching.specs.Subjects.{is_known, named_constant, plain_s
 
 use crate::holding::{attribute_holds, constant_holds, members_hold, text_holds, unread_holds};
 use eval_state::State;
-use rule_keys::PlainKey;
-use rule_parts::{Comparison, PlainMatch};
+use rule_types::{Comparison, PlainKey, PlainMatch};
 
 /// The assigned name, empty where there is none.
 fn name<'s>(state: &'s State<'_>) -> &'s [u8]

@@ -10,8 +10,7 @@ ghost use Rattle.eval_matching.specs.Subjects.{found_place, holds_at, tags_at, u
 
 use crate::holding::{attribute_holds, given_members_hold, members_hold, text_holds};
 use eval_state::State;
-use rule_keys::UpKey;
-use rule_parts::{Comparison, UpMatch};
+use rule_types::{Comparison, UpKey, UpMatch};
 
 /// The subsystem of the device at a place, empty where there is none.
 fn subsystem_at<'a>(state: &State<'a>, place: usize) -> &'a [u8]

@@ -1,2 +1,3 @@
+pub mod JoinedWords
+pub mod Places
 pub mod Joining
-pub mod Linking

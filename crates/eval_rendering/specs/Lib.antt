@@ -1,5 +1,9 @@
-pub mod Bounds
-pub mod Words
+pub mod Safe
+pub mod Underscores
+pub mod Laws
+pub mod Steps
 pub mod Pieces
 pub mod Rendering
+pub mod Words
 pub mod Shown
+pub mod Bounds

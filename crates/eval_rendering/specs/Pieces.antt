@@ -1,10 +1,10 @@
 -- What stands in a text in place of each substitution.
 use Rattle.std.specs.Prelude.{◌-◌, Option, Some, None, option_map, unwrap_or, codes}
 use Rattle.std.specs.Option.{option_and_then}
-use Rattle.text_words.specs.Numbers.{is_digit}
+use Rattle.text_bytes.specs.Numbers.{is_digit}
 use Rattle.text_tables.specs.Texts.{Text}
 use Rattle.text_tables.specs.Pairs.{value_of}
-use Rattle.text_safe.specs.Safe.{attribute_marks, safe}
+use Rattle.eval_rendering.specs.Safe.{attribute_marks, safe}
 use Rattle.device_core.specs.Values.{DeviceValue}
 use Rattle.rule_templates.specs.declared.piece.Piece.{Piece}
 use Rattle.rule_templates.specs.declared.piece.Piece.TheVariants as piece

@@ -3,7 +3,7 @@ use Rattle.std.specs.Prelude.{ℕ, zero, suc, not, List, [], ◌∷◌, ◌++◌
 use Rattle.std.specs.List.{prefix_len}
 use Rattle.text_bytes.specs.Names.{space, is_whitespace}
 use Rattle.text_tables.specs.Texts.{Text}
-use Rattle.text_words.specs.Texts.{skip_while}
+use Rattle.text_bytes.specs.Texts.{skip_while}
 
 -- how many bytes the word has that a text begins with
 abbrev pub word_len : Text → ℕ

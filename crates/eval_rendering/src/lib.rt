@@ -1,18 +1,15 @@
-//! Templates rendered over what is known of an event.
-//!
-//! What stands in the place of each substitution is told by one definition with a line for each; a
-//! template is these texts one behind another. In the name of a link each of them is one word, and the
-//! whole is made safe in the end, so that what two pieces come to together is judged as one text. A text
-//! that would grow over 16,384 bytes is none, and nothing is built beyond that bound.
+//! Texts with substitutions rendered over an event, and what becomes of the bytes of a text in a link or of an attribute.
 #![tactic(auto)]
 
 mod bounded_text;
-mod laws;
 mod pieces;
 mod rendered;
 mod rendering;
+mod safe;
+mod underscores;
 mod words;
 
-pub use laws::rendered_links_are_safe;
 pub use rendered::{Mode, Rendered};
 pub use rendering::render;
+pub use safe::{attribute_safe, link_safe};
+pub use underscores::underscored;

@@ -12,12 +12,12 @@ ghost use Rattle.eval_rendering.specs.Pieces.{attribute, parent_node, piece_text
 ghost use Rattle.eval_rendering.specs.Shown.{shown};
 ghost use Rattle.eval_rendering.specs.Words.{spaced};
 
+use crate::safe::attribute_safe;
 use crate::words::{from_word, last_digits, word_at};
 use device_core::Device;
 use eval_state::{State, node_path, trimmed};
 use rule_templates::Piece;
 use std::alloc::{AllocError, Global};
-use text_safe::attribute_safe;
 
 /// The text of a piece: one that is lent, or one that was made for it.
 #[derive(Debug, Drop)]

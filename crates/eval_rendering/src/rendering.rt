@@ -5,12 +5,13 @@ ghost use Rattle.eval_rendering.specs.Rendering.{answer, finished, is_raw, is_wo
 
 use crate::bounded_text::BoundedText;
 use crate::pieces::piece_text;
-use crate::{Mode, Rendered};
+use crate::rendered::{Mode, Rendered};
+use crate::safe::link_safe;
+use crate::underscores::underscored;
 use eval_state::State;
 use rule_templates::{Piece, Template};
 use std::alloc::{AllocError, Global};
 use text_bytes::Bytes;
-use text_safe::{link_safe, underscored};
 
 /// Whether a piece stands in a link as it is.
 fn is_raw(piece: &Piece) -> bool

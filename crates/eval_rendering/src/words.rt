@@ -2,12 +2,12 @@
 ghost use Rattle.std.specs.Prelude.{◌≡◌, ◌≤◌, not, length, drop};
 ghost use Rattle.std.specs.List.{prefix_len, suffix_len};
 ghost use Rattle.text_bytes.specs.Names.{is_whitespace};
-ghost use Rattle.text_words.specs.Numbers.{is_digit};
-ghost use Rattle.text_words.specs.Texts.{skip_while};
+ghost use Rattle.text_bytes.specs.Numbers.{is_digit};
+ghost use Rattle.text_bytes.specs.Texts.{skip_while};
 ghost use Rattle.eval_state.specs.Texts.{longest_end};
 ghost use Rattle.eval_rendering.specs.Words.{from_word, word_at, word_len};
 
-use text_words::{is_digit, is_whitespace};
+use text_bytes::{is_digit, is_whitespace};
 
 /// How many bytes the word has that a text begins with.
 fn word_len(text: &[u8]) -> usize

@@ -1,5 +1,5 @@
 -- The kernel's names of parents, by the places that these have in the chain.
-use Rattle.std.proofs.Common.{◌≡◌, ℕ, ◌+◌, List, ◌∷◌, map, Option, option_map, slice_get, refl, sym, ap, ◌∙◌, add-one}
+use Rattle.std.proofs.Common.{◌≡◌, ℕ, ◌+◌, List, ◌∷◌, map, option_map, slice_get, sym, ap, ◌∙◌, add-one}
 use Rattle.std.proofs.lemmas.Option.{slice_get-map}
 use Rattle.text_tables.specs.Texts.{Text}
 use Rattle.device_core.specs.Values.{DeviceValue}

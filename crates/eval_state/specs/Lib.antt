@@ -1,3 +1,7 @@
-pub mod Texts
 pub mod Chains
+pub mod Texts
 pub mod Start
+pub mod Notes
+pub mod Runs
+pub mod Finals
+pub mod Scenes

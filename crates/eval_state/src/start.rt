@@ -4,7 +4,8 @@ ghost use Rattle.text_tables.specs.Pairs.{with_values};
 ghost use Rattle.text_tables.specs.Texts.{with_texts};
 ghost use Rattle.eval_state.specs.Start.{given, node_path, start, start_env, told_by};
 
-use crate::{Chain, State};
+use crate::chain::Chain;
+use crate::state::State;
 use device_core::Event;
 use std::alloc::{AllocError, Global};
 use text_bytes::Bytes;

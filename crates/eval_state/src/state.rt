@@ -4,7 +4,7 @@ ghost use Rattle.text_tables.specs.Pairs.{value_of};
 ghost use Rattle.eval_state.specs.Start.{blank};
 ghost use Rattle.eval_state.specs.Texts.{or_empty};
 
-use crate::Chain;
+use crate::chain::Chain;
 use std::alloc::Global;
 use text_bytes::Bytes;
 use text_tables::{OwnedPairs, OwnedTexts};

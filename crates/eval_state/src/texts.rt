@@ -4,7 +4,7 @@ ghost use Rattle.std.specs.List.{suffix_len};
 ghost use Rattle.text_bytes.specs.Names.{is_whitespace};
 ghost use Rattle.eval_state.specs.Texts.{trimmed};
 
-use text_words::is_whitespace;
+use text_bytes::is_whitespace;
 
 /// How many bytes of whitespace a text ends in.
 fn trailing_whitespace(text: &[u8]) -> usize

@@ -2,7 +2,7 @@
 use Rattle.std.proofs.Common.{◌≡◌, ℕ, ◌+◌, List, ◌∷◌, [], ◌++◌, length, map, Result, Ok, Err, refl, sym, ◌∙◌, ap, subst, arith, append_assoc, append-nil, add_assoc, add-zero, zero-add, length-append}
 use Rattle.std.specs.List.{flat_map, sum_by}
 use Rattle.std.proofs.lemmas.List.Sums.{sum_by-append, sum_by-cons}
-use Rattle.text_files.specs.declared.Message.{Message}
+use Rattle.text_bytes.specs.declared.Message.{Message}
 use Rattle.hwdb_core.specs.Properties.{Property}
 use Rattle.hwdb_core.specs.Sources.{text_len}
 use Rattle.hwdb_core.specs.Found.{Adds, FailsAt, Found, IsKept, found_in, join, nothing, only_messages}

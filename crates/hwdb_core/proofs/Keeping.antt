@@ -2,7 +2,7 @@
 use Rattle.std.proofs.Common.{◌≡◌, ℕ, ◌+◌, ◌-◌, ◌<◌, ◌≤◌, List, ◌∷◌, [], ◌++◌, length, map, refl, sym, ◌∙◌, ap, subst, arith, append-nil, add-zero, length-append}
 use Rattle.std.specs.List.{sum_by}
 use Rattle.std.proofs.lemmas.List.Sums.{sum_by_push}
-use Rattle.text_files.specs.declared.Message.{Message}
+use Rattle.text_bytes.specs.declared.Message.{Message}
 use Rattle.text_core.specs.declared.item.Item.{Item}
 use Rattle.hwdb_lookup.specs.declared.Entry.{Entry}
 use Rattle.hwdb_lookup.specs.Bounds.{max_entries, max_match_bytes, max_text_bytes}

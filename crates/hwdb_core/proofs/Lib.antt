@@ -1,9 +1,7 @@
-pub mod Cuts
+pub mod Walking
+pub mod Keeping
 pub mod Finding
 pub mod Joining
-pub mod Keeping
-pub mod Orders
 pub mod Showing
+pub mod Orders
 pub mod Totals
-pub mod Walking
-pub mod Telling

@@ -5,14 +5,14 @@ use Rattle.std.proofs.lemmas.Bool.{eq-eqb}
 use Rattle.std.proofs.lemmas.List.{length-take-le}
 use Rattle.std.proofs.lemmas.List.Elements.{All-append, All-cons, All-push}
 use Rattle.text_bytes.specs.Names.{equals}
-use Rattle.text_files.specs.declared.MessageKind.TheVariants.{EmptyKey}
-use Rattle.text_files.specs.declared.SourceFile.{SourceFile}
+use Rattle.text_bytes.specs.declared.MessageKind.TheVariants.{EmptyKey}
+use Rattle.text_bytes.specs.declared.SourceFile.{SourceFile}
 use Rattle.text_core.specs.Spell.{spell}
 use Rattle.text_core.specs.declared.glob_fault.GlobFault.{GlobFault}
 use Rattle.text_core.specs.declared.item.Item.{Item}
 use Rattle.hwdb_lookup.specs.Orders.{Rising}
 use Rattle.hwdb_lookup.specs.declared.Entry.{Entry}
-use Rattle.text_words.specs.Lines.{NumberedLine}
+use Rattle.text_bytes.specs.Lines.{NumberedLine}
 use Rattle.hwdb_core.specs.Paragraphs.{Cut}
 use Rattle.hwdb_core.specs.Properties.{Property, cut_properties, from_line, from_pair, from_spelled, pair_at, property_text}
 use Rattle.hwdb_core.specs.Sources.{cuts_of, entries_from, entry_at, properties_of}

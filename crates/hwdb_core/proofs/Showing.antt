@@ -3,12 +3,12 @@ use Rattle.std.proofs.Common.{◌≡◌, ℕ, ◌+◌, ◌<◌, ◌≤◌, suc, 
 use Rattle.std.specs.List.{flat_map, list_any, slice_get}
 use Rattle.std.proofs.Math.Seq.{drop-cons}
 use Rattle.std.proofs.lemmas.List.Concat.{flat_map_single}
-use Rattle.text_files.specs.Messages.{capped, message}
-use Rattle.text_files.specs.declared.MessageKind.{MessageKind}
+use Rattle.text_bytes.specs.Messages.{capped, message}
+use Rattle.text_bytes.specs.declared.MessageKind.{MessageKind}
 use Rattle.text_core.specs.Spell.{spell}
 use Rattle.text_core.specs.declared.glob_fault.GlobFault.{GlobFault}
 use Rattle.text_core.specs.declared.item.Item.{Item}
-use Rattle.text_words.specs.Lines.{NumberedLine}
+use Rattle.text_bytes.specs.Lines.{NumberedLine}
 use Rattle.hwdb_core.specs.Paragraphs.{Cut}
 use Rattle.hwdb_core.specs.Properties.{Pair, cut_match_bytes, cut_properties, from_line, from_pair, from_spelled, pair_of, property_text}
 use Rattle.hwdb_core.specs.Messages.{about_early, about_match, about_pair, about_property, about_spelled, cut_messages}

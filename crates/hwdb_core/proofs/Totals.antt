@@ -2,7 +2,7 @@
 use Rattle.std.proofs.Common.{◌≡◌, ℕ, ◌≤◌, List, ◌∷◌, [], length, refl, sym, ◌∙◌, ap, subst}
 use Rattle.std.specs.List.{flat_map, sum_by}
 use Rattle.std.proofs.lemmas.List.Sums.{sum_by-cons}
-use Rattle.text_files.specs.declared.SourceFile.{SourceFile}
+use Rattle.text_bytes.specs.declared.SourceFile.{SourceFile}
 use Rattle.hwdb_lookup.specs.Bounds.{max_name_bytes}
 use Rattle.hwdb_core.specs.Properties.{cut_match_bytes, cut_properties}
 use Rattle.hwdb_core.specs.Messages.{cut_messages}

@@ -3,8 +3,8 @@ use Rattle.std.proofs.Common.{◌≡◌, ℕ, true, false, List, ◌∷◌, [], 
 use Rattle.std.specs.List.{All, filter, slice_split}
 use Rattle.std.proofs.lemmas.List.Splits.{slice_split_at, slice_split_none}
 use Rattle.std.proofs.lemmas.List.Elements.{All-push}
-use Rattle.text_files.specs.declared.SourceFile.{SourceFile}
-use Rattle.text_words.specs.Lines.{NumberedLine, lines, numbered_from}
+use Rattle.text_bytes.specs.declared.SourceFile.{SourceFile}
+use Rattle.text_bytes.specs.Lines.{NumberedLine, lines, numbered_from}
 use Rattle.hwdb_core.specs.Lines.{clean_lines, cleaned, is_comment, lines_of}
 use Rattle.hwdb_core.specs.Paragraphs.{cut, has_lines, is_empty_line, paragraphs}
 use Rattle.hwdb_core.specs.Found.{Adds, FailsAt, Found, IsKept, found_in, join}

@@ -1,6 +1,6 @@
 -- Serves inner proofs only: what was found so far, and how a part adds to it.
 use Rattle.std.specs.Prelude.{◌≡◌, ℕ, ◌+◌, ◌≤◌, List, [], ◌∷◌, ◌++◌, length, sum_by, Result, Ok, Err}
-use Rattle.text_files.specs.declared.Message.{Message}
+use Rattle.text_bytes.specs.declared.Message.{Message}
 use Rattle.hwdb_lookup.specs.Bounds.{max_entries, max_match_bytes, max_text_bytes}
 use Rattle.hwdb_core.specs.Properties.{Property}
 use Rattle.hwdb_core.specs.Sources.{text_len}

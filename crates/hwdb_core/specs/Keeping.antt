@@ -1,6 +1,6 @@
 -- Serves inner proofs only: what was gathered, as what was found.
 use Rattle.std.specs.Prelude.{◌≡◌, ℕ, ◌≤◌, List, length, map, sum_by}
-use Rattle.text_files.specs.declared.Message.{Message}
+use Rattle.text_bytes.specs.declared.Message.{Message}
 use Rattle.hwdb_lookup.specs.Bounds.{max_entries, max_match_bytes, max_text_bytes}
 use Rattle.hwdb_lookup.specs.declared.Entry.{Entry}
 use Rattle.hwdb_core.specs.Properties.{Property}

@@ -1,9 +1,8 @@
-pub mod Lines
-pub mod Paragraphs
-pub mod Properties
-pub mod Messages
-pub mod Sources
-pub mod MessageLaws
 pub mod Found
 pub mod Keeping
+pub mod Paragraphs
 pub mod Parts
+pub mod Sources
+pub mod Properties
+pub mod Messages
+pub mod Lines

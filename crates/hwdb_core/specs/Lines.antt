@@ -2,8 +2,8 @@
 use Rattle.std.specs.Prelude.{ℕ, ◌-◌, Bool, not, ◌==◌, List, length, take, take_while, map, filter}
 use Rattle.std.specs.List.{suffix_len}
 use Rattle.text_bytes.specs.Names.{hash, is_whitespace}
-use Rattle.text_words.specs.Lines.{NumberedLine, numbered_lines}
-use Rattle.text_words.specs.Texts.{begins_with}
+use Rattle.text_bytes.specs.Lines.{NumberedLine, numbered_lines}
+use Rattle.text_bytes.specs.Texts.{begins_with}
 
 -- whether a text begins with `#`
 abbrev pub is_comment : List ℕ → Bool

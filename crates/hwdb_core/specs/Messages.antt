@@ -1,13 +1,13 @@
 -- The messages about a paragraph.
 use Rattle.std.specs.Prelude.{ℕ, ◌==◌, if◌then◌else◌, List, [], ◌∷◌, ◌++◌, length, take, map, flat_map, Result, Ok, Err}
-use Rattle.text_files.specs.Messages.{message}
-use Rattle.text_files.specs.declared.Message.{Message}
-use Rattle.text_files.specs.declared.MessageKind.{MessageKind}
-use Rattle.text_files.specs.declared.MessageKind.TheVariants.{PropertyWithoutMatch, MatchWithoutProperty, UnindentedLine, PatternNotSupported}
+use Rattle.text_bytes.specs.Messages.{message}
+use Rattle.text_bytes.specs.declared.Message.{Message}
+use Rattle.text_bytes.specs.declared.MessageKind.{MessageKind}
+use Rattle.text_bytes.specs.declared.MessageKind.TheVariants.{PropertyWithoutMatch, MatchWithoutProperty, UnindentedLine, PatternNotSupported}
 use Rattle.text_core.specs.Spell.{spell}
 use Rattle.text_core.specs.declared.item.Item.{Item}
 use Rattle.text_core.specs.declared.glob_fault.GlobFault.{GlobFault}
-use Rattle.text_words.specs.Lines.{NumberedLine}
+use Rattle.text_bytes.specs.Lines.{NumberedLine}
 use Rattle.hwdb_core.specs.Paragraphs.{Cut}
 use Rattle.hwdb_core.specs.Properties.{Pair, pair_of, property_text}
 

@@ -2,8 +2,8 @@
 use Rattle.std.specs.Prelude.{◌≡◌, Bool, true, not, ◌==◌, List, [], ◌∷◌, ◌++◌, length, take_while, filter, All}
 use Rattle.std.specs.List.{slice_split}
 use Rattle.text_bytes.specs.Names.{space}
-use Rattle.text_words.specs.Lines.{NumberedLine}
-use Rattle.text_words.specs.Texts.{begins_with, is_empty, skip_while}
+use Rattle.text_bytes.specs.Lines.{NumberedLine}
+use Rattle.text_bytes.specs.Texts.{begins_with, is_empty, skip_while}
 
 -- whether nothing is left of a line
 abbrev pub is_empty_line : NumberedLine → Bool

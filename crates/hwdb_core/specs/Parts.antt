@@ -1,9 +1,9 @@
 -- Serves inner proofs only: what each part of a file adds to what was found so far.
 use Rattle.std.specs.Prelude.{ℕ, if◌then◌else◌, List, [], ◌∷◌, length}
-use Rattle.text_files.specs.declared.SourceFile.{SourceFile}
+use Rattle.text_bytes.specs.declared.SourceFile.{SourceFile}
 use Rattle.text_core.specs.Spell.{spell}
 use Rattle.text_core.specs.declared.item.Item.{Item}
-use Rattle.text_words.specs.Lines.{NumberedLine}
+use Rattle.text_bytes.specs.Lines.{NumberedLine}
 use Rattle.hwdb_core.specs.Paragraphs.{Cut}
 use Rattle.hwdb_core.specs.Properties.{cut_match_bytes, cut_properties, from_line, from_spelled, gives_entry}
 use Rattle.hwdb_core.specs.Messages.{about_bare, about_early, about_match, about_property, about_rest, cut_messages}

@@ -2,11 +2,11 @@
 use Rattle.std.specs.Prelude.{ℕ, ◌+◌, Bool, ◌&&◌, ◌==◌, if◌then◌else◌, List, [], ◌∷◌, length, take, drop, position, flat_map, sum_by, Option, Some, None, Result, Ok, Err, is_ok}
 use Rattle.std.specs.List.{list_any}
 use Rattle.text_bytes.specs.Names.{equals}
-use Rattle.text_words.specs.Lines.{NumberedLine}
-use Rattle.text_words.specs.Texts.{unindented}
-use Rattle.text_files.specs.Messages.{capped}
-use Rattle.text_files.specs.declared.MessageKind.{MessageKind}
-use Rattle.text_files.specs.declared.MessageKind.TheVariants.{NoEquals, EmptyKey}
+use Rattle.text_bytes.specs.Lines.{NumberedLine}
+use Rattle.text_bytes.specs.Texts.{unindented}
+use Rattle.text_bytes.specs.Messages.{capped}
+use Rattle.text_bytes.specs.declared.MessageKind.{MessageKind}
+use Rattle.text_bytes.specs.declared.MessageKind.TheVariants.{NoEquals, EmptyKey}
 use Rattle.text_core.specs.Spell.{spell}
 use Rattle.text_core.specs.declared.item.Item.{Item}
 use Rattle.text_core.specs.declared.glob_fault.GlobFault.{GlobFault}

@@ -1,7 +1,7 @@
 -- What database files say, taken together.
 use Rattle.std.specs.Prelude.{ℕ, ◌+◌, ◌≤◌, List, [], ◌∷◌, length, map, flat_map, sum_by}
-use Rattle.text_files.specs.declared.Message.{Message}
-use Rattle.text_files.specs.declared.SourceFile.{SourceFile}
+use Rattle.text_bytes.specs.declared.Message.{Message}
+use Rattle.text_bytes.specs.declared.SourceFile.{SourceFile}
 use Rattle.hwdb_lookup.specs.Bounds.{max_entries, max_match_bytes, max_name_bytes, max_text_bytes}
 use Rattle.hwdb_lookup.specs.declared.Entry.{Entry}
 use Rattle.hwdb_core.specs.Lines.{lines_of}

@@ -13,7 +13,7 @@ use crate::gathered::Gathered;
 use crate::reading::read_file;
 use hwdb_lookup::{Entry, MAX_NAME_BYTES};
 use std::alloc::Global;
-use text_core::{Message, SourceFile};
+use text_bytes::{Message, SourceFile};
 
 /// What database files hold, and what is wrong with them.
 #[derive(Debug, Drop)]

@@ -3,7 +3,7 @@
 //! Nothing is kept that passes a bound, so that the bounds hold of each value here.
 
 ghost use Rattle.std.specs.Prelude.{◌≡◌, ◌∷◌, []};
-ghost use Rattle.text_files.specs.Messages.{capped, message};
+ghost use Rattle.text_bytes.specs.Messages.{capped, message};
 ghost use Rattle.hwdb_core.specs.Sources.{entries_from};
 ghost use Rattle.hwdb_core.specs.Found.{Adds, IsKept, nothing, only_messages};
 
@@ -12,9 +12,8 @@ use crate::paragraph::Pair;
 use hwdb_lookup::{Entry, MAX_ENTRIES, MAX_MATCH_BYTES, MAX_TEXT_BYTES};
 use std::alloc::Global;
 use std::marker::Model;
-use text_bytes::Bytes;
+use text_bytes::{Bytes, Message, MessageKind, capped};
 use text_core::Pattern;
-use text_files::{Message, MessageKind, capped};
 
 /// Entries and messages, in order.
 #[derive(Debug, Drop)]

@@ -9,7 +9,6 @@
 mod database;
 mod fault;
 mod gathered;
-pub mod laws;
 mod lines;
 mod paragraph;
 mod reading;

@@ -7,8 +7,7 @@ ghost use Rattle.hwdb_core.specs.Lines.{is_comment, before_comment, trimmed, cle
 ghost use Rattle.hwdb_core.specs.Paragraphs.{is_property};
 ghost use Rattle.hwdb_core.specs.Properties.{property_text};
 
-use text_bytes::find;
-use text_words::{Line, begins_with, is_whitespace, unindented};
+use text_bytes::{Line, begins_with, find, is_whitespace, unindented};
 
 /// Whether a line begins with `#`.
 pub fn is_comment(line: &Line<'_>) -> bool

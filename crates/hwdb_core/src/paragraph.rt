@@ -6,9 +6,7 @@ ghost use Rattle.hwdb_core.specs.Paragraphs.{cut, is_match, is_property};
 ghost use Rattle.hwdb_core.specs.Properties.{pair_of};
 
 use crate::lines::{is_property, property_text};
-use text_bytes::find;
-use text_core::MessageKind;
-use text_words::Line;
+use text_bytes::{Line, MessageKind, find};
 
 /// A key and its value, both of a line.
 #[derive(Debug, Drop)]

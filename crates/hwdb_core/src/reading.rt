@@ -15,8 +15,8 @@ use crate::gathered::Gathered;
 use crate::lines::{cleaned, is_comment, property_text};
 use crate::paragraph::{pair_of, parts_of};
 use std::alloc::Global;
-use text_core::{GlobFault, MessageKind, Pattern, SourceFile};
-use text_words::{Line, Lines};
+use text_bytes::{Line, Lines, MessageKind, SourceFile};
+use text_core::{GlobFault, Pattern};
 
 /// Reads a file.
 pub fn read_file(alloc: Global, found: &mut Gathered, file: &SourceFile) -> Result<(), HwdbFault>

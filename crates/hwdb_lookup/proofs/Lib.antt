@@ -1,6 +1,6 @@
 pub mod Counting
+pub mod Placing
 pub mod Keys
 pub mod Orders
-pub mod Placing
 pub mod References
 pub mod Unique

@@ -1,5 +1,5 @@
+pub mod Winning
+pub mod Query
+pub mod Places
 pub mod Bounds
 pub mod Orders
-pub mod Query
-pub mod Winning
-pub mod Places

@@ -2,7 +2,7 @@
 use Rattle.std.specs.Prelude.{ℕ, nat_lt, if◌then◌else◌, List, ◌∷◌, [], map, filter, fold}
 use Rattle.std.specs.Borrow.{Bor}
 use Rattle.std.specs.declared.cmp.Ordering.{Ordering}
-use Rattle.text_files.specs.Insertion.{by_order, put_by, text_order}
+use Rattle.text_bytes.specs.Insertion.{by_order, put_by, text_order}
 use Rattle.text_core.specs.Fits.{fits}
 use Rattle.hwdb_lookup.specs.declared.entry.Entry.{Entry}
 use Rattle.hwdb_lookup.specs.declared.lookup.Sourced.{Sourced}

@@ -1,6 +1,7 @@
 //! One property of the database, with the pattern that it is for.
 
-use text_core::{Bytes, Pattern};
+use text_bytes::Bytes;
+use text_core::Pattern;
 
 /// A property for the devices whose modalias a pattern fits.
 #[derive(Debug, Drop)]

@@ -2,7 +2,7 @@
 ghost use Rattle.std.specs.Prelude.{◌↔◌, IsTrue};
 ghost use Rattle.hwdb_lookup.specs.Orders.{Rising};
 
-use crate::Entry;
+use crate::entry::Entry;
 
 /// Whether the orders of the entries rise strictly and no key is empty; true of the empty list.
 ///

@@ -5,8 +5,9 @@
 ghost use Rattle.std.specs.Prelude.{◌≡◌};
 ghost use Rattle.hwdb_lookup.specs.Orders.{Rising};
 
+use crate::entry::Entry;
+use crate::lookup::{Lookup, Sourced};
 use crate::winners::winners;
-use crate::{Entry, Lookup, Sourced};
 use std::alloc::{AllocError, Global};
 use std::marker::Model;
 

@@ -7,7 +7,7 @@ ghost use Rattle.hwdb_lookup.specs.Places.{IsPlace, seen};
 ghost use Rattle.hwdb_lookup.specs.Query.{put, winners};
 ghost use Rattle.hwdb_lookup.specs.Winning.{KeysRise};
 
-use crate::Entry;
+use crate::entry::Entry;
 use std::alloc::{AllocError, Global};
 
 /// The entries that fit, for each key the one that counts, sorted by key.

@@ -5,9 +5,9 @@ use Rattle.std.proofs.lemmas.Bool.Decides.{eqb_tells}
 use Rattle.text_core.specs.declared.item.Item.TheVariants.{Byte, One, Many, Among}
 use Rattle.trie_nodes.specs.Tree.{is_star}
 use Rattle.index_reading.specs.Contents.{label_of}
-use Rattle.index_layout.specs.Kinds.{byte_kind, many_kind, among_kind}
-use Rattle.index_layout.specs.Records.{set}
-use Rattle.index_layout.specs.declared.records.NodeRecord.{NodeRecord}
+use Rattle.index_reading.specs.Kinds.{byte_kind, many_kind, among_kind}
+use Rattle.index_reading.specs.Records.{set}
+use Rattle.index_reading.specs.declared.records.NodeRecord.{NodeRecord}
 
 module _ (bytes : List ℕ) (n : NodeRecord) where
   label_is : (a b c : Bool) → eqb n.kind 1 ≡ a → eqb n.kind 3 ≡ b → eqb n.kind 4 ≡ c → label_of bytes n ≡ cond a (Byte n.byte) (cond b Many (cond c (Among (set bytes n.set)) One))

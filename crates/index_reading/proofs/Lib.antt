@@ -1,4 +1,10 @@
-pub mod First
+mod Written
+pub mod Reading
+pub mod Standing
+pub mod CheckSums
+pub mod Bits
+pub mod Failing
+pub mod Faults
+pub mod Sums
 pub mod Labels
 pub mod Nodes
-pub mod Sums

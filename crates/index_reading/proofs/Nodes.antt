@@ -6,14 +6,14 @@ use Rattle.text_core.specs.declared.item.Item.TheVariants.{One}
 use Rattle.trie_nodes.specs.declared.node.Node.{Node}
 use Rattle.trie_nodes.specs.Tree.{Shape, node_at, nowhere}
 use Rattle.trie_nodes.specs.Values.{no_value, value_at}
-use Rattle.index_checks.specs.Accepted.{Accepted, children_before}
+use Rattle.index_reading.specs.Accepted.{Accepted, children_before}
 use Rattle.index_reading.specs.Contents.{Contents, contents, node_of, label_of, value_of}
-use Rattle.index_layout.specs.Header.{header_of}
-use Rattle.index_layout.specs.Records.{node}
-use Rattle.index_checks.specs.declared.fault.IndexFault.TheVariants.{Shape as ShapeCheck, Label as LabelCheck, Size as SizeCheck}
+use Rattle.index_reading.specs.Header.{header_of}
+use Rattle.index_reading.specs.Records.{node}
+use Rattle.index_reading.specs.declared.fault.IndexFault.TheVariants.{Shape as ShapeCheck, Label as LabelCheck, Size as SizeCheck}
 use Rattle.index_reading.proofs.Labels.{label_one}
 use Rattle.index_reading.proofs.Sums.{sum_front}
-use Rattle.index_checks.proofs.Sums.{sum_more}
+use Rattle.index_reading.proofs.CheckSums.{sum_more}
 
 -- a sum over the numbers below i, of what the nodes have
 sums : (f : Node → ℕ) (g : ℕ → Node) (i : ℕ) → sum_by f (map g (range_with_len 0 i)) ≡ sum (map (λ k. f (g k)) (range_with_len 0 i))

@@ -5,10 +5,10 @@ use Rattle.text_core.specs.declared.item.Item.{Item}
 use Rattle.text_core.specs.declared.item.Item.TheVariants.{Byte, One, Many, Among}
 use Rattle.trie_nodes.specs.declared.node.Node.{Node}
 use Rattle.trie_nodes.specs.Values.{Value}
-use Rattle.index_layout.specs.Header.{header_of}
-use Rattle.index_layout.specs.Kinds.{byte_kind, many_kind, among_kind}
-use Rattle.index_layout.specs.Records.{node, value, set, text_of}
-use Rattle.index_layout.specs.declared.records.NodeRecord.{NodeRecord}
+use Rattle.index_reading.specs.Header.{header_of}
+use Rattle.index_reading.specs.Kinds.{byte_kind, many_kind, among_kind}
+use Rattle.index_reading.specs.Records.{node, value, set, text_of}
+use Rattle.index_reading.specs.declared.records.NodeRecord.{NodeRecord}
 
 -- the item that leads to a node; the root's is never asked
 abbrev pub label_of : List ℕ → NodeRecord → Item

@@ -1,10 +1,12 @@
 //! An index file that was checked.
 ghost use Rattle.std.specs.Prelude.{◌≡◌, ◌*◌, ◌+◌, ◌≤◌, IfOk, MatchResult, length};
 ghost use Rattle.trie_nodes.specs.Tree.{active_after, count};
-ghost use Rattle.index_checks.specs.Accepted.{Accepted, FailsFirst};
+ghost use Rattle.index_reading.specs.Accepted.{Accepted, FailsFirst};
 ghost use Rattle.index_reading.specs.Contents.{contents};
 
-use index_checks::{IndexFault, Records, check};
+use crate::checked_records::Records;
+use crate::checks::check;
+use crate::fault::IndexFault;
 use std::alloc::{AllocError, Global};
 use std::marker::Model;
 
@@ -15,7 +17,7 @@ pub struct Index<'a> {
 }
 
 impl<'a> Model for Index<'a> {
-    ghost use Rattle.index_checks.specs.Accepted.{Accepted};
+    ghost use Rattle.index_reading.specs.Accepted.{Accepted};
     ghost use Rattle.index_reading.specs.Contents.{Contents, contents};
 
     ghost Value = { Contents };

@@ -1,12 +1,21 @@
-//! The hardware database in an index file: asked in place, without a copy.
+//! The index file: its format, the checks that a file has to pass, and an index asked in place.
 //!
-//! An index is nodes by number like the trie in memory, so the walk of `trie_nodes` answers from it.
+//! An index is checked once, when it is opened; each later look relies on that, and takes no memory for what it finds.
 #![tactic(auto)]
 
+mod checked_records;
+mod checks;
+mod fault;
+mod header;
 mod index;
-mod law;
+pub mod kinds;
+mod numbers;
+mod records;
 mod tree;
 
+pub use checked_records::Records;
+pub use checks::check;
+pub use fault::IndexFault;
+pub use header::{HEADER_LEN, Header, MAGIC, NODE_LEN, Places, SET_LEN, VERSION};
 pub use index::Index;
-pub use index_checks::IndexFault;
-pub use law::values_of_version_1_have_no_file;
+pub use records::{NodeRecord, Span, ValueRecord};

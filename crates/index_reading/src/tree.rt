@@ -1,9 +1,9 @@
 //! An index as the nodes of a database, and so as a database.
 ghost use Rattle.trie_nodes.specs.Values.{listed};
 
-use crate::Index;
+use crate::index::Index;
+use crate::kinds::{AMONG, BYTE, MANY};
 use hwdb_lookup::{Lookup, Sourced};
-use index_layout::kinds::{AMONG, BYTE, MANY};
 use std::alloc::{AllocError, Global};
 use std::ops::Range;
 use trie_nodes::{Database, Found, Nodes};

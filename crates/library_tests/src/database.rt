@@ -1,14 +1,12 @@
 //! Entries in a list, in a trie and in an index: what their calls answer beside the properties that are found.
 use hwdb_lookup::{Entry, Lookup, PlainDb, Sourced, rising};
-use index_checks::check;
-use index_core::{Index, write_index};
-use index_layout::{Header, NodeRecord, Places, Span, ValueRecord, kinds};
+use index_reading::{Header, NodeRecord, Places, Span, ValueRecord, check, kinds};
 use std::alloc::{AllocError, Global};
 use std::cmp::Ordering;
 use std::test::Fail;
 use text_core::{Bytes, Item, Pattern};
-use trie_core::{Nodes, Trie};
-use trie_paths::{compare, compare_labels};
+use trie_build::{compare, compare_labels};
+use trie_core::{Index, Nodes, Trie, write_index};
 
 /// The index of `a*` with ` K=V`, from line 2 of t.hwdb, as docs/format.md prints it.
 const WITH_FILE: &[u8; 144] = b"devdryhw\x02\0\0\0\x03\0\0\0\x01\0\0\0\0\0\0\0\x08\0\0\0\0\0\0\0\

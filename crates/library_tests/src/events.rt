@@ -1,6 +1,5 @@
 //! Blocks as a caller cuts and reads them, and what is known of an event before any rule has run.
-use device_core::{BlockFaultKind, Event, ProgramAnswer, read_block};
-use device_runs::{SplitFault, Splitter, Taken};
+use device_core::{BlockFaultKind, Event, ProgramAnswer, SplitFault, Splitter, Taken, read_block};
 use eval_state::State;
 use std::alloc::{AllocError, Global};
 use std::test::Fail;

@@ -3,10 +3,10 @@
 use devdry_files::{
     Disk, DiskFault, MemoryDisk, MemoryEntry, MemoryPlace, ReadFault, Stands, read_all, wanted,
 };
-use engine_line::{Line, Verb};
+use engine_ends::{Line, Verb};
 use std::alloc::{AllocError, Global};
 use std::test::Fail;
-use text_files::SourceFile;
+use text_bytes::SourceFile;
 
 const ENTRIES: [MemoryEntry; 4] = [
     MemoryEntry {

@@ -5,8 +5,7 @@ use rule_tokens::{Operator, Quote, Span, TokenFault, TokenFaultKind, Tokens, unq
 use std::alloc::{AllocError, Global};
 use std::process::Abort;
 use std::test::Fail;
-use text_bytes::Bytes;
-use text_files::{FileKind, SourceFile};
+use text_bytes::{Bytes, FileKind, SourceFile};
 
 /// How many tokens a line begins with, and the fault that ends them.
 fn ending(line: &[u8]) -> (u32, Option<TokenFault>) {

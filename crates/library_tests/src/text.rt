@@ -2,9 +2,8 @@
 use indexmap::IndexMap;
 use std::alloc::{AllocError, Global};
 use std::test::Fail;
-use text_bytes::Bytes;
+use text_bytes::{Bytes, capped};
 use text_core::{Choice, GlobFault, Item, Pattern};
-use text_files::capped;
 use text_tables::{OwnedPairs, OwnedTexts, Pairs, Table, Texts};
 
 /// Whether a pattern has this fault.

@@ -5,9 +5,10 @@ use Rattle.std.proofs.Math.Seq.{drop-cons}
 use Rattle.std.proofs.lemmas.List.{map-id, take-append-drop}
 use Rattle.std.proofs.lemmas.List.Concat.{flat_map-append}
 use Rattle.std.proofs.lemmas.List.Sums.{sum_by-append}
-use Rattle.rule_core.specs.Rules.{Rule, RuleSet, file_messages, file_rules, rule_tokens, set_of, tokens_in}
-use Rattle.text_files.specs.declared.message.Message.{Message}
-use Rattle.text_files.specs.declared.source_file.SourceFile.{SourceFile}
+use Rattle.rule_types.specs.Rules.{Rule, rule_tokens, tokens_in}
+use Rattle.rule_core.specs.Rules.{RuleSet, file_messages, file_rules, set_of}
+use Rattle.text_bytes.specs.declared.message.Message.{Message}
+use Rattle.text_bytes.specs.declared.source_file.SourceFile.{SourceFile}
 use Rattle.rule_core.specs.Gathering.{Adds, FailsAt}
 use Rattle.rule_core.specs.declared.fault.RulesFault.{RulesFault}
 use Rattle.rule_core.specs.declared.fault.RulesFault.TheVariants.{TooMany, Memory}

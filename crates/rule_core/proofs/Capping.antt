@@ -2,7 +2,7 @@
 use Rattle.std.proofs.Common.{◌≡◌, ℕ, ◌+◌, ◌<◌, ◌≤◌, length, min, sym, ◌∙◌, ap, arith, ◌⊎◌, inl, inr}
 use Rattle.std.proofs.Math.Nat.{min-eq_left, min-eq_right}
 use Rattle.std.proofs.lemmas.Bool.{cases_lt}
-use Rattle.rule_core.specs.Rules.{Rule, name_count, rule_tokens}
+use Rattle.rule_types.specs.Rules.{Rule, name_count, rule_tokens}
 
 min_more : (a b top : ℕ) → min (min a top + b) top ≡ min (a + b) top
 min_more a b top = by_case (cases_lt a top) where

@@ -1,9 +1,9 @@
 -- What is said of a file.
 use Rattle.std.proofs.Common.{◌≡◌, ℕ, List, ◌++◌, map, ◌∙◌, ap, append_assoc, Option, zip}
 use Rattle.std.specs.List.{flat_map}
-use Rattle.text_files.specs.declared.message.Message.{Message}
-use Rattle.text_files.specs.declared.source_file.SourceFile.{SourceFile}
-use Rattle.rule_lines.specs.Lines.{joined_lines}
+use Rattle.text_bytes.specs.declared.message.Message.{Message}
+use Rattle.text_bytes.specs.declared.source_file.SourceFile.{SourceFile}
+use Rattle.rule_core.specs.Lines.{joined_lines}
 use Rattle.rule_jumps.specs.Jumps.{landings}
 use Rattle.rule_jumps.specs.declared.jumps.Landing.{Landing}
 use Rattle.rule_core.specs.Rules.{Reading, file_messages, line_messages, names_of, open_messages, readings_of}

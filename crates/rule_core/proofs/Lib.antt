@@ -1,10 +1,9 @@
+pub mod Walking
+mod Ends
+pub mod Sorting
+pub mod Taking
+mod Drafting
+pub mod Bounds
 mod Capping
 mod Adding
 mod Filing
-mod Listing
-mod Landed
-mod Outcomes
-mod Landing
-mod Numbering
-mod Ordering
-mod Understanding

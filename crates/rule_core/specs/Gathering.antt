@@ -1,6 +1,6 @@
 -- Serves inner proofs only: rules put behind others, as long as not too many tokens are left in them.
 use Rattle.std.specs.Prelude.{◌≡◌, ◌<◌, ◌≤◌, ◌^◌, ℕ, List, ◌++◌, Result, Ok, Err}
-use Rattle.rule_core.specs.Rules.{Rule, tokens_in}
+use Rattle.rule_types.specs.Rules.{Rule, tokens_in}
 use Rattle.rule_core.specs.declared.fault.RulesFault.{RulesFault}
 use Rattle.rule_core.specs.declared.fault.RulesFault.TheVariants.{TooMany, Memory}
 

@@ -1,42 +1,71 @@
--- What the rules of files come to, whatever stands in the files.
-use Rattle.std.specs.Prelude.{◌≡◌, ◌⊎◌, ℕ, true, false, List, [], map, All, Any, Contains, None, Ok}
-use Rattle.std.specs.List.{AllZip}
-use Rattle.text_files.specs.declared.source_file.SourceFile.{SourceFile}
-use Rattle.rule_lines.specs.Lines.{NumberedLine, Piece, is_comment, joined_lines, kept, lines, numbered_from, piece_of, run_number, run_text, runs, unindented}
-use Rattle.text_files.specs.Messages.{capped}
-use Rattle.rule_drafts.specs.Drafts.{Draft, draft_of}
-use Rattle.rule_jumps.specs.declared.jumps.Landing.{Landing}
-use Rattle.rule_core.specs.Rules.{Rule, file_rules, rule_at}
+-- What sorting the parts of a rule keeps, in which order they then stand, which names are given twice, and how a line is written of which nothing is to be said.
+use Rattle.std.specs.Prelude.{◌≡◌, ℕ, ◌+◌, ◌<◌, ◌≤◌, false, List, [], ◌∷◌, ◌++◌, ⊤, drop, filter_map, length}
+use Rattle.text_bytes.specs.Names.{comma, is_blank}
+use Rattle.text_bytes.specs.declared.message.MessageKind.TheVariants.{GivenTwice}
+use Rattle.rule_tokens.specs.Grammar.{AllAre, Placed}
+use Rattle.rule_parts.specs.Parts.{is_read_as_assign}
+use Rattle.rule_parts.specs.Values.{finding}
+use Rattle.rule_types.specs.declared.part.Part.{Part}
+use Rattle.rule_types.specs.declared.part.Part.TheVariants as part
+use Rattle.rule_core.specs.Drafts.{act_in, assignment_in, draft, given_again_behind, goto_in, label_in, plain_in, result_in, up_in}
+use Rattle.rule_core.specs.Style.{between}
+use Rattle.rule_core.specs.Turns.{of_turn, turn_of_act, turn_of_assignment}
 
--- neither a jump without its label nor a label that no jump ends at
-abbrev pub well_landed : Landing
-well_landed = record { lost = false; unused = false }
+-- none has its turn before this one, nor before the one that it follows
+abbrev pub RisesFrom : {X : Type 0} → (X → ℕ) → ℕ → List X → Type 0
+RisesFrom turn t [] = ⊤
+RisesFrom turn t (x ∷ xs) = (t ≤ turn x) × RisesFrom turn (turn x) xs
 
--- a rule is a joined line just as it is written, its jump and its label included, and nothing is to be said of it
-pub record IsWritten (file : List ℕ) (l : NumberedLine) (r : Rule) : Type 0 where
-  pub draft : Draft
-  pub reads : draft_of l.text ≡ Ok draft
-  pub is : r ≡ rule_at file l.number draft well_landed
-  pub quiet : draft.findings ≡ []
+-- Sorted are those that were written: those of each turn in written order, and turn by turn.
+pub record IsInOrder {X : Type 0} (turn : X → ℕ) (written sorted : List X) : Type 0 where
+  pub each : (t : ℕ) → of_turn turn sorted t ≡ of_turn turn written t
+  pub rises : RisesFrom turn 0 sorted
 
--- the physical lines of a file, as they are written
-abbrev pub written_lines : SourceFile → List NumberedLine
-written_lines f = numbered_from 1 (lines f.bytes)
+-- the acts and the assignments of each draft stand in the order of evaluation
+pub record AreInOrder (line : List ℕ) (parts : List Part) : Type 0 where
+  pub acts : IsInOrder turn_of_act (filter_map act_in parts) (draft line parts).acts
+  pub sets : IsInOrder turn_of_assignment (filter_map assignment_in parts) (draft line parts).sets
 
--- the runs of physical lines that are joined, comments left out
-abbrev pub runs_of : SourceFile → List (List Piece)
-runs_of f = runs (map piece_of (kept (written_lines f)))
+-- each part is in one of five lists, or gives a label or a jump
+abbrev pub NoneIsLost : List Part → Type 0
+NoneIsLost parts =
+    length (filter_map plain_in parts) + (length (filter_map up_in parts) + (length (filter_map act_in parts) + (length (filter_map result_in parts)
+    + (length (filter_map assignment_in parts) + (length (filter_map label_in parts) + length (filter_map goto_in parts)))))) ≡ length parts
 
--- lines that are joined are empty, or one of these rules, at the number of their first
-abbrev pub IsEmptyOrRule : List Rule → List Piece → Type 0
-IsEmptyOrRule rules run = (run_text run ≡ []) ⊎ Contains (map (λ r. r.line) rules) (capped (run_number run))
+-- both parts give a label, or both a jump, and the later one gives this name
+abbrev pub GivesAgain : Part → Part → List ℕ → Type 0
+GivesAgain (part.Label earlier) (part.Label later) name = later ≡ name
+GivesAgain (part.Goto earlier) (part.Goto later) name = later ≡ name
+GivesAgain _ _ _ = ⊥
 
--- a physical line of a file is a comment, or one of lines that are joined and are empty or a rule
-abbrev pub IsKnown : SourceFile → NumberedLine → Type 0
-IsKnown f l = (is_comment (unindented l) ≡ true) ⊎ Any (λ run. Contains run (piece_of (unindented l)) × IsEmptyOrRule (file_rules f) run) (runs_of f)
+-- among the parts stands one of this part's key, and this part gives the name
+pub record IsGivenAmong (parts : List Part) (p : Part) (name : List ℕ) : Type 0 where
+  pub before : List Part
+  pub earlier : Part
+  pub behind : List Part
+  pub cut : parts ≡ before ++ earlier ∷ behind
+  pub again : GivesAgain earlier p name
 
--- All that stands in a file is understood: its joined lines are its rules, none is open at its end, and each physical line is a rule or part of one, empty, or a comment.
-pub record IsUnderstood (f : SourceFile) : Type 0 where
-  pub rules : AllZip (IsWritten f.name) (joined_lines f.bytes).lines (file_rules f)
-  pub closed : (joined_lines f.bytes).open_at ≡ None
-  pub lines : All (IsKnown f) (written_lines f)
+-- Behind parts a part is told of as one given twice exactly where one of its key stands among them, and else nothing is said.
+pub record IsToldWhereAgain (parts : List Part) (p : Part) : Type 0 where
+  pub again : (name : List ℕ) → IsGivenAmong parts p name → given_again_behind [] (parts ++ p ∷ []) ≡ given_again_behind [] parts ++ finding GivenTwice name ∷ []
+  pub once : ((name : List ℕ) → IsGivenAmong parts p name → ⊥) → given_again_behind [] (parts ++ p ∷ []) ≡ given_again_behind [] parts
+
+-- blanks, one comma, and blanks, of which there is at least one
+pub record IsPlainGap (gap : List ℕ) : Type 0 where
+  pub before : List ℕ
+  pub behind : List ℕ
+  pub spelled : gap ≡ before ++ comma ∷ behind
+  pub blank_before : AllAre is_blank before
+  pub blank_behind : AllAre is_blank behind
+  pub some_behind : 0 < length behind
+
+-- behind a place where a token ends, each gap is plain, no operator is read as `=`, and only blanks stand at the end
+abbrev pub IsPlainBehind : List ℕ → ℕ → List Placed → Type 0
+IsPlainBehind line place [] = AllAre is_blank (drop place line)
+IsPlainBehind line place (t ∷ tokens) = IsPlainGap (between place t.span.start line) × (is_read_as_assign t ≡ false) × IsPlainBehind line t.span.end tokens
+
+-- a line is written as it is meant to be
+abbrev pub IsPlain : List ℕ → List Placed → Type 0
+IsPlain line [] = ⊤
+IsPlain line (t ∷ tokens) = (is_read_as_assign t ≡ false) × IsPlainBehind line t.span.end tokens

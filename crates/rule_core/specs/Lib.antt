@@ -1,6 +1,11 @@
-pub mod Rules
-pub mod Gathering
+pub mod Texts
+pub mod Steps
+pub mod Lines
+pub mod Drafts
+pub mod Turns
 pub mod Laws
-pub mod Outcomes
-pub mod Order
-pub mod Jumps
+pub mod Taking
+pub mod Places
+pub mod Style
+pub mod Gathering
+pub mod Rules

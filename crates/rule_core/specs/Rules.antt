@@ -1,31 +1,15 @@
 -- The rules of files, and the messages about them.
-use Rattle.std.specs.Prelude.{ℕ, ◌+◌, if◌then◌else◌, is_some, List, [], ◌∷◌, ◌++◌, length, map, zip, flat_map, sum_by, Option, Some, None, Result, Ok, Err}
-use Rattle.text_files.specs.declared.message.Message.{Message}
-use Rattle.text_files.specs.declared.message.MessageKind.TheVariants.{NoLaterLabel, OpenAtEnd, LabelUnused}
-use Rattle.text_files.specs.declared.source_file.SourceFile.{SourceFile}
-use Rattle.rule_lines.specs.Lines.{NumberedLine, joined_lines}
+use Rattle.std.specs.Prelude.{ℕ, if◌then◌else◌, List, [], ◌∷◌, ◌++◌, map, zip, flat_map, Option, Some, None, Result, Ok, Err}
+use Rattle.text_bytes.specs.declared.message.Message.{Message}
+use Rattle.text_bytes.specs.declared.message.MessageKind.TheVariants.{NoLaterLabel, OpenAtEnd, LabelUnused}
+use Rattle.text_bytes.specs.declared.source_file.SourceFile.{SourceFile}
+use Rattle.rule_core.specs.Lines.{NumberedLine, joined_lines}
 use Rattle.rule_parts.specs.Values.{finding}
-use Rattle.rule_parts.specs.declared.part.Act.{Act}
-use Rattle.rule_parts.specs.declared.part.Assignment.{Assignment}
-use Rattle.rule_parts.specs.declared.part.Comparison.{Comparison}
-use Rattle.rule_parts.specs.declared.part.PlainMatch.{PlainMatch}
-use Rattle.rule_parts.specs.declared.part.UpMatch.{UpMatch}
 use Rattle.rule_parts.specs.declared.finding.Finding.{Finding}
-use Rattle.rule_drafts.specs.Drafts.{Draft, draft_of}
+use Rattle.rule_types.specs.Rules.{Rule}
+use Rattle.rule_core.specs.Drafts.{Draft, draft_of}
 use Rattle.rule_jumps.specs.Jumps.{Names, landings}
 use Rattle.rule_jumps.specs.declared.jumps.Landing.{Landing}
-
--- a rule: where it stands, its names for jumps, and its parts in the order of evaluation
-pub record Rule : Type 0 where
-  pub file : List ℕ
-  pub line : ℕ
-  pub label : Option (List ℕ)
-  pub goto : Option (List ℕ)
-  pub plain : List PlainMatch
-  pub up : List UpMatch
-  pub acts : List Act
-  pub results : List Comparison
-  pub sets : List Assignment
 
 -- the rules of files, and the messages about them
 pub record RuleSet : Type 0 where
@@ -112,15 +96,3 @@ file_messages f =
 -- the rules of files, and the messages about them
 unfoldable pub set_of : List SourceFile → RuleSet
 set_of files = record { rules = flat_map file_rules files; messages = flat_map file_messages files }
-
--- 1 for a name, 0 for none
-abbrev pub name_count : Option (List ℕ) → ℕ
-name_count name = if is_some name then 1 else 0
-
--- how many tokens are left in a rule
-unfoldable pub rule_tokens : Rule → ℕ
-rule_tokens r = name_count r.label + (name_count r.goto + (length r.plain + (length r.up + (length r.acts + (length r.results + length r.sets)))))
-
--- how many tokens are left in rules
-abbrev pub tokens_in : List Rule → ℕ
-tokens_in rules = sum_by rule_tokens rules

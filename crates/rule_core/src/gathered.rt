@@ -3,9 +3,10 @@
 //! No rule is kept with which there are too many, so that the bound holds of each value here.
 ghost use Rattle.std.specs.Prelude.{◌≡◌, ◌∷◌, ◌-◌, ◌^◌, ◌≤◌, [], min};
 ghost use Rattle.rule_core.specs.Gathering.{Adds};
-ghost use Rattle.rule_core.specs.Rules.{name_count, rule_tokens, tokens_in};
+ghost use Rattle.rule_types.specs.Rules.{name_count, rule_tokens, tokens_in};
 
-use crate::{Rule, RulesFault};
+use crate::fault::RulesFault;
+use rule_types::Rule;
 use std::alloc::Global;
 use std::marker::Model;
 use text_bytes::Bytes;
@@ -22,7 +23,7 @@ pub struct Gathered {
 
 impl Model for Gathered {
     ghost use Rattle.std.specs.Prelude.{List};
-    ghost use Rattle.rule_core.specs.Rules.{Rule};
+    ghost use Rattle.rule_types.specs.Rules.{Rule};
     ghost use Rattle.rule_core.specs.Gathering.{IsCounted};
 
     ghost Value = { List Rule };

@@ -1,13 +1,12 @@
 //! What is found of the lines of a file, as messages.
 ghost use Rattle.std.specs.Prelude.{◌≡◌, ◌∷◌, ◌++◌, [], if◌then◌else◌, OnOk, map};
-ghost use Rattle.text_files.specs.declared.message.MessageKind.TheVariants.{OpenAtEnd};
+ghost use Rattle.text_bytes.specs.declared.message.MessageKind.TheVariants.{OpenAtEnd};
 ghost use Rattle.rule_parts.specs.Values.{finding};
 ghost use Rattle.rule_core.specs.Rules.{message_at, name_in, open_messages};
 
 use rule_parts::Finding;
 use std::alloc::{AllocError, Global};
-use text_bytes::Bytes;
-use text_files::{Message, MessageKind};
+use text_bytes::{Bytes, Message, MessageKind};
 
 /// A line of a file.
 #[derive(Clone, Copy, Debug)]

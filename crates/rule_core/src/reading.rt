@@ -1,19 +1,21 @@
 //! Reading rules files.
 ghost use Rattle.std.specs.Prelude.{◌≡◌, ◌∷◌, ◌++◌, ◌<◌, ◌≤◌, ◌^◌, [], if◌then◌else◌, None, IfOk, IfErr, OnOk, flat_map, map, zip};
 ghost use Rattle.rule_core.specs.Gathering.{Adds};
-ghost use Rattle.rule_core.specs.Rules.{file_messages, file_rules, findings_of, line_messages, line_rules, message_at, rule_at, set_of, tokens_in};
+ghost use Rattle.rule_types.specs.Rules.{tokens_in};
+ghost use Rattle.rule_core.specs.Rules.{file_messages, file_rules, findings_of, line_messages, line_rules, message_at, rule_at, set_of};
 ghost use Rattle.rule_core.specs.declared.fault.RulesFault.TheVariants.{TooMany};
 
+use crate::draft::Draft;
+use crate::fault::RulesFault;
 use crate::gathered::Gathered;
+use crate::joining::joined_lines;
 use crate::messages::{Place, tell, tell_all, tell_if, tell_open};
 use crate::readings::{Reading, landings_of, read_lines};
-use crate::{Rule, RuleSet, RulesFault};
-use rule_drafts::Draft;
+use crate::rule_set::RuleSet;
 use rule_jumps::Landing;
-use rule_lines::joined_lines;
+use rule_types::Rule;
 use std::alloc::Global;
-use text_bytes::Bytes;
-use text_files::{Message, MessageKind, SourceFile};
+use text_bytes::{Bytes, Message, MessageKind, SourceFile};
 
 /// Reads rules files as udev(7) writes them, in the order in which they are given.
 ///

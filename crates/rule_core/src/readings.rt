@@ -6,9 +6,10 @@ ghost use Rattle.std.specs.Prelude.{◌≡◌, IfOk, map, option_map};
 ghost use Rattle.rule_jumps.specs.Jumps.{landings};
 ghost use Rattle.rule_core.specs.Rules.{names_of, reading_of};
 
-use rule_drafts::{Draft, read_draft};
+use crate::draft::Draft;
+use crate::draft_reading::read_draft;
+use crate::joined::JoinedLine;
 use rule_jumps::{Jump, Landing, landings};
-use rule_lines::JoinedLine;
 use rule_parts::{Finding, PartFault};
 use std::alloc::{AllocError, Global};
 use std::marker::Model;

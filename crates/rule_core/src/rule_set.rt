@@ -3,11 +3,11 @@
 //! That they have not too many tokens is known of each value, so that what is made of rules can be
 //! counted without a case for more.
 ghost use Rattle.std.specs.Prelude.{◌≡◌, ◌^◌, ◌≤◌};
-ghost use Rattle.rule_core.specs.Rules.{tokens_in};
+ghost use Rattle.rule_types.specs.Rules.{tokens_in};
 
-use crate::Rule;
+use rule_types::Rule;
 use std::marker::Model;
-use text_files::Message;
+use text_bytes::Message;
 
 /// The rules of files, of which at most 2^24 tokens are left, and the messages about them.
 /// `read_rules` alone makes it.
@@ -20,7 +20,7 @@ pub struct RuleSet {
 impl Model for RuleSet {
     ghost use Rattle.std.specs.Prelude.{◌^◌, ◌≤◌};
     ghost use Rattle.rule_core.specs.Rules as sets;
-    ghost use Rattle.rule_core.specs.Rules.{tokens_in};
+    ghost use Rattle.rule_types.specs.Rules.{tokens_in};
 
     ghost Value = { sets.RuleSet };
 

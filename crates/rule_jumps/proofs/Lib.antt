@@ -1,4 +1,2 @@
 mod Passing
-mod Labelled
-mod Reached
-mod Placed
+mod Counting

@@ -1,3 +1,4 @@
-pub mod Jumps
-pub mod Landings
 pub mod Passes
+pub mod Jumps
+pub mod Walks
+pub mod Passed

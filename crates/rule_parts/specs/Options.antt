@@ -2,9 +2,9 @@
 use Rattle.std.specs.Prelude.{ℕ, ◌+◌, ◌^◌, ℤ, pos, neg_ℤ, ◌||◌, Bool, if◌then◌else◌, List, [], ◌∷◌, length, take, drop, Option, Some, None, is_some, option_map, nat_eq, codes}
 use Rattle.std.specs.Option.{unwrap_or}
 use Rattle.std.specs.Cmp.Lexicographic.{pointwise}
-use Rattle.text_words.specs.Numbers.{decimal_below}
-use Rattle.rule_parts.specs.declared.options.RuleOption.{RuleOption}
-use Rattle.rule_parts.specs.declared.options.RuleOption.TheVariants.{LinkPriority, KeepEscapes, ReplaceEscapes, Watch, NoWatch, DbPersist, Ignored}
+use Rattle.text_bytes.specs.Numbers.{decimal_below}
+use Rattle.rule_types.specs.declared.rule_option.RuleOption.{RuleOption}
+use Rattle.rule_types.specs.declared.rule_option.RuleOption.TheVariants.{LinkPriority, KeepEscapes, ReplaceEscapes, Watch, NoWatch, DbPersist, Ignored}
 
 -- what stands beside a name in a table
 abbrev pub beside : {X : Type 0} → List (List ℕ × X) → List ℕ → Option X

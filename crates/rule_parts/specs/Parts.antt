@@ -1,30 +1,30 @@
 -- A token, read and checked: the part of a rule that it is, or what is wrong with it.
 use Rattle.std.specs.Prelude.{ℕ, Bool, true, false, not, ◌&&◌, if◌then◌else◌, List, Option, Some, None, Result, Ok, Err}
-use Rattle.text_files.specs.declared.message.MessageKind.TheVariants.{UnknownKey, OperatorNotAllowed, WrongAttribute, BadValue}
+use Rattle.text_bytes.specs.declared.message.MessageKind.TheVariants.{UnknownKey, OperatorNotAllowed, WrongAttribute, BadValue}
 use Rattle.rule_tokens.specs.Grammar.{Placed}
 use Rattle.rule_tokens.specs.Reading.{unquoted}
 use Rattle.rule_tokens.specs.declared.kinds.Operator.{Operator}
 use Rattle.rule_tokens.specs.declared.kinds.Quote.{Quote}
 use Rattle.rule_tokens.specs.declared.kinds.Quote.TheVariants as quote
-use Rattle.rule_keys.specs.Names.{key_of}
-use Rattle.rule_keys.specs.Topics.{topic_of}
-use Rattle.rule_keys.specs.Operators as operators
-use Rattle.rule_keys.specs.Roles.{role_of}
-use Rattle.rule_keys.specs.declared.keys.Key.{Key}
-use Rattle.rule_keys.specs.declared.types.ImportType.{ImportType}
-use Rattle.rule_keys.specs.declared.types.ImportType.TheVariants as import_of
-use Rattle.rule_keys.specs.declared.roles.MatchOperator.{MatchOperator}
-use Rattle.rule_keys.specs.declared.roles.Role.{Role}
-use Rattle.rule_keys.specs.declared.roles.Role.TheVariants as role
+use Rattle.rule_types.specs.Names.{key_of}
+use Rattle.rule_types.specs.Topics.{topic_of}
+use Rattle.rule_types.specs.Operators as operators
+use Rattle.rule_types.specs.Roles.{role_of}
+use Rattle.rule_types.specs.declared.keys.Key.{Key}
+use Rattle.rule_types.specs.declared.types.ImportType.{ImportType}
+use Rattle.rule_types.specs.declared.types.ImportType.TheVariants as import_of
+use Rattle.rule_types.specs.declared.roles.MatchOperator.{MatchOperator}
+use Rattle.rule_types.specs.declared.roles.Role.{Role}
+use Rattle.rule_types.specs.declared.roles.Role.TheVariants as role
 use Rattle.rule_parts.specs.Values.{finding, read_choice, read_name, read_option, read_template}
 use Rattle.rule_parts.specs.declared.finding.Finding.{Finding}
-use Rattle.rule_parts.specs.declared.part.Comparison.{Comparison}
-use Rattle.rule_parts.specs.declared.part.Deed.TheVariants as deed
-use Rattle.rule_parts.specs.declared.part.Import.{Import}
-use Rattle.rule_parts.specs.declared.part.Import.TheVariants as import
-use Rattle.rule_parts.specs.declared.part.Change.TheVariants as change
-use Rattle.rule_parts.specs.declared.part.Part.{Part}
-use Rattle.rule_parts.specs.declared.part.Part.TheVariants as part
+use Rattle.rule_types.specs.declared.part.Comparison.{Comparison}
+use Rattle.rule_types.specs.declared.part.Deed.TheVariants as deed
+use Rattle.rule_types.specs.declared.part.Import.{Import}
+use Rattle.rule_types.specs.declared.part.Import.TheVariants as import
+use Rattle.rule_types.specs.declared.part.Change.TheVariants as change
+use Rattle.rule_types.specs.declared.part.Part.{Part}
+use Rattle.rule_types.specs.declared.part.Part.TheVariants as part
 
 -- what is made of a thing that was read
 abbrev pub made : {A B : Type 0} → (A → B) → Result A Finding → Result B Finding

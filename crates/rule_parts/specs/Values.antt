@@ -1,8 +1,8 @@
 -- The value of a token, read as what its role asks for.
 use Rattle.std.specs.Prelude.{ℕ, Bool, if◌then◌else◌, List, [], ◌∷◌, Option, Some, None, Result, Ok, Err}
-use Rattle.text_files.specs.Messages.{word_of}
-use Rattle.text_files.specs.declared.message.MessageKind.{MessageKind}
-use Rattle.text_files.specs.declared.message.MessageKind.TheVariants.{BadValue, BadSubstitution, SetNotSupported}
+use Rattle.text_bytes.specs.Messages.{word_of}
+use Rattle.text_bytes.specs.declared.message.MessageKind.{MessageKind}
+use Rattle.text_bytes.specs.declared.message.MessageKind.TheVariants.{BadValue, BadSubstitution, SetNotSupported}
 use Rattle.text_core.specs.Choices.{choice, choice_blind}
 use Rattle.text_core.specs.declared.item.Item.{Item}
 use Rattle.text_core.specs.declared.glob_fault.GlobFault.{GlobFault}
@@ -13,7 +13,7 @@ use Rattle.rule_templates.specs.declared.piece.Piece.{Piece}
 use Rattle.rule_templates.specs.declared.fault.TemplateFault.{TemplateFault}
 use Rattle.rule_parts.specs.Options.{option_of}
 use Rattle.rule_parts.specs.declared.finding.Finding.{Finding}
-use Rattle.rule_parts.specs.declared.options.RuleOption.{RuleOption}
+use Rattle.rule_types.specs.declared.rule_option.RuleOption.{RuleOption}
 
 -- what is wrong, told with what a message keeps of a text
 abbrev pub finding : MessageKind → List ℕ → Finding

@@ -4,8 +4,7 @@ ghost use Rattle.rule_parts.specs.Values.{finding};
 ghost use Rattle.rule_parts.specs.Inner.{Tells};
 
 use std::alloc::{AllocError, AllocFailed, Global};
-use text_bytes::Bytes;
-use text_files::{MessageKind, word_of};
+use text_bytes::{Bytes, MessageKind, word_of};
 
 /// What is wrong with a part of a rule, before it is told where the rule stands.
 #[derive(Debug, Drop)]

@@ -2,26 +2,8 @@
 ghost use Rattle.std.specs.Prelude.{◌≡◌, map};
 ghost use Rattle.rule_parts.specs.Options.{below_zero, beside, from_zero, is_ignored, number_of, option_of, other_option};
 
-use text_words::decimal_below;
-
-/// An option of a rule, as OPTIONS names it in udev(7).
-#[derive(Clone, Copy, Debug, PartialEq, Eq)]
-pub enum RuleOption {
-    /// `link_priority=N`: how links of this device stand against those of others.
-    LinkPriority(i32),
-    /// `string_escape=none`: no byte of a link or a name is replaced.
-    KeepEscapes,
-    /// `string_escape=replace`: spaces of a link are replaced too.
-    ReplaceEscapes,
-    /// `watch`: the device's node is watched for changes.
-    Watch,
-    /// `nowatch`: it is not.
-    NoWatch,
-    /// `db_persist`: what is known of the device stays when udev's database is cleared.
-    DbPersist,
-    /// `static_node=TEXT` or `log_level=TEXT`, which change nothing here.
-    Ignored,
-}
+use rule_types::RuleOption;
+use text_bytes::decimal_below;
 
 /// What the size of a number above zero is below; one below zero may have this size.
 const MAX_SIZE: u64 = 1 << 31;

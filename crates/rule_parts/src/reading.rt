@@ -1,22 +1,21 @@
 //! Reading a token as a part of a rule.
 ghost use Rattle.std.specs.Prelude.{◌≡◌, Ok, IfOk, MatchResult, Some, option_map};
-ghost use Rattle.rule_keys.specs.Names.{key_of};
-ghost use Rattle.rule_keys.specs.Written.{attribute_of_role, key_of_role};
+ghost use Rattle.rule_types.specs.Names.{key_of};
+ghost use Rattle.rule_types.specs.Written.{attribute_of_role, key_of_role};
 ghost use Rattle.rule_parts.specs.Faults.{FaultOf};
 ghost use Rattle.rule_parts.specs.Inner.{Gives};
-ghost use Rattle.rule_parts.specs.Written.{attribute_of_part, key_of_part, type_of};
+ghost use Rattle.rule_types.specs.WrittenParts.{attribute_of_part, key_of_part, type_of};
 ghost use Rattle.rule_parts.specs.Parts.{comparison, ignores_case, import_by, is_match, is_read_as_assign, part_by, part_of, value_part};
 
-use crate::finding::wrong;
+use crate::finding::{PartFault, wrong};
 use crate::values::{read_choice, read_name, read_option, read_template};
-use crate::{
-    Act, Assignment, Change, Comparison, Deed, Import, Part, PartFault, PlainMatch, UpMatch,
-};
-use rule_keys::{ImportType, MatchOperator, Role, key_of, read_as, role_of, topic_of};
 use rule_tokens::{Quote, Token, unquote};
+use rule_types::{
+    Act, Assignment, Change, Comparison, Deed, Import, ImportType, MatchOperator, Part, PlainMatch,
+    Role, UpMatch, key_of, read_as, role_of, topic_of,
+};
 use std::alloc::{AllocError, Global};
-use text_bytes::Bytes;
-use text_files::MessageKind;
+use text_bytes::{Bytes, MessageKind};
 
 /// Reads a token as a part of a rule, by the tables of udev(7).
 ///
@@ -165,6 +164,6 @@ pub fn is_read_as_assign(token: &Token<'_>) -> bool
 {
     match key_of(token.key()) {
         None => false,
-        Some(key) => rule_keys::is_read_as_assign(key, token.operator()),
+        Some(key) => rule_types::is_read_as_assign(key, token.operator()),
     }
 }

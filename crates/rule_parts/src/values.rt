@@ -4,14 +4,13 @@ ghost use Rattle.text_core.specs.Choices.{choice, choice_blind};
 ghost use Rattle.rule_parts.specs.Inner.{Gives, TellsOf};
 ghost use Rattle.rule_parts.specs.Values.{as_choice, read_choice, read_name, read_option, read_template};
 
-use crate::finding::wrong;
+use crate::finding::{PartFault, wrong};
 use crate::options::option_of;
-use crate::{PartFault, RuleOption};
 use rule_templates::{Template, TemplateFault};
+use rule_types::RuleOption;
 use std::alloc::Global;
-use text_bytes::Bytes;
+use text_bytes::{Bytes, MessageKind};
 use text_core::{Choice, GlobFault};
-use text_files::MessageKind;
 
 /// Reads patterns between bars. `blind` says that case is ignored.
 #[tactic(auto, unfolding(crate::specs::Values::read_choice))]

@@ -9,7 +9,7 @@ use Rattle.std.specs.List.{position_or_len}
 use Rattle.std.proofs.lemmas.List.Sums.{fails_before_first, position_or_len_is}
 use Rattle.std.proofs.lemmas.Grind.{common_steps}
 use Rattle.text_bytes.specs.Names.{open_brace, close_brace}
-use Rattle.text_words.specs.Texts.{is_empty, split_once}
+use Rattle.text_bytes.specs.Texts.{is_empty, split_once}
 use Rattle.rule_templates.specs.Braces.{braced, closed}
 use Rattle.rule_templates.specs.Grammar.{HasNoClose, in_braces, LacksName}
 use Rattle.rule_templates.specs.declared.fault.TemplateFault.{TemplateFault}

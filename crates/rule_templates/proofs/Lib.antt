@@ -1,7 +1,5 @@
-pub mod Signs
-pub mod Closing
-pub mod Numbers
-pub mod Spelled
-pub mod Again
 pub mod Pieces
-pub mod Law
+pub mod Numbers
+pub mod Closing
+pub mod Spelled
+pub mod Signs

@@ -7,8 +7,8 @@ use Rattle.std.proofs.lemmas.Grind.{common_steps}
 use Rattle.std.proofs.lemmas.List.{take-append-drop}
 use Rattle.std.proofs.lemmas.List.Sums.{AllPass-from_list_all, list_all-from_AllPass}
 use Rattle.text_bytes.specs.Names.{plus}
-use Rattle.text_words.specs.Texts.{ends_in, is_empty}
-use Rattle.text_words.specs.Numbers.{decimal, decimal_below, is_decimal, is_digit}
+use Rattle.text_bytes.specs.Texts.{ends_in, is_empty}
+use Rattle.text_bytes.specs.Numbers.{decimal, decimal_below, is_decimal, is_digit}
 use Rattle.rule_templates.specs.Grammar.{WritesNumber, IsNoNumber}
 use Rattle.rule_templates.specs.Number.{not_zero, number_of, word_of}
 use Rattle.rule_templates.specs.declared.piece.Piece.{Piece}

@@ -4,7 +4,7 @@ use Rattle.std.specs.List.{AllPass, prefix_len, take_while}
 use Rattle.std.proofs.lemmas.List.{get_or-take, take-append-drop}
 use Rattle.std.proofs.lemmas.List.Sums.{prefix_len_passes}
 use Rattle.text_bytes.specs.Names.{dollar, percent, open_brace, close_brace}
-use Rattle.text_words.specs.Texts.{skip_while, split_once}
+use Rattle.text_bytes.specs.Texts.{skip_while, split_once}
 use Rattle.rule_templates.specs.Braces.{braced}
 use Rattle.rule_templates.specs.Grammar.{BeginsNotPlain, HasNoClose, IsNoNumber, IsFaulty, IsSign, IsSignWith, Spells, in_braces}
 use Rattle.rule_templates.specs.Names.{long_names, named, short_names}

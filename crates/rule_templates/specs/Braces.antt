@@ -1,7 +1,7 @@
 -- Names in braces.
 use Rattle.std.specs.Prelude.{ℕ, ◌==◌, List, [], ◌∷◌, Option, Some, None, Result, Ok, Err, if◌then◌else◌}
 use Rattle.text_bytes.specs.Names.{open_brace, close_brace}
-use Rattle.text_words.specs.Texts.{is_empty, split_once}
+use Rattle.text_bytes.specs.Texts.{is_empty, split_once}
 use Rattle.rule_templates.specs.declared.fault.TemplateFault.{TemplateFault}
 use Rattle.rule_templates.specs.declared.fault.TemplateFault.TheVariants.{Brace}
 

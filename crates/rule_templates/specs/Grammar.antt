@@ -2,8 +2,8 @@
 use Rattle.std.specs.Prelude.{◌≡◌, ◌≢◌, ◌↔◌, ℕ, ◌<◌, ◌≤◌, ◌⊎◌, false, not, ◌==◌, List, [], ◌∷◌, ◌++◌, length, Option, Some, None, Ok, Err}
 use Rattle.std.specs.List.{AllPass}
 use Rattle.text_bytes.specs.Names.{dollar, percent, plus, open_brace, close_brace}
-use Rattle.text_words.specs.Texts.{begins_with}
-use Rattle.text_words.specs.Numbers.{is_digit, decimal}
+use Rattle.text_bytes.specs.Texts.{begins_with}
+use Rattle.text_bytes.specs.Numbers.{is_digit, decimal}
 use Rattle.rule_templates.specs.Names.{long_names, short_names}
 use Rattle.rule_templates.specs.Reading.{is_plain, pieces_of}
 use Rattle.rule_templates.specs.declared.fault.TemplateFault.{TemplateFault}

@@ -1,7 +1,7 @@
-pub mod Faults
 pub mod Names
-pub mod Braces
-pub mod Number
 pub mod Reading
 pub mod Template
+pub mod Braces
+pub mod Number
 pub mod Grammar
+pub mod Faults

@@ -1,8 +1,8 @@
 -- The number in the braces after `$result` and `%c`.
 use Rattle.std.specs.Prelude.{ℕ, zero, suc, ◌-◌, List, length, take, Option, Some, None, option_map, if◌then◌else◌}
 use Rattle.text_bytes.specs.Names.{plus}
-use Rattle.text_words.specs.Texts.{ends_in}
-use Rattle.text_words.specs.Numbers.{decimal_below}
+use Rattle.text_bytes.specs.Texts.{ends_in}
+use Rattle.text_bytes.specs.Numbers.{decimal_below}
 use Rattle.rule_templates.specs.declared.piece.Piece.{Piece}
 use Rattle.rule_templates.specs.declared.piece.Piece.TheVariants as piece
 

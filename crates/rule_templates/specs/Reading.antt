@@ -2,7 +2,7 @@
 -- That this is the language of Grammar is a law of the crate.
 use Rattle.std.specs.Prelude.{ℕ, zero, suc, Bool, not, ◌==◌, ◌&&◌, List, [], ◌∷◌, length, take_while, Option, Some, None, Result, Ok, Err, if◌then◌else◌}
 use Rattle.text_bytes.specs.Names.{dollar, percent, open_brace, close_brace}
-use Rattle.text_words.specs.Texts.{skip_while, split_once}
+use Rattle.text_bytes.specs.Texts.{skip_while, split_once}
 use Rattle.rule_templates.specs.Braces.{braced}
 use Rattle.rule_templates.specs.Names.{named, long_names, short_names}
 use Rattle.rule_templates.specs.Number.{word_of}

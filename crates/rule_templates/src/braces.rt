@@ -3,8 +3,8 @@ ghost use Rattle.std.specs.Prelude.{◌≤◌, IfOk, length};
 ghost use Rattle.rule_templates.specs.Faults.{Gives};
 ghost use Rattle.rule_templates.specs.Braces.{braced};
 
-use crate::TemplateFault;
-use text_words::split_once;
+use crate::fault::TemplateFault;
+use text_bytes::split_once;
 
 /// The name in the braces that a text begins with, and what is left behind them.
 #[tactic(auto, unfolding(crate::specs::Braces::braced))]

@@ -7,7 +7,6 @@
 
 mod braces;
 mod fault;
-mod laws;
 mod names;
 mod number;
 mod piece;
@@ -15,6 +14,5 @@ mod reading;
 mod template;
 
 pub use fault::TemplateFault;
-pub use laws::{a_text_has_one_answer, what_is_read_is_what_is_spelled};
 pub use piece::Piece;
 pub use template::Template;

@@ -2,8 +2,8 @@
 ghost use Rattle.std.specs.Prelude.{◌≡◌};
 ghost use Rattle.rule_templates.specs.Number.{number_of, word_of};
 
-use crate::Piece;
-use text_words::{decimal_below, ends_in};
+use crate::piece::Piece;
+use text_bytes::{decimal_below, ends_in};
 
 /// The number from 1 to 65535 that a text writes in decimal digits.
 fn number_of(text: &[u8]) -> Option<u16>

@@ -8,12 +8,12 @@ ghost use Rattle.rule_templates.specs.Faults.{Gives};
 ghost use Rattle.rule_templates.specs.Reading.{asked, front_at, is_plain, plain_front, result_piece, substituted};
 
 use crate::braces::braced;
+use crate::fault::TemplateFault;
 use crate::names::{Substitution, long_name, short_name};
 use crate::number::word_of;
-use crate::{Piece, TemplateFault};
+use crate::piece::Piece;
 use std::alloc::Global;
-use text_bytes::Bytes;
-use text_words::split_once;
+use text_bytes::{Bytes, split_once};
 
 fn is_plain(byte: u8) -> bool
     ensures { result ≡ is_plain byte }

@@ -5,8 +5,9 @@ ghost use Rattle.rule_templates.specs.Reading.{pieces_of};
 ghost use Rattle.rule_templates.specs.Template.{IsReadFrom};
 ghost use Rattle.rule_templates.specs.declared.fault.TemplateFault.TheVariants.{Memory};
 
+use crate::fault::TemplateFault;
+use crate::piece::Piece;
 use crate::reading::front_of;
-use crate::{Piece, TemplateFault};
 use std::alloc::Global;
 use std::marker::Model;
 use text_bytes::Bytes;

@@ -8,7 +8,7 @@ use Rattle.std.proofs.lemmas.List.Folds.{length-prefix_len}
 use Rattle.rule_tokens.specs.declared.kinds.Operator.{Operator}
 use Rattle.rule_tokens.specs.declared.kinds.Operator.TheVariants.{Equal, NotEqual, Add, Remove, AssignFinal, Assign}
 use Rattle.text_bytes.specs.Names.{is_blank, open_brace, close_brace, equals, bang, plus, minus, colon, space, tab}
-use Rattle.text_words.specs.Texts.{skip_while}
+use Rattle.text_bytes.specs.Texts.{skip_while}
 use Rattle.rule_tokens.specs.Grammar.{AllAre, BeginsOther, Head, HeadStands, operator_text, attribute_text, attribute_bytes, is_key_byte, is_attribute_byte}
 use Rattle.rule_tokens.specs.Reading.{key_at, attribute_at, operator_at, head_at}
 use Rattle.rule_tokens.proofs.RunLemmas.{Sound, bind_sound, cond_sound, run_again, run_all, apart, closed_again, closed_sound}

@@ -3,7 +3,7 @@ use Rattle.std.proofs.Common.{◌≡◌, ℕ, zero, suc, ◌+◌, ◌-◌, ◌<�
 use Rattle.std.specs.List.{prefix_len}
 use Rattle.std.proofs.lemmas.Bool.{ne_eqb, eqb-true, eqb-false}
 use Rattle.std.proofs.lemmas.List.{drop_at, take-append-drop}
-use Rattle.text_words.specs.Texts.{skip_while}
+use Rattle.text_bytes.specs.Texts.{skip_while}
 use Rattle.rule_tokens.specs.declared.kinds.TokenFaultKind.{TokenFaultKind}
 use Rattle.rule_tokens.specs.declared.kinds.TokenFault.{TokenFault}
 use Rattle.rule_tokens.specs.Grammar.{Parts, Placed, TokenAt, Gap, LexesAt, faulty, last, more, OneAnswer, SomeAnswer, answers, is_gap_byte}

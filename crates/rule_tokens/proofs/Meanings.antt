@@ -2,7 +2,7 @@
 use Rattle.std.proofs.Common.{Result, Ok, Err, IfOk, ◌≡◌, ℕ, ◌+◌, Bool, true, false, not, ◌&&◌, List, [], ◌∷◌, ◌++◌, length, refl, ap, sym, ◌∙◌, arith, append-nil, length-append}
 use Rattle.std.specs.List.{flat_map}
 use Rattle.text_bytes.specs.Names.{backslash}
-use Rattle.text_words.specs.Texts.{ends_in}
+use Rattle.text_bytes.specs.Texts.{ends_in}
 use Rattle.rule_tokens.specs.declared.kinds.Quote.{Quote}
 use Rattle.rule_tokens.specs.Values.{Piece, spelling, meaning, has_escapes, Spells, Means, OneMeaning}
 use Rattle.rule_tokens.specs.Reading.{pieces_of, value_length, unquoted, IsWholeValue}

@@ -4,7 +4,7 @@ use Rattle.std.specs.List.{list_all, flat_map}
 use Rattle.std.proofs.lemmas.Bool.{and_parts, and_from, both_ways, not-true}
 use Rattle.std.proofs.lemmas.List.{drop_at}
 use Rattle.text_bytes.specs.Names.{backslash, double_quote}
-use Rattle.text_words.specs.Texts.{ends_in}
+use Rattle.text_bytes.specs.Texts.{ends_in}
 use Rattle.rule_tokens.specs.Values.{Piece, byte, letter, octal, hex, short, long, spelling, is_plain_piece, is_escaped_piece, is_piece, Spells}
 use Rattle.rule_tokens.specs.Grammar.{BeginsOther}
 use Rattle.rule_tokens.specs.Reading.{piece_at, pieces_from, pieces_of, plain_front, if_piece}

@@ -7,7 +7,7 @@ use Rattle.rule_tokens.specs.declared.kinds.Quote.{Quote}
 use Rattle.rule_tokens.specs.declared.kinds.TokenFaultKind.{TokenFaultKind}
 use Rattle.rule_tokens.specs.declared.kinds.TokenFaultKind.TheVariants.{Syntax, Prefix}
 use Rattle.text_bytes.specs.Names.{backslash, is_blank, equals, double_quote, space, tab}
-use Rattle.text_words.specs.Texts.{ends_in}
+use Rattle.text_bytes.specs.Texts.{ends_in}
 use Rattle.rule_tokens.specs.Values.{Piece, spelling, has_escapes, Spells}
 use Rattle.rule_tokens.specs.Grammar.{AllAre, BeginsOther, is_letter, Head, HeadStands, Parts, TokenStands, WrongPrefix, IsFault, prefix_quote}
 use Rattle.rule_tokens.specs.Reading.{head_at, quoted_by, quote_at, pieces_of, value_length, value_at, token_at}

@@ -1,7 +1,7 @@
 -- What one call of `next` leaves.
 use Rattle.std.proofs.Common.{◌≡◌, ℕ, ◌+◌, ◌-◌, ◌<◌, Bool, true, false, List, [], ◌∷◌, length, Ok, Err, cond, refl, ap, sym, ◌∙◌, arith, ◌==◌, add-one, length-drop}
 use Rattle.std.specs.List.{prefix_len}
-use Rattle.text_words.specs.Texts.{skip_while}
+use Rattle.text_bytes.specs.Texts.{skip_while}
 use Rattle.rule_tokens.specs.declared.kinds.TokenFaultKind.{TokenFaultKind}
 use Rattle.rule_tokens.specs.Grammar.{Parts, is_gap_byte, Given, Only}
 use Rattle.rule_tokens.specs.Reading.{token_at, IsWholeValue}

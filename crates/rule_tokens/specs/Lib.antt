@@ -1,7 +1,7 @@
 pub mod Letters
-pub mod Values
-pub mod Grammar
-pub mod Places
 pub mod Reading
+pub mod Places
 pub mod Lines
 pub mod Prefixes
+pub mod Grammar
+pub mod Values

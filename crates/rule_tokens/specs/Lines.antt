@@ -1,6 +1,6 @@
 -- Reading a line token by token, as a function of lists. That this is the language of Grammar is proved of Tokens::new.
 use Rattle.std.specs.Prelude.{◌≡◌, ◌↔◌, ℕ, zero, suc, ◌+◌, ◌-◌, Bool, true, false, List, [], ◌∷◌, length, Option, Result, Ok, Err, All, if◌then◌else◌, ◌==◌}
-use Rattle.text_words.specs.Texts.{skip_while}
+use Rattle.text_bytes.specs.Texts.{skip_while}
 use Rattle.rule_tokens.specs.declared.kinds.TokenFault.{TokenFault}
 use Rattle.rule_tokens.specs.declared.kinds.TokenFaultKind.{TokenFaultKind}
 use Rattle.rule_tokens.specs.Values.{Means, has_escapes}

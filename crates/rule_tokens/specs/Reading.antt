@@ -11,7 +11,7 @@ use Rattle.rule_tokens.specs.declared.kinds.Quote.{Quote}
 use Rattle.rule_tokens.specs.declared.kinds.TokenFaultKind.{TokenFaultKind}
 use Rattle.rule_tokens.specs.declared.kinds.TokenFaultKind.TheVariants.{Syntax, Prefix}
 use Rattle.text_bytes.specs.Names.{bang, double_quote, plus, minus, colon, equals, backslash, open_brace, close_brace, is_blank}
-use Rattle.text_words.specs.Texts.{ends_in, skip_while}
+use Rattle.text_bytes.specs.Texts.{ends_in, skip_while}
 use Rattle.rule_tokens.specs.Letters.{capital_u, letter_u, letter_x}
 use Rattle.rule_tokens.specs.Values.{Piece, byte, letter, octal, hex, short, long, spelling, meaning, letter_means, is_scalar, is_piece, has_escapes}
 use Rattle.rule_tokens.specs.Grammar.{is_key_byte, is_letter, is_attribute_byte, Head, Parts, prefix_quote}

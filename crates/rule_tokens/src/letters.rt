@@ -7,7 +7,7 @@ ghost use Rattle.rule_tokens.specs.Reading.{Gives};
 use crate::heads::{attribute_of, key_of, operator_of};
 use crate::kinds::TokenFaultKind;
 use crate::runs::letter_length;
-use text_words::unindented;
+use text_bytes::unindented;
 
 /// What stands behind the head that a text begins with, and behind its blanks.
 #[tactic(auto, unfolding(crate::specs::Reading::head_at, crate::specs::Prefixes::quoted_at))]

@@ -11,7 +11,6 @@
 mod escapes;
 mod heads;
 mod kinds;
-mod laws;
 mod letters;
 mod parts;
 mod prefixes;
@@ -21,10 +20,6 @@ mod unquoting;
 mod values;
 
 pub use kinds::{Operator, Quote, Span, TokenFault, TokenFaultKind};
-pub use laws::{
-    line_has_one_answer, parts_lie_in_line, rules_stand_on_the_grammar, value_has_no_nul,
-    value_has_one_meaning,
-};
 pub use letters::letters_before_quote;
 pub use parts::Token;
 pub use tokens::Tokens;

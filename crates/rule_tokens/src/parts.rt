@@ -9,7 +9,7 @@ use crate::prefixes::{has_escapes, quote_of};
 use crate::runs::closed_of;
 use crate::values::value_length;
 use std::marker::Model;
-use text_words::unindented;
+use text_bytes::unindented;
 
 /// The parts of a token, wherever it lies.
 #[derive(Clone, Copy, Debug)]

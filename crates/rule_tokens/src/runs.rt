@@ -2,12 +2,12 @@
 
 ghost use Rattle.std.specs.Prelude.{◌≡◌, ◌≤◌, ◌<◌, length};
 ghost use Rattle.std.specs.List.{prefix_len};
-ghost use Rattle.text_words.specs.Texts.{skip_while};
+ghost use Rattle.text_bytes.specs.Texts.{skip_while};
 ghost use Rattle.rule_tokens.specs.Grammar.{is_key_byte, is_gap_byte, is_letter, is_attribute_byte};
 ghost use Rattle.rule_tokens.specs.Reading.{Gives, closed_at};
 
 use crate::kinds::TokenFaultKind;
-use text_words::is_blank;
+use text_bytes::is_blank;
 
 fn is_key_byte(b: u8) -> bool
     ensures { result ≡ is_key_byte b }

@@ -1,1 +1,5 @@
 mod Finding
+pub mod Digits
+pub mod Places
+pub mod Escaping
+pub mod Placing

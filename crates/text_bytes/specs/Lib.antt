@@ -1,1 +1,11 @@
 pub mod Names
+pub mod Numbers
+pub mod Texts
+pub mod Lines
+pub mod Kinds
+pub mod FileOrder
+pub mod OrderLaws
+pub mod Insertion
+pub mod Escapes
+pub mod Messages
+pub mod Places

@@ -1,11 +1,25 @@
-//! Byte texts: owned bytes, the search for a byte, and names for the bytes that mean something.
+//! Bytes, words and files: what every layer above reads and writes texts with.
 //!
-//! Everything that `devdry` reads is bytes and not characters, so that each crate above stands on
-//! this one. It is small on purpose: all others wait for its check.
+//! A text is bytes, and need not be UTF-8. Here stand the search for a byte, the words that readers share (lines and
+//! their numbers, decimal numbers, blanks), the files that are handed in with their order, and messages about them.
 #![tactic(auto)]
 
 mod bytes;
+mod escapes;
+mod file_order;
+mod lines;
+mod message;
+mod numbers;
 mod search;
+mod source_file;
+mod texts;
 
 pub use bytes::Bytes;
+pub use escapes::escape;
+pub use file_order::order_files;
+pub use lines::{Line, Lines, first_line};
+pub use message::{Message, MessageKind, capped, word_of};
+pub use numbers::{decimal_below, is_digit};
 pub use search::find;
+pub use source_file::{FileKind, SourceFile};
+pub use texts::{begins_with, ends_in, is_blank, is_whitespace, split_once, unindented};

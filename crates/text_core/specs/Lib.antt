@@ -1,8 +1,6 @@
-pub mod Items
+pub mod Stops
 pub mod Fits
 pub mod Sets
-pub mod Spell
-pub mod Grammar
 pub mod Choices
-pub mod ChoiceGrammar
-pub mod Stops
+pub mod Spell
+pub mod Items

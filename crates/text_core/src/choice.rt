@@ -6,7 +6,7 @@ ghost use Rattle.text_core.specs.Choices.{choice, choice_blind, choice_by, choic
 ghost use Rattle.text_core.specs.Spell.{max_len};
 ghost use Rattle.text_core.specs.declared.glob_fault.GlobFault.TheVariants.{Memory, TooLong};
 
-use crate::GlobFault;
+use crate::glob_fault::GlobFault;
 use crate::pattern::{MAX_LEN, Pattern};
 use crate::reading::Reading;
 use std::alloc::Global;

@@ -6,7 +6,7 @@ ghost use Rattle.std.specs.Prelude.{◌≡◌, ◌<◌, ◌≤◌, true, false, 
 ghost use Rattle.text_core.specs.Fits.{fits, some_suffix};
 ghost use Rattle.text_core.specs.Stops.{StopsAt};
 
-use crate::Item;
+use crate::item::Item;
 
 /// Where the items up to the next `Many` lead.
 enum Stop<'a> {

@@ -4,7 +4,7 @@
 ghost use Rattle.std.specs.Prelude.{◌≡◌};
 ghost use Rattle.text_core.specs.Items.{takes};
 
-use crate::ByteSet;
+use crate::byte_set::ByteSet;
 
 /// One item of a pattern, as hwdb(7) and udev(7) name them.
 #[derive(Clone, Copy, Debug, PartialEq, Eq)]

@@ -10,7 +10,6 @@ mod choice;
 mod glob;
 mod glob_fault;
 mod item;
-pub mod laws;
 mod pattern;
 mod reading;
 mod sets;
@@ -21,5 +20,6 @@ pub use choice::Choice;
 pub use glob_fault::GlobFault;
 pub use item::Item;
 pub use pattern::Pattern;
-pub use text_bytes::{Bytes, find};
-pub use text_files::{FileKind, Message, MessageKind, SourceFile, escape, order_files};
+pub use text_bytes::{
+    Bytes, FileKind, Message, MessageKind, SourceFile, escape, find, order_files,
+};

@@ -7,9 +7,11 @@ ghost use Rattle.text_core.specs.Fits.{fits};
 ghost use Rattle.text_core.specs.Spell.{items_at, max_len, spell};
 ghost use Rattle.text_core.specs.declared.glob_fault.GlobFault.TheVariants.{Memory, TooLong};
 
+use crate::glob;
+use crate::glob_fault::GlobFault;
+use crate::item::Item;
 use crate::reading::Reading;
 use crate::spell::front;
-use crate::{GlobFault, Item, glob};
 use std::alloc::{AllocError, Global};
 use std::marker::Model;
 

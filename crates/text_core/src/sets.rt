@@ -4,7 +4,7 @@
 ghost use Rattle.std.specs.Prelude.{◌≡◌, ◌+◌, ◌<◌, ◌≤◌, length, OnSome, nat_le, ◌&&◌};
 ghost use Rattle.text_core.specs.Sets.{range_end, members_have, members_have_by, set_takes, set_of, bits_of};
 
-use crate::ByteSet;
+use crate::byte_set::ByteSet;
 use crate::reading::Reading;
 
 /// The last byte of a range, where `-` and that byte come next.

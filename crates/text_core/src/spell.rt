@@ -2,9 +2,10 @@
 ghost use Rattle.std.specs.Prelude.{◌≡◌, ◌+◌, ◌^◌, ◌<◌, ◌≤◌, length, IfOk, IfSome};
 ghost use Rattle.text_core.specs.Spell.{negated, sign_len, class_place, members_len, bracket, itself, front};
 
+use crate::glob_fault::GlobFault;
+use crate::item::Item;
 use crate::reading::Reading;
 use crate::sets::set_of;
-use crate::{GlobFault, Item};
 use text_bytes::find;
 
 /// How a text begins.

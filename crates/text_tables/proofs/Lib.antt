@@ -1,3 +1,3 @@
-pub mod Held
 pub mod Found
+pub mod Held
 pub mod Partway

@@ -1,6 +1,4 @@
-pub mod Building
-pub mod Content
-pub mod Groups
-pub mod Rows
-pub mod Shown
-pub mod Fronts
+pub mod Image
+pub mod Sound
+pub mod Entries
+pub mod Writing

@@ -1,17 +1,17 @@
-//! The hardware database as a trie in memory: a query looks only at the nodes that a modalias reaches.
+//! The database as a tree: the crate that the crates above look a database up with.
 //!
-//! Its nodes are the distinct prefixes of all patterns, so the walk of `trie_nodes` answers from it
-//! what a pass over all entries would.
+//! A trie is made of the entries that were read, an index is read in place of one and written from one. What an index of
+//! entries is stands here as a definition. The trie and the index come with this crate from those below.
 #![tactic(auto)]
 
-mod build;
-mod fault;
-mod fronts;
-mod groups;
-mod rows;
-mod size;
-mod trie;
+mod labels;
+mod nodes;
+mod order;
+mod texts;
+mod values;
+mod write;
 
-pub use fault::TrieFault;
-pub use trie::Trie;
+pub use index_reading::{Index, IndexFault};
+pub use trie_build::{Trie, TrieFault};
 pub use trie_nodes::{Database, Found, Node, Nodes};
+pub use write::write_index;

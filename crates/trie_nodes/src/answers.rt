@@ -6,8 +6,9 @@ ghost use Rattle.trie_nodes.specs.Found.{all_seen};
 ghost use Rattle.trie_nodes.specs.Tree.{active_after};
 ghost use Rattle.trie_nodes.specs.Values.{bare, listed, values_of};
 
-use crate::found::put;
-use crate::{Database, Found, visits};
+use crate::found::{Found, put};
+use crate::tree::Database;
+use crate::walk::visits;
 use hwdb_lookup::Sourced;
 use std::alloc::{AllocError, Global};
 

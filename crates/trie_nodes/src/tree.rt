@@ -6,7 +6,7 @@ ghost use Rattle.trie_nodes.specs.Values.{Value, bare, value_at};
 ghost use Rattle.trie_nodes.specs.declared.node.Node.{Node};
 ghost use Rattle.text_core.specs.Items.{takes};
 
-use crate::Found;
+use crate::found::Found;
 use std::ops::Range;
 
 /// A tree of labels, the root being node 0, and the values that its nodes have.

@@ -8,7 +8,7 @@ ghost use Rattle.std.specs.Prelude.{◌≡◌, ◌+◌, ◌*◌, ◌<◌, ◌≤
 ghost use Rattle.trie_nodes.specs.Tree.{Shape, active_after, children, stars, takers, count};
 ghost use Rattle.trie_nodes.specs.Merge.{first_or, past};
 
-use crate::Nodes;
+use crate::tree::Nodes;
 use std::alloc::{AllocError, Global};
 use std::mem;
 

@@ -1,6 +1,6 @@
 use Rattle.std.proofs.Common.{◌≡◌, Err, IfErr, IsErrAnd, List, Ok, Result, inl, inr, string_bytes, subst, sym, ℕ}
 use Rattle.std.proofs.lemmas.Result.{err_from_is_err_and}
-use Rattle.text_files.specs.declared.source_file.SourceFile.{SourceFile}
+use Rattle.text_bytes.specs.declared.source_file.SourceFile.{SourceFile}
 use Rattle.devdry_files.specs.Answers.{Answer}
 use Rattle.devdry_files.specs.Faults.{HasPath, IsFaultyIndex, IsFaultyWanted}
 use Rattle.devdry_files.specs.Found.{AreWanted}

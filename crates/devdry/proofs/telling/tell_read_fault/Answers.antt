@@ -1,5 +1,5 @@
 use Rattle.std.proofs.Common.{subst}
-use Rattle.engine_delivery.specs.Delivery.{Tells}
+use Rattle.engine_ends.specs.Delivery.{Tells}
 use Rattle.devdry.specs.Telling.{cannot_read}
 use Rattle.devdry.proofs.telling.tell_read_fault.Goals as goal
 

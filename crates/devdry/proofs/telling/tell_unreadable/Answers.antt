@@ -1,6 +1,6 @@
 use Rattle.std.proofs.Common.{codes, ◌++◌, ◌∷◌, [], subst}
 use Rattle.text_bytes.specs.Names.{newline}
-use Rattle.engine_delivery.specs.Delivery.{Tells}
+use Rattle.engine_ends.specs.Delivery.{Tells}
 use Rattle.devdry.proofs.telling.tell_unreadable.Goals as goal
 
 pub returns : goal.returns

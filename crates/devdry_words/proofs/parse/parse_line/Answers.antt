@@ -4,9 +4,9 @@ use Rattle.clap.specs.Words.{App, IsAmong, HasMatchesOf, Kinds, Row, Text, fault
 use Rattle.clap.specs.declared.parser.matches.ArgMatches.{ArgMatches}
 use Rattle.clap.specs.declared.error.kind.ErrorKind.{ErrorKind}
 use Rattle.clap.specs.declared.error.kind.ErrorKind.TheVariants as kind
-use Rattle.engine_line.specs.declared.Line.{Line}
-use Rattle.engine_line.specs.declared.LineFault.{LineFault}
-use Rattle.engine_line.specs.declared.LineFault.TheVariants.{Memory}
+use Rattle.engine_ends.specs.declared.line.Line.{Line}
+use Rattle.engine_ends.specs.declared.line.LineFault.{LineFault}
+use Rattle.engine_ends.specs.declared.line.LineFault.TheVariants.{Memory}
 use Rattle.devdry_words.specs.Commands.{devdry}
 use Rattle.devdry_words.specs.Lines.{AnswersOneOf, AnswersWords, IsAnswer, IsLineOf, NamesTwo, NamesVerb}
 use Rattle.devdry_words.proofs.Asked.{devdry_is_simple, devdry_is_simple_and_free, names_a_verb}

@@ -1,5 +1,5 @@
 use Rattle.std.proofs.Common.{sym, ◌∙◌, arith}
-use Rattle.text_words.specs.Lines.{lines}
+use Rattle.text_bytes.specs.Lines.{lines}
 use Rattle.device_core.specs.Steps.{sofar, start, steps}
 use Rattle.device_core.proofs.Few.{few_step}
 use Rattle.device_core.proofs.Reading.{steps_on, steps_fail, steps_end}

@@ -1,5 +1,5 @@
 use Rattle.std.proofs.Common.{◌≡◌, ◌+◌, ◌<◌, ◌≤◌, length}
-use Rattle.text_words.specs.Lines.{lines}
+use Rattle.text_bytes.specs.Lines.{lines}
 use Rattle.device_core.specs.Values.{most_devices}
 use Rattle.device_core.specs.Steps.{sofar, start, steps}
 use Rattle.device_core.proofs.read.read_rest.Given as goal

@@ -1,8 +1,8 @@
 use Rattle.std.proofs.Common.{[], ap, refl, subst, sym}
-use Rattle.engine_line.specs.declared.Verb.TheVariants.{Update, Query, Verify, Events}
+use Rattle.engine_ends.specs.declared.line.Verb.TheVariants.{Update, Query, Verify}
 use Rattle.engine_reports.specs.Openings.{opening}
-use Rattle.engine_turns.specs.Serves.{Reports, Serves}
-use Rattle.engine_turns.proofs.Serving.{reports_serve}
+use Rattle.engine_sessions.specs.Serves.{Reports, Serves}
+use Rattle.engine_sessions.proofs.Serving.{reports_serve}
 use Rattle.engine_core.specs.Outcomes.{outcome, outcome_by}
 use Rattle.engine_core.specs.Runs.{RunsBy}
 use Rattle.engine_core.proofs.Running.{events_serve}

@@ -1,7 +1,7 @@
-use Rattle.std.proofs.Common.{◌≡◌, ◌∙◌, Option, Some, None, Result, Ok, Err, inl, inr, ap, sym}
+use Rattle.std.proofs.Common.{◌≡◌, ◌∙◌, Option, Some, None, Result, Err, inl, inr, ap, sym}
 use Rattle.text_tables.specs.Texts.{Text}
-use Rattle.index_checks.proofs.Faults.{no_fault, one_fault}
-use Rattle.index_checks.specs.declared.fault.IndexFault.{IndexFault}
+use Rattle.index_reading.proofs.Faults.{no_fault, one_fault}
+use Rattle.index_reading.specs.declared.fault.IndexFault.{IndexFault}
 use Rattle.index_reading.specs.Contents.{Contents}
 use Rattle.engine_reports.specs.Indexes.{Opens}
 use Rattle.engine_reports.proofs.law.an_index_opens_to_one_thing.Goals as goal

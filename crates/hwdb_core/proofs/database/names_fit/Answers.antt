@@ -1,7 +1,7 @@
 use Rattle.std.proofs.Common.{◌+◌, ◌≤◌, length, take, subst, sym, ap, ◌≡◌, arith}
 use Rattle.std.specs.List.{sum_by}
 use Rattle.std.proofs.lemmas.List.Sums.{sum_by_more_le}
-use Rattle.text_files.specs.declared.SourceFile.{SourceFile}
+use Rattle.text_bytes.specs.declared.SourceFile.{SourceFile}
 use Rattle.hwdb_core.proofs.database.names_fit.Goals as goal
 
 pub returns-then-len-room : goal.returns-then-len-room

@@ -1,5 +1,5 @@
 use Rattle.std.proofs.Common.{◌+◌, ◌-◌, ◌^◌, length, refl, ap, ◌∙◌}
-use Rattle.rule_core.specs.Rules.{Rule, name_count, rule_tokens}
+use Rattle.rule_types.specs.Rules.{Rule, name_count, rule_tokens}
 use Rattle.rule_core.proofs.Capping.{capped_more, counted}
 use Rattle.rule_core.proofs.gathered.tokens_of.Goals as goal
 

@@ -1,5 +1,5 @@
 use Rattle.std.proofs.Common.{◌∙◌, ap, map, List}
-use Rattle.rule_lines.specs.Lines.{Joined, joined_lines}
+use Rattle.rule_core.specs.Lines.{Joined, joined_lines}
 use Rattle.rule_jumps.specs.Jumps.{landings}
 use Rattle.rule_core.specs.Rules.{Reading, names_of, reading_of}
 use Rattle.rule_core.proofs.Filing.{file_told}

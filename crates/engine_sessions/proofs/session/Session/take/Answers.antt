@@ -1,5 +1,5 @@
 use Rattle.std.proofs.Common.{rules, ◌≡◌, ◌+◌, ◌++◌, ◌∷◌, [], take, false}
-use Rattle.device_runs.specs.Runs.{complete_runs}
+use Rattle.device_core.specs.Runs.{complete_runs}
 use Rattle.engine_sessions.specs.Answers.{number_behind}
 use Rattle.engine_sessions.proofs.KnownLemmas.{rest_after}
 use Rattle.engine_sessions.proofs.AnswerLemmas.{counted_counted}

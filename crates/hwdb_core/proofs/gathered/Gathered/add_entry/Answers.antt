@@ -1,5 +1,5 @@
 use Rattle.std.proofs.Common.{◌∷◌, [], subst, arith}
-use Rattle.text_files.specs.Messages.{capped}
+use Rattle.text_bytes.specs.Messages.{capped}
 use Rattle.hwdb_core.specs.Found.{Found, IsKept, join}
 use Rattle.hwdb_core.proofs.Joining.{found_as}
 use Rattle.hwdb_core.proofs.Keeping.{added_as, counted_as, too_many_entries, too_many_text_bytes}

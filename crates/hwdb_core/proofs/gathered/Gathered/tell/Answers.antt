@@ -1,4 +1,4 @@
-use Rattle.text_files.specs.Messages.{message}
+use Rattle.text_bytes.specs.Messages.{message}
 use Rattle.hwdb_core.proofs.Keeping.{told_as}
 use Rattle.hwdb_core.proofs.gathered.Gathered.tell.Goals as goal
 

@@ -1,8 +1,8 @@
 use Rattle.std.proofs.Common.{◌≡◌, ℕ, ◌<◌, List, arith, refl}
 use Rattle.trie_nodes.specs.Values.{value_at}
 use Rattle.index_reading.specs.Contents.{value_of}
-use Rattle.index_layout.specs.Header.{header_of}
-use Rattle.index_checks.specs.declared.fault.IndexFault.TheVariants.{Text}
+use Rattle.index_reading.specs.Header.{header_of}
+use Rattle.index_reading.specs.declared.fault.IndexFault.TheVariants.{Text}
 use Rattle.index_reading.proofs.Nodes.{length_values, value_is}
 use Rattle.index_reading.proofs.tree.IndexDatabase.value.Goals as goal
 

@@ -1,11 +1,11 @@
 use Rattle.std.proofs.Common.{◌≡◌, ℕ, ◌+◌, ◌^◌, ◌<◌, ◌≤◌, List, arith, refl}
 use Rattle.trie_nodes.specs.Tree.{node_at}
 use Rattle.index_reading.specs.Contents.{node_of}
-use Rattle.index_layout.specs.Header.{header_of}
-use Rattle.index_layout.specs.Records.{node}
-use Rattle.index_checks.specs.declared.fault.IndexFault.TheVariants.{Shape, Size}
+use Rattle.index_reading.specs.Header.{header_of}
+use Rattle.index_reading.specs.Records.{node}
+use Rattle.index_reading.specs.declared.fault.IndexFault.TheVariants.{Shape, Size}
 use Rattle.index_reading.proofs.Nodes.{length_nodes, length_values, node_is}
-use Rattle.index_checks.proofs.Sums.{values_within}
+use Rattle.index_reading.proofs.CheckSums.{values_within}
 use Rattle.index_reading.proofs.tree.IndexDatabase.values_of.Goals as goal
 
 pub node-node-requires : goal.node-node-requires

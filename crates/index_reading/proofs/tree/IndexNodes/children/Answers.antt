@@ -1,10 +1,10 @@
 use Rattle.std.proofs.Common.{◌≡◌, ℕ, ◌^◌, ◌<◌, ◌≤◌, List, ap, arith, refl}
 use Rattle.trie_nodes.specs.Tree.{node_at}
 use Rattle.index_reading.specs.Contents.{node_of}
-use Rattle.index_layout.specs.Header.{header_of}
-use Rattle.index_layout.specs.Records.{node}
+use Rattle.index_reading.specs.Header.{header_of}
+use Rattle.index_reading.specs.Records.{node}
 use Rattle.trie_nodes.specs.declared.node.Node.{Node}
-use Rattle.index_checks.specs.declared.fault.IndexFault.TheVariants.{Size}
+use Rattle.index_reading.specs.declared.fault.IndexFault.TheVariants.{Size}
 use Rattle.index_reading.proofs.Nodes.{children_within, length_nodes, node_is, tree}
 use Rattle.index_reading.proofs.tree.IndexNodes.children.Goals as goal
 

@@ -2,9 +2,9 @@ use Rattle.std.proofs.Common.{◌≡◌, ℕ, ◌<◌, List, arith, sym, ◌∙�
 use Rattle.trie_nodes.specs.declared.node.Node.{Node}
 use Rattle.trie_nodes.specs.Tree.{node_at, is_star}
 use Rattle.index_reading.specs.Contents.{node_of}
-use Rattle.index_layout.specs.Header.{header_of}
-use Rattle.index_layout.specs.Records.{node}
-use Rattle.index_layout.specs.declared.records.NodeRecord.{NodeRecord}
+use Rattle.index_reading.specs.Header.{header_of}
+use Rattle.index_reading.specs.Records.{node}
+use Rattle.index_reading.specs.declared.records.NodeRecord.{NodeRecord}
 use Rattle.index_reading.proofs.Labels.{star_is}
 use Rattle.index_reading.proofs.Nodes.{length_nodes, node_is}
 use Rattle.index_reading.proofs.tree.IndexNodes.is_star.Goals as goal

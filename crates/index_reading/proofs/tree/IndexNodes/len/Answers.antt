@@ -1,5 +1,5 @@
 use Rattle.std.proofs.Common.{sym, ◌∙◌, ap}
-use Rattle.index_layout.specs.declared.header.Header.{Header}
+use Rattle.index_reading.specs.declared.header.Header.{Header}
 use Rattle.index_reading.proofs.Nodes.{length_nodes}
 use Rattle.index_reading.proofs.tree.IndexNodes.len.Goals as goal
 

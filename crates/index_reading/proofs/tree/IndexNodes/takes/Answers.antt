@@ -4,10 +4,10 @@ use Rattle.trie_nodes.specs.Tree.{node_at}
 use Rattle.text_core.specs.declared.item.Item.{Item}
 use Rattle.text_core.specs.Items.{takes}
 use Rattle.index_reading.specs.Contents.{Contents, contents, label_of}
-use Rattle.index_layout.specs.Header.{header_of}
-use Rattle.index_layout.specs.Records.{node}
-use Rattle.index_checks.specs.declared.fault.IndexFault.TheVariants.{Label as LabelCheck}
-use Rattle.index_layout.specs.declared.records.NodeRecord.{NodeRecord}
+use Rattle.index_reading.specs.Header.{header_of}
+use Rattle.index_reading.specs.Records.{node}
+use Rattle.index_reading.specs.declared.fault.IndexFault.TheVariants.{Label as LabelCheck}
+use Rattle.index_reading.specs.declared.records.NodeRecord.{NodeRecord}
 use Rattle.index_reading.proofs.Labels.{label_byte, label_many, label_among, label_one}
 use Rattle.index_reading.proofs.Nodes.{length_nodes, node_is}
 use Rattle.index_reading.proofs.tree.IndexNodes.takes.Goals as goal

@@ -1,0 +1,125 @@
+-- Bytes of one line, put behind a run.
+use Rattle.std.proofs.Common.{◌≡◌, ℕ, zero, suc, ◌+◌, ◌-◌, ◌<◌, ◌≤◌, ◌==◌, ◌&&◌, not, Bool, true, false, cond, ltb, List, [], ◌∷◌, ◌++◌, Option, Some, None, MatchOption, length, take, drop, get_or, refl, append_assoc, ap, sym, ◌∙◌, arith}
+use Rattle.std.specs.List.{position, position_or_len}
+use Rattle.std.proofs.lemmas.List.{append-nil, take_more, take_all, get_or-drop}
+use Rattle.std.proofs.Math.Seq.{take-add}
+use Rattle.std.proofs.lemmas.Grind.{common_steps}
+use Rattle.device_core.specs.Runs.{complete_runs, rest_of}
+use Rattle.device_core.specs.Filling.{first_line}
+use Rattle.device_core.specs.Holding.{begins_after}
+use Rattle.device_core.proofs.Law.{byte_stays, begins_after-push, complete_runs-append}
+
+-- none of the bytes is the newline of an empty line
+abbrev pub GoesOn : Bool → List ℕ → Type 0
+GoesOn start [] = Unit {0}
+GoesOn start (byte ∷ chunk) = ((start && (byte == 10)) ≡ false) × GoesOn (byte == 10) chunk
+
+-- such bytes go onto the run
+pub chunk_stays : (text held chunk : List ℕ) (start : Bool) → rest_of text ≡ held → start ≡ begins_after true held → GoesOn start chunk
+    → (complete_runs (text ++ chunk) ≡ complete_runs text) × (rest_of (text ++ chunk) ≡ held ++ chunk)
+chunk_stays text held [] start e b h = (ap complete_runs (append-nil text), ap rest_of (append-nil text) ∙ e ∙ sym (append-nil held))
+chunk_stays text held (byte ∷ chunk) start e b h =
+    let p = byte_stays text held start byte e b h.0 in
+    let r = chunk_stays (text ++ byte ∷ []) (held ++ byte ∷ []) chunk (byte == 10) p.1 (sym (begins_after-push true held byte)) h.1 in
+    (ap complete_runs (sym (append_assoc text (byte ∷ []) chunk)) ∙ r.0 ∙ p.0, ap rest_of (sym (append_assoc text (byte ∷ []) chunk)) ∙ r.1 ∙ append_assoc held (byte ∷ []) chunk)
+
+behind_byte : (ends : Bool) (byte : ℕ) (text : List ℕ) (n : ℕ) → suc n ≤ length (cond ends (byte ∷ []) (byte ∷ first_line text))
+    → (n ≤ length (first_line text) → GoesOn false (take n text)) → GoesOn ends (take n text)
+behind_byte true byte text zero l h = tt
+behind_byte true byte text (suc n) l h = absurd (omega arith)
+behind_byte false byte text n l h = h (omega arith)
+
+-- the bytes of a line go on, unless it is empty
+pub line_goes_on : (start : Bool) (text : List ℕ) (n : ℕ) → n ≤ length (first_line text) → (start && (get_or text 0 0 == 10)) ≡ false → GoesOn start (take n text)
+line_goes_on start text zero l e = tt
+line_goes_on start [] (suc n) l e = absurd (omega arith)
+line_goes_on start (byte ∷ text) (suc n) l e = (e, behind_byte (byte == 10) byte text n l (λ m. line_goes_on false text n m refl))
+
+-- how many bytes stand before the first newline, or in all
+abbrev pub newline_at : List ℕ → ℕ
+newline_at text = position_or_len (λ b. b == 10) text
+
+abbrev LineEnds : List ℕ → List ℕ → ℕ → Type 0
+LineEnds text line at = (at < length text → at + 1 ≡ length line) × (length text ≤ at → length text ≡ length line)
+
+line_ends_step : (ends : Bool) (byte : ℕ) (text : List ℕ) → LineEnds text (first_line text) (newline_at text)
+    → LineEnds (byte ∷ text) (cond ends (byte ∷ []) (byte ∷ first_line text)) (cond (not ends) (1 + newline_at text) 0)
+line_ends_step true byte text h = (λ l. refl, λ l. absurd (omega arith))
+line_ends_step false byte text h = (λ l. let e : newline_at text + 1 ≡ length (first_line text) = h.0 (omega arith) in omega arith, λ l. let e : length text ≡ length (first_line text) = h.1 (omega arith) in omega arith)
+
+line_ends : (text : List ℕ) → LineEnds text (first_line text) (newline_at text)
+line_ends [] = (λ l. absurd (omega arith), λ l. refl)
+line_ends (byte ∷ text) = line_ends_step (byte == 10) byte text (line_ends text)
+
+line_found_by : (text : List ℕ) (found : Bool) (r : Option ℕ) → ltb (newline_at text) (length text) ≡ found → r ≡ cond found (Some (newline_at text)) None
+    → MatchOption r (length text ≡ length (first_line text)) (λ at. at + 1 ≡ length (first_line text))
+line_found_by text true r e is =
+    let l : newline_at text < length text = grind (arith, common_steps, e) in
+    rw is ((line_ends text).0 l)
+line_found_by text false r e is =
+    let l : length text ≤ newline_at text = grind (arith, common_steps, e) in
+    rw is ((line_ends text).1 l)
+
+-- how long the first line is, by a search for a newline
+pub line_found : (text : List ℕ) (r : Option ℕ) → r ≡ position (λ b. b == 10) text
+    → MatchOption r (length text ≡ length (first_line text)) (λ at. at + 1 ≡ length (first_line text))
+line_found text r is = line_found_by text (ltb (newline_at text) (length text)) r refl is
+
+no_more : (xs ys : List (List ℕ)) → xs ++ ys ≡ [] → xs ≡ []
+no_more [] ys e = refl
+no_more (x ∷ xs) ys e = absurd cc
+
+-- a further chunk of the piece
+pub take_chunk : (before piece : List ℕ) (i n : ℕ) → before ++ take (i + n) piece ≡ (before ++ take i piece) ++ take n (drop i piece)
+take_chunk before piece i n = ap (λ l. before ++ l) (take-add i n piece) ∙ sym (append_assoc before (take i piece) (take n (drop i piece)))
+
+-- where no run is complete, none was before
+pub none_before : (before piece : List ℕ) (i n : ℕ) → n ≤ i → complete_runs (before ++ take i piece) ≡ [] → complete_runs (before ++ take n piece) ≡ []
+none_before before piece i n l none =
+    let s : List ℕ = before ++ take n piece in
+    let t : List ℕ = take (i - n) (drop n piece) in
+    let is : n + (i - n) ≡ i = omega arith in
+    let both : s ++ t ≡ before ++ take i piece = sym (take_chunk before piece n (i - n)) ∙ ap (λ k. before ++ take k piece) is in
+    no_more (complete_runs s) (complete_runs (rest_of s ++ t)) (sym (complete_runs-append s t) ∙ ap complete_runs both ∙ none)
+
+-- whether a line begins behind a chunk
+pub begins_after-chunk : (held piece : List ℕ) (i n : ℕ) → 0 < n → i + n ≤ length piece → begins_after true (held ++ take n (drop i piece)) ≡ (get_or piece (i + n - 1) 0 == 10)
+begins_after-chunk held piece i n some l =
+    let m : ℕ = n - 1 in
+    let is : n ≡ m + 1 = omega arith in
+    let place : i + m ≡ i + n - 1 = omega arith in
+    let here : m < length (drop i piece) = grind (arith, common_steps) in
+    let last : take n (drop i piece) ≡ take m (drop i piece) ++ get_or piece (i + n - 1) 0 ∷ [] =
+    ap (λ k. take k (drop i piece)) is ∙ take_more (drop i piece) m 0 here
+    ∙ ap (λ b. take m (drop i piece) ++ b ∷ []) (get_or-drop i piece m 0 ∙ ap (λ k. get_or piece k 0) place) in
+    ap (λ l. begins_after true (held ++ l)) last
+    ∙ ap (begins_after true) (sym (append_assoc held (take m (drop i piece)) (get_or piece (i + n - 1) 0 ∷ [])))
+    ∙ begins_after-push true (held ++ take m (drop i piece)) (get_or piece (i + n - 1) 0)
+
+-- what is left of a piece
+left_is : (piece : List ℕ) (i : ℕ) → take (length piece - i) (drop i piece) ≡ drop i piece
+left_is piece i = let size : length (drop i piece) ≤ length piece - i = grind (arith, common_steps) in take_all (length piece - i) (drop i piece) size
+
+-- the line that begins at a place of the piece
+pub line_size : (piece : List ℕ) (i n : ℕ) → i < length piece → n ≡ length (first_line (take (length piece - i) (drop i piece))) → n ≤ length (take (length piece - i) (drop i piece))
+    → (n ≡ length (first_line (drop i piece))) × (i + n ≤ length piece)
+line_size piece i n h value within =
+    let size : n ≤ length (drop i piece) = rw (left_is piece i) at within in
+    (rw (left_is piece i) at value, grind (arith, common_steps, size))
+
+-- a chunk of the piece, written behind what is held
+pub chunk_held : (piece room now : List ℕ) (i len n : ℕ) → i + n ≤ length piece
+    → take (len + length (take (i + n - i) (drop i piece))) now ≡ take len room ++ take (i + n - i) (drop i piece) → take (len + n) now ≡ take len room ++ take n (drop i piece)
+chunk_held piece room now i len n inside h =
+    let same : i + n - i ≡ n = omega arith in
+    let size : length (take n (drop i piece)) ≡ n = grind (arith, common_steps) in
+    let short : take (len + length (take n (drop i piece))) now ≡ take len room ++ take n (drop i piece) = rw same at h in
+    rw size at short
+
+first_line_is_some : (text : List ℕ) → 0 < length text → 0 < length (first_line text)
+first_line_is_some [] h = absurd (omega arith)
+first_line_is_some (byte ∷ text) h = elim (byte == 10) as (λ ends. 0 < length (cond ends (byte ∷ []) (byte ∷ first_line text))) [ true ↦ omega arith | false ↦ omega arith ]
+
+-- a line has a byte
+pub first_line_some : (piece : List ℕ) (i : ℕ) → i < length piece → 0 < length (first_line (drop i piece))
+first_line_some piece i h = first_line_is_some (drop i piece) (grind (arith, common_steps))

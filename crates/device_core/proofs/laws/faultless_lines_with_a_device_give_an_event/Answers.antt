@@ -1,5 +1,0 @@
-use Rattle.device_core.proofs.LeastFault.{ok_says, says_ok}
-use Rattle.device_core.proofs.laws.faultless_lines_with_a_device_give_an_event.Goals as goal
-
-pub returns : goal.returns
-returns c = λ lines. (ok_says lines, says_ok lines)

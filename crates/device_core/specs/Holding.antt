@@ -1,0 +1,31 @@
+-- For proofs only, no reader has to believe it: how a splitter's fields hang together.
+use Rattle.std.specs.Prelude.{◌≡◌, ℕ, ◌==◌, ◌<◌, ◌≤◌, Bool, true, false, List, [], ◌∷◌, length, take}
+use Rattle.text_bytes.specs.Names.{newline}
+use Rattle.device_core.specs.Runs.{complete_runs, rest_of}
+use Rattle.device_core.specs.RunBlocks.{most_bytes}
+use Rattle.device_core.specs.Splits.{Split}
+
+-- whether a line begins behind the text, if one does before it or not
+abbrev pub begins_after : Bool → List ℕ → Bool
+begins_after start [] = start
+begins_after start (byte ∷ text) = begins_after (byte == newline) text
+
+-- what is held is a run that is not complete, and it is known whether a line begins behind it
+pub record IsPending (held : List ℕ) (at_start : Bool) : Type 0 where
+  pub none : complete_runs held ≡ []
+  pub rest : rest_of held ≡ held
+  pub begins : at_start ≡ begins_after true held
+
+-- the splitter whose room holds these bytes: a block that stands, or the bytes that are pending
+abbrev pub split_of : Bool → List ℕ → Bool → Split
+split_of true held ended = record { pending = []; block = held; ended = ended }
+split_of false held ended = record { pending = held; block = []; ended = ended }
+
+-- The room has its size. A block that stands has a byte, and where none stands, what is held is pending:
+-- nothing once the input has ended.
+pub record IsSplitter (room : List ℕ) (len : ℕ) (at_start standing ended : Bool) : Type 0 where
+  pub sized : length room ≡ most_bytes
+  pub within : len ≤ most_bytes
+  pub some : standing ≡ true → 0 < len
+  pub pending : standing ≡ false → ended ≡ false → IsPending (take len room) at_start
+  pub nothing : standing ≡ false → ended ≡ true → len ≡ 0

@@ -1,0 +1,44 @@
+-- The blocks of an input, and runs that are too long.
+use Rattle.std.specs.Prelude.{◌≡◌, ℕ, ◌+◌, ◌==◌, Bool, true, false, List, [], ◌∷◌, ◌++◌, length, take, count_by, nat_lt, if◌then◌else◌, All}
+use Rattle.text_bytes.specs.Names.{newline}
+use Rattle.device_core.specs.Runs.{runs}
+
+-- these runs up to and including the first that is faulty
+abbrev pub up_to_faulty : (List ℕ → Bool) → List (List ℕ) → List (List ℕ)
+up_to_faulty is_faulty [] = []
+up_to_faulty is_faulty (run ∷ runs) = run ∷ (if is_faulty run then [] else up_to_faulty is_faulty runs)
+
+-- the blocks of an input: its runs up to and including the first that is faulty
+abbrev pub blocks_of : (List ℕ → Bool) → List ℕ → List (List ℕ)
+blocks_of is_faulty input = up_to_faulty is_faulty (runs input)
+
+-- No text is faulty, and all are found.
+pub record FindsAll (is_faulty : List ℕ → Bool) (texts found : List (List ℕ)) : Type 0 where
+  pub none : All (λ text. is_faulty text ≡ false) texts
+  pub all : found ≡ texts
+
+-- A faulty text stands behind others that are not, and no more are found.
+pub record FindsFaulty (is_faulty : List ℕ → Bool) (texts found : List (List ℕ)) : Type 0 where
+  pub before : List (List ℕ)
+  pub faulty : List ℕ
+  pub behind : List (List ℕ)
+  pub texts_are : texts ≡ before ++ faulty ∷ behind
+  pub none : All (λ text. is_faulty text ≡ false) before
+  pub is : is_faulty faulty ≡ true
+  pub found_are : found ≡ before ++ faulty ∷ []
+
+-- the most bytes that a block may have, its newlines counted
+abbrev pub most_bytes : ℕ
+most_bytes = 65536
+
+-- whether a run has more
+abbrev pub is_too_long : List ℕ → Bool
+is_too_long run = nat_lt most_bytes (length run)
+
+-- how many lines end in a text
+abbrev pub newline_count : List ℕ → ℕ
+newline_count text = count_by (λ byte. byte == newline) text
+
+-- the line in which a run's first byte too many stands, counted from 1
+unfoldable pub line_of_excess : List ℕ → ℕ
+line_of_excess run = newline_count (take most_bytes run) + 1

@@ -1,0 +1,163 @@
+//! The splitter: blocks of an input that comes in pieces.
+//!
+//! Its room is a boxed slice, which can't grow: no call but `new` could take memory.
+ghost use Rattle.std.specs.Prelude.{◌≡◌, ◌≤◌, ◌+◌, [], length, IfOk, IfErr};
+ghost use Rattle.device_core.specs.RunBlocks.{most_bytes, newline_count};
+ghost use Rattle.device_core.specs.Splits.{opened, Takes, Ends, FailsBy, HadEnded};
+
+use crate::filling::{Stop, fill};
+use std::alloc::{AllocError, Global};
+use std::boxed::BoxedSlice;
+use std::marker::Model;
+
+/// The most bytes of a block.
+const ROOM: usize = 65_536;
+
+/// What taking a piece came to.
+#[derive(Clone, Copy, Debug, PartialEq, Eq)]
+pub struct Taken {
+    /// How many of the piece's bytes were used.
+    pub used: usize,
+    /// Whether a block is complete.
+    pub whole: bool,
+}
+
+/// Why nothing more is taken.
+#[derive(Clone, Copy, Debug, PartialEq, Eq)]
+pub enum SplitFault {
+    /// A block has more than 65,536 bytes, its newlines counted: byte 65,537 stands in this of its
+    /// lines, counted from 1.
+    TooLong {
+        /// The line.
+        line: usize,
+    },
+    /// The input has ended, or a block was too long before.
+    Ended,
+}
+
+/// Cuts an input into its blocks, the longest runs of lines that are not empty: so does
+/// `udevadm info --export-db` of udevadm(8) part the devices that it lists.
+#[derive(Drop)]
+pub struct Splitter {
+    room: BoxedSlice<u8>,
+    /// How many bytes of the room are held.
+    len: usize,
+    /// Whether a line begins behind them.
+    at_start: bool,
+    /// Whether they are a block that is lent.
+    standing: bool,
+    /// Whether no more is taken.
+    ended: bool,
+}
+
+impl Model for Splitter {
+    ghost use Rattle.device_core.specs.Splits.{Split};
+    ghost use Rattle.device_core.specs.Holding.{split_of, IsSplitter};
+    ghost use Rattle.std.specs.Prelude.{take};
+    ghost use Rattle.std.specs.Box.{boxed_slice_items};
+
+    ghost Value = { Split };
+
+    ghost view = { λ s. split_of s.standing (take s.len (boxed_slice_items s.room)) s.ended };
+
+    ghost invariant = { λ s. IsSplitter (boxed_slice_items s.room) s.len s.at_start s.standing s.ended };
+}
+
+impl Splitter {
+    /// A splitter at the input's start, with all the room that it will need: 65,536 bytes.
+    ///
+    /// The error comes where memory is refused.
+    pub fn new(alloc: Global) -> Result<Splitter, AllocError>
+        ensures { IfOk result (λ s. s ≡ opened) }
+    {
+        let room = vec![in alloc; 0u8; ROOM]?;
+        Ok(Splitter {
+            room: room.into_boxed_slice(),
+            len: 0,
+            at_start: true,
+            standing: false,
+            ended: false,
+        })
+    }
+
+    /// Takes the bytes of a piece up to the empty line that ends a block, or all of them.
+    ///
+    /// `TooLong` comes at a block's byte 65,537, and `Ended` after it and after `end`.
+    pub fn take(&mut self, piece: &[u8]) -> Result<Taken, SplitFault>
+        ensures ok { IfOk result (λ taken. Takes self.old piece.now taken self.new) }
+        ensures err { IfErr result (λ fault. FailsBy fault self.old piece.now self.new) }
+    {
+        self.let_go();
+        if self.ended {
+            return Err(SplitFault::Ended);
+        }
+        let filled = fill(&mut self.room, self.len, self.at_start, piece);
+        self.len = filled.len;
+        self.at_start = filled.at_start;
+        match filled.stop {
+            Stop::Used => Ok(Taken {
+                used: filled.used,
+                whole: false,
+            }),
+            Stop::Whole => {
+                self.standing = true;
+                Ok(Taken {
+                    used: filled.used,
+                    whole: true,
+                })
+            }
+            Stop::Full => {
+                let line = line_after(&self.room[..self.len]);
+                self.len = 0;
+                self.ended = true;
+                Err(SplitFault::TooLong { line })
+            }
+        }
+    }
+
+    /// The block that the last call completed, without the empty line behind it; nothing if that call
+    /// completed none or failed.
+    pub fn block(&self) -> &[u8]
+        ensures { result.now ≡ self.now.block }
+    {
+        if !self.standing {
+            return &[];
+        }
+        &self.room[..self.len]
+    }
+
+    /// Ends the input, and says whether its end completes a block.
+    ///
+    /// `Ended` comes after a block that was too long, and after `end`.
+    pub fn end(&mut self) -> Result<bool, SplitFault>
+        ensures ok { IfOk result (λ some. Ends self.old some self.new) }
+        ensures err { IfErr result (λ fault. HadEnded fault self.old self.new) }
+    {
+        self.let_go();
+        if self.ended {
+            return Err(SplitFault::Ended);
+        }
+        self.ended = true;
+        self.standing = self.len != 0;
+        Ok(self.standing)
+    }
+
+    /// Lets go of the block, if one is lent.
+    fn let_go(&mut self)
+        ensures { self.new ≡ record self.old { block = [] } }
+    {
+        if self.standing {
+            self.standing = false;
+            self.len = 0;
+            self.at_start = true;
+        }
+    }
+}
+
+/// In which line the byte behind a text stands, counted from 1.
+fn line_after(text: &[u8]) -> usize
+    requires { length text.now ≤ most_bytes }
+    ensures { result ≡ newline_count text.now + 1 }
+{
+    text.iter().filter(|b| **b == b'\n').count() + 1
+}

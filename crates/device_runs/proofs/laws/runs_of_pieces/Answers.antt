@@ -1,5 +1,0 @@
-use Rattle.device_runs.proofs.Law.{complete_runs-append, rest_of-append, runs-append}
-use Rattle.device_runs.proofs.laws.runs_of_pieces.Goals as goal
-
-pub returns : goal.returns
-returns c = record { complete = complete_runs-append; rest = rest_of-append; all = runs-append }

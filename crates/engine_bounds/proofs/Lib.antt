@@ -1,5 +1,0 @@
-pub mod Lines
-pub mod Nodes
-pub mod Small
-pub mod Priorities
-pub mod Answers

@@ -1,5 +1,0 @@
-use Rattle.engine_bounds.proofs.Answers.{block_answer_short, files_answer_short}
-use Rattle.engine_bounds.proofs.laws.an_answer_is_no_longer_than_its_weight.Goals as goal
-
-pub returns : goal.returns
-returns c = record { files = files_answer_short; others = block_answer_short }

@@ -1,0 +1,12 @@
+-- Where something stands, and a word about it, as lines tell them.
+use Rattle.std.specs.Prelude.{ℕ, ◌==◌, if◌then◌else◌, List, [], ◌∷◌, ◌++◌, length, codes, decimal}
+use Rattle.text_bytes.specs.Names.{colon}
+use Rattle.text_bytes.specs.Escapes.{escape_text}
+
+-- where something stands, `FILE:LINE: `, the file's name escaped and the line's number in decimal
+abbrev pub place_of : List ℕ → ℕ → List ℕ
+place_of file line = escape_text file ++ colon ∷ decimal line ++ codes ": "
+
+-- a word behind a text, escaped; an empty word is left out with its colon
+abbrev pub word_part : List ℕ → List ℕ
+word_part word = if length word == 0 then [] else codes ": " ++ escape_text word

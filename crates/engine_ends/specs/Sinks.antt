@@ -1,0 +1,44 @@
+-- What a sink shows, and what its calls change of it.
+use Rattle.std.specs.Prelude.{◌≡◌, ℕ, ◌≤◌, Option, None, List, length, take}
+use Rattle.engine_ends.specs.Told.{followed_by}
+use Rattle.engine_ends.specs.Faults.{CountsOne}
+
+-- the bytes that a sink took and those that it flushed, where it tells them, and how many of its calls failed
+pub record SinkState : Type 0 where
+  pub taken : Option (List ℕ)
+  pub flushed : Option (List ℕ)
+  pub faults : ℕ
+
+-- what a sink shows that tells nothing of its bytes
+abbrev pub untold_sink : ℕ → SinkState
+untold_sink faults = record { taken = None; flushed = None; faults = faults }
+
+-- The sink took these bytes; nothing more was flushed, and no call failed.
+pub record Takes (before : SinkState) (bytes : List ℕ) (now : SinkState) : Type 0 where
+  pub taken : now.taken ≡ followed_by before.taken bytes
+  pub flushed : now.flushed ≡ before.flushed
+  pub well : now.faults ≡ before.faults
+
+-- The sink flushed all that it had taken, and no call failed.
+pub record Flushes (before now : SinkState) : Type 0 where
+  pub taken : now.taken ≡ before.taken
+  pub flushed : now.flushed ≡ before.taken
+  pub well : now.faults ≡ before.faults
+
+-- A call failed: nothing more was taken or flushed.
+pub record SinkFails (before now : SinkState) : Type 0 where
+  pub taken : now.taken ≡ before.taken
+  pub flushed : now.flushed ≡ before.flushed
+  pub failed : CountsOne before.faults now.faults
+
+-- The sink took a whole text and flushed all that it took, and no call failed.
+pub record HandsOn (before : SinkState) (text : List ℕ) (now : SinkState) : Type 0 where
+  pub taken : now.taken ≡ followed_by before.taken text
+  pub flushed : now.flushed ≡ now.taken
+  pub well : now.faults ≡ before.faults
+
+-- The sink took a first part of a text, perhaps all of it, and then a call failed; nothing more was flushed.
+pub record BreaksOff (before : SinkState) (text : List ℕ) (now : SinkState) : Type 0 where
+  pub taken : (n : ℕ) × (n ≤ length text) × (now.taken ≡ followed_by before.taken (take n text))
+  pub flushed : now.flushed ≡ before.flushed
+  pub failed : CountsOne before.faults now.faults

@@ -1,0 +1,67 @@
+//! Writing what a run says, and the status that comes of it.
+//!
+//! The messages go out before the answer, each as one text. A status under 3 says that all of both
+//! was written and flushed; 3 says that a device failed; 4 that memory was refused. A line on a
+//! failure is made of texts that are there already, so that telling of it needs no memory.
+ghost use Rattle.std.specs.Prelude.{◌≡◌, ◌<◌, flat_map};
+ghost use Rattle.engine_ends.specs.Delivery.{Delivers, Tells, out_of_memory};
+
+use crate::device::{DeviceFault, Sink};
+use crate::writing::{hand_on, hand_on_each};
+
+const WRITE_FAILED: &[u8] = b"devdry: write failed\n";
+
+const OUT_OF_MEMORY: &[u8] = b"devdry: out of memory\n";
+
+/// Writes the messages and the answer, and gives the status that was asked for, or 3 where a device
+/// failed.
+///
+/// Messages go to `error`, and the answer then to `output`. Where `output` fails, `error` is told
+/// `devdry: write failed`. The status asked for is under 3.
+pub fn deliver<W: Sink, E: Sink>(
+    messages: &[u8],
+    answer: &[u8],
+    status: u8,
+    output: &mut W,
+    error: &mut E,
+) -> u8
+    requires { status < 3 }
+    ensures { Delivers (record { output = answer.now; messages = messages.now; status = status }) result
+        (W.shown output.old) (W.shown output.new) (E.shown error.old) (E.shown error.new) }
+{
+    if hand_on(error, messages).is_err() {
+        return 3;
+    }
+    if hand_on(output, answer).is_err() {
+        return tell(error, WRITE_FAILED, 3);
+    }
+    status
+}
+
+/// Says that memory was refused, and gives the status for it, 4, or 3 where the error output failed.
+pub fn tell_out_of_memory<E: Sink>(error: &mut E) -> u8
+    ensures { Tells out_of_memory 4 result (E.shown error.old) (E.shown error.new) }
+{
+    tell(error, OUT_OF_MEMORY, 4)
+}
+
+/// Writes a line on a failure, and gives its status, or 3 where the error output failed.
+pub fn tell<E: Sink>(error: &mut E, line: &[u8], status: u8) -> u8
+    ensures { Tells line.now status result (E.shown error.old) (E.shown error.new) }
+{
+    match hand_on(error, line) {
+        Ok(()) => status,
+        Err(DeviceFault) => 3,
+    }
+}
+
+/// Writes a line on a failure that is made of several texts, and gives its status, or 3 where the
+/// error output failed.
+pub fn tell_in_pieces<E: Sink>(error: &mut E, line: &[&[u8]], status: u8) -> u8
+    ensures { Tells (flat_map (λ t. t.now) line.now) status result (E.shown error.old) (E.shown error.new) }
+{
+    match hand_on_each(error, line) {
+        Ok(()) => status,
+        Err(DeviceFault) => 3,
+    }
+}

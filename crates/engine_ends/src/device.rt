@@ -1,0 +1,51 @@
+//! The two traits that stand for what a run reads and writes.
+//!
+//! Each shows contracts one record. What it tells of the bytes is an `Option`, so that one contract
+//! serves both kinds of devices: a clause on the bytes says nothing of a device that tells none.
+ghost use Rattle.std.specs.Prelude.{◌≡◌, ◌<◌, ◌≤◌, length, take, IfOk, OnOk, OnErr};
+ghost use Rattle.engine_ends.specs.Told.{NoneLeft};
+ghost use Rattle.engine_ends.specs.Sinks.{SinkState, Flushes, SinkFails, Takes};
+ghost use Rattle.engine_ends.specs.Sources.{SourceState, Gives, SourceFails};
+
+/// A call of a device failed.
+#[derive(Clone, Copy, Debug, PartialEq, Eq)]
+pub struct DeviceFault;
+
+/// Where input comes from.
+pub trait Source {
+    // the pieces read and the bytes still to come, where they are told, and how many calls failed
+    ghost shown: { Self → SourceState };
+
+    /// Reads some bytes into the front of a slice that is not empty, and says how many.
+    ///
+    /// It answers 0 at the input's end alone, which is an empty piece. A `DeviceFault` says that the
+    /// device failed; what stands in the slice is then left open, and no piece was read.
+    fn read(&mut self, into: &mut [u8]) -> Result<usize, DeviceFault>
+        requires { 0 < length into.old }
+        ensures within { IfOk result (λ n. n ≤ length into.old) }
+        ensures gives { IfOk result (λ n. Gives (shown self.old) (take n into.new) (shown self.new)) }
+        ensures end { IfOk result (λ n. n ≡ 0 → NoneLeft (shown self.old).left) }
+        ensures fails { OnErr result (SourceFails (shown self.old) (shown self.new)) };
+}
+
+/// Where output goes.
+pub trait Sink {
+    // the bytes taken and those flushed, where they are told, and how many calls failed
+    ghost shown: { Self → SinkState };
+
+    /// Takes the first bytes of a text, perhaps not all of them, and says how many.
+    ///
+    /// A `DeviceFault` says that the device failed and took nothing. An answer of 0 to a text that
+    /// is not empty counts as a failed call, too.
+    fn write(&mut self, text: &[u8]) -> Result<usize, DeviceFault>
+        ensures within { IfOk result (λ n. n ≤ length text.now) }
+        ensures takes { IfOk result (λ n. 0 < n → Takes (shown self.old) (take n text.now) (shown self.new)) }
+        ensures empty { OnOk result (length text.now ≡ 0 → Takes (shown self.old) text.now (shown self.new)) }
+        ensures refuses { IfOk result (λ n. n ≡ 0 → 0 < length text.now → SinkFails (shown self.old) (shown self.new)) }
+        ensures fails { OnErr result (SinkFails (shown self.old) (shown self.new)) };
+
+    /// Hands on all that was taken. A `DeviceFault` says that the device failed.
+    fn flush(&mut self) -> Result<(), DeviceFault>
+        ensures flushes { OnOk result (Flushes (shown self.old) (shown self.new)) }
+        ensures fails { OnErr result (SinkFails (shown self.old) (shown self.new)) };
+}

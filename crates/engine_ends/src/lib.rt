@@ -1,0 +1,24 @@
+//! The two ends of a run: what a command line asks for, and the streams that an input comes from and outputs go to.
+//!
+//! Beside these stand writing what a run says with the status that comes of it, and how a place and a word are told.
+#![tactic(auto)]
+
+mod delivery;
+mod device;
+mod kinds;
+mod line;
+mod memory_sink;
+mod memory_source;
+mod places;
+mod std_streams;
+mod writing;
+
+pub use delivery::{deliver, tell, tell_in_pieces, tell_out_of_memory};
+pub use device::{DeviceFault, Sink, Source};
+pub use kinds::same_kind;
+pub use line::{Line, LineFault, Verb};
+pub use memory_sink::MemorySink;
+pub use memory_source::MemorySource;
+pub use places::{push_place, push_word};
+pub use std_streams::{SinkOver, SourceOver};
+pub use writing::{hand_on, hand_on_each, write_all};

@@ -1,0 +1,53 @@
+//! What a command line of `devdry` asks for, whoever read it.
+//!
+//! These types stand below the crate that reads the words and below those that do the work, so that
+//! none of them needs another. Which files a line speaks of is said here too, so that the crate that
+//! reads files and the one that answers from them can't differ.
+
+/// The subcommand.
+#[derive(Clone, Copy, Debug, PartialEq, Eq)]
+pub enum Verb {
+    /// Checks database files.
+    Update,
+    /// Answers a modalias.
+    Query,
+    /// Checks rules files.
+    Verify,
+    /// Answers events.
+    Events,
+}
+
+/// What a command line asks for.
+#[derive(Debug, Drop)]
+pub struct Line<'a> {
+    /// The subcommand.
+    pub verb: Verb,
+    /// What stands before each folder; empty where nothing was said.
+    pub root: &'a str,
+    /// The files that are named, in the order given.
+    pub files: Vec<&'a str>,
+    /// The index that is named, if any: it stands in place of the database's folders. `update` and
+    /// `verify` name none.
+    pub index: Option<&'a str>,
+    /// Whether a message makes `update` fail.
+    pub strict: bool,
+    /// Whether `query` says where each property comes from.
+    pub sources: bool,
+    /// The modalias to look up; empty for the other subcommands.
+    pub modalias: &'a str,
+    /// Whether `verify` counts the files at its end; true for the other subcommands.
+    pub summary: bool,
+    /// Whether `verify` gives messages about style; true for the other subcommands.
+    pub style: bool,
+}
+
+/// Why words are no line.
+#[derive(Debug, Drop)]
+pub enum LineFault {
+    /// 1: help or the version was asked for: its text, for the standard output.
+    Help(String),
+    /// 2: the words are not understood: what to tell the user.
+    Usage(String),
+    /// 3: want of memory.
+    Memory,
+}

@@ -1,0 +1,105 @@
+//! Devices over std's readers and writers.
+//!
+//! No contract can say which bytes a file, a pipe or a terminal holds, so these tell none. What
+//! they keep is the count of failed calls, by which a status can be shown to rest on a failure. Where
+//! a reader or writer of std does say what a call gave or took, so does the call here.
+ghost use Rattle.std.specs.Prelude.{◌≡◌, ◌<◌, ◌≤◌, length, take, IfOk, OnOk, OnErr};
+ghost use Rattle.std.specs.Io.KnownBytes.{Keeps, ReadConsumes, WriteAppends};
+ghost use Rattle.engine_ends.specs.Told.{NoneLeft};
+ghost use Rattle.engine_ends.specs.Sinks.{Flushes, SinkState, SinkFails, Takes, untold_sink};
+ghost use Rattle.engine_ends.specs.Sources.{SourceState, Gives, SourceFails, untold_source};
+
+use crate::device::{DeviceFault, Sink, Source};
+use std::io::{Read, Write};
+
+/// A source over a reader.
+#[derive(Drop)]
+pub struct SourceOver<R> {
+    reader: R,
+    faults: u64,
+}
+
+impl<R: Read> SourceOver<R> {
+    /// A source over a reader, none of whose calls has failed.
+    pub fn new(reader: R) -> SourceOver<R>
+        ensures { ⟦<SourceOver<R> as Source>⟧.shown result ≡ untold_source 0 }
+    {
+        SourceOver { reader, faults: 0 }
+    }
+}
+
+impl<R: Read> Source for SourceOver<R> {
+    ghost shown = { λ s. untold_source s.faults };
+
+    fn read(&mut self, into: &mut [u8]) -> Result<usize, DeviceFault>
+        ensures within { IfOk result (λ n. n ≤ length into.old) }
+        ensures gives { IfOk result (λ n. Gives (untold_source self.old.faults) (take n into.new) (untold_source self.new.faults)) }
+        ensures end { IfOk result (λ n. n ≡ 0 → NoneLeft (untold_source self.old.faults).left) }
+        ensures fails { OnErr result (SourceFails (untold_source self.old.faults) (untold_source self.new.faults)) }
+        ensures bytes { ReadConsumes (R.remaining self.old.reader) (R.remaining self.new.reader) result into.new }
+    {
+        match self.reader.read(into) {
+            Ok(n) => Ok(n),
+            Err(_) => {
+                self.faults = self.faults.saturating_add(1);
+                Err(DeviceFault)
+            }
+        }
+    }
+}
+
+/// A sink over a writer.
+#[derive(Drop)]
+pub struct SinkOver<W> {
+    writer: W,
+    faults: u64,
+}
+
+impl<W: Write> SinkOver<W> {
+    /// A sink over a writer, none of whose calls has failed.
+    pub fn new(writer: W) -> SinkOver<W>
+        ensures { ⟦<SinkOver<W> as Sink>⟧.shown result ≡ untold_sink 0 }
+    {
+        SinkOver { writer, faults: 0 }
+    }
+}
+
+impl<W: Write> Sink for SinkOver<W> {
+    ghost shown = { λ s. untold_sink s.faults };
+
+    fn write(&mut self, text: &[u8]) -> Result<usize, DeviceFault>
+        ensures within { IfOk result (λ n. n ≤ length text.now) }
+        ensures takes { IfOk result (λ n. 0 < n → Takes (untold_sink self.old.faults) (take n text.now) (untold_sink self.new.faults)) }
+        ensures empty { OnOk result (length text.now ≡ 0 → Takes (untold_sink self.old.faults) text.now (untold_sink self.new.faults)) }
+        ensures refuses { IfOk result (λ n. n ≡ 0 → 0 < length text.now → SinkFails (untold_sink self.old.faults) (untold_sink self.new.faults)) }
+        ensures fails { OnErr result (SinkFails (untold_sink self.old.faults) (untold_sink self.new.faults)) }
+        ensures bytes { WriteAppends (W.contents self.old.writer) (W.contents self.new.writer) result text.now }
+    {
+        match self.writer.write(text) {
+            Ok(n) => {
+                if n == 0 && !text.is_empty() {
+                    self.faults = self.faults.saturating_add(1);
+                }
+                Ok(n)
+            }
+            Err(_) => {
+                self.faults = self.faults.saturating_add(1);
+                Err(DeviceFault)
+            }
+        }
+    }
+
+    fn flush(&mut self) -> Result<(), DeviceFault>
+        ensures flushes { OnOk result (Flushes (untold_sink self.old.faults) (untold_sink self.new.faults)) }
+        ensures fails { OnErr result (SinkFails (untold_sink self.old.faults) (untold_sink self.new.faults)) }
+        ensures bytes { Keeps (W.contents self.old.writer) (W.contents self.new.writer) }
+    {
+        match self.writer.flush() {
+            Ok(()) => Ok(()),
+            Err(_) => {
+                self.faults = self.faults.saturating_add(1);
+                Err(DeviceFault)
+            }
+        }
+    }
+}

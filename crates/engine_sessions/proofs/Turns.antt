@@ -1,0 +1,288 @@
+-- Turn after turn.
+use Rattle.std.proofs.Common.{◌≡◌, ℕ, ◌+◌, inl, inr, length, Bool, true, false, Option, None, Some, List, [], ◌∷◌, ◌++◌, refl, Ok, Err, append_assoc, length-append, ap, sym, ◌∙◌, subst, arith}
+use Rattle.std.proofs.lemmas.List.{append-nil}
+use Rattle.std.proofs.lemmas.Grind.{common_steps, flat_map-append}
+use Rattle.text_tables.specs.Texts.{Text}
+use Rattle.device_core.specs.Runs.{complete_runs, rest_of}
+use Rattle.device_core.proofs.Law.{complete_runs-append, rest_of-append}
+use Rattle.device_core.specs.Values.{EventValue}
+use Rattle.device_core.specs.declared.faults.BlockFault.{BlockFault}
+use Rattle.engine_ends.specs.Told.{followed_by, led_by, NoneLeft}
+use Rattle.engine_ends.specs.Faults.{CountsOne}
+use Rattle.engine_ends.specs.Sources.{SourceState}
+use Rattle.engine_ends.specs.Sinks.{SinkState}
+use Rattle.engine_ends.proofs.Told.{followed_by-append, followed_by-nil}
+use Rattle.engine_sessions.specs.Answers.{Answers, answers_to, answers_of, well, counted, number_behind}
+use Rattle.engine_sessions.specs.Sessions.{Held, opened}
+use Rattle.engine_sessions.specs.Turns.{Sends, joined, Reads, SendsDue, due, Refuses, Turns, FailsBy}
+use Rattle.engine_sessions.specs.declared.session.SessionFault.TheVariants.{Block, Memory, Ended}
+use Rattle.engine_sessions.specs.declared.turning.TurnFault.{TurnFault}
+use Rattle.engine_sessions.specs.declared.turning.TurnFault.TheVariants.{Read, Write, Session}
+use Rattle.engine_sessions.proofs.AnswerLemmas.{with_texts, answers_to-append, counted-add}
+use Rattle.engine_sessions.proofs.SendLemmas.{sends-none, sends-more}
+use Rattle.engine_sessions.proofs.LawLemmas.{Given, until, complete_well, behind_well, first_answers, stays_faulty}
+use Rattle.engine_sessions.specs.Inputs.{most_turns, all_but_last, HasSentDue, StopsAtBlock, AnswersInput}
+
+-- All that is due behind some turns is sent.
+pub record Served {A : Type 0} (answer : EventValue → Text) (first : Held A) (input now : SourceState) (output sink : SinkState) (session : Held A) (turns : ℕ) : Type 0 where
+  pub read : List Text
+  pub pieces : now.pieces ≡ followed_by input.pieces read
+  pub left : input.left ≡ led_by (joined read) now.left
+  pub well_read : now.faults ≡ input.faults
+  pub turned : length read ≡ turns
+  pub sent : List Text
+  pub sends : Sends output sent sink
+  pub due : HasSentDue answer read sent
+  pub given : Given answer (joined read) sent session
+  pub goes_on : session.ended ≡ false
+  pub answering : session.answering ≡ first.answering
+
+led_by-nil : (told : Option Text) → led_by [] told ≡ told
+led_by-nil None = refl
+led_by-nil (Some rest) = refl
+
+led_by-append : (first second : Text) (told : Option Text) → led_by first (led_by second told) ≡ led_by (first ++ second) told
+led_by-append first second None = refl
+led_by-append first second (Some rest) = ap Some (sym (append_assoc first second rest))
+
+joined-push : (read : List Text) (piece : Text) → joined (read ++ piece ∷ []) ≡ joined read ++ piece
+joined-push read piece = flat_map-append (λ text. text) read (piece ∷ []) ∙ ap (λ l. joined read ++ l) (append-nil piece)
+
+all_but_last-push : (read : List Text) (piece : Text) → all_but_last (read ++ piece ∷ []) ≡ read
+all_but_last-push read piece = grind (arith, common_steps)
+
+-- nothing is due at the start
+due_at_start : (answer : EventValue → Text) → HasSentDue answer [] []
+due_at_start answer = ([], refl)
+
+-- what is due behind one more piece
+due_behind : (answer : EventValue → Text) (read : List Text) (piece : Text) (sent more : List Text) → answers_to answer (complete_runs (joined read)) ≡ well sent → HasSentDue answer (read ++ piece ∷ []) (sent ++ more)
+due_behind answer read piece sent more e =
+    (more, ap (λ texts. texts ++ more) (sym (ap (λ pieces. (answers_to answer (complete_runs (joined pieces))).texts) (all_but_last-push read piece) ∙ ap (λ a. a.texts) e)))
+
+one_more : (input now later : SourceState) (read : List Text) (piece : Text) → now.pieces ≡ followed_by input.pieces read → later.pieces ≡ followed_by now.pieces (piece ∷ []) → later.pieces ≡ followed_by input.pieces (read ++ piece ∷ [])
+one_more input now later read piece p q = q ∙ ap (λ told. followed_by told (piece ∷ [])) p ∙ followed_by-append input.pieces read (piece ∷ [])
+
+left_behind : (input now later : SourceState) (read : List Text) (piece : Text) → input.left ≡ led_by (joined read) now.left → now.left ≡ led_by piece later.left → input.left ≡ led_by (joined (read ++ piece ∷ [])) later.left
+left_behind input now later read piece p q = p ∙ ap (led_by (joined read)) q ∙ led_by-append (joined read) piece later.left ∙ ap (λ text. led_by text later.left) (sym (joined-push read piece))
+
+pub served_at_start : {A : Type 0} (answer : EventValue → Text) (session : Held A) (input : SourceState) (output : SinkState) → session ≡ opened session.answering → Served answer session input input output output session 0
+served_at_start answer session input output e = record {
+  read = [];
+  pieces = sym (followed_by-nil input.pieces);
+  left = sym (led_by-nil input.left);
+  well_read = refl;
+  turned = refl;
+  sent = [];
+  sends = sends-none output;
+  due = due_at_start answer;
+  given = record { answers = refl; pending = sym (ap (λ h. h.pending) e); answered = ap (λ h. h.answered) e };
+  goes_on = ap (λ h. h.ended) e;
+  answering = refl;
+}
+
+given_more : {A : Type 0} (answer : EventValue → Text) (session next : Held A) (text piece : Text) (sent : List Text) (sink later : SinkState) (g : Given answer text sent session) (s : SendsDue answer true session piece next sink later)
+    → Given answer (text ++ piece) (sent ++ s.texts) next
+given_more answer session next text piece sent sink later g s = record {
+  answers = ap (answers_to answer) (complete_runs-append text piece ∙ ap (λ rest. complete_runs text ++ complete_runs (rest ++ piece)) g.pending)
+      ∙ answers_to-append answer (complete_runs text) (complete_runs (session.pending ++ piece)) sent g.answers
+      ∙ ap (with_texts sent) (complete_well answer (session.pending ++ piece) s.texts s.answers);
+  pending = rest_of-append text piece ∙ ap (λ rest. rest_of (rest ++ piece)) g.pending ∙ sym (ap (λ h. h.pending) s.leaves);
+  answered = ap (λ h. h.answered) s.leaves ∙ ap (λ n. counted (n + length s.texts)) g.answered ∙ counted-add (length sent) (length s.texts) ∙ ap counted (sym (length-append sent s.texts));
+}
+
+pub served_more : {A : Type 0} (answer : EventValue → Text) (first session next : Held A) (input now later : SourceState) (output sink sink_later : SinkState) (turns : ℕ)
+    → Served answer first input now output sink session turns → Turns answer true session next now later sink sink_later → Served answer first input later output sink_later next (turns + 1)
+served_more answer first session next input now later output sink sink_later turns s t = record {
+  read = s.read ++ t.piece ∷ [];
+  pieces = one_more input now later s.read t.piece s.pieces t.reads.gives.pieces;
+  left = left_behind input now later s.read t.piece s.left t.reads.gives.left;
+  well_read = t.reads.gives.well ∙ s.well_read;
+  turned = length-append s.read (t.piece ∷ []) ∙ ap (λ n. n + 1) s.turned;
+  sent = s.sent ++ t.sends.texts;
+  sends = sends-more output sink sink_later s.sent t.sends.texts s.sends t.sends.sends;
+  due = due_behind answer s.read t.piece s.sent t.sends.texts s.given.answers;
+  given = rw joined-push (given_more answer session next (joined s.read) t.piece s.sent sink sink_later s.given t.sends);
+  goes_on = ap (λ h. h.ended) t.sends.leaves;
+  answering = ap (λ h. h.answering) t.sends.leaves ∙ s.answering;
+}
+
+-- all answers to the text with one more piece and what follows it
+all_answers : {A : Type 0} (answer : EventValue → Text) (session : Held A) (read : List Text) (piece later : Text) (sent : List Text) → Given answer (joined read) sent session
+    → answers_of answer (joined (read ++ piece ∷ []) ++ later) ≡ with_texts sent (answers_of answer ((session.pending ++ piece) ++ later))
+all_answers answer session read piece later sent g =
+    ap (λ text. answers_of answer (text ++ later)) (joined-push read piece) ∙ ap (answers_of answer) (append_assoc (joined read) piece later)
+    ∙ behind_well answer (joined read) (piece ++ later) sent g.answers
+    ∙ ap (λ rest. with_texts sent (answers_of answer (rest ++ (piece ++ later)))) g.pending
+    ∙ ap (λ text. with_texts sent (answers_of answer text)) (sym (append_assoc session.pending piece later))
+
+answers_now : {A : Type 0} (answer : EventValue → Text) (session : Held A) (read : List Text) (piece : Text) (sent : List Text) → Given answer (joined read) sent session
+    → answers_of answer (joined (read ++ piece ∷ [])) ≡ with_texts sent (answers_of answer (session.pending ++ piece))
+answers_now answer session read piece sent g = rw (append-nil (joined (read ++ piece ∷ [])), append-nil (session.pending ++ piece)) at (all_answers answer session read piece [] sent g)
+
+none_left_behind : (now later : Option Text) (piece : Text) → piece ≡ [] → now ≡ led_by piece later → NoneLeft now → NoneLeft later
+none_left_behind now later piece e f h = subst NoneLeft (f ∙ ap (λ p. led_by p later) e ∙ led_by-nil later) h
+
+pub finished : {A : Type 0} (answer : EventValue → Text) (first session next : Held A) (input now later : SourceState) (output sink sink_later : SinkState) (turns : ℕ)
+    → Served answer first input now output sink session turns → Turns answer false session next now later sink sink_later → AnswersInput answer (Ok tt) input later output sink_later
+finished answer first session next input now later output sink sink_later turns s t = record {
+  read = s.read ++ t.piece ∷ [];
+  pieces = one_more input now later s.read t.piece s.pieces t.reads.gives.pieces;
+  left = left_behind input now later s.read t.piece s.left t.reads.gives.left;
+  faults = t.reads.gives.well ∙ s.well_read;
+  sent = s.sent ++ t.sends.texts;
+  told = sink_later;
+  sends = sends-more output sink sink_later s.sent t.sends.texts s.sends t.sends.sends;
+  due = due_behind answer s.read t.piece s.sent t.sends.texts s.given.answers;
+  ends = record {
+    answers = answers_now answer session s.read t.piece s.sent s.given ∙ ap (with_texts s.sent) t.sends.answers;
+    none_left = none_left_behind now.left later.left t.piece (t.reads.ends.0 refl) t.reads.gives.left (t.reads.none_left refl);
+    untouched = refl;
+  };
+}
+
+-- the first answers to a piece are those that are due when it was read
+due_first : (answer : EventValue → Text) (more : Bool) (pending piece : Text) → (behind : List Text) × ((answers_of answer (pending ++ piece)).texts ≡ (due answer more pending piece).texts ++ behind)
+due_first answer true pending piece = rw append-nil at (first_answers answer (pending ++ piece) [])
+due_first answer false pending piece = ([], sym (append-nil (answers_of answer (pending ++ piece)).texts))
+
+-- what is read, where a turn fails behind its read
+record ReadOn (input later : SourceState) (read : List Text) : Type 0 where
+  pub pieces : later.pieces ≡ followed_by input.pieces read
+  pub left : input.left ≡ led_by (joined read) later.left
+  pub faults : later.faults ≡ input.faults
+
+read_on : {A : Type 0} (answer : EventValue → Text) (first session : Held A) (input now later : SourceState) (output sink : SinkState) (turns : ℕ) (more : Bool) (piece : Text) (s : Served answer first input now output sink session turns) → Reads more now piece later
+    → ReadOn input later (s.read ++ piece ∷ [])
+read_on answer first session input now later output sink turns more piece s r = record {
+  pieces = one_more input now later s.read piece s.pieces r.gives.pieces;
+  left = left_behind input now later s.read piece s.left r.gives.left;
+  faults = r.gives.well ∙ s.well_read;
+}
+
+-- the answers sent, and those behind them
+sent_first : {A : Type 0} (answer : EventValue → Text) (session : Held A) (read : List Text) (more : Bool) (piece : Text) (sent some others : List Text) → Given answer (joined read) sent session → (due answer more session.pending piece).texts ≡ some ++ others
+    → (behind : List Text) × ((answers_of answer (joined (read ++ piece ∷ []))).texts ≡ (sent ++ some) ++ (others ++ behind))
+sent_first answer session read more piece sent some others g e =
+    let first = due_first answer more session.pending piece in
+    (first.0, ap (λ a. a.texts) (answers_now answer session read piece sent g) ∙ ap (λ texts. sent ++ texts) (first.1 ∙ ap (λ texts. texts ++ first.0) e ∙ append_assoc some others first.0) ∙ sym (append_assoc sent some (others ++ first.0)))
+
+-- the faulty block
+until_texts : (given : Answers) (fault : BlockFault) → given.fault ≡ Some fault → given ≡ until given.texts fault
+until_texts given fault e = ap (λ f. record { texts = given.texts; fault = f }) e
+
+faulty_later : {A : Type 0} (answer : EventValue → Text) (session : Held A) (read : List Text) (more : Bool) (piece later : Text) (sent : List Text) (fault : BlockFault) → Given answer (joined read) sent session
+    → (due answer more session.pending piece).fault ≡ Some fault → (more ≡ false → later ≡ [])
+    → answers_of answer (joined (read ++ piece ∷ []) ++ later) ≡ until (sent ++ (due answer more session.pending piece).texts) fault
+faulty_later answer session read true piece later sent fault g e none =
+    all_answers answer session read piece later sent g
+    ∙ ap (with_texts sent) (stays_faulty answer (session.pending ++ piece) later (due answer true session.pending piece).texts fault (until_texts (due answer true session.pending piece) fault e))
+faulty_later answer session read false piece later sent fault g e none =
+    ap (λ text. answers_of answer (joined (read ++ piece ∷ []) ++ text)) (none refl) ∙ ap (answers_of answer) (append-nil (joined (read ++ piece ∷ [])))
+    ∙ answers_now answer session read piece sent g ∙ ap (with_texts sent) (until_texts (due answer false session.pending piece) fault e)
+
+-- the bytes left are none where the input goes on no more
+later_none : (more : Bool) (now later : SourceState) (piece rest : Text) → Reads more now piece later → later.left ≡ Some rest → more ≡ false → rest ≡ []
+later_none more now later piece rest r e f = rw e at (none_left_behind now.left later.left piece (r.ends.0 f) r.gives.left (r.none_left f))
+
+stops_at_block : {A : Type 0} (answer : EventValue → Text) (session : Held A) (now later : SourceState) (read : List Text) (more : Bool) (piece : Text) (sent : List Text) (number : ℕ) (fault : BlockFault) (sink sink_later : SinkState)
+    → Given answer (joined read) sent session → Reads more now piece later → Refuses (due answer more session.pending piece) session.answered number fault sink sink_later
+    → StopsAtBlock answer (joined (read ++ piece ∷ [])) later.left (sent ++ (due answer more session.pending piece).texts) number fault
+stops_at_block answer session now later read more piece sent number fault sink sink_later g reads r = record {
+  answers = rw append-nil at (faulty_later answer session read more piece [] sent fault g r.faulty (λ h. refl));
+  stays = λ rest e. faulty_later answer session read more piece rest sent fault g r.faulty (later_none more now later piece rest reads e);
+  numbered = r.numbered ∙ ap (λ n. number_behind (n + length (due answer more session.pending piece).texts)) g.answered ∙ number_is (length sent) (length (due answer more session.pending piece).texts)
+      ∙ ap number_behind (sym (length-append sent (due answer more session.pending piece).texts));
+}
+  where
+    number_is : (a b : ℕ) → number_behind (counted a + b) ≡ number_behind (a + b)
+    number_is a b = ap (λ n. counted n) (assoc (counted a) b) ∙ counted-add a (b + 1) ∙ ap counted (sym (assoc a b))
+      where
+        assoc : (x y : ℕ) → x + y + 1 ≡ x + (y + 1)
+        assoc x y = omega arith
+
+pub failed : {A : Type 0} (answer : EventValue → Text) (fault : TurnFault) (first session : Held A) (input now later : SourceState) (output sink sink_later : SinkState) (turns : ℕ)
+    → Served answer first input now output sink session turns → FailsBy answer fault session now later sink sink_later → AnswersInput answer (Err fault) input later output sink_later
+failed answer Read first session input now later output sink sink_later turns s f = record {
+  read = s.read;
+  pieces = f.1.pieces ∙ s.pieces;
+  left = s.left ∙ ap (led_by (joined s.read)) (sym f.1.left);
+  faults = inl (subst (λ n. CountsOne n later.faults) s.well_read f.1.failed);
+  sent = s.sent;
+  told = sink;
+  sends = s.sends;
+  due = s.due;
+  ends = (s.given.answers, f.2);
+}
+failed answer Write first session input now later output sink sink_later turns s f =
+    let on = read_on answer first session input now later output sink turns f.more f.piece s f.reads in
+    let all = sent_first answer session s.read f.more f.piece s.sent f.sends.sent (f.sends.next ∷ f.sends.unsent) s.given f.sends.texts_are in
+    record {
+      read = s.read ++ f.piece ∷ [];
+      pieces = on.pieces;
+      left = on.left;
+      faults = on.faults;
+      sent = s.sent ++ f.sends.sent;
+      told = f.sends.told;
+      sends = sends-more output sink f.sends.told s.sent f.sends.sent s.sends f.sends.sends;
+      due = due_behind answer s.read f.piece s.sent f.sends.sent s.given.answers;
+      ends = record { next = f.sends.next; unsent = f.sends.unsent ++ all.0; answers = all.1; breaks = f.sends.breaks };
+    }
+failed answer (Session (Block number fault)) first session input now later output sink sink_later turns s f =
+    let on = read_on answer first session input now later output sink turns f.more f.piece s f.reads in
+    let texts : List Text = (due answer f.more session.pending f.piece).texts in
+    record {
+      read = s.read ++ f.piece ∷ [];
+      pieces = on.pieces;
+      left = on.left;
+      faults = on.faults;
+      sent = s.sent ++ texts;
+      told = sink_later;
+      sends = sends-more output sink sink_later s.sent texts s.sends f.sends.sends;
+      due = due_behind answer s.read f.piece s.sent texts s.given.answers;
+      ends = (stops_at_block answer session now later s.read f.more f.piece s.sent number fault sink sink_later s.given f.reads f.sends, refl);
+    }
+failed answer (Session Memory) first session input now later output sink sink_later turns s f =
+    let on = read_on answer first session input now later output sink turns f.more f.piece s f.reads in
+    let all = sent_first answer session s.read f.more f.piece s.sent f.sends.sent f.sends.unsent s.given f.sends.texts_are in
+    record {
+      read = s.read ++ f.piece ∷ [];
+      pieces = on.pieces;
+      left = on.left;
+      faults = on.faults;
+      sent = s.sent ++ f.sends.sent;
+      told = sink_later;
+      sends = sends-more output sink sink_later s.sent f.sends.sent s.sends f.sends.sends;
+      due = due_behind answer s.read f.piece s.sent f.sends.sent s.given.answers;
+      ends = record { unsent = f.sends.unsent ++ all.0; answers = all.1; untouched = refl };
+    }
+failed answer (Session Ended) first session input now later output sink sink_later turns s f = let both : true ≡ false = sym f.0 ∙ s.goes_on in absurd cc
+
+-- no turn is left
+pub used_up : {A : Type 0} (answer : EventValue → Text) (first session : Held A) (input now : SourceState) (output sink : SinkState)
+    → Served answer first input now output sink session most_turns → AnswersInput answer (Err Read) input now output sink
+used_up answer first session input now output sink s = record {
+  read = s.read;
+  pieces = s.pieces;
+  left = s.left;
+  faults = inr (s.turned, s.well_read);
+  sent = s.sent;
+  told = sink;
+  sends = s.sends;
+  due = s.due;
+  ends = (s.given.answers, refl);
+}
+
+-- without a session nothing is read or sent
+pub unstarted : (answer : EventValue → Text) (input : SourceState) (output : SinkState) → AnswersInput answer (Err (Session Memory)) input input output output
+unstarted answer input output = record {
+  read = [];
+  pieces = sym (followed_by-nil input.pieces);
+  left = sym (led_by-nil input.left);
+  faults = refl;
+  sent = [];
+  told = output;
+  sends = sends-none output;
+  due = due_at_start answer;
+  ends = record { unsent = (answers_of answer []).texts; answers = refl; untouched = refl };
+}

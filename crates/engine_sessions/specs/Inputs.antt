@@ -1,0 +1,80 @@
+-- What is read of an input, what is sent of its answers, and how that ends.
+use Rattle.std.specs.Prelude.{◌≡◌, ℕ, ◌-◌, ◌^◌, ◌⊎◌, List, ◌∷◌, ◌++◌, Option, Some, Result, Ok, Err, length, take}
+use Rattle.text_tables.specs.Texts.{Text}
+use Rattle.device_core.specs.Runs.{complete_runs}
+use Rattle.device_core.specs.Values.{EventValue}
+use Rattle.device_core.specs.declared.faults.BlockFault.{BlockFault}
+use Rattle.engine_ends.specs.Told.{followed_by, led_by, NoneLeft}
+use Rattle.engine_ends.specs.Faults.{CountsOne}
+use Rattle.engine_ends.specs.Sources.{SourceState}
+use Rattle.engine_ends.specs.Sinks.{SinkState, BreaksOff}
+use Rattle.engine_sessions.specs.Answers.{answers_to, answers_of, well, number_behind}
+use Rattle.engine_sessions.specs.Turns.{Sends, joined}
+use Rattle.engine_sessions.specs.declared.session.SessionFault.TheVariants.{Block, Memory, Ended}
+use Rattle.engine_sessions.specs.declared.turning.TurnFault.{TurnFault}
+use Rattle.engine_sessions.specs.declared.turning.TurnFault.TheVariants.{Read, Write, Session}
+
+-- the most turns over one input
+abbrev pub most_turns : ℕ
+most_turns = 2 ^ 48
+
+-- pieces without the last
+abbrev pub all_but_last : List Text → List Text
+all_but_last pieces = take (length pieces - 1) pieces
+
+-- The answers to the complete runs of all pieces read but the last are sent, in front of any others.
+abbrev pub HasSentDue : (EventValue → Text) → List Text → List Text → Type 0
+HasSentDue answer read sent = (behind : List Text) × (sent ≡ (answers_to answer (complete_runs (joined (all_but_last read)))).texts ++ behind)
+
+-- The answers sent are all those before a faulty block of this number, and what is left of the input changes nothing of that.
+pub record StopsAtBlock (answer : EventValue → Text) (text : Text) (left : Option Text) (sent : List Text) (number : ℕ) (fault : BlockFault) : Type 0 where
+  pub answers : answers_of answer text ≡ record { texts = sent; fault = Some fault }
+  pub stays : (later : Text) → left ≡ Some later → answers_of answer (text ++ later) ≡ record { texts = sent; fault = Some fault }
+  pub numbered : number ≡ number_behind (length sent)
+
+-- The sink broke off at the answer behind those sent.
+pub record StopsInAnswer (answer : EventValue → Text) (text : Text) (sent : List Text) (told now : SinkState) : Type 0 where
+  pub next : Text
+  pub unsent : List Text
+  pub answers : (answers_of answer text).texts ≡ sent ++ next ∷ unsent
+  pub breaks : BreaksOff told next now
+
+-- The answers sent are the first of all, and nothing was written behind them.
+pub record StopsBetween (answer : EventValue → Text) (text : Text) (sent : List Text) (told now : SinkState) : Type 0 where
+  pub unsent : List Text
+  pub answers : (answers_of answer text).texts ≡ sent ++ unsent
+  pub untouched : now ≡ told
+
+-- All bytes of the input were read, no block of them is faulty, and all answers are sent.
+pub record IsAnswered (answer : EventValue → Text) (text : Text) (left : Option Text) (sent : List Text) (told now : SinkState) : Type 0 where
+  pub answers : answers_of answer text ≡ well sent
+  pub none_left : NoneLeft left
+  pub untouched : now ≡ told
+
+-- How it ends, by the bytes read, those left, the answers sent, and the sink behind these and at the end: all is answered; or what
+-- was read until then is, and no more could be read; or it stops in an answer, at a faulty block, or where memory was refused.
+abbrev pub EndsBy : (EventValue → Text) → Result (Unit {0}) TurnFault → Text → Option Text → List Text → SinkState → SinkState → Type 0
+EndsBy answer (Ok done) text left sent told now = IsAnswered answer text left sent told now
+EndsBy answer (Err Read) text left sent told now = (answers_to answer (complete_runs text) ≡ well sent) × (now ≡ told)
+EndsBy answer (Err Write) text left sent told now = StopsInAnswer answer text sent told now
+EndsBy answer (Err (Session (Block number fault))) text left sent told now = StopsAtBlock answer text left sent number fault × (now ≡ told)
+EndsBy answer (Err (Session Memory)) text left sent told now = StopsBetween answer text sent told now
+EndsBy answer (Err (Session Ended)) text left sent told now = ⊥
+
+-- The count of the input's failed calls: one more where no more could be read, but for an input that did not end within its turns.
+abbrev pub CountsBy : Result (Unit {0}) TurnFault → ℕ → ℕ → ℕ → Type 0
+CountsBy (Err Read) turns before now = CountsOne before now ⊎ ((turns ≡ most_turns) × (now ≡ before))
+CountsBy _ turns before now = now ≡ before
+
+-- What is read of an input in pieces, which of its answers are sent (written and flushed, none of their calls having failed), and
+-- how it ends.
+pub record AnswersInput (answer : EventValue → Text) (end : Result (Unit {0}) TurnFault) (input input_now : SourceState) (output output_now : SinkState) : Type 0 where
+  pub read : List Text
+  pub pieces : input_now.pieces ≡ followed_by input.pieces read
+  pub left : input.left ≡ led_by (joined read) input_now.left
+  pub faults : CountsBy end (length read) input.faults input_now.faults
+  pub sent : List Text
+  pub told : SinkState
+  pub sends : Sends output sent told
+  pub due : HasSentDue answer read sent
+  pub ends : EndsBy answer end (joined read) input_now.left sent told output_now

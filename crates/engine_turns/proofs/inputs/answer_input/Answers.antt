@@ -1,5 +1,0 @@
-use Rattle.engine_turns.proofs.Turning.{unstarted}
-use Rattle.engine_turns.proofs.inputs.answer_input.Goals as goal
-
-pub returns-in-Err : goal.returns-in-Err
-returns-in-Err g c = unstarted _ _ _

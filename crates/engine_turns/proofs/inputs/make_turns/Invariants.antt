@@ -1,6 +1,0 @@
-use Rattle.engine_turns.proofs.Turning.{Served}
-use Rattle.engine_turns.proofs.inputs.make_turns.Given as goal
-
-abbrev pub invariant-loop-made : goal.invariant-loop-made
-invariant-loop-made g l =
-    Served (g.A.Answering.answers l.initial.session.answering) l.initial.session (g.R.Source.shown l.initial.input) (g.R.Source.shown l.input) (g.W.Sink.shown l.initial.output) (g.W.Sink.shown l.output) l.session l._made

@@ -1,4 +1,0 @@
-pub mod BlockFaults
-pub mod Inputs
-pub mod Outcomes
-pub mod Serves

@@ -1,0 +1,95 @@
+//! What `hwdb` finds in a hardware database.
+ghost use Rattle.std.specs.Prelude.{◌≡◌, ◌++◌, [], map, filter, IfOk};
+ghost use Rattle.hwdb_lookup.specs.Query.{shown};
+ghost use Rattle.eval_acts.specs.LookUps.{answer, counts, found, modaliases};
+
+use crate::candidates::device_modaliases;
+use crate::hwdb::Hwdb;
+use eval_state::State;
+use hwdb_lookup::Lookup;
+use std::alloc::{AllocError, Global};
+use text_bytes::Bytes;
+
+/// The modaliases to look up: the one that is given, else those of the devices.
+fn modaliases<'a>(
+    alloc: Global,
+    hwdb: &'a Hwdb,
+    state: &'a State<'_>,
+) -> Result<Vec<&'a [u8]>, AllocError>
+    ensures { IfOk result (λ found. map (λ m. m.now) found.items ≡ modaliases hwdb.now hwdb.now.modalias state.now) }
+{
+    match &hwdb.modalias {
+        Some(modalias) => {
+            let mut only = Vec::new(alloc);
+            only.push(modalias.as_slice())?;
+            Ok(only)
+        }
+        None => device_modaliases(alloc, hwdb.subsystem.as_ref().map(Bytes::as_slice), state),
+    }
+}
+
+/// A modalias behind a prefix.
+fn prefixed(alloc: Global, prefix: &[u8], modalias: &[u8]) -> Result<Vec<u8>, AllocError>
+    ensures { IfOk result (λ text. text.items ≡ prefix.now ++ modalias.now) }
+{
+    let mut text = Vec::from_slice(alloc, prefix)?;
+    text.extend_from_slice(modalias)?;
+    Ok(text)
+}
+
+/// Whether a key counts.
+fn counts(hwdb: &Hwdb, key: &[u8]) -> bool
+    ensures { result ≡ counts hwdb.now.filter key.now }
+{
+    match &hwdb.filter {
+        Some(pattern) => pattern.fits(key),
+        None => true,
+    }
+}
+
+/// The properties of a modalias that count.
+fn answer<'l, L: Lookup>(
+    alloc: Global,
+    hwdb: &Hwdb,
+    modalias: &[u8],
+    database: &'l L,
+) -> Result<Vec<(&'l [u8], &'l [u8])>, AllocError>
+    ensures { IfOk result (λ kept. shown kept.items ≡ answer (L.entries database.now) hwdb.now (hwdb.now.prefix ++ modalias.now)) }
+{
+    let text = prefixed(alloc, hwdb.prefix.as_slice(), modalias)?;
+    let found = database.query(alloc, &text)?;
+    let mut kept = Vec::new(alloc);
+    for (key, value) in &found {
+        if counts(hwdb, key) {
+            kept.push((*key, *value))?;
+        }
+    }
+    Ok(kept)
+}
+
+/// What `hwdb` finds in a database for an event, as udev(7) has it: the answer to the first of these
+/// texts that has one. With a modalias it is the one text, behind the prefix; else it is the property
+/// MODALIAS of each device, nearest first, that has a subsystem (the one named, if any) and this
+/// property, behind the prefix. The event device is taken by its properties as they are now. A device
+/// of the subsystem `usb` whose property DEVTYPE is `usb_device` and that has the subsystem named, if
+/// any, is the last one looked at, with or without a modalias. Only keys that fit the filter count.
+///
+/// The error comes where memory is refused.
+#[tactic(auto, unfolding(crate::specs::LookUps::found))]
+pub fn look_up<'l, L: Lookup>(
+    alloc: Global,
+    hwdb: &Hwdb,
+    state: &State<'_>,
+    database: &'l L,
+) -> Result<Vec<(&'l [u8], &'l [u8])>, AllocError>
+    ensures { IfOk result (λ properties. shown properties.items ≡ found (L.entries database.now) hwdb.now state.now) }
+{
+    let modaliases = modaliases(alloc, hwdb, state)?;
+    for modalias in &modaliases {
+        let properties = answer(alloc, hwdb, modalias, database)?;
+        if !properties.as_slice().is_empty() {
+            return Ok(properties);
+        }
+    }
+    Ok(Vec::new(alloc))
+}

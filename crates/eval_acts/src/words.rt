@@ -1,0 +1,140 @@
+//! The words of a builtin's command.
+//!
+//! A command is gone through byte by byte, since a quote may open and close inside of a word.
+ghost use Rattle.std.specs.Prelude.{◌≡◌, IfOk, OnOk, option_map};
+ghost use Rattle.eval_acts.specs.Words.{added, begun, command_words, ended, finished, is_quote, quoted, start, took};
+
+use std::alloc::{AllocError, Global};
+use std::marker::Model;
+use text_bytes::Bytes;
+
+/// Where in a command the next byte stands.
+#[derive(Clone, Copy, Debug, PartialEq, Eq)]
+pub enum Place {
+    /// Between words.
+    Between,
+    /// In a word, outside of quotes.
+    InWord,
+    /// In a word, behind such a quote.
+    Quoted(u8),
+}
+
+/// A command of which a part was read.
+#[derive(Drop)]
+struct Cutter {
+    place: Place,
+    word: Vec<u8>,
+    words: Vec<Bytes>,
+}
+
+impl Model for Cutter {
+    ghost use Rattle.eval_acts.specs.Words.{Cut};
+
+    ghost Value = { Cut };
+
+    ghost view = { λ c. record { place = c.place; word = c.word.items; words = c.words.items } };
+}
+
+/// Whether a byte groups what stands up to the next such byte.
+fn is_quote(byte: u8) -> bool
+    ensures { result ≡ is_quote byte }
+{
+    byte == b'\'' || byte == b'"'
+}
+
+impl Cutter {
+    /// A command of which nothing was read.
+    fn new(alloc: Global) -> Cutter
+        ensures { result ≡ start }
+    {
+        Cutter {
+            place: Place::Between,
+            word: Vec::new(alloc),
+            words: Vec::new(alloc),
+        }
+    }
+
+    /// Adds a byte to the word.
+    fn add(&mut self, byte: u8) -> Result<(), AllocError>
+        ensures { OnOk result (self.new ≡ added byte self.old) }
+    {
+        self.place = Place::InWord;
+        self.word.push(byte)?;
+        Ok(())
+    }
+
+    /// Takes a byte of a word outside of quotes that is no space.
+    fn begin(&mut self, byte: u8) -> Result<(), AllocError>
+        ensures { OnOk result (self.new ≡ begun byte self.old) }
+    {
+        if is_quote(byte) {
+            self.place = Place::Quoted(byte);
+            return Ok(());
+        }
+        self.add(byte)
+    }
+
+    /// Ends the word.
+    fn end(&mut self, alloc: Global) -> Result<(), AllocError>
+        ensures { OnOk result (self.new ≡ ended self.old) }
+    {
+        self.place = Place::Between;
+        self.words.push(Bytes::copy_of(alloc, &self.word)?)?;
+        Ok(())
+    }
+
+    /// Takes the next byte.
+    fn take(&mut self, alloc: Global, byte: u8) -> Result<(), AllocError>
+        ensures { OnOk result (self.new ≡ took self.old byte) }
+    {
+        match self.place {
+            Place::Between if byte == b' ' => Ok(()),
+            Place::Between => {
+                self.word.clear();
+                self.begin(byte)
+            }
+            Place::InWord if byte == b' ' => self.end(alloc),
+            Place::InWord => self.begin(byte),
+            Place::Quoted(quote) => self.take_quoted(quote, byte),
+        }
+    }
+
+    /// Takes the next byte behind a quote.
+    fn take_quoted(&mut self, quote: u8, byte: u8) -> Result<(), AllocError>
+        ensures { OnOk result (self.new ≡ quoted quote byte self.old) }
+    {
+        if byte == quote {
+            self.place = Place::InWord;
+        } else {
+            self.word.push(byte)?;
+        }
+        Ok(())
+    }
+
+    /// The words of a command that was read to its end, unless a quote is open.
+    fn finish(self, alloc: Global) -> Result<Option<Vec<Bytes>>, AllocError>
+        ensures { IfOk result (λ found. option_map (λ words. words.items) found ≡ finished self) }
+    {
+        let mut cutter = self;
+        match cutter.place {
+            Place::Between => {}
+            Place::InWord => cutter.end(alloc)?,
+            Place::Quoted(_) => return Ok(None),
+        }
+        let Cutter { words, .. } = cutter;
+        Ok(Some(words))
+    }
+}
+
+/// The words of a command: it is cut at spaces, and `'` or `"` at any place of a word groups what
+/// stands up to the same quote, both quotes dropped. There are none where a quote stays open.
+#[tactic(auto, unfolding(crate::specs::Words::command_words))]
+pub(crate) fn command_words(alloc: Global, text: &[u8]) -> Result<Option<Vec<Bytes>>, AllocError>
+    ensures { IfOk result (λ found. option_map (λ words. words.items) found ≡ command_words text.now) }
+{
+    let mut cutter = Cutter::new(alloc);
+    for byte in text {
+        cutter.take(alloc, *byte)?;
+    }
+    cutter.finish(alloc)
+}

@@ -1,5 +1,0 @@
-use Rattle.eval_assignments.proofs.Runs.{run_there}
-use Rattle.eval_assignments.proofs.laws.runs_that_are_there_stay_alone.Goals as goal
-
-pub returns : goal.returns
-returns c = run_there

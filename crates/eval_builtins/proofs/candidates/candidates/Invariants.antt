@@ -1,6 +1,0 @@
-use Rattle.std.proofs.Common.{◌≡◌, ◌∷◌, map, take}
-use Rattle.eval_builtins.specs.LookUps.{candidate, parent}
-use Rattle.eval_builtins.proofs.candidates.candidates.Given as goal
-
-abbrev pub invariant-loop-device : goal.invariant-loop-device
-invariant-loop-device l = l.devices.items ≡ candidate l.state.event.device.subsystem l.state.env ∷ map parent (take l.device-index l.device-items)

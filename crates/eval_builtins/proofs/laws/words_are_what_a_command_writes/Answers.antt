@@ -1,5 +1,0 @@
-use Rattle.eval_builtins.proofs.Law.{is_read}
-use Rattle.eval_builtins.proofs.laws.words_are_what_a_command_writes.Goals as goal
-
-pub returns : goal.returns
-returns c = is_read

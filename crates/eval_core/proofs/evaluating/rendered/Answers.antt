@@ -1,8 +1,0 @@
-use Rattle.std.proofs.Common.{◌∙◌}
-use Rattle.eval_core.proofs.Rendering.{finished}
-use Rattle.eval_core.proofs.evaluating.rendered.Goals as goal
-
-pub returns : goal.returns
-returns c =
-    finished c.args.scene.now c.render_runs.new.scene c.as_slice.result.now c.replace-runs.new.dest c.in_ok-env.env c.in_ok-commands.commands
-    (c.as_slice.ensures ∙ c.replace-runs.ensures.value) (c.replace-runs.ensures.after ∙ c.new.ensures) c.in_ok-commands.ensures.scene c.in_ok-env.ensures c.in_ok-commands.ensures.commands

@@ -1,5 +1,0 @@
-use Rattle.eval_core.proofs.Keeping.{run_keeps}
-use Rattle.eval_core.proofs.laws.final_keys_stay_through_all_rules.Goals as goal
-
-pub returns : goal.returns
-returns c = run_keeps

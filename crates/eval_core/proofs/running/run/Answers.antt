@@ -1,0 +1,52 @@
+use Rattle.std.proofs.Common.{◌≡◌, ◌+◌, ◌∙◌, List, ap, cond, get_or, refl, sym}
+use Rattle.hwdb_lookup.specs.declared.entry.Entry.{Entry}
+use Rattle.rule_types.specs.Rules.{Rule}
+use Rattle.device_core.specs.Values.{EventValue}
+use Rattle.eval_state.specs.declared.scene.Scene.{Scene}
+use Rattle.eval_rules.specs.Steps.{Went, apply}
+use Rattle.eval_core.specs.Marks.{marks}
+use Rattle.eval_core.proofs.Coursing.{foretold_so}
+use Rattle.eval_core.proofs.Skipping.{run_behind, run_end}
+use Rattle.eval_core.proofs.Staying.{event_stays}
+use Rattle.eval_core.proofs.running.run.Goals as goal
+
+pub loop-place-init : goal.loop-place-init
+loop-place-init g c = record {
+  whole = refl;
+  event = refl;
+  seen = c.in_ok-seen.ensures;
+  found = c.marks-found.ensures ∙ ap marks c.event.ensures;
+}
+
+pub step-requires : goal.step-requires
+step-requires g c =
+    foretold_so (g.L.Lookup.entries c.args.lookup.now) c.args.layout.names.now c.args.scene.now.state.event c.args.layout.rules.now c.args.layout.courses.now
+    c.deref.result.now c.marks-found.result c.loop-place.place c.index-layout-place.result _ c.loop-place.scene c.foretold-fate.result
+    c.loop-place-test.true c.loop-place.invariant.event c.requires.known (c.deref.ensures.value ∙ c.in_ok-seen.ensures)
+    (c.marks-found.ensures ∙ ap marks c.event.ensures) c.foretold-fate.ensures
+
+pub loop-place-preserved : goal.loop-place-preserved
+loop-place-preserved g c =
+    let es : List Entry = g.L.Lookup.entries c.args.lookup.now in
+    let rules : List Rule = c.args.layout.rules.now in
+    let place = c.loop-place.place in
+    let s : Scene = c.loop-place.scene in
+    let r : Rule = get_or rules place c.index-layout-place.result in
+    let event : EventValue = c.args.scene.now.state.event in
+    let went : (c.step.new.scene, c.in_ok-reached.reached) ≡ apply es r s = c.in_ok-reached.ensures in
+    let same : c.step.new.scene.state.event ≡ event = ap (λ (w : Went). w.0.state.event) went ∙ event_stays es r s ∙ c.loop-place.invariant.event in
+    let to : c.behind-place.result ≡ place + 1 + cond c.in_ok-reached.reached (get_or c.args.layout.passes.now place 0) 0 = c.behind-place.ensures.value in
+    record {
+      whole =
+          run_behind es rules place c.index-layout-place.result 0 s c.step.new.scene c.in_ok-reached.reached c.behind-place.result c.loop-place-test.true
+          went
+          (to ∙ ap (λ ps. place + 1 + cond c.in_ok-reached.reached (get_or ps place 0) 0) c.requires.over)
+          ∙ c.loop-place.invariant.whole;
+      event = same;
+      seen = c.in_ok-seen.ensures;
+      found = c.marks-found.ensures ∙ ap marks c.event.ensures;
+    }
+
+pub returns : goal.returns
+returns g c =
+    sym (run_end (g.L.Lookup.entries c.args.lookup.now) c.args.layout.rules.now c.loop-place.place c.loop-place.scene c.loop-place-test.false) ∙ c.loop-place.invariant.whole

@@ -1,0 +1,99 @@
+-- Serves inner proofs only: what is seen of an event before its rules run, and which rules this rules out.
+use Rattle.std.specs.Prelude.{ℕ, ◌+◌, ◌==◌, Bool, true, false, not, List, [], ◌∷◌, map, position, slice_get, Option, Some, None, option_map}
+use Rattle.text_tables.specs.Texts.{Text, same_text}
+use Rattle.text_tables.specs.Pairs.{value_of}
+use Rattle.text_core.specs.declared.item.Item.{Item}
+use Rattle.rule_types.specs.declared.roles.MatchOperator.{MatchOperator}
+use Rattle.rule_types.specs.declared.roles.MatchOperator.TheVariants.{Equal, NotEqual}
+use Rattle.rule_types.specs.declared.roles.PlainKey.{PlainKey}
+use Rattle.rule_types.specs.declared.roles.PlainKey.TheVariants as plain
+use Rattle.rule_types.specs.declared.part.PlainMatch.{PlainMatch}
+use Rattle.rule_types.specs.Rules.{Rule}
+use Rattle.eval_core.specs.Sketches.{exact_head, exact_sketch, first_byte, sketch}
+use Rattle.device_core.specs.Values.{DeviceValue, EventValue}
+use Rattle.eval_state.specs.Chains.{kernel_of}
+use Rattle.eval_state.specs.Texts.{or_empty, trimmed}
+use Rattle.eval_core.specs.declared.checks.Check.{Check}
+
+-- where an attribute stands among what is seen, by its place among the names: behind five others
+abbrev pub behind_five : Option ℕ → Option ℕ
+behind_five None = None
+behind_five (Some place) = Some (place + 5)
+
+-- where an attribute stands among what is seen
+abbrev pub attribute_slot : List Text → Text → Option ℕ
+attribute_slot names name = behind_five (position (same_text name) names)
+
+-- where what a key looks at stands among what is seen: the action, the kernel's name, the subsystem, the driver, and
+-- behind the first byte of the kernel's name attributes
+abbrev pub slot_of : List Text → PlainKey → Option ℕ
+slot_of names plain.Action = Some 0
+slot_of names plain.Kernel = Some 1
+slot_of names plain.Subsystem = Some 2
+slot_of names plain.Driver = Some 3
+slot_of names (plain.Attr name) = attribute_slot names name
+slot_of names key = None
+
+-- where the first byte of what a key looks at stands among what is seen
+abbrev pub head_slot : PlainKey → Option ℕ
+head_slot plain.Kernel = Some 4
+head_slot key = None
+
+-- a check, where both its parts are known
+abbrev pub check_by : Option ℕ → Option ℕ → Option Check
+check_by None wanted = None
+check_by (Some slot) None = None
+check_by (Some slot) (Some wanted) = Some (record { slot = slot; sketch = wanted })
+
+-- the first of two checks that is there
+abbrev pub first_check : Option Check → Option Check → Option Check
+first_check None other = other
+first_check (Some check) other = Some check
+
+-- the check of what a key looks at, by the text of a choice, or by the first byte of its pattern
+abbrev pub choice_check : List Text → PlainKey → List (List Item) → Option Check
+choice_check names key choice = first_check (check_by (slot_of names key) (exact_sketch choice)) (check_by (head_slot key) (exact_head choice))
+
+-- a check of a match by `==`; one by `!=` has none
+abbrev pub asked : MatchOperator → Option Check → Option Check
+asked Equal check = check
+asked NotEqual check = None
+
+-- the check of a match
+abbrev pub check_with : List Text → PlainMatch → Option Check
+check_with names part = asked part.wanted.operator (choice_check names part.key part.wanted.choice)
+
+-- the check of a rule with these matches of the event: by the first of them
+abbrev pub check_in : List Text → List PlainMatch → Option Check
+check_in names [] = None
+check_in names (part ∷ parts) = check_with names part
+
+-- the check of a rule
+abbrev pub check_of : List Text → Rule → Option Check
+check_of names r = check_in names r.plain
+
+-- the sketch of an attribute of a device as it is compared, where it has it
+abbrev pub attribute_seen : DeviceValue → Text → Option ℕ
+attribute_seen device name = option_map (λ value. sketch (trimmed value)) (value_of device.attrs name)
+
+-- what is seen of an event
+abbrev pub seen : List Text → EventValue → List (Option ℕ)
+seen names event =
+    Some (sketch event.action) ∷ Some (sketch (kernel_of event.device))
+    ∷ Some (sketch (or_empty event.device.subsystem)) ∷ Some (sketch (or_empty event.device.driver))
+    ∷ Some (first_byte (kernel_of event.device)) ∷ map (attribute_seen event.device) names
+
+-- whether what is seen is not what is wanted
+abbrev pub is_other : ℕ → Option ℕ → Bool
+is_other wanted None = true
+is_other wanted (Some found) = not (found == wanted)
+
+-- whether what stands at a slot is not what is wanted there; where nothing is known, nothing is said
+abbrev pub differs : Option (Option ℕ) → ℕ → Bool
+differs None wanted = false
+differs (Some found) wanted = is_other wanted found
+
+-- whether what is seen rules out that a check holds
+abbrev pub is_ruled_out : List (Option ℕ) → Option Check → Bool
+is_ruled_out seen None = false
+is_ruled_out seen (Some check) = differs (slice_get seen check.slot) check.sketch

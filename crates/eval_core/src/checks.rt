@@ -1,0 +1,155 @@
+//! The check of a rule: by what is seen of an event it can be passed over.
+//!
+//! Most rules begin with a match that asks for one text of something that no rule changes: the action,
+//! the kernel's name, the subsystem, the driver or an attribute of the event device. Where the event has
+//! another text there, told by its sketch, the rule changes nothing, and need not be looked at. Of a
+//! pattern for the kernel's name the first byte is known, nearly always.
+ghost use Rattle.std.specs.Prelude.{◌≡◌, ◌<◌, ◌≤◌, length, position, IfOk, IfSome};
+ghost use Rattle.text_tables.specs.Texts.{same_text};
+ghost use Rattle.eval_core.specs.Checks.{asked, attribute_slot, check_by, check_of, check_with, choice_check, first_check, head_slot, slot_of};
+
+use crate::heads::exact_head;
+use crate::sketches::exact_sketch;
+use rule_types::{MatchOperator, PlainKey, PlainMatch, Rule};
+use std::alloc::{AllocError, Global};
+use text_bytes::Bytes;
+use text_core::Choice;
+
+/// How many attributes are looked up for each event, at most.
+const MOST_NAMES: usize = 60;
+
+/// What has to be seen of an event, or else a choice does not fit.
+#[derive(Clone, Copy, Debug)]
+pub struct Check {
+    /// Where it stands among what is seen of an event.
+    pub slot: usize,
+    /// The sketch of the text that is asked for.
+    pub sketch: u64,
+}
+
+/// The place of a name among others, if it is there.
+fn place_of(names: &[Bytes], name: &[u8]) -> Option<usize>
+    ensures value { result ≡ position (same_text name.now) names.now }
+    ensures within { IfSome result (λ place. place < length names.now) }
+{
+    names.iter().position(|known| name == known.as_slice())
+}
+
+/// Where an attribute stands among what is seen of an event: behind five others.
+fn attribute_slot(names: &[Bytes], name: &[u8]) -> Option<usize>
+    ensures { result ≡ attribute_slot names.now name.now }
+{
+    match place_of(names, name) {
+        Some(place) => Some(place + 5),
+        None => None,
+    }
+}
+
+/// Where what a key looks at stands among what is seen of an event, if it is there.
+fn slot_of(names: &[Bytes], key: &PlainKey) -> Option<usize>
+    ensures { result ≡ slot_of names.now key.now }
+{
+    match key {
+        PlainKey::Action => Some(0),
+        PlainKey::Kernel => Some(1),
+        PlainKey::Subsystem => Some(2),
+        PlainKey::Driver => Some(3),
+        PlainKey::Attr(name) => attribute_slot(names, name.as_slice()),
+        _ => None,
+    }
+}
+
+/// A check, where both its parts are known.
+fn check_by(slot: Option<usize>, sketch: Option<u64>) -> Option<Check>
+    ensures { result ≡ check_by slot sketch }
+{
+    match (slot, sketch) {
+        (Some(slot), Some(sketch)) => Some(Check { slot, sketch }),
+        _ => None,
+    }
+}
+
+/// Where the first byte of what a key looks at stands among what is seen of an event, if it is there.
+fn head_slot(key: &PlainKey) -> Option<usize>
+    ensures { result ≡ head_slot key.now }
+{
+    match key {
+        PlainKey::Kernel => Some(4),
+        _ => None,
+    }
+}
+
+/// The first of two checks that is there.
+fn first_check(check: Option<Check>, other: Option<Check>) -> Option<Check>
+    ensures { result ≡ first_check check other }
+{
+    match check {
+        Some(check) => Some(check),
+        None => other,
+    }
+}
+
+/// The check of what a key looks at, by the text of a choice, or by the first byte of its pattern.
+pub(crate) fn choice_check(names: &[Bytes], key: &PlainKey, choice: &Choice) -> Option<Check>
+    ensures { result ≡ choice_check names.now key.now choice.now }
+{
+    first_check(
+        check_by(slot_of(names, key), exact_sketch(choice)),
+        check_by(head_slot(key), exact_head(choice)),
+    )
+}
+
+/// A check of a match by `==`; one by `!=` has none.
+fn asked(operator: MatchOperator, check: Option<Check>) -> Option<Check>
+    ensures { result ≡ asked operator check }
+{
+    match operator {
+        MatchOperator::Equal => check,
+        MatchOperator::NotEqual => None,
+    }
+}
+
+/// The check of a match.
+fn check_with(names: &[Bytes], part: &PlainMatch) -> Option<Check>
+    ensures { result ≡ check_with names.now part.now }
+{
+    asked(
+        part.wanted.operator,
+        choice_check(names, &part.key, &part.wanted.choice),
+    )
+}
+
+/// The check of a rule, by its first match.
+pub(crate) fn check_of(names: &[Bytes], rule: &Rule) -> Option<Check>
+    ensures { result ≡ check_of names.now rule.now }
+{
+    match rule.plain().first() {
+        Some(part) => check_with(names, part),
+        None => None,
+    }
+}
+
+/// The name of the attribute that a rule looks at first, if it does.
+fn first_attribute(rule: &Rule) -> Option<&[u8]> {
+    match rule.plain().first() {
+        Some(part) => match &part.key {
+            PlainKey::Attr(name) => Some(name.as_slice()),
+            _ => None,
+        },
+        None => None,
+    }
+}
+
+/// The names of the attributes that rules look at first, as many as are looked up for each event. The
+/// error comes where memory is refused.
+pub(crate) fn first_attributes(alloc: Global, rules: &[Rule]) -> Result<Vec<Bytes>, AllocError>
+    ensures { IfOk result (λ names. length names.items ≤ 60) }
+{
+    let mut names = Vec::new(alloc);
+    for name in rules.iter().filter_map(first_attribute) {
+        if names.len() < MOST_NAMES && place_of(&names, name).is_none() {
+            names.push(Bytes::copy_of(alloc, name)?)?;
+        }
+    }
+    Ok(names)
+}

@@ -1,0 +1,241 @@
+//! The course of a rule: what is known of it before it is looked at.
+//!
+//! Of many rules it is known by what is seen of an event how they end, and that they change nothing, or
+//! only forget which device was selected: those that are a label or a jump alone, those that jump where
+//! the event has something else than one text, and those that search for a device with something that no
+//! device of the chain has.
+ghost use Rattle.std.specs.Prelude.{◌≡◌, map, IfOk};
+ghost use Rattle.eval_core.specs.Courses.{course_behind, course_of, first_mark, foretold, guard_in, guarded, has_no_more, last_mark, mark_by, mark_of, part_mark, refused, search_in, searched, thing_of};
+
+use crate::checks::{Check, check_of, choice_check};
+use crate::marks::{DRIVER, MarkSet, SUBSYSTEM, mark};
+use crate::seen::is_ruled_out;
+use crate::sketches::{exact_sketch, sketch};
+use rule_types::{MatchOperator, PlainMatch, Rule, UpKey, UpMatch};
+use std::alloc::{AllocError, Global};
+use text_bytes::Bytes;
+use text_core::Choice;
+
+/// What is known of a rule before it is looked at.
+#[derive(Clone, Copy, Debug)]
+pub enum Course {
+    /// Nothing.
+    Open,
+    /// It has no parts: its end is reached.
+    Bare,
+    /// It begins with a match of the event by `==`: where the check fails, it changes nothing.
+    First(Check),
+    /// It is one match of the event by `!=`: where the check fails, its end is reached.
+    Guard(Check),
+    /// It searches for one device, with no match of the event: where this mark is missing, none is found.
+    Search(usize),
+}
+
+/// What comes of a rule, as far as it is known by what is seen of an event.
+#[derive(Clone, Copy, Debug)]
+pub enum Fate {
+    /// That is not known.
+    Unknown,
+    /// Nothing is changed, and its end is not reached.
+    Failed,
+    /// Its end is reached, and nothing is changed.
+    Reached,
+    /// It searches for a device and finds none.
+    NotFound,
+}
+
+/// A check of a match by `!=`; one by `==` has none.
+fn refused(operator: MatchOperator, check: Option<Check>) -> Option<Check>
+    ensures { result ≡ refused operator check }
+{
+    match operator {
+        MatchOperator::Equal => None,
+        MatchOperator::NotEqual => check,
+    }
+}
+
+/// The course of a rule that is one match of the event, if it has a check.
+fn guarded(check: Option<Check>) -> Course
+    ensures { result ≡ guarded check }
+{
+    match check {
+        None => Course::Open,
+        Some(check) => Course::Guard(check),
+    }
+}
+
+/// The course of a rule that searches for one device, if there is a mark that this one has.
+fn searched(mark: Option<usize>) -> Course
+    ensures { result ≡ searched mark }
+{
+    match mark {
+        None => Course::Open,
+        Some(mark) => Course::Search(mark),
+    }
+}
+
+/// The number that stands for what a key looks at, if it has marks.
+fn thing_of(key: &UpKey) -> Option<u64>
+    ensures { result ≡ thing_of key.now }
+{
+    match key {
+        UpKey::Subsystems => Some(SUBSYSTEM),
+        UpKey::Drivers => Some(DRIVER),
+        UpKey::Attrs(name) => Some(sketch(name.as_slice())),
+        _ => None,
+    }
+}
+
+/// A mark, where both its parts are known.
+fn mark_by(thing: Option<u64>, value: Option<u64>) -> Option<usize>
+    ensures { result ≡ mark_by thing value }
+{
+    match (thing, value) {
+        (Some(thing), Some(value)) => Some(mark(thing, value)),
+        _ => None,
+    }
+}
+
+/// The mark of what a match asks for by its operator: one by `!=` asks for none.
+fn mark_of(operator: MatchOperator, key: &UpKey, choice: &Choice) -> Option<usize>
+    ensures { result ≡ mark_of operator key.now choice.now }
+{
+    match operator {
+        MatchOperator::Equal => mark_by(thing_of(key), exact_sketch(choice)),
+        MatchOperator::NotEqual => None,
+    }
+}
+
+/// The mark of what a match asks for, if it has one.
+fn part_mark(part: &UpMatch) -> Option<usize>
+    ensures { result ≡ part_mark part.now }
+{
+    mark_of(part.wanted.operator, &part.key, &part.wanted.choice)
+}
+
+/// The mark of what the last of some matches asks for, if it has one.
+fn last_mark(parts: &[UpMatch]) -> Option<usize>
+    ensures { result ≡ last_mark parts.now }
+{
+    match parts.last() {
+        Some(part) => part_mark(part),
+        None => None,
+    }
+}
+
+/// The first of two marks that is there.
+fn first_mark(mark: Option<usize>, other: Option<usize>) -> Option<usize>
+    ensures { result ≡ first_mark mark other }
+{
+    match mark {
+        Some(mark) => Some(mark),
+        None => other,
+    }
+}
+
+/// The course of a rule that has no more than these matches of the event.
+fn guard_in(names: &[Bytes], parts: &[PlainMatch]) -> Course
+    ensures { result ≡ guard_in names.now parts.now }
+{
+    match parts.split_first() {
+        None => Course::Bare,
+        Some((part, others)) => {
+            if others.is_empty() {
+                let check = choice_check(names, &part.key, &part.wanted.choice);
+                guarded(refused(part.wanted.operator, check))
+            } else {
+                Course::Open
+            }
+        }
+    }
+}
+
+/// The course of a rule with these matches of the event, and these of one device, of which this is the
+/// first. The last one mostly asks for what is rarest.
+fn search_in(plain: &[PlainMatch], parts: &[UpMatch], part: &UpMatch) -> Course
+    ensures { result ≡ search_in plain.now parts.now part.now }
+{
+    if plain.is_empty() {
+        searched(first_mark(last_mark(parts), part_mark(part)))
+    } else {
+        Course::Open
+    }
+}
+
+/// Whether a rule has nothing behind its matches of the event and of a device.
+fn has_no_more(rule: &Rule) -> bool
+    ensures { result ≡ has_no_more rule.now }
+{
+    rule.acts().is_empty() && rule.results().is_empty() && rule.sets().is_empty()
+}
+
+/// The course of a rule whose first match has no check.
+fn course_behind(names: &[Bytes], rule: &Rule) -> Course
+    ensures { result ≡ course_behind names.now rule.now }
+{
+    match rule.up().first() {
+        Some(part) => search_in(rule.plain(), rule.up(), part),
+        None => {
+            if has_no_more(rule) {
+                guard_in(names, rule.plain())
+            } else {
+                Course::Open
+            }
+        }
+    }
+}
+
+/// The course of a rule.
+fn course_of(names: &[Bytes], rule: &Rule) -> Course
+    ensures { result ≡ course_of names.now rule.now }
+{
+    match check_of(names, rule) {
+        Some(check) => Course::First(check),
+        None => course_behind(names, rule),
+    }
+}
+
+/// The course of each rule. The error comes where memory is refused.
+pub(crate) fn courses(
+    alloc: Global,
+    names: &[Bytes],
+    rules: &[Rule],
+) -> Result<Vec<Course>, AllocError>
+    ensures { IfOk result (λ courses. courses.items ≡ map (course_of names.now) rules.now) }
+{
+    rules
+        .iter()
+        .map(|rule| course_of(names, rule))
+        .collect(alloc)
+}
+
+/// What comes of a rule with a course, as far as it is known by what is seen.
+pub(crate) fn foretold(seen: &[Option<u64>], marks: &MarkSet, course: Course) -> Fate
+    ensures { result ≡ foretold seen.now marks.now course }
+{
+    match course {
+        Course::Open => Fate::Unknown,
+        Course::Bare => Fate::Reached,
+        Course::First(check) => {
+            if is_ruled_out(seen, check) {
+                Fate::Failed
+            } else {
+                Fate::Unknown
+            }
+        }
+        Course::Guard(check) => {
+            if is_ruled_out(seen, check) {
+                Fate::Reached
+            } else {
+                Fate::Unknown
+            }
+        }
+        Course::Search(mark) => {
+            if marks.lacks(mark) {
+                Fate::NotFound
+            } else {
+                Fate::Unknown
+            }
+        }
+    }
+}

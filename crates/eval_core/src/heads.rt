@@ -1,0 +1,50 @@
+//! First bytes, by which texts are told apart from patterns that begin with a byte.
+//!
+//! Most patterns of the kernel's names begin with a few letters, so that a name's first byte is nearly
+//! always enough to see that a choice does not fit.
+ghost use Rattle.std.specs.Prelude.{◌≡◌};
+ghost use Rattle.eval_core.specs.Sketches.{byte_item, exact_head, first_byte, head_of};
+
+use crate::sketches::only_part;
+use text_core::{Choice, Item};
+
+/// The first byte of a text, or 256 where it is empty.
+pub fn first_byte(text: &[u8]) -> u64
+    ensures { result ≡ first_byte text.now }
+{
+    match text.first() {
+        Some(byte) => u64::from(*byte),
+        None => 256,
+    }
+}
+
+/// The byte that an item is, if it is one.
+fn byte_item(item: &Item) -> Option<u64>
+    ensures { result ≡ byte_item item.now }
+{
+    match item {
+        Item::Byte(byte) => Some(u64::from(*byte)),
+        _ => None,
+    }
+}
+
+/// The byte that a pattern begins with, if it does.
+fn head_of(items: &[Item]) -> Option<u64>
+    ensures { result ≡ head_of items.now }
+{
+    match items.first() {
+        Some(item) => byte_item(item),
+        None => None,
+    }
+}
+
+/// The first byte of the texts that a choice fits, where it is one pattern, which begins with a byte: the
+/// choice fits no text with another first byte.
+pub fn exact_head(choice: &Choice) -> Option<u64>
+    ensures { result ≡ exact_head choice.now }
+{
+    match only_part(choice.parts()) {
+        Some(items) => head_of(items),
+        None => None,
+    }
+}

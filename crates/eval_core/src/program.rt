@@ -1,0 +1,106 @@
+//! Rules that are laid out, as one value.
+ghost use Rattle.std.specs.Prelude.{◌≡◌, IfOk};
+ghost use Rattle.eval_rules.specs.Outcomes.{outcome};
+ghost use Rattle.eval_core.specs.Layout.{IsLaidOut};
+
+use crate::checks::first_attributes;
+use crate::courses::{Course, courses};
+use crate::running::{Layout, run};
+use device_core::Event;
+use eval_rules::{Outcome, finish};
+use eval_state::Scene;
+use hwdb_lookup::Lookup;
+use rule_core::RuleSet;
+use rule_jumps::passed_over;
+use rule_types::Rule;
+use std::alloc::{AllocError, Global};
+use std::marker::Model;
+use text_bytes::Bytes;
+
+/// Rules that are laid out for evaluation. `compile` alone makes it.
+#[derive(Drop)]
+pub struct Program {
+    rules: Vec<Rule>,
+    passes: Vec<usize>,
+    names: Vec<Bytes>,
+    courses: Vec<Course>,
+}
+
+impl Model for Program {
+    ghost use Rattle.std.specs.Prelude.{List};
+    ghost use Rattle.rule_types.specs.Rules.{Rule};
+    ghost use Rattle.eval_core.specs.Layout.{IsLaidOut};
+
+    ghost Value = { List Rule };
+
+    ghost view = { λ p. p.rules.items };
+
+    ghost invariant = { λ p. IsLaidOut p.rules.items p.passes.items p.names.items p.courses.items };
+}
+
+/// Lays the rules of a set out for evaluation; its messages are dropped.
+///
+/// The error comes where memory is refused; the rules are dropped then.
+pub fn compile(alloc: Global, rules: RuleSet) -> Result<Program, AllocError>
+    ensures { IfOk result (λ program. program ≡ rules.rules) }
+{
+    let rules = rules.into_rules();
+    let passes = passed_over(alloc, &rules)?;
+    let names = first_attributes(alloc, &rules)?;
+    let courses = courses(alloc, &names, &rules)?;
+    Ok(Program {
+        rules,
+        passes,
+        names,
+        courses,
+    })
+}
+
+/// What an event comes to, where the rules and it are lent for one time.
+fn evaluate<'a, L: Lookup>(
+    alloc: Global,
+    layout: Layout<'a>,
+    event: &'a Event<'_>,
+    lookup: &L,
+) -> Result<Outcome, AllocError>
+    requires { IsLaidOut layout.rules.now layout.passes.now layout.names.now layout.courses.now }
+    ensures { IfOk result (λ answer. answer ≡ outcome layout.entry.rules.now (L.entries lookup.now) event.now) }
+{
+    let mut scene = Scene::new(alloc, event)?;
+    match run(alloc, layout, lookup, &mut scene) {
+        Ok(()) => finish(alloc, scene),
+        Err(refused) => {
+            drop(scene);
+            Err(refused)
+        }
+    }
+}
+
+impl Program {
+    /// The rules as they are laid out, lent.
+    fn layout(&self) -> Layout<'_>
+        ensures rules { result.rules.now ≡ self.now }
+        ensures laid_out { IsLaidOut result.rules.now result.passes.now result.names.now result.courses.now }
+    {
+        Layout {
+            rules: &self.rules,
+            passes: &self.passes,
+            names: &self.names,
+            courses: &self.courses,
+        }
+    }
+
+    /// What an event comes to by the rules, as `evaluate_plain` has it.
+    ///
+    /// The error comes where memory is refused.
+    pub fn evaluate<L: Lookup>(
+        &self,
+        alloc: Global,
+        event: &Event<'_>,
+        lookup: &L,
+    ) -> Result<Outcome, AllocError>
+        ensures { IfOk result (λ answer. answer ≡ outcome self.now (L.entries lookup.now) event.now) }
+    {
+        evaluate(alloc, self.layout(), event, lookup)
+    }
+}

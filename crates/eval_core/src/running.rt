@@ -1,0 +1,87 @@
+//! Rules one behind another, by their numbers.
+ghost use Rattle.std.specs.Prelude.{◌≡◌, ◌+◌, ◌<◌, ◌≤◌, None, IfOk, OnOk, length, get_or, if◌then◌else◌};
+ghost use Rattle.rule_jumps.specs.Passed.{passed_over};
+ghost use Rattle.eval_rules.specs.Jumps.{run};
+ghost use Rattle.eval_rules.specs.Steps.{apply};
+ghost use Rattle.eval_core.specs.Courses.{as_foretold};
+ghost use Rattle.eval_core.specs.Layout.{IsLaidOut};
+
+use crate::courses::{Course, Fate, foretold};
+use crate::marks::marks;
+use crate::seen::seen;
+use eval_rules::apply;
+use eval_state::Scene;
+use hwdb_lookup::Lookup;
+use rule_types::Rule;
+use std::alloc::{AllocError, Global};
+use text_bytes::Bytes;
+
+/// Rules as they are laid out.
+#[derive(Clone, Copy)]
+pub(crate) struct Layout<'a> {
+    /// The rules.
+    pub rules: &'a [Rule],
+    /// How many rules the jump of each passes over.
+    pub passes: &'a [usize],
+    /// The names of the attributes that are looked up for each event.
+    pub names: &'a [Bytes],
+    /// The course of each rule.
+    pub courses: &'a [Course],
+}
+
+/// The number of the rule behind one that was evaluated: the next, or that to which it jumps.
+fn behind(rules: &[Rule], passes: &[usize], place: usize, reached: bool) -> usize
+    requires is { passes.now ≡ passed_over rules.now }
+    requires within { place < length rules.now }
+    ensures value { result ≡ place + 1 + (if reached then get_or passes.now place 0 else 0) }
+    ensures later { place < result }
+    ensures within { result ≤ length rules.now }
+{
+    let over = passes[place];
+    if reached { place + 1 + over } else { place + 1 }
+}
+
+/// Evaluates a rule of which it is known, as far as that goes, what comes of it, and answers whether its
+/// end was reached. The error comes where memory is refused.
+fn step<'a, L: Lookup>(
+    alloc: Global,
+    rule: &'a Rule,
+    fate: Fate,
+    lookup: &L,
+    scene: &mut Scene<'a>,
+) -> Result<bool, AllocError>
+    requires { as_foretold fate scene.old (apply (L.entries lookup.now) rule.now scene.old) ≡ apply (L.entries lookup.now) rule.now scene.old }
+    ensures { IfOk result (λ on. (scene.new, on) ≡ apply (L.entries lookup.now) rule.now scene.old) }
+{
+    match fate {
+        Fate::Unknown => apply(alloc, rule, lookup, scene),
+        Fate::Failed => Ok(false),
+        Fate::Reached => Ok(true),
+        Fate::NotFound => {
+            scene.state.selected = None;
+            Ok(false)
+        }
+    }
+}
+
+/// Evaluates rules, one behind another: those that are ruled out are passed over, and so are those
+/// between a rule that jumps and the one to which it does. The error comes where memory is refused.
+pub(crate) fn run<'a, L: Lookup>(
+    alloc: Global,
+    layout: Layout<'a>,
+    lookup: &L,
+    scene: &mut Scene<'a>,
+) -> Result<(), AllocError>
+    requires { IsLaidOut layout.rules.now layout.passes.now layout.names.now layout.courses.now }
+    ensures { OnOk result (scene.new ≡ run (L.entries lookup.now) None layout.entry.rules.now scene.old) }
+{
+    let seen = seen(alloc, layout.names, &scene.state.event)?;
+    let found = marks(scene.state.event.event());
+    let mut place = 0;
+    while place < layout.rules.len() {
+        let fate = foretold(&seen, &found, layout.courses[place]);
+        let reached = step(alloc, &layout.rules[place], fate, lookup, scene)?;
+        place = behind(layout.rules, layout.passes, place, reached);
+    }
+    Ok(())
+}

@@ -1,0 +1,102 @@
+//! Numbers by which texts are told apart.
+//!
+//! Texts of different sketches are different; those of the same one are still to be compared. So a
+//! sketch of each text is enough to see, nearly always, that a choice does not fit.
+ghost use Rattle.std.specs.Prelude.{◌≡◌, fold, option_map};
+ghost use Rattle.std.specs.List.{list_all};
+ghost use Rattle.eval_core.specs.Sketches.{byte_of, exact_sketch, is_word, items_sketch, mixed, only_part, sketch};
+
+use text_bytes::is_whitespace;
+use text_core::{Choice, Item, Pattern};
+
+/// A sketch with one byte more.
+#[tactic(auto, unfolding(crate::specs::Sketches::mixed))]
+fn mixed(sketch: u64, byte: u8) -> u64
+    ensures { result ≡ mixed sketch byte }
+{
+    sketch
+        .wrapping_mul(1_099_511_628_211)
+        .wrapping_add(u64::from(byte))
+}
+
+/// The sketch of a text: a number that is the same for the same text.
+pub fn sketch(text: &[u8]) -> u64
+    ensures { result ≡ sketch text.now }
+{
+    let mut sketch = 0;
+    for byte in text {
+        sketch = mixed(sketch, *byte);
+    }
+    sketch
+}
+
+/// Whether an item is a byte that is no whitespace.
+fn is_word(item: &Item) -> bool
+    ensures { result ≡ is_word item.now }
+{
+    match item {
+        Item::Byte(byte) => !is_whitespace(*byte),
+        _ => false,
+    }
+}
+
+/// The byte that an item is, if it is one.
+fn byte_of(item: &Item) -> u8
+    ensures { result ≡ byte_of item.now }
+{
+    match item {
+        Item::Byte(byte) => *byte,
+        _ => 0,
+    }
+}
+
+/// Whether a pattern is a text without whitespace.
+fn are_words(items: &[Item]) -> bool
+    ensures { result ≡ list_all is_word items.now }
+{
+    items.iter().all(is_word)
+}
+
+/// The sketch of the text that a pattern is.
+fn items_sketch(items: &[Item]) -> u64
+    ensures { result ≡ items_sketch items.now }
+{
+    let mut sketch = 0;
+    for item in items {
+        sketch = mixed(sketch, byte_of(item));
+    }
+    sketch
+}
+
+/// The one pattern of a choice, if there is only one.
+pub(crate) fn only_part(parts: &[Pattern]) -> Option<&[Item]>
+    ensures { option_map (λ items. items.now) result ≡ only_part parts.now }
+{
+    match parts.split_first() {
+        Some((part, others)) => {
+            if others.is_empty() {
+                Some(part.items())
+            } else {
+                None
+            }
+        }
+        None => None,
+    }
+}
+
+/// The sketch of the one text that a choice fits, where it is one, without whitespace: the choice fits no
+/// text with another sketch.
+pub fn exact_sketch(choice: &Choice) -> Option<u64>
+    ensures { result ≡ exact_sketch choice.now }
+{
+    match only_part(choice.parts()) {
+        Some(items) => {
+            if are_words(items) {
+                Some(items_sketch(items))
+            } else {
+                None
+            }
+        }
+        None => None,
+    }
+}

@@ -1,0 +1,154 @@
+-- What a scene weighs behind an act of a rule.
+use Rattle.std.proofs.Common.{ℕ, ◌+◌, ◌≤◌, Bool, true, false, ◌==◌, List, [], ◌∷◌, length, Option, Some, None, is_some, ◌||◌, ap, if◌then◌else◌, arith}
+use Rattle.std.proofs.lemmas.List.Sums.{sum_by-cons}
+use Rattle.std.specs.List.{slice_get}
+use Rattle.text_bytes.specs.Names.{slash}
+use Rattle.text_bytes.specs.Texts.{begins_with}
+use Rattle.text_tables.specs.Texts.{Text}
+use Rattle.text_tables.specs.Pairs.{Pair, value_of, with_values}
+use Rattle.text_core.specs.Choices.{choice_fits}
+use Rattle.text_core.specs.declared.item.Item.{Item}
+use Rattle.hwdb_lookup.specs.declared.entry.Entry.{Entry}
+use Rattle.rule_types.specs.Names.{import_name}
+use Rattle.rule_types.specs.WrittenParts.{attribute_of_deed, key_of_deed, type_of}
+use Rattle.rule_types.specs.declared.part.Act.{Act}
+use Rattle.rule_types.specs.declared.part.Deed.{Deed}
+use Rattle.rule_types.specs.declared.part.Deed.TheVariants as deed
+use Rattle.rule_types.specs.declared.part.Import.{Import}
+use Rattle.rule_types.specs.declared.part.Import.TheVariants as import
+use Rattle.rule_types.specs.Rules.{Rule}
+use Rattle.device_core.specs.Values.{AnswerValue, DeviceValue, EventValue}
+use Rattle.eval_laws.specs.DeviceWeights.{device_weight, devices_weight, event_weight, pair_weight, pairs_weight}
+use Rattle.eval_state.specs.Chains.{device_at}
+use Rattle.eval_rendering.specs.Rendering.{render}
+use Rattle.eval_rendering.specs.declared.rendered.Mode.TheVariants.{Plain}
+use Rattle.eval_rendering.specs.declared.rendered.Rendered.{Rendered}
+use Rattle.eval_rendering.specs.declared.rendered.Rendered.TheVariants as rendered
+use Rattle.eval_state.specs.Notes.{word_of_key}
+use Rattle.eval_state.specs.Scenes.{noted}
+use Rattle.eval_state.specs.declared.note_kind.NoteKind.{NoteKind}
+use Rattle.eval_state.specs.declared.note_kind.NoteKind.TheVariants.{BadHwdbArguments, BuiltinNotRun, ImportNotRun, NoAnswer, TestNotMade, TextTooLong}
+use Rattle.eval_state.specs.declared.scene.Scene.{Scene}
+use Rattle.eval_acts.specs.Builtins.{builtin}
+use Rattle.eval_acts.specs.LookUps.{found}
+use Rattle.eval_acts.specs.declared.builtin.Builtin.{Builtin}
+use Rattle.eval_acts.specs.declared.builtin.Builtin.TheVariants as asked_for
+use Rattle.eval_acts.specs.Acts.{act_step, imported, on_text, performed}
+use Rattle.eval_acts.specs.Imports.{builtin_run, from_parent, names_fitting, not_run, run_builtin}
+use Rattle.eval_acts.specs.Questions.{answered_or_noted, asked, tested, with_result}
+use Rattle.eval_laws.specs.Allowances.{deed_allowance, entries_weight}
+use Rattle.eval_laws.specs.Inner.{Within, scene_weight}
+use Rattle.eval_laws.proofs.Sums.{filter_light}
+use Rattle.eval_laws.proofs.Tables.{with_values_light}
+use Rattle.eval_laws.proofs.Found.{found_light}
+use Rattle.eval_laws.proofs.Scenes.{more, noted_within}
+
+-- the properties of a device, if there is one
+abbrev env_of : Option DeviceValue → List Pair
+env_of None = []
+env_of (Some device) = device.env
+
+env_light : (d : DeviceValue) → pairs_weight d.env ≤ device_weight d
+unfolding device_weight
+env_light d = omega arith
+
+second_light : (first : DeviceValue) (others : List DeviceValue) → pairs_weight (env_of (slice_get (first ∷ others) 1)) ≤ devices_weight (first ∷ others)
+second_light first [] = omega arith
+second_light first (second ∷ others) =
+    let a = sum_by-cons device_weight first (second ∷ others) in
+    let b = sum_by-cons device_weight second others in
+    let c = env_light second in
+    omega (arith, a, b, c)
+
+-- the second device of an event has some of its texts
+parent_light : (event : EventValue) → pairs_weight (env_of (device_at event 1)) ≤ event_weight event
+unfolding event_weight
+parent_light event = let a = second_light event.device event.parents in omega (arith, a)
+
+module _ (event : EventValue) where
+  module _ (n : ℕ) (r : Rule) (s : Scene) (h : Within event n s) (most : ℕ) (room : length r.file + 56 ≤ most) where
+    stays : Within event (n + most) s
+    stays = more event n (n + most) s (omega arith) h
+
+    notes : (kind : NoteKind) (text : Text) → Within event (n + most) (noted r kind text s)
+    notes kind text = more event (n + (length r.file + 56)) (n + most) _ (omega (arith, room)) (noted_within event n r kind text s h)
+
+    on_text_within : (d : Deed) (act : Text → Scene → Scene × Bool) (given : Rendered) → ((text : Text) → Within event (n + most) (act text s).0)
+        → Within event (n + most) (on_text r d act given s).0
+    on_text_within d act (rendered.Text text) each = each text
+    on_text_within d act rendered.TooLong each = notes TextTooLong (word_of_key (key_of_deed d) (attribute_of_deed d))
+
+    tested_within : (mask : Option Text) (path : Text) → Within event (n + most) (tested r mask path s).0
+    tested_within mask path = by (is_some mask || begins_with slash path)
+      where
+        by : (b : Bool) → Within event (n + most) (if◌then◌else◌ {A = Scene × Bool} b (noted r TestNotMade path s, false) (s, is_some (value_of s.state.event.device.attrs path))).0
+        by true = notes TestNotMade path
+        by false = stays
+
+    result_within : (text : Text) → Within event (n + most) (with_result text s)
+    unfolding scene_weight
+    result_within text = let a = h.light in record { same = h.same; light = omega (arith, a) }
+
+    answered_within : (command : Text) (answer : Option AnswerValue) → Within event (n + most) (answered_or_noted r command answer s).0
+    answered_within command None = notes NoAnswer command
+    answered_within command (Some answer) = by (answer.status == 0)
+      where
+        by : (b : Bool) → Within event (n + most) (if◌then◌else◌ {A = Scene × Bool} b (with_result answer.text s, true) (s, false)).0
+        by true = result_within answer.text
+        by false = stays
+
+    asked_within : (command : Text) → Within event (n + most) (asked r command s).0
+    asked_within command = answered_within command (value_of s.state.event.programs command)
+
+    more_env : (properties : List Pair) → pairs_weight properties ≤ most → Within event (n + most) (record s { state = record s.state { env = with_values s.state.env properties } })
+    unfolding scene_weight
+    more_env properties light = let a = h.light in let b = with_values_light s.state.env properties in record { same = h.same; light = omega (arith, a, b, light) }
+
+    parent_within : (names : List (List Item)) (parent : Option DeviceValue) → pairs_weight (env_of parent) ≤ most → Within event (n + most) (from_parent names parent s).0
+    parent_within names None light = stays
+    parent_within names (Some parent) light =
+        let a = filter_light pair_weight (λ property. choice_fits names property.0) parent.env in
+        more_env (names_fitting names parent.env) (omega (arith, a, light))
+
+    builtin_within : (entries : List Entry) (command : Text) (wanted : Builtin) → entries_weight entries ≤ most → Within event (n + most) (builtin_run entries r command wanted s).0
+    builtin_within entries command (asked_for.Hwdb hwdb) light =
+        let a = found_light entries hwdb s.state in
+        more_env (found entries hwdb s.state) (omega (arith, a, light))
+    builtin_within entries command (asked_for.Other name) light = notes BuiltinNotRun name
+    builtin_within entries command asked_for.BadArguments light = notes BadHwdbArguments command
+
+    not_run_within : (from : Import) → Within event (n + most) (not_run r from s).0
+    not_run_within from = notes ImportNotRun (import_name (type_of from))
+
+    import_within : (entries : List Entry) (from : Import) → entries_weight entries ≤ most → event_weight event ≤ most → Within event (n + most) (imported entries r (deed.Import from) from s).0
+    import_within entries (import.Builtin template) light short =
+        on_text_within (deed.Import (import.Builtin template)) (run_builtin entries r) (render template s.state Plain) (λ command. builtin_within entries command (builtin command) light)
+    import_within entries (import.Parent names) light short =
+        let a = parent_light event in
+        let b = ap (λ e. pairs_weight (env_of (device_at e 1))) h.same in
+        parent_within names (device_at s.state.event 1) (omega (arith, a, b, short))
+    import_within entries (import.Program template) light short = not_run_within (import.Program template)
+    import_within entries (import.File template) light short = not_run_within (import.File template)
+    import_within entries (import.Cmdline name) light short = not_run_within (import.Cmdline name)
+    import_within entries (import.Db name) light short = not_run_within (import.Db name)
+
+  emptied : (n : ℕ) (s : Scene) → Within event n s → Within event n (with_result [] s)
+  unfolding scene_weight
+  emptied n s h = record { same = h.same; light = h.light }
+
+  module _ (len : ℕ) (short : event_weight event ≤ len) (entries : List Entry) where
+    deed_within : (n : ℕ) (r : Rule) (s : Scene) → Within event n s → (d : Deed) → Within event (n + deed_allowance len entries r d) (performed entries r d s).0
+    deed_within n r s h (deed.Test mask template) =
+        let most : ℕ = deed_allowance len entries r (deed.Test mask template) in
+        on_text_within n r s h most (omega arith) (deed.Test mask template) (tested r mask) (render template s.state Plain) (tested_within n r s h most (omega arith) mask)
+    deed_within n r s h (deed.Program template) =
+        let most : ℕ = deed_allowance len entries r (deed.Program template) in
+        on_text_within n r (with_result [] s) (emptied n s h) most (omega arith) (deed.Program template) (asked r) (render template s.state Plain)
+        (asked_within n r (with_result [] s) (emptied n s h) most (omega arith))
+    deed_within n r s h (deed.Import from) =
+        import_within n r s h (deed_allowance len entries r (deed.Import from)) (omega arith) entries from (omega arith) (omega (arith, short))
+
+    -- an act
+    pub act_within : (r : Rule) (act : Act) (n : ℕ) (s : Scene) → Within event n s → Within event (n + deed_allowance len entries r act.deed) (act_step entries r act s).0
+    unfolding act_step
+    act_within r act n s h = deed_within n r s h act.deed

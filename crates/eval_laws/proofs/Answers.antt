@@ -1,0 +1,64 @@
+-- How long an answer is.
+use Rattle.std.proofs.Common.{◌≡◌, ◌+◌, ◌*◌, ◌^◌, ◌≤◌, List, [], ◌∷◌, ◌++◌, length, IfSome, Ok, codes, unsigned_abs, arith}
+use Rattle.std.proofs.lemmas.List.{length-append}
+use Rattle.std.proofs.lemmas.List.Sums.{sum_by-cons}
+use Rattle.text_bytes.specs.Names.{newline, space}
+use Rattle.text_bytes.specs.Escapes.{escape_text}
+use Rattle.text_bytes.specs.declared.source_file.SourceFile.{SourceFile}
+use Rattle.text_tables.specs.Texts.{Text}
+use Rattle.hwdb_lookup.specs.declared.entry.Entry.{Entry}
+use Rattle.rule_core.specs.Rules.{set_of}
+use Rattle.device_core.specs.Faults.{block_gives}
+use Rattle.device_core.specs.Values.{DeviceValue, EventValue}
+use Rattle.eval_laws.specs.DeviceWeights.{device_weight, event_weight, pair_weight, text_weight}
+use Rattle.eval_laws.proofs.DeviceWeights.{event_within}
+use Rattle.eval_rules.specs.Outcomes.{outcome}
+use Rattle.eval_rules.specs.declared.outcome.Outcome.{Outcome}
+use Rattle.eval_laws.specs.Weights.{command_weight, note_weight, outcome_weight}
+use Rattle.engine_answers.specs.Lines.{event_line, note_line, pair_line, run_line, shown_line, text_line}
+use Rattle.engine_answers.specs.Answers.{answer}
+use Rattle.eval_laws.proofs.Lines.{escape_short, line_length, lines_short, note_line_short, pair_line_short, run_line_short, shown_line_short, text_line_short}
+use Rattle.eval_laws.proofs.Nodes.{behind, node_short}
+use Rattle.eval_laws.proofs.Priorities.{outcome_small}
+
+path_light : (d : DeviceValue) → text_weight d.path ≤ device_weight d
+unfolding device_weight
+path_light d = omega arith
+
+-- the first line has nothing but texts of the event
+event_line_short : (event : EventValue) → length (event_line event.action event.device.path) ≤ 4 * event_weight event
+unfolding event_line event_weight
+event_line_short event =
+    let a = line_length (codes "event") (escape_text event.action ++ space ∷ escape_text event.device.path) in
+    let b = length-append (escape_text event.action) (space ∷ escape_text event.device.path) in
+    let c = escape_short event.action in
+    let d = escape_short event.device.path in
+    let e = path_light event.device in
+    let f = sum_by-cons device_weight event.device event.parents in
+    omega (arith, a, b, c, d, e, f)
+
+pub answer_short : (event : EventValue) (o : Outcome) → IfSome o.priority (λ z. unsigned_abs z ≤ 2 ^ 31) → length (answer event o) ≤ 8 * outcome_weight o + 4 * event_weight event + 64
+unfolding answer outcome_weight
+answer_short event o fits =
+    let head = behind _ _ _ _ (event_line_short event) (node_short o fits) in
+    let labels = behind _ _ _ _ head (lines_short pair_weight (pair_line (codes "label")) (λ p. pair_line_short (codes "label") p (omega arith)) o.labels) in
+    let links = behind _ _ _ _ labels (lines_short text_weight (text_line (codes "link")) (λ t. text_line_short (codes "link") t (omega arith)) o.links) in
+    let tags = behind _ _ _ _ links (lines_short text_weight (text_line (codes "tag")) (λ t. text_line_short (codes "tag") t (omega arith)) o.tags) in
+    let env = behind _ _ _ _ tags (lines_short pair_weight shown_line shown_line_short o.env) in
+    let attrs = behind _ _ _ _ env (lines_short pair_weight (pair_line (codes "attr")) (λ p. pair_line_short (codes "attr") p (omega arith)) o.attrs) in
+    let sysctls = behind _ _ _ _ attrs (lines_short pair_weight (pair_line (codes "sysctl")) (λ p. pair_line_short (codes "sysctl") p (omega arith)) o.sysctls) in
+    let runs = behind _ _ _ _ sysctls (lines_short command_weight (λ command. run_line command.kind command.text) run_line_short o.runs) in
+    let notes = behind _ _ _ _ runs (lines_short note_weight note_line note_line_short o.notes) in
+    let whole = behind _ (newline ∷ []) _ 1 notes (omega arith) in
+    omega (arith, whole)
+
+pub block_answer_short : (block : Text) (event : EventValue) (o : Outcome) → block_gives block ≡ Ok event → IfSome o.priority (λ z. unsigned_abs z ≤ 2 ^ 31)
+    → length (answer event o) ≤ 8 * outcome_weight o + 4 * length block + 64
+block_answer_short block event o given fits =
+    let a = answer_short event o fits in
+    let b = event_within block event given in
+    omega (arith, a, b)
+
+pub files_answer_short : (files : List SourceFile) (entries : List Entry) (block : Text) (event : EventValue) → block_gives block ≡ Ok event
+    → length (answer event (outcome (set_of files).rules entries event)) ≤ 8 * outcome_weight (outcome (set_of files).rules entries event) + 4 * length block + 64
+files_answer_short files entries block event given = block_answer_short block event (outcome (set_of files).rules entries event) given (outcome_small files entries event)

@@ -1,0 +1,365 @@
+-- The texts of an event are parts of its lines, and those of its block.
+use Rattle.std.proofs.Common.{◌≡◌, ℕ, ◌+◌, ◌≤◌, Bool, true, false, ◌&&◌, ◌||◌, ◌==◌, List, [], ◌∷◌, length, take, drop, map, Option, Some, None, Result, Ok, Err, unwrap_or, refl, ap, sym, ◌∙◌, if◌then◌else◌, option_map, arith}
+use Rattle.std.proofs.lemmas.List.{length-take, length-drop}
+use Rattle.std.proofs.lemmas.List.Sums.{sum_by-cons}
+use Rattle.std.proofs.lemmas.List.Quantifiers.{position-Some}
+use Rattle.std.specs.Option.{option_and_then}
+use Rattle.std.specs.List.{sum_by, filter_map, cons_option, zip, position, onto_first}
+use Rattle.text_bytes.specs.Names.{newline, colon, space, equals}
+use Rattle.text_bytes.specs.Texts.{is_empty, split_once}
+use Rattle.text_bytes.specs.Lines.{lines}
+use Rattle.text_tables.specs.Texts.{Text}
+use Rattle.text_tables.specs.Pairs.{Pair}
+use Rattle.device_core.specs.Values.{NumberValue, DeviceValue, AnswerValue, EventValue}
+use Rattle.device_core.specs.Lines.{Row, kind_of, row_from, row_of}
+use Rattle.device_core.specs.Parts.{with_name, pair_of, is_part, with_parts, number_of, number_below, answer_parts, with_status, answer_of}
+use Rattle.device_core.specs.Blocks.{is_kind, text_in, texts, pairs, numbers, answers, first, before_device, groups, device, devices, programs, event}
+use Rattle.device_core.specs.RunBlocks.{is_too_long}
+use Rattle.device_core.specs.Faults.{given_by, block_gives}
+use Rattle.eval_laws.specs.DeviceWeights.{text_weight, given_weight, pair_weight, number_weight, device_weight, devices_weight, answer_weight, event_weight}
+use Rattle.eval_laws.specs.DeviceLaws.{rows_of, has_device}
+use Rattle.device_core.specs.declared.lines.DeviceField.TheVariants.{Subsystem, Driver, Node, Devnum, Attribute, Property, Tag, Link}
+use Rattle.device_core.specs.declared.lines.LineKind.{LineKind}
+use Rattle.device_core.specs.declared.lines.LineKind.TheVariants.{Action, Device, Field, Constant, Command, Answer}
+use Rattle.device_core.specs.declared.faults.BlockFault.{BlockFault}
+use Rattle.eval_laws.proofs.LeastFault.{event_says, is_there, devices_there}
+
+-- ---- the parts of a line
+
+module _ {X : Type 0} (weight : X → ℕ) where
+  abbrev pub option_weight : Option X → ℕ
+  option_weight None = 0
+  option_weight (Some x) = weight x
+
+abbrev pub number_own : NumberValue → ℕ
+number_own number = text_weight number.major + text_weight number.minor
+
+abbrev pub answer_own : AnswerValue → ℕ
+answer_own answer = text_weight answer.text
+
+cut_at : (byte : ℕ) (text : Text) (o : Option ℕ) (p : Pair) → position (λ b. b == byte) text ≡ o → option_map (λ n. (take n text, drop (n + 1) text)) o ≡ Some p → length p.0 + length p.1 + 1 ≡ length text
+cut_at byte text None p found e = cc
+cut_at byte text (Some n) p found e =
+    let here = (position-Some (λ b. b == byte) text n 0 found).0 in
+    let front : length p.0 ≡ length (take n text) = cc in
+    let back : length p.1 ≡ length (drop (n + 1) text) = cc in
+    let a = length-take n text in
+    let b = length-drop (n + 1) text in
+    rw (front, back, a, b) (grind arith)
+
+cut_long : (byte : ℕ) (text : Text) (p : Pair) → split_once byte text ≡ Some p → length p.0 + length p.1 + 1 ≡ length text
+unfolding split_once
+cut_long byte text p e = cut_at byte text (position (λ b. b == byte) text) p refl e
+
+pair_by : (rest : Text) (o : Option Pair) → split_once equals rest ≡ o → option_weight pair_weight (option_and_then with_name o) ≤ length rest + 3
+pair_by rest None e = omega arith
+pair_by rest (Some ([], v)) e = omega arith
+pair_by rest (Some (b ∷ n, v)) e = let long = cut_long equals rest (b ∷ n, v) e in omega (arith, long)
+
+pair_light : (rest : Text) → option_weight pair_weight (pair_of rest) ≤ length rest + 3
+unfolding pair_of
+pair_light rest = pair_by rest (split_once equals rest) refl
+
+number_both : (p : Pair) (m : ℕ) → length p.0 + length p.1 + 1 ≡ m → (t : Bool) → option_weight number_own (if t then Some (record { major = p.0; minor = p.1 }) else None) ≤ m + 3
+number_both p m long true = omega (arith, long)
+number_both p m long false = omega arith
+
+number_by : (rest : Text) (o : Option Pair) → split_once colon rest ≡ o → option_weight number_own (option_and_then with_parts o) ≤ length rest + 3
+number_by rest None e = omega arith
+number_by rest (Some p) e = number_both p (length rest) (cut_long colon rest p e) (is_part p.0 && is_part p.1)
+
+number_light : (rest : Text) → option_weight number_own (number_of rest) ≤ length rest + 3
+unfolding number_of
+number_light rest = number_by rest (split_once colon rest) refl
+
+answer_with : (text : Text) (m : ℕ) → length text ≤ m → (o : Option ℕ) → option_weight answer_own (option_map (λ status. record { status = status; text = text }) o) ≤ m + 3
+answer_with text m short None = omega arith
+answer_with text m short (Some status) = omega (arith, short)
+
+answer_by : (rest : Text) (o : Option Pair) → split_once space rest ≡ o → option_weight answer_own (with_status (answer_parts rest o)) ≤ length rest + 3
+answer_by rest None e = answer_with [] (length rest) (omega arith) (number_below 3 256 rest)
+answer_by rest (Some p) e = let long = cut_long space rest p e in answer_with p.1 (length rest) (omega (arith, long)) (number_below 3 256 p.0)
+
+answer_light : (rest : Text) → option_weight answer_own (answer_of rest) ≤ length rest + 3
+unfolding answer_of
+answer_light rest = answer_by rest (split_once space rest) refl
+
+-- ---- the weights of what rows say
+
+module _ {X : Type 0} (weight : X → ℕ) where
+  one_more : (o : Option X) (xs : List X) → sum_by weight (cons_option o xs) ≡ option_weight weight o + sum_by weight xs
+  one_more None xs = omega arith
+  one_more (Some x) xs = sum_by-cons weight x xs
+
+  through : {Y : Type 0} (h : Y → Option X) (o : Option Y) (ys : List Y) → sum_by weight (filter_map h (cons_option o ys)) ≡ option_weight weight (option_and_then h o) + sum_by weight (filter_map h ys)
+  through h None ys = omega arith
+  through h (Some y) ys = one_more (h y) (filter_map h ys)
+
+  -- the first weighs no more than all
+  first_light : (xs : List X) → option_weight weight (first xs) ≤ sum_by weight xs
+  first_light [] = omega arith
+  first_light (x ∷ xs) = let all = sum_by-cons weight x xs in omega (arith, all)
+
+abbrev pub texts_by : LineKind → List Row → ℕ
+texts_by kind rows = sum_by text_weight (texts kind rows)
+
+abbrev pub pairs_by : LineKind → List Row → ℕ
+pairs_by kind rows = sum_by pair_weight (pairs kind rows)
+
+module _ (row : Row) (rows : List Row) where
+  texts_one : (kind : LineKind) → texts_by kind (row ∷ rows) ≡ option_weight text_weight (text_in kind row) + texts_by kind rows
+  unfolding texts
+  texts_one kind = one_more text_weight (text_in kind row) (filter_map (text_in kind) rows)
+
+  pairs_one : (kind : LineKind) → pairs_by kind (row ∷ rows) ≡ option_weight pair_weight (option_and_then pair_of (text_in kind row)) + pairs_by kind rows
+  unfolding pairs texts
+  pairs_one kind = through pair_weight pair_of (text_in kind row) (filter_map (text_in kind) rows)
+
+  numbers_one : sum_by number_own (numbers (row ∷ rows)) ≡ option_weight number_own (option_and_then number_of (text_in (Field Devnum) row)) + sum_by number_own (numbers rows)
+  unfolding numbers texts
+  numbers_one = through number_own number_of (text_in (Field Devnum) row) (filter_map (text_in (Field Devnum)) rows)
+
+  answers_one : sum_by answer_own (answers (row ∷ rows)) ≡ option_weight answer_own (option_and_then answer_of (text_in Answer row)) + sum_by answer_own (answers rows)
+  unfolding answers texts
+  answers_one = through answer_own answer_of (text_in Answer row) (filter_map (text_in Answer) rows)
+
+-- what rows say of a device
+unfoldable device_rows : List Row → ℕ
+device_rows rows = texts_by Device rows + texts_by (Field Subsystem) rows + texts_by (Field Driver) rows + texts_by (Field Node) rows + sum_by number_own (numbers rows) + pairs_by (Field Attribute) rows + pairs_by (Field Property) rows + texts_by (Field Tag) rows + texts_by (Field Link) rows
+
+-- and what they say besides
+unfoldable other_rows : List Row → ℕ
+other_rows rows = texts_by Action rows + texts_by Command rows + sum_by answer_own (answers rows) + pairs_by Constant rows
+
+unfoldable device_own : Row → ℕ
+device_own row = option_weight text_weight (text_in Device row) + option_weight text_weight (text_in (Field Subsystem) row) + option_weight text_weight (text_in (Field Driver) row) + option_weight text_weight (text_in (Field Node) row) + option_weight number_own (option_and_then number_of (text_in (Field Devnum) row)) + option_weight pair_weight (option_and_then pair_of (text_in (Field Attribute) row)) + option_weight pair_weight (option_and_then pair_of (text_in (Field Property) row)) + option_weight text_weight (text_in (Field Tag) row) + option_weight text_weight (text_in (Field Link) row)
+
+unfoldable other_own : Row → ℕ
+other_own row = option_weight text_weight (text_in Action row) + option_weight text_weight (text_in Command row) + option_weight answer_own (option_and_then answer_of (text_in Answer row)) + option_weight pair_weight (option_and_then pair_of (text_in Constant row))
+
+device_rows_one : (row : Row) (rows : List Row) → device_rows (row ∷ rows) ≡ device_own row + device_rows rows
+unfolding device_rows device_own
+device_rows_one row rows =
+    let a = texts_one row rows Device in
+    let b = texts_one row rows (Field Subsystem) in
+    let c = texts_one row rows (Field Driver) in
+    let d = texts_one row rows (Field Node) in
+    let e = numbers_one row rows in
+    let f = pairs_one row rows (Field Attribute) in
+    let g = pairs_one row rows (Field Property) in
+    let h = texts_one row rows (Field Tag) in
+    let k = texts_one row rows (Field Link) in
+    omega (arith, a, b, c, d, e, f, g, h, k)
+
+other_rows_one : (row : Row) (rows : List Row) → other_rows (row ∷ rows) ≡ other_own row + other_rows rows
+unfolding other_rows other_own
+other_rows_one row rows =
+    let a = texts_one row rows Action in
+    let b = texts_one row rows Command in
+    let c = answers_one row rows in
+    let d = pairs_one row rows Constant in
+    omega (arith, a, b, c, d)
+
+-- what a line has besides its rest
+abbrev pub load : Row → ℕ
+load row = length row.1 + 3
+
+-- one row says no more than it has, and a `P:` two less
+own_light : (row : Row) → device_own row + other_own row ≤ load row
+unfolding device_own other_own
+own_light (Action, rest) = omega arith
+own_light (Device, rest) = omega arith
+own_light (Field Subsystem, rest) = omega arith
+own_light (Field Driver, rest) = omega arith
+own_light (Field Node, rest) = omega arith
+own_light (Field Devnum, rest) = let light = number_light rest in omega (arith, light)
+own_light (Field Attribute, rest) = let light = pair_light rest in omega (arith, light)
+own_light (Field Property, rest) = let light = pair_light rest in omega (arith, light)
+own_light (Field Tag, rest) = omega arith
+own_light (Field Link, rest) = omega arith
+own_light (Constant, rest) = let light = pair_light rest in omega (arith, light)
+own_light (Command, rest) = omega arith
+own_light (Answer, rest) = let light = answer_light rest in omega (arith, light)
+
+path_light : (row : Row) → is_kind Device row ≡ true → device_own row + other_own row + 2 ≤ load row
+unfolding device_own other_own
+path_light (Action, rest) h = cc
+path_light (Device, rest) h = omega arith
+path_light (Field Subsystem, rest) h = cc
+path_light (Field Driver, rest) h = cc
+path_light (Field Node, rest) h = cc
+path_light (Field Devnum, rest) h = cc
+path_light (Field Attribute, rest) h = cc
+path_light (Field Property, rest) h = cc
+path_light (Field Tag, rest) h = cc
+path_light (Field Link, rest) h = cc
+path_light (Constant, rest) h = cc
+path_light (Command, rest) h = cc
+path_light (Answer, rest) h = cc
+
+rows_light : (rows : List Row) → device_rows rows + other_rows rows ≤ sum_by load rows
+unfolding device_rows other_rows texts pairs numbers answers
+rows_light [] = omega arith
+rows_light (row ∷ rows) = step row rows (rows_light rows)
+  where
+    step : (row : Row) (rows : List Row) → device_rows rows + other_rows rows ≤ sum_by load rows → device_rows (row ∷ rows) + other_rows (row ∷ rows) ≤ sum_by load (row ∷ rows)
+    step row rows more =
+        let a = device_rows_one row rows in
+        let b = other_rows_one row rows in
+        let c = own_light row in
+        let d = sum_by-cons load row rows in
+        omega (arith, a, b, c, d, more)
+
+slack : (rows : List Row) → has_device rows ≡ true → device_rows rows + other_rows rows + 2 ≤ sum_by load rows
+slack [] h = cc
+slack (row ∷ rows) h = by (is_kind Device row) refl h (slack rows)
+  where
+    by : (b : Bool) → is_kind Device row ≡ b → (b || has_device rows) ≡ true → (has_device rows ≡ true → device_rows rows + other_rows rows + 2 ≤ sum_by load rows) → device_rows (row ∷ rows) + other_rows (row ∷ rows) + 2 ≤ sum_by load (row ∷ rows)
+    by true e h more =
+        let a = device_rows_one row rows in
+        let b = other_rows_one row rows in
+        let c = path_light row e in
+        let d = sum_by-cons load row rows in
+        let all = rows_light rows in
+        omega (arith, a, b, c, d, all)
+    by false e h more =
+        let a = device_rows_one row rows in
+        let b = other_rows_one row rows in
+        let c = own_light row in
+        let d = sum_by-cons load row rows in
+        let all = more h in
+        omega (arith, a, b, c, d, all)
+
+-- ---- a device and its group
+
+given_light : (ts : List Text) → given_weight (first ts) ≤ sum_by text_weight ts
+given_light [] = omega arith
+given_light (t ∷ ts) = first_light text_weight (t ∷ ts)
+
+number_first : (ns : List NumberValue) → number_weight (first ns) ≤ sum_by number_own ns
+number_first [] = omega arith
+number_first (n ∷ ns) = first_light number_own (n ∷ ns)
+
+path_first : (ts : List Text) → is_empty ts ≡ false → text_weight (unwrap_or (first ts) []) ≤ sum_by text_weight ts
+path_first [] h = cc
+path_first (t ∷ ts) h = first_light text_weight (t ∷ ts)
+
+path_there : (row : Row) (rows : List Row) → is_kind Device row ≡ true → is_empty (texts Device (row ∷ rows)) ≡ false
+unfolding texts
+path_there row rows h = rw h refl
+
+device_light : (row : Row) (rows : List Row) → is_kind Device row ≡ true → device_weight (device (row ∷ rows)) ≤ device_rows (row ∷ rows)
+unfolding device_weight device device_rows
+device_light row rows h =
+    let a = path_first (texts Device (row ∷ rows)) (path_there row rows h) in
+    let b = given_light (texts (Field Subsystem) (row ∷ rows)) in
+    let c = given_light (texts (Field Driver) (row ∷ rows)) in
+    let d = given_light (texts (Field Node) (row ∷ rows)) in
+    let e = number_first (numbers (row ∷ rows)) in
+    omega (arith, a, b, c, d, e)
+
+none_light : device_rows [] ≡ 0
+unfolding device_rows texts pairs numbers
+none_light = refl
+
+devices_light : (rows : List Row) → devices_weight (devices rows) + device_rows (before_device rows) ≤ device_rows rows
+unfolding devices groups before_device
+devices_light [] = omega (arith, none_light)
+devices_light (row ∷ rows) = by (is_kind Device row) refl (devices_light rows)
+  where
+    by : (b : Bool) → is_kind Device row ≡ b → devices_weight (map device (groups rows)) + device_rows (before_device rows) ≤ device_rows rows
+        → devices_weight (map device (if b then (row ∷ before_device rows) ∷ groups rows else groups rows)) + device_rows (if b then [] else row ∷ before_device rows) ≤ device_rows (row ∷ rows)
+    by true e more =
+        let a = device_light row (before_device rows) e in
+        let b = device_rows_one row (before_device rows) in
+        let c = device_rows_one row rows in
+        let d = sum_by-cons device_weight (device (row ∷ before_device rows)) (map device (groups rows)) in
+        omega (arith, a, b, c, d, more, none_light)
+    by false e more =
+        let b = device_rows_one row (before_device rows) in
+        let c = device_rows_one row rows in
+        omega (arith, b, c, more)
+
+-- ---- the event
+
+action_light : (ts : List Text) → text_weight (unwrap_or (first ts) []) ≤ sum_by text_weight ts + 1
+action_light [] = omega arith
+action_light (t ∷ ts) = let all = first_light text_weight (t ∷ ts) in omega (arith, all)
+
+zip_light : (cs : List Text) (given : List AnswerValue) → sum_by answer_weight (zip cs given) ≤ sum_by text_weight cs + sum_by answer_own given
+zip_light [] given = omega arith
+zip_light (c ∷ cs) [] = omega arith
+zip_light (c ∷ cs) (a ∷ given) =
+    let x = sum_by-cons answer_weight (c, a) (zip cs given) in
+    let y = sum_by-cons text_weight c cs in
+    let z = sum_by-cons answer_own a given in
+    let more = zip_light cs given in
+    omega (arith, x, y, z, more)
+
+event_light : (rows : List Row) (d : DeviceValue) (ds : List DeviceValue) → has_device rows ≡ true → d ∷ ds ≡ devices rows → event_weight (event rows d ds) ≤ sum_by load rows
+unfolding event_weight event programs other_rows
+event_light rows d ds some are =
+    let a = action_light (texts Action rows) in
+    let b : devices_weight (d ∷ ds) ≡ devices_weight (devices rows) = ap devices_weight are in
+    let c = devices_light rows in
+    let e = zip_light (texts Command rows) (answers rows) in
+    let f = slack rows some in
+    omega (arith, a, b, c, e, f)
+
+-- ---- the lines of a block
+
+row_light : (line : Text) → option_weight load (row_of line) ≤ length line
+unfolding row_of
+row_light [] = omega arith
+row_light (a ∷ []) = omega arith
+row_light (a ∷ b ∷ []) = omega arith
+row_light (a ∷ b ∷ c ∷ rest) = by (b == colon && c == space)
+  where
+    known : (o : Option LineKind) → option_weight load (option_map (λ kind. (kind, rest)) o) ≤ length (a ∷ b ∷ c ∷ rest)
+    known None = omega arith
+    known (Some kind) = omega arith
+
+    by : (t : Bool) → option_weight load (option_and_then row_from (if t then Some (a, rest) else None)) ≤ length (a ∷ b ∷ c ∷ rest)
+    by false = omega arith
+    by true = known (kind_of a)
+
+rows_in : (ls : List Text) → sum_by load (rows_of ls) ≤ sum_by length ls
+rows_in [] = omega arith
+rows_in (line ∷ below) =
+    let a = one_more load (row_of line) (rows_of below) in
+    let b = row_light line in
+    let c = sum_by-cons length line below in
+    let more = rows_in below in
+    omega (arith, a, b, c, more)
+
+onto_light : (b : ℕ) (ls : List Text) → sum_by length (onto_first b ls) ≡ sum_by length ls + 1
+onto_light b [] = refl
+onto_light b (line ∷ below) = let x = sum_by-cons length (b ∷ line) below in let y = sum_by-cons length line below in omega (arith, x, y)
+
+lines_in : (text : Text) → sum_by length (lines text) ≤ length text
+lines_in [] = omega arith
+lines_in (b ∷ text) = by (b == newline) (lines_in text)
+  where
+    by : (t : Bool) → sum_by length (lines text) ≤ length text → sum_by length (if t then [] ∷ lines text else onto_first b (lines text)) ≤ length (b ∷ text)
+    by true more = let x = sum_by-cons length [] (lines text) in omega (arith, x, more)
+    by false more = let x = onto_light b (lines text) in omega (arith, x, more)
+
+given_from : (t : Bool) (fault : BlockFault) (whole : Result EventValue BlockFault) (given : EventValue) → (if t then Err fault else whole) ≡ Ok given → whole ≡ Ok given
+given_from true fault whole given e = cc
+given_from false fault whole given e = e
+
+from_block : (block : Text) (given : EventValue) → block_gives block ≡ Ok given → given_by (lines block) ≡ Ok given
+unfolding block_gives
+from_block block given e = given_from (is_too_long block) _ (given_by (lines block)) given e
+
+-- an event weighs no more than its block has bytes
+pub event_within : (block : Text) (given : EventValue) → block_gives block ≡ Ok given → event_weight given ≤ length block
+event_within block given e =
+    let from = from_block block given e in
+    let says = event_says (lines block) given from in
+    let some : has_device (rows_of (lines block)) ≡ true = sym (devices_there (rows_of (lines block))) ∙ ap is_there (sym says.0) in
+    let a = event_light (rows_of (lines block)) given.device given.parents some says.0 in
+    let b = ap event_weight says.1 in
+    let c = rows_in (lines block) in
+    let d = lines_in block in
+    omega (arith, a, b, c, d)

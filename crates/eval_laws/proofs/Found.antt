@@ -1,0 +1,56 @@
+-- What a database finds weighs no more than its entries.
+use Rattle.std.proofs.Common.{◌≡◌, ℕ, ◌+◌, ◌≤◌, Bool, true, false, not, nat_lt, List, [], ◌∷◌, map, find, Some, unwrap_or, if◌then◌else◌, arith}
+use Rattle.std.proofs.lemmas.List.Sums.{sum_by-cons}
+use Rattle.text_bytes.specs.Texts.{is_empty}
+use Rattle.text_tables.specs.Texts.{Text}
+use Rattle.text_tables.specs.Pairs.{Pair}
+use Rattle.text_core.specs.Fits.{fits}
+use Rattle.hwdb_lookup.specs.Query.{fitting, property, put, query, winner, winners}
+use Rattle.hwdb_lookup.specs.declared.entry.Entry.{Entry}
+use Rattle.eval_laws.specs.DeviceWeights.{pair_weight, pairs_weight}
+use Rattle.eval_state.specs.declared.state.State.{State}
+use Rattle.eval_acts.specs.LookUps.{answer, counts, first_found, found, texts}
+use Rattle.eval_acts.specs.declared.hwdb.Hwdb.{Hwdb}
+use Rattle.eval_laws.specs.Allowances.{entries_weight, entry_weight}
+use Rattle.eval_laws.proofs.Sums.{filter_light, fold_light, put_light}
+
+winner_light : (x new : Entry) → entry_weight (winner x new) ≤ entry_weight x + entry_weight new
+winner_light x new = by (nat_lt new.order x.order)
+  where
+    by : (b : Bool) → entry_weight (if b then x else new) ≤ entry_weight x + entry_weight new
+    by true = omega arith
+    by false = omega arith
+
+winners_light : (entries : List Entry) (modalias : Text) → entries_weight (winners entries modalias) ≤ entries_weight entries
+winners_light entries modalias =
+    let a = filter_light entry_weight (λ e. fits e.pattern modalias) entries in
+    let b = fold_light entry_weight entry_weight put (put_light entry_weight (λ e. e.key) winner winner_light) [] (fitting entries modalias) in
+    omega (arith, a, b)
+
+properties_light : (entries : List Entry) → pairs_weight (map property entries) ≡ entries_weight entries
+properties_light [] = omega arith
+properties_light (e ∷ entries) =
+    let a = sum_by-cons pair_weight (property e) (map property entries) in
+    let b = sum_by-cons entry_weight e entries in
+    let c = properties_light entries in
+    omega (arith, a, b, c)
+
+answer_light : (entries : List Entry) (hwdb : Hwdb) (text : Text) → pairs_weight (answer entries hwdb text) ≤ entries_weight entries
+answer_light entries hwdb text =
+    let a = filter_light pair_weight (λ p. counts hwdb.filter p.0) (query entries text) in
+    let b = properties_light (winners entries text) in
+    let c = winners_light entries text in
+    omega (arith, a, b, c)
+
+first_light : (most : ℕ) (give : Text → List Pair) → ((text : Text) → pairs_weight (give text) ≤ most) → (texts : List Text) → pairs_weight (first_found (map give texts)) ≤ most
+first_light most give each [] = omega arith
+first_light most give each (text ∷ texts) = by (not (is_empty (give text))) (first_light most give each texts)
+  where
+    by : (b : Bool) → pairs_weight (first_found (map give texts)) ≤ most
+        → pairs_weight (unwrap_or (if b then Some (give text) else find (λ properties. not (is_empty properties)) (map give texts)) []) ≤ most
+    by true more = each text
+    by false more = more
+
+pub found_light : (entries : List Entry) (hwdb : Hwdb) (state : State) → pairs_weight (found entries hwdb state) ≤ entries_weight entries
+unfolding found
+found_light entries hwdb state = first_light (entries_weight entries) (answer entries hwdb) (answer_light entries hwdb) (texts hwdb state)

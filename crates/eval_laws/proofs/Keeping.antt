@@ -1,0 +1,200 @@
+-- Keys that are final stay, through any further rules.
+use Rattle.std.proofs.Common.{◌≡◌, Bool, true, false, cond, List, [], ◌∷◌, Option, Some, None, refl, ap, ◌∙◌}
+use Rattle.std.specs.List.{fold}
+use Rattle.text_tables.specs.Texts.{Text}
+use Rattle.text_tables.specs.Pairs.{value_of}
+use Rattle.text_core.specs.declared.item.Item.{Item}
+use Rattle.hwdb_lookup.specs.declared.entry.Entry.{Entry}
+use Rattle.device_core.specs.Values.{AnswerValue, DeviceValue}
+use Rattle.rule_types.specs.declared.roles.PlainKey.{PlainKey}
+use Rattle.rule_types.specs.declared.roles.PlainKey.TheVariants as plain
+use Rattle.rule_types.specs.declared.part.Act.{Act}
+use Rattle.rule_types.specs.declared.part.Comparison.{Comparison}
+use Rattle.rule_types.specs.declared.part.Deed.{Deed}
+use Rattle.rule_types.specs.declared.part.Deed.TheVariants as deed
+use Rattle.rule_types.specs.declared.part.Import.{Import}
+use Rattle.rule_types.specs.declared.part.Import.TheVariants as import
+use Rattle.rule_types.specs.declared.part.PlainMatch.{PlainMatch}
+use Rattle.rule_types.specs.declared.part.UpMatch.{UpMatch}
+use Rattle.rule_types.specs.Rules.{Rule}
+use Rattle.eval_rendering.specs.Rendering.{render}
+use Rattle.eval_rendering.specs.declared.rendered.Mode.TheVariants.{Plain}
+use Rattle.eval_rendering.specs.declared.rendered.Rendered.{Rendered}
+use Rattle.eval_rendering.specs.declared.rendered.Rendered.TheVariants as rendered
+use Rattle.eval_acts.specs.declared.builtin.Builtin.{Builtin}
+use Rattle.eval_acts.specs.declared.builtin.Builtin.TheVariants as builtin
+use Rattle.eval_state.specs.Finals.{is_final}
+use Rattle.eval_state.specs.declared.finals.FinalKey.{FinalKey}
+use Rattle.eval_state.specs.declared.finals.FinalKey.TheVariants as key
+use Rattle.eval_state.specs.declared.scene.Scene.{Scene}
+use Rattle.eval_acts.specs.Acts.{act_step, imported, on_text, performed}
+use Rattle.eval_acts.specs.Imports.{builtin_run, from_parent, run_builtin}
+use Rattle.eval_acts.specs.Questions.{answered_or_noted, asked, tested, with_result}
+use Rattle.eval_acts.specs.Reaching.{reached}
+use Rattle.eval_laws.specs.AssignmentLaws.{Keeps, SameAt}
+use Rattle.eval_assignments.specs.Steps.{set_step}
+use Rattle.eval_laws.proofs.Finality.{fold_keeps}
+use Rattle.eval_rules.specs.Steps.{Went, apply, onward, plain_step, result_step, search, set_all, walk}
+use Rattle.eval_rules.specs.Jumps.{is_passed, run, sought_after}
+
+-- nothing that a key may make final differs: neither what is collected nor which keys are final
+abbrev pub Same : Scene → Scene → Type 0
+Same s t = t ≡ record s { state = record s.state { selected = t.state.selected; result = t.state.result; env = t.state.env }; notes = t.notes }
+
+through : (s t u : Scene) → Same s t → Same t u → Same s u
+through s t u h k = k ∙ ap (λ (x : Scene). record x { state = record x.state { selected = u.state.selected; result = u.state.result; env = u.state.env }; notes = u.notes }) h
+
+same_at : (k : FinalKey) (s t : Scene) → Same s t → SameAt k s t
+same_at key.Owner s t h = ap (λ (x : Scene). x.owner) h
+same_at key.Group s t h = ap (λ (x : Scene). x.group) h
+same_at key.Mode s t h = ap (λ (x : Scene). x.mode) h
+same_at key.Name s t h = ap (λ (x : Scene). x.state.name) h
+same_at key.Symlink s t h = ap (λ (x : Scene). x.state.links) h
+same_at key.Run s t h = ap (λ (x : Scene). x.runs) h
+same_at key.Priority s t h = ap (λ (x : Scene). x.priority) h
+same_at key.Watch s t h = ap (λ (x : Scene). x.watch) h
+
+keeps : (k : FinalKey) (s t : Scene) → Same s t → is_final s.finals k ≡ true → Keeps k s t
+keeps k s t h f = record { same = same_at k s t h; stays = ap (λ (x : Scene). is_final x.finals k) h ∙ f }
+
+at_itself : (k : FinalKey) (s : Scene) → SameAt k s s
+at_itself k s = same_at k s s refl
+
+at_through : (k : FinalKey) (s t u : Scene) → SameAt k s t → SameAt k t u → SameAt k s u
+at_through key.Owner s t u a b = b ∙ a
+at_through key.Group s t u a b = b ∙ a
+at_through key.Mode s t u a b = b ∙ a
+at_through key.Name s t u a b = b ∙ a
+at_through key.Symlink s t u a b = b ∙ a
+at_through key.Run s t u a b = b ∙ a
+at_through key.Priority s t u a b = b ∙ a
+at_through key.Watch s t u a b = b ∙ a
+
+both : (k : FinalKey) (s t u : Scene) → Keeps k s t → Keeps k t u → Keeps k s u
+both k s t u a b = record { same = at_through k s t u a.same b.same; stays = b.stays }
+
+-- ---- what acts
+
+chosen : (s t u : Scene) (a b c : Bool) → Same s t → Same s u → Same s (cond {A = Scene × Bool} c (t, a) (u, b)).0
+chosen s t u a b true h k = h
+chosen s t u a b false h k = k
+
+on_text_same : (r : Rule) (d : Deed) (act : Text → Scene → Scene × Bool) → ((t : Text) (s : Scene) → Same s (act t s).0) → (text : Rendered) (s : Scene) → Same s (on_text r d act text s).0
+on_text_same r d act h (rendered.Text t) s = h t s
+on_text_same r d act h rendered.TooLong s = refl
+
+tested_same : (r : Rule) (mask : Option Text) (t : Text) (s : Scene) → Same s (tested r mask t s).0
+tested_same r mask t s = chosen s _ s false _ _ refl refl
+
+answered_same : (r : Rule) (t : Text) (a : Option AnswerValue) (s : Scene) → Same s (answered_or_noted r t a s).0
+answered_same r t None s = refl
+answered_same r t (Some a) s = chosen s (with_result a.text s) s true false _ refl refl
+
+builtin_same : (es : List Entry) (r : Rule) (t : Text) (b : Builtin) (s : Scene) → Same s (builtin_run es r t b s).0
+builtin_same es r t (builtin.Hwdb h) s = refl
+builtin_same es r t (builtin.Other name) s = refl
+builtin_same es r t builtin.BadArguments s = refl
+
+parent_same : (names : List (List Item)) (d : Option DeviceValue) (s : Scene) → Same s (from_parent names d s).0
+parent_same names None s = refl
+parent_same names (Some d) s = refl
+
+imported_same : (es : List Entry) (r : Rule) (d : Deed) (i : Import) (s : Scene) → Same s (imported es r d i s).0
+imported_same es r d (import.Builtin t) s = on_text_same r d (run_builtin es r) (λ c u. builtin_same es r c _ u) _ s
+imported_same es r d (import.Parent names) s = parent_same names _ s
+imported_same es r d (import.Program t) s = refl
+imported_same es r d (import.File t) s = refl
+imported_same es r d (import.Cmdline name) s = refl
+imported_same es r d (import.Db name) s = refl
+
+performed_same : (es : List Entry) (r : Rule) (d : Deed) (s : Scene) → Same s (performed es r d s).0
+performed_same es r (deed.Test mask t) s = on_text_same r (deed.Test mask t) (tested r mask) (tested_same r mask) _ s
+performed_same es r (deed.Program t) s =
+    let text : Rendered = render t s.state Plain in
+    through s (with_result [] s) (on_text r (deed.Program t) (asked r) text (with_result [] s)).0 refl
+    (on_text_same r (deed.Program t) (asked r) (λ c u. answered_same r c (value_of u.state.event.programs c) u) text (with_result [] s))
+performed_same es r (deed.Import i) s = imported_same es r (deed.Import i) i s
+
+act_same : (es : List Entry) (r : Rule) (act : Act) (s : Scene) → Same s (act_step es r act s).0
+unfolding act_step
+act_same es r act s = performed_same es r act.deed s
+
+-- ---- matches
+
+reached_same : (r : Rule) (k : PlainKey) (s : Scene) → Same s (reached r k s)
+reached_same r (plain.Sysctl name) s = refl
+reached_same r k s = refl
+
+plain_same : (r : Rule) (part : PlainMatch) (s : Scene) → Same s (plain_step r part s).0
+unfolding plain_step
+plain_same r part s = reached_same r part.key s
+
+result_same : (part : Comparison) (s : Scene) → Same s (result_step part s).0
+unfolding result_step
+result_same part s = refl
+
+search_same : (parts : List UpMatch) (s : Scene) → Same s (search parts s).0
+search_same [] s = refl
+search_same (part ∷ parts) s = refl
+
+-- ---- steps, and rules one behind another
+
+onward_same : (f : Scene → Went) → ((s : Scene) → Same s (f s).0) → (s : Scene) (w : Went) → Same s w.0 → Same s (onward f w).0
+onward_same f h s w k = by w.1
+  where
+    by : (b : Bool) → Same s (cond b (f w.0) w).0
+    by true = through s w.0 (f w.0).0 k (h w.0)
+    by false = k
+
+walk_same : {P : Type 0} (step : P → Scene → Went) → ((p : P) (s : Scene) → Same s (step p s).0) → (ps : List P) (s : Scene) → Same s (walk step ps s).0
+unfolding walk
+walk_same step h [] s = refl
+walk_same step h (p ∷ ps) s = onward_same (walk step ps) (walk_same step h ps) s (step p s) (h p s)
+
+-- what a rule has come to before its assignments
+abbrev pub before_sets : List Entry → Rule → Scene → Went
+before_sets es r s =
+    onward (walk result_step r.results)
+    (onward (walk (act_step es r) r.acts)
+    (onward (search r.up)
+    (walk (plain_step r) r.plain s)))
+
+pub before_same : (es : List Entry) (r : Rule) (s : Scene) → Same s (before_sets es r s).0
+before_same es r s =
+    onward_same (walk result_step r.results) (walk_same result_step result_same r.results) s _
+    (onward_same (walk (act_step es r) r.acts) (walk_same (act_step es r) (act_same es r) r.acts) s _
+    (onward_same (search r.up) (search_same r.up) s _
+    (walk_same (plain_step r) (plain_same r) r.plain s)))
+
+apply_keeps : (es : List Entry) (r : Rule) (k : FinalKey) (s : Scene) → is_final s.finals k ≡ true → Keeps k s (apply es r s).0
+unfolding apply
+apply_keeps es r k s f = by (before_sets es r s).1
+  where
+    t : Scene
+    t = (before_sets es r s).0
+
+    held : Keeps k s t
+    held = keeps k s t (before_same es r s) f
+
+    by : (b : Bool) → Keeps k s (cond b (set_all r t) (before_sets es r s)).0
+    by true = both k s t (fold (set_step r) t r.sets) held (fold_keeps k r r.sets t held.stays)
+    by false = held
+
+pub run_keeps : (es : List Entry) (sought : Option Text) (rules : List Rule) (k : FinalKey) (s : Scene) → is_final s.finals k ≡ true → Keeps k s (run es sought rules s)
+unfolding run
+run_keeps es sought [] k s f = record { same = at_itself k s; stays = f }
+run_keeps es sought (r ∷ rs) k s f =
+    by (is_passed sought r) (run_keeps es sought rs k s f) (both k s t (run es next rs t) held (run_keeps es next rs k t held.stays))
+  where
+    t : Scene
+    t = (apply es r s).0
+
+    held : Keeps k s t
+    held = apply_keeps es r k s f
+
+    next : Option Text
+    next = sought_after (apply es r s).1 r
+
+    by : (b : Bool) → Keeps k s (run es sought rs s) → Keeps k s (run es next rs t) → Keeps k s (cond b (run es sought rs s) (run es next rs t))
+    by true x y = x
+    by false x y = y

@@ -1,0 +1,47 @@
+-- How long the lines on a device's node are.
+use Rattle.std.proofs.Common.{ℕ, ◌+◌, ◌*◌, ◌^◌, ◌≤◌, Bool, true, false, ℤ, pos, negsuc, ◌++◌, length, Option, Some, None, IfSome, codes, unsigned_abs, arith}
+use Rattle.std.proofs.lemmas.List.{length-append}
+use Rattle.std.proofs.lemmas.Fmt.{length_signed_le}
+use Rattle.std.specs.Fmt.{signed_decimal}
+use Rattle.text_tables.specs.Texts.{Text}
+use Rattle.eval_laws.specs.DeviceWeights.{given_weight}
+use Rattle.eval_rules.specs.declared.outcome.Outcome.{Outcome}
+use Rattle.engine_answers.specs.Lines.{persist_line, priority_line, watch_line}
+use Rattle.engine_answers.specs.Answers.{node_lines}
+use Rattle.eval_laws.proofs.Lines.{given_line_short, line_length}
+
+watch_short : (watch : Option Bool) → length (watch_line watch) ≤ 8
+watch_short None = omega arith
+watch_short (Some true) = omega arith
+watch_short (Some false) = omega arith
+
+persist_short : (persist : Bool) → length (persist_line persist) ≤ 8
+persist_short true = omega arith
+persist_short false = omega arith
+
+-- ten digits and a sign
+number_short : (priority : ℤ) → unsigned_abs priority ≤ 2 ^ 31 → length (signed_decimal priority) ≤ 11
+number_short (pos n) fits = length_signed_le 10 (pos n) (omega (arith, fits)) (omega (arith, fits))
+number_short (negsuc n) fits = length_signed_le 10 (negsuc n) (omega (arith, fits)) (omega (arith, fits))
+
+priority_short : (priority : Option ℤ) → IfSome priority (λ z. unsigned_abs z ≤ 2 ^ 31) → length (priority_line priority) ≤ 21
+priority_short None fits = omega arith
+priority_short (Some priority) fits =
+    let a = line_length (codes "priority") (signed_decimal priority) in
+    let b = number_short priority fits in
+    omega (arith, a, b)
+
+-- lines behind others
+pub behind : (others one : Text) (m n : ℕ) → length others ≤ m → length one ≤ n → length (others ++ one) ≤ m + n
+behind others one m n a b = let c = length-append others one in omega (arith, a, b, c)
+
+pub node_short : (o : Outcome) → IfSome o.priority (λ z. unsigned_abs z ≤ 2 ^ 31)
+    → length (node_lines o) ≤ 8 * given_weight o.name + 8 * given_weight o.owner + 8 * given_weight o.group + 8 * given_weight o.mode + 21 + 8 + 8
+unfolding node_lines
+node_short o fits =
+    let a = behind _ _ _ _ (given_line_short (codes "name") o.name (omega arith)) (given_line_short (codes "owner") o.owner (omega arith)) in
+    let b = behind _ _ _ _ a (given_line_short (codes "group") o.group (omega arith)) in
+    let c = behind _ _ _ _ b (given_line_short (codes "mode") o.mode (omega arith)) in
+    let d = behind _ _ _ 21 c (priority_short o.priority fits) in
+    let e = behind _ _ _ 8 d (watch_short o.watch) in
+    behind _ _ _ 8 e (persist_short o.persist)

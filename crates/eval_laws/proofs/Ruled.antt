@@ -1,0 +1,129 @@
+-- What a scene weighs behind a rule, and behind all rules.
+use Rattle.std.proofs.Common.{◌≡◌, ℕ, ◌+◌, ◌≤◌, Bool, true, false, List, [], ◌∷◌, length, fold, Option, None, if◌then◌else◌, arith}
+use Rattle.std.proofs.lemmas.List.Sums.{sum_by-cons}
+use Rattle.std.specs.List.{sum_by}
+use Rattle.text_tables.specs.Texts.{Text}
+use Rattle.hwdb_lookup.specs.declared.entry.Entry.{Entry}
+use Rattle.rule_types.specs.Written.{attribute_of_plain}
+use Rattle.rule_types.specs.declared.roles.PlainKey.{PlainKey}
+use Rattle.rule_types.specs.declared.roles.PlainKey.TheVariants as plain
+use Rattle.rule_types.specs.WrittenParts.{attribute_of_change}
+use Rattle.rule_types.specs.declared.part.Act.{Act}
+use Rattle.rule_types.specs.declared.part.Assignment.{Assignment}
+use Rattle.rule_types.specs.declared.part.Comparison.{Comparison}
+use Rattle.rule_types.specs.declared.part.PlainMatch.{PlainMatch}
+use Rattle.rule_types.specs.declared.part.UpMatch.{UpMatch}
+use Rattle.rule_types.specs.Rules.{Rule}
+use Rattle.device_core.specs.Values.{EventValue}
+use Rattle.eval_laws.specs.DeviceWeights.{event_weight}
+use Rattle.eval_state.specs.declared.note_kind.NoteKind.TheVariants.{SysctlNotRead}
+use Rattle.eval_state.specs.declared.scene.Scene.{Scene}
+use Rattle.eval_acts.specs.Acts.{act_step}
+use Rattle.eval_acts.specs.Reaching.{reached}
+use Rattle.eval_assignments.specs.Steps.{set_step}
+use Rattle.eval_rules.specs.Jumps.{is_passed, run, sought_after}
+use Rattle.eval_rules.specs.Steps.{Went, apply, onward, plain_step, result_step, search, set_all, walk}
+use Rattle.eval_laws.specs.Allowances.{deed_allowance, part_allowance, rule_allowance}
+use Rattle.eval_laws.specs.Inner.{Within, scene_weight}
+use Rattle.eval_laws.proofs.Scenes.{more, noted_within}
+use Rattle.eval_laws.proofs.Stepped.{set_within}
+use Rattle.eval_laws.proofs.Acted.{act_within}
+
+module _ (event : EventValue) where
+  -- one step behind another
+  onward_within : (next : Scene → Went) (k n : ℕ) (went : Went) → Within event n went.0 → ((s : Scene) → Within event n s → Within event (n + k) (next s).0) → Within event (n + k) (onward next went).0
+  onward_within next k n went h each = by went.1
+    where
+      by : (b : Bool) → Within event (n + k) (if b then next went.0 else went).0
+      by true = each went.0 h
+      by false = more event n (n + k) went.0 (omega arith) h
+
+  -- the parts of one step, each within its own bound
+  module _ {P : Type 0} (step : P → Scene → Went) (own : P → ℕ) (each : (p : P) (n : ℕ) (s : Scene) → Within event n s → Within event (n + own p) (step p s).0) where
+    walk_within : (ps : List P) (n : ℕ) (s : Scene) → Within event n s → Within event (n + sum_by own ps) (walk step ps s).0
+    unfolding walk
+    walk_within [] n s h = more event n (n + sum_by own []) s (omega arith) h
+    walk_within (p ∷ ps) n s h =
+        let a = sum_by-cons own p ps in
+        more event (n + own p + sum_by own ps) (n + sum_by own (p ∷ ps)) _ (omega (arith, a))
+        (onward_within (walk step ps) (sum_by own ps) (n + own p) (step p s) (each p n s h) (λ t within. walk_within ps (n + own p) t within))
+
+  module _ (r : Rule) where
+    reached_within : (key : PlainKey) (n : ℕ) (s : Scene) → Within event n s → Within event (n + (length r.file + 56)) (reached r key s)
+    reached_within (plain.Sysctl name) n s h = noted_within event n r SysctlNotRead name s h
+    reached_within plain.Action n s h = more event n (n + (length r.file + 56)) s (omega arith) h
+    reached_within plain.Devpath n s h = more event n (n + (length r.file + 56)) s (omega arith) h
+    reached_within plain.Kernel n s h = more event n (n + (length r.file + 56)) s (omega arith) h
+    reached_within plain.Subsystem n s h = more event n (n + (length r.file + 56)) s (omega arith) h
+    reached_within plain.Driver n s h = more event n (n + (length r.file + 56)) s (omega arith) h
+    reached_within plain.Name n s h = more event n (n + (length r.file + 56)) s (omega arith) h
+    reached_within plain.Symlink n s h = more event n (n + (length r.file + 56)) s (omega arith) h
+    reached_within plain.Tag n s h = more event n (n + (length r.file + 56)) s (omega arith) h
+    reached_within (plain.Attr name) n s h = more event n (n + (length r.file + 56)) s (omega arith) h
+    reached_within (plain.Env name) n s h = more event n (n + (length r.file + 56)) s (omega arith) h
+    reached_within (plain.Const name) n s h = more event n (n + (length r.file + 56)) s (omega arith) h
+
+    plain_within : (m : PlainMatch) (n : ℕ) (s : Scene) → Within event n s → Within event (n + part_allowance r (attribute_of_plain m.key)) (plain_step r m s).0
+    unfolding plain_step
+    plain_within m n s h = more event (n + (length r.file + 56)) (n + part_allowance r (attribute_of_plain m.key)) _ (omega arith) (reached_within m.key n s h)
+
+    result_within : (c : Comparison) (n : ℕ) (s : Scene) → Within event n s → Within event (n + part_allowance r None) (result_step c s).0
+    unfolding result_step
+    result_within c n s h = more event n (n + part_allowance r None) s (omega arith) h
+
+    search_within : (parts : List UpMatch) (n : ℕ) (s : Scene) → Within event n s → Within event n (search parts s).0
+    unfolding scene_weight
+    search_within [] n s h = h
+    search_within (part ∷ parts) n s h = record { same = h.same; light = h.light }
+
+    sets_within : (sets : List Assignment) (n : ℕ) (s : Scene) → Within event n s
+        → Within event (n + sum_by (λ (a : Assignment). part_allowance r (attribute_of_change a.change)) sets) (fold (set_step r) s sets)
+    sets_within [] n s h = more event n (n + sum_by (λ (a : Assignment). part_allowance r (attribute_of_change a.change)) []) s (omega arith) h
+    sets_within (a ∷ sets) n s h =
+        let own : Assignment → ℕ = λ b. part_allowance r (attribute_of_change b.change) in
+        let all = sum_by-cons own a sets in
+        more event (n + own a + sum_by own sets) (n + sum_by own (a ∷ sets)) _ (omega (arith, all)) (sets_within sets (n + own a) (set_step r s a) (set_within event n r s h a))
+
+  module _ (len : ℕ) (short : event_weight event ≤ len) (entries : List Entry) where
+    -- a rule
+    rule_within : (r : Rule) (n : ℕ) (s : Scene) → Within event n s → Within event (n + rule_allowance len entries r) (apply entries r s).0
+    unfolding apply rule_allowance
+    rule_within r n s h =
+        let plain_own : PlainMatch → ℕ = λ m. part_allowance r (attribute_of_plain m.key) in
+        let act_own : Act → ℕ = λ act. deed_allowance len entries r act.deed in
+        let result_own : Comparison → ℕ = λ c. part_allowance r None in
+        let set_own : Assignment → ℕ = λ a. part_allowance r (attribute_of_change a.change) in
+        let p : ℕ = n + sum_by plain_own r.plain in
+        let a : ℕ = p + sum_by act_own r.acts in
+        let q : ℕ = a + sum_by result_own r.results in
+        let b : ℕ = q + sum_by set_own r.sets in
+        let behind_plain = walk_within (plain_step r) plain_own (plain_within r) r.plain n s h in
+        let behind_up = onward_within (search r.up) 0 p (walk (plain_step r) r.plain s) behind_plain (λ t within. more event p (p + 0) _ (omega arith) (search_within r r.up p t within)) in
+        let behind_acts =
+        onward_within (walk (act_step entries r) r.acts) (sum_by act_own r.acts) p _ (more event (p + 0) p _ (omega arith) behind_up)
+        (λ t within. walk_within (act_step entries r) act_own (λ act m u inside. act_within event len short entries r act m u inside) r.acts p t within) in
+        let behind_results = onward_within (walk result_step r.results) (sum_by result_own r.results) a _ behind_acts (λ t within. walk_within result_step result_own (result_within r) r.results a t within) in
+        let behind_sets = onward_within (set_all r) (sum_by set_own r.sets) q _ behind_results (λ t within. sets_within r r.sets q t within) in
+        more event b (n + rule_allowance len entries r) _ (omega arith) behind_sets
+
+    -- all rules
+    pub run_within : (rules : List Rule) (sought : Option Text) (n : ℕ) (s : Scene) → Within event n s → Within event (n + sum_by (rule_allowance len entries) rules) (run entries sought rules s)
+    unfolding run
+    run_within [] sought n s h = more event n (n + sum_by (rule_allowance len entries) []) s (omega arith) h
+    run_within (r ∷ rules) sought n s h = by (is_passed sought r) (run_within rules)
+      where
+        own : ℕ
+        own = rule_allowance len entries r
+
+        rest : ℕ
+        rest = sum_by (rule_allowance len entries) rules
+
+        all : own + rest ≡ sum_by (rule_allowance len entries) (r ∷ rules)
+        all = let a = sum_by-cons (rule_allowance len entries) r rules in omega (arith, a)
+
+        by : (b : Bool) → ((sought : Option Text) (n : ℕ) (s : Scene) → Within event n s → Within event (n + rest) (run entries sought rules s))
+            → Within event (n + sum_by (rule_allowance len entries) (r ∷ rules)) (if b then run entries sought rules s else run entries (sought_after (apply entries r s).1 r) rules (apply entries r s).0)
+        by true behind = more event (n + rest) (n + sum_by (rule_allowance len entries) (r ∷ rules)) _ (omega (arith, all)) (behind sought n s h)
+        by false behind =
+            more event (n + own + rest) (n + sum_by (rule_allowance len entries) (r ∷ rules)) _ (omega (arith, all))
+            (behind (sought_after (apply entries r s).1 r) (n + own) (apply entries r s).0 (rule_within r n s h))

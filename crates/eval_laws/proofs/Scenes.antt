@@ -1,0 +1,45 @@
+-- What a scene weighs with a note more, and where what changes has no weight.
+use Rattle.std.proofs.Common.{ℕ, ◌+◌, ◌≤◌, length, take, arith}
+use Rattle.std.proofs.lemmas.List.{length-take}
+use Rattle.std.proofs.lemmas.List.Sums.{sum_by_push}
+use Rattle.std.proofs.Math.Nat.{min-le_left}
+use Rattle.text_tables.specs.Texts.{Text}
+use Rattle.rule_types.specs.Rules.{Rule}
+use Rattle.device_core.specs.Values.{EventValue}
+use Rattle.eval_laws.specs.DeviceWeights.{text_weight}
+use Rattle.eval_state.specs.Notes.{note_about, text_of}
+use Rattle.eval_state.specs.Scenes.{noted}
+use Rattle.eval_state.specs.declared.note_kind.NoteKind.{NoteKind}
+use Rattle.eval_state.specs.declared.note_kind.NoteKind.TheVariants.{ImportNotRun, BuiltinNotRun, BadHwdbArguments, NoAnswer, TestNotMade, SysctlNotRead, TextTooLong, NameIgnored}
+use Rattle.eval_state.specs.declared.scene.Scene.{Scene}
+use Rattle.eval_laws.specs.Weights.{note_weight}
+use Rattle.eval_laws.specs.Inner.{Within, scene_weight}
+
+-- a bound that is greater
+pub more : (event : EventValue) (n m : ℕ) (s : Scene) → n ≤ m → Within event n s → Within event m s
+more event n m s up h = let a = h.light in record { same = h.same; light = omega (arith, a, up) }
+
+kind_light : (kind : NoteKind) → text_weight (text_of kind) ≤ 22
+kind_light ImportNotRun = omega arith
+kind_light BuiltinNotRun = omega arith
+kind_light BadHwdbArguments = omega arith
+kind_light NoAnswer = omega arith
+kind_light TestNotMade = omega arith
+kind_light SysctlNotRead = omega arith
+kind_light TextTooLong = omega arith
+kind_light NameIgnored = omega arith
+
+word_light : (text : Text) → length (take 32 text) ≤ 32
+word_light text = let a = length-take 32 text in let b = min-le_left 32 (length text) in omega (arith, a, b)
+
+-- a note about a rule
+pub note_light : (r : Rule) (kind : NoteKind) (text : Text) → note_weight (note_about r kind text) ≤ length r.file + 56
+note_light r kind text = let a = kind_light kind in let b = word_light text in omega (arith, a, b)
+
+pub noted_within : (event : EventValue) (n : ℕ) (r : Rule) (kind : NoteKind) (text : Text) (s : Scene) → Within event n s → Within event (n + (length r.file + 56)) (noted r kind text s)
+unfolding scene_weight
+noted_within event n r kind text s h =
+    let a = h.light in
+    let b = sum_by_push note_weight s.notes (note_about r kind text) in
+    let c = note_light r kind text in
+    record { same = h.same; light = omega (arith, a, b, c) }

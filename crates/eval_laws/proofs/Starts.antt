@@ -1,0 +1,79 @@
+-- What an event weighs before any rule has run.
+use Rattle.std.proofs.Common.{◌≡◌, ◌+◌, ◌≤◌, List, [], ◌∷◌, ◌++◌, length, Option, Some, None, option_map, codes, refl, arith}
+use Rattle.std.proofs.lemmas.List.Sums.{sum_by-cons, sum_by-append}
+use Rattle.text_tables.specs.Texts.{Text}
+use Rattle.text_tables.specs.Pairs.{Pair, with_values}
+use Rattle.device_core.specs.Values.{EventValue, NumberValue}
+use Rattle.eval_laws.specs.DeviceWeights.{device_weight, event_weight, given_weight, number_weight, pair_weight, pairs_weight, text_weight}
+use Rattle.eval_state.specs.Start.{given, node_path, start_env, told_by}
+use Rattle.eval_state.specs.Scenes.{start}
+use Rattle.eval_laws.specs.Inner.{Within, scene_weight}
+use Rattle.eval_laws.proofs.Tables.{with_texts_light, with_values_light}
+
+given_light : (name : Text) (value : Option Text) → pairs_weight (given name value) ≤ given_weight value + (length name + 1)
+given_light name None = omega arith
+given_light name (Some value) = let a = sum_by-cons pair_weight (name, value) [] in omega (arith, a)
+
+node_light : (node : Option Text) → given_weight (option_map node_path node) ≤ given_weight node + 5
+node_light None = omega arith
+node_light (Some node) = omega arith
+
+numbers_light : (number : Option NumberValue) → given_weight (option_map (λ n. n.major) number) + given_weight (option_map (λ n. n.minor) number) ≤ number_weight number
+numbers_light None = omega arith
+numbers_light (Some number) = omega arith
+
+-- lists one behind another
+four_light : (first second third fourth : List Pair) → pairs_weight (first ++ second ++ third ++ fourth) ≡ pairs_weight first + pairs_weight second + pairs_weight third + pairs_weight fourth
+four_light first second third fourth =
+    let a = sum_by-append pair_weight (first ++ second ++ third) fourth in
+    let b = sum_by-append pair_weight (first ++ second) third in
+    let c = sum_by-append pair_weight first second in
+    omega (arith, a, b, c)
+
+told_light : (subsystem node major minor : Option Text) → pairs_weight (given (codes "SUBSYSTEM") subsystem ++ given (codes "DEVNAME") node ++ given (codes "MAJOR") major ++ given (codes "MINOR") minor)
+    ≤ given_weight subsystem + given_weight node + given_weight major + given_weight minor + 30
+told_light subsystem node major minor =
+    let a = four_light (given (codes "SUBSYSTEM") subsystem) (given (codes "DEVNAME") node) (given (codes "MAJOR") major) (given (codes "MINOR") minor) in
+    let b = given_light (codes "SUBSYSTEM") subsystem in
+    let c = given_light (codes "DEVNAME") node in
+    let d = given_light (codes "MAJOR") major in
+    let e = given_light (codes "MINOR") minor in
+    omega (arith, a, b, c, d, e)
+
+two_light : (action path : Text) (rest : List Pair) → pairs_weight ((codes "ACTION", action) ∷ (codes "DEVPATH", path) ∷ rest) ≡ text_weight action + text_weight path + pairs_weight rest + 15
+two_light action path rest =
+    let a = sum_by-cons pair_weight (codes "ACTION", action) ((codes "DEVPATH", path) ∷ rest) in
+    let b = sum_by-cons pair_weight (codes "DEVPATH", path) rest in
+    omega (arith, a, b)
+
+-- what an event says of its device stands in the event once
+event_told : (event : EventValue) → pairs_weight (told_by event) ≤ text_weight event.action + text_weight event.device.path + given_weight event.device.subsystem + given_weight event.device.node + number_weight event.device.number + 50
+event_told event =
+    let a = two_light event.action event.device.path
+    (given (codes "SUBSYSTEM") event.device.subsystem ++ given (codes "DEVNAME") (option_map node_path event.device.node)
+    ++ given (codes "MAJOR") (option_map (λ n. n.major) event.device.number) ++ given (codes "MINOR") (option_map (λ n. n.minor) event.device.number)) in
+    let b = told_light event.device.subsystem (option_map node_path event.device.node) (option_map (λ n. n.major) event.device.number) (option_map (λ n. n.minor) event.device.number) in
+    let c = node_light event.device.node in
+    let d = numbers_light event.device.number in
+    omega (arith, a, b, c, d)
+
+env_light : (event : EventValue) → pairs_weight (start_env event) ≤ pairs_weight event.device.env + pairs_weight (told_by event)
+unfolding start_env
+env_light event =
+    let a = with_values_light (with_values [] event.device.env) (told_by event) in
+    let b = with_values_light [] event.device.env in
+    omega (arith, a, b)
+
+own_light : (event : EventValue) → text_weight event.action + device_weight event.device ≤ event_weight event
+unfolding event_weight
+own_light event = let a = sum_by-cons device_weight event.device event.parents in omega (arith, a)
+
+pub start_within : (event : EventValue) → Within event (event_weight event + 50) (start event)
+unfolding scene_weight device_weight
+start_within event =
+    let a = env_light event in
+    let b = event_told event in
+    let c = with_texts_light [] event.device.links in
+    let d = with_texts_light [] event.device.tags in
+    let e = own_light event in
+    record { same = refl; light = omega (arith, a, b, c, d, e) }

@@ -1,0 +1,26 @@
+-- What an answer weighs at most.
+use Rattle.std.proofs.Common.{◌≡◌, ℕ, ◌+◌, ◌≤◌, List, length, None, Ok, arith}
+use Rattle.text_tables.specs.Texts.{Text}
+use Rattle.hwdb_lookup.specs.declared.entry.Entry.{Entry}
+use Rattle.rule_types.specs.Rules.{Rule}
+use Rattle.device_core.specs.Faults.{block_gives}
+use Rattle.device_core.specs.Values.{EventValue}
+use Rattle.eval_laws.specs.DeviceWeights.{event_weight}
+use Rattle.eval_laws.proofs.DeviceWeights.{event_within}
+use Rattle.eval_state.specs.Scenes.{start}
+use Rattle.eval_rules.specs.Jumps.{run}
+use Rattle.eval_rules.specs.Outcomes.{outcome}
+use Rattle.eval_laws.specs.Weights.{outcome_weight}
+use Rattle.eval_laws.specs.Allowances.{most_weight}
+use Rattle.eval_laws.proofs.Starts.{start_within}
+use Rattle.eval_laws.proofs.Ruled.{run_within}
+use Rattle.eval_laws.proofs.Ends.{outcome_light}
+
+answer_within : (len : ℕ) (rules : List Rule) (entries : List Entry) (event : EventValue) → event_weight event ≤ len → outcome_weight (outcome rules entries event) ≤ most_weight len entries rules
+answer_within len rules entries event short =
+    let a = (run_within event len short entries rules None (event_weight event + 50) (start event) (start_within event)).light in
+    let b = outcome_light (run entries None rules (start event)) in
+    omega (arith, a, b, short)
+
+pub block_answer : (rules : List Rule) (entries : List Entry) (block : Text) (event : EventValue) → block_gives block ≡ Ok event → outcome_weight (outcome rules entries event) ≤ most_weight (length block) entries rules
+block_answer rules entries block event given = answer_within (length block) rules entries event (event_within block event given)

@@ -1,0 +1,11 @@
+pub mod Calls
+pub mod Cuts
+pub mod DeviceWeights
+pub mod DeviceLaws
+pub mod Grammar
+pub mod Comparing
+pub mod AssignmentLaws
+pub mod Inner
+pub mod Allowances
+pub mod Weights
+pub mod Counts

@@ -1,0 +1,25 @@
+-- What an answer weighs: each of its texts by its length and one more. Numbers and switches weigh nothing.
+use Rattle.std.specs.Prelude.{ℕ, ◌+◌}
+use Rattle.std.specs.List.{sum_by}
+use Rattle.rule_types.specs.Names.{run_name}
+use Rattle.eval_laws.specs.DeviceWeights.{given_weight, pairs_weight, text_weight, texts_weight}
+use Rattle.eval_state.specs.Notes.{text_of}
+use Rattle.eval_state.specs.declared.notes.Note.{Note}
+use Rattle.eval_rules.specs.declared.outcome.Command.{Command}
+use Rattle.eval_rules.specs.declared.outcome.Outcome.{Outcome}
+
+-- a note has three texts: its file, the text of its kind and its word
+abbrev pub note_weight : Note → ℕ
+note_weight note = text_weight note.file + text_weight (text_of note.kind) + text_weight note.word
+
+-- a command has two: the name of its type and its text
+abbrev pub command_weight : Command → ℕ
+command_weight command = text_weight (run_name command.kind) + text_weight command.text
+
+-- an answer
+unfoldable pub outcome_weight : Outcome → ℕ
+outcome_weight o =
+    given_weight o.name + given_weight o.owner + given_weight o.group + given_weight o.mode
+    + pairs_weight o.labels + texts_weight o.links + texts_weight o.tags
+    + pairs_weight o.env + pairs_weight o.attrs + pairs_weight o.sysctls
+    + sum_by command_weight o.runs + sum_by note_weight o.notes

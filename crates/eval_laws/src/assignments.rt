@@ -1,0 +1,36 @@
+//! What an author of rules relies on, whatever the rules and the event are.
+//!
+//! Each function here is empty: its contract is the law.
+ghost use Rattle.std.specs.Prelude.{◌≡◌, true, false, List, fold};
+ghost use Rattle.std.specs.List.{All, list_any};
+ghost use Rattle.text_tables.specs.Texts.{Text, is_among};
+ghost use Rattle.rule_types.specs.declared.roles.AssignOperator.TheVariants.{Add, Remove};
+ghost use Rattle.rule_types.specs.declared.part.Assignment.{Assignment};
+ghost use Rattle.rule_types.specs.Rules.{Rule};
+ghost use Rattle.eval_state.specs.Finals.{is_final};
+ghost use Rattle.eval_state.specs.Runs.{RunValue, runs_after, same_run};
+ghost use Rattle.eval_state.specs.declared.finals.FinalKey.{FinalKey};
+ghost use Rattle.eval_state.specs.declared.scene.Scene.{Scene};
+ghost use Rattle.eval_laws.specs.AssignmentLaws.{Keeps};
+ghost use Rattle.eval_assignments.specs.Lists.{changed};
+ghost use Rattle.eval_assignments.specs.Steps.{set_step};
+
+/// A key that is final keeps its value through any further assignments of any rule, and stays final.
+pub fn final_keys_stay()
+    ensures { (r : Rule) (key : FinalKey) (sets : List Assignment) (s : Scene) → is_final s.finals key ≡ true → Keeps key s (fold (set_step r) s sets) }
+{}
+
+/// Tags and links that are all there are not added again.
+pub fn additions_that_are_there_change_nothing()
+    ensures { (more texts : List Text) → All (λ t. is_among texts t ≡ true) more → changed Add more texts ≡ texts }
+{}
+
+/// Tags and links that were taken away are not there.
+pub fn removed_texts_are_gone()
+    ensures { (gone texts : List Text) (t : Text) → is_among gone t ≡ true → is_among (changed Remove gone texts) t ≡ false }
+{}
+
+/// A RUN that is there, of the same type and written text, is not added again.
+pub fn runs_that_are_there_stay_alone()
+    ensures { (runs : List RunValue) (run : RunValue) → list_any (same_run run) runs ≡ true → runs_after Add runs run ≡ runs }
+{}

@@ -1,0 +1,53 @@
+//! What an author of rules relies on, whatever the rules, the event and the database are.
+//!
+//! Each function here is empty: its contract is the law.
+ghost use Rattle.std.specs.Prelude.{◌≡◌, ◌∷◌, ◌++◌, true, false, List, Option, Some, None};
+ghost use Rattle.std.specs.List.{list_any};
+ghost use Rattle.text_tables.specs.Texts.{Text};
+ghost use Rattle.hwdb_lookup.specs.declared.entry.Entry.{Entry};
+ghost use Rattle.rule_types.specs.declared.part.UpMatch.{UpMatch};
+ghost use Rattle.rule_laws.specs.Outcomes.{HasLabel};
+ghost use Rattle.rule_types.specs.Rules.{Rule};
+ghost use Rattle.device_core.specs.Values.{EventValue};
+ghost use Rattle.eval_state.specs.Finals.{is_final};
+ghost use Rattle.eval_state.specs.Scenes.{start};
+ghost use Rattle.eval_state.specs.declared.finals.FinalKey.{FinalKey};
+ghost use Rattle.eval_state.specs.declared.scene.Scene.{Scene};
+ghost use Rattle.eval_laws.specs.AssignmentLaws.{Keeps};
+ghost use Rattle.eval_rules.specs.Jumps.{run};
+ghost use Rattle.eval_rules.specs.Laws.{IsMetByOneDevice, NamesRise, SameButNotes, SameOutcomeButNotes, plain_hold};
+ghost use Rattle.eval_rules.specs.Outcomes.{outcome, outcome_of};
+ghost use Rattle.eval_rules.specs.Steps.{apply};
+
+/// Where a rule with matches along the chain reaches its end, one device of the chain meets all of
+/// them, and no nearer one does.
+pub fn one_device_meets_all_matches_of_a_rule()
+    ensures { (entries : List Entry) (r : Rule) (s : Scene) (part : UpMatch) (parts : List UpMatch) → r.up ≡ part ∷ parts → (apply entries r s).1 ≡ true → IsMetByOneDevice r.up s.state }
+{}
+
+/// A rule of which one match of the event does not hold changes nothing but the notes.
+pub fn unmatched_rules_change_nothing()
+    ensures { (entries : List Entry) (r : Rule) (s : Scene) → plain_hold s.state r ≡ false → SameButNotes s (apply entries r s).0 }
+{}
+
+/// Where the matches of the event hold of no rule, an event comes to what it came with.
+pub fn unmatched_events_stay_as_they_are()
+    ensures { (entries : List Entry) (rules : List Rule) (event : EventValue) → list_any (plain_hold (start event).state) rules ≡ false → SameOutcomeButNotes (outcome_of (start event)) (outcome rules entries event) }
+{}
+
+/// A rule that jumps and whose end is reached is followed by the next rule that has the label, which is
+/// evaluated; the rules between them are passed over. That this rule stands in the same file is a law of
+/// rules as they are read, `jumps_stay_in_their_files`.
+pub fn jumps_lead_to_the_next_label()
+    ensures { (entries : List Entry) (name : Text) (landing : Rule) (behind : List Rule) → landing.label ≡ Some name → (r : Rule) (between : List Rule) (s : Scene) → r.goto ≡ Some name → (apply entries r s).1 ≡ true → ¬ HasLabel name between → run entries None (r ∷ (between ++ landing ∷ behind)) s ≡ run entries None (landing ∷ behind) (apply entries r s).0 }
+{}
+
+/// A key that is final keeps its value through any further rules, of whatever files, and stays final.
+pub fn final_keys_stay_through_all_rules()
+    ensures { (entries : List Entry) (sought : Option Text) (rules : List Rule) (key : FinalKey) (s : Scene) → is_final s.finals key ≡ true → Keeps key s (run entries sought rules s) }
+{}
+
+/// The names of the properties that an event comes to rise, so that none is there twice.
+pub fn properties_are_sorted()
+    ensures { (rules : List Rule) (entries : List Entry) (event : EventValue) → NamesRise (outcome rules entries event).env }
+{}

@@ -1,0 +1,17 @@
+//! Laws of events: of blocks and devices, of what a rule changes, and of how much an answer weighs.
+//!
+//! A law is the contract of a function with an empty body. Nothing stands on this crate.
+#![tactic(auto)]
+
+pub mod acts;
+pub mod assignments;
+pub mod blocks;
+pub mod builtins;
+pub mod devices;
+pub mod events;
+pub mod lengths;
+pub mod matching;
+pub mod rendering;
+pub mod safe_texts;
+pub mod sketches;
+pub mod weight;

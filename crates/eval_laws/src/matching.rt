@@ -1,0 +1,59 @@
+//! What holds of matches, whatever the rules are. Each function here is empty: its contract is the law.
+ghost use Rattle.std.specs.Prelude.{◌≡◌, ◌↔◌, ℕ, List, Some, None, true, false, not};
+ghost use Rattle.std.specs.List.{list_any};
+ghost use Rattle.text_tables.specs.Texts.{Text};
+ghost use Rattle.text_tables.specs.Pairs.{value_of};
+ghost use Rattle.text_core.specs.Choices.{choice_fits};
+ghost use Rattle.text_core.specs.declared.item.Item.{Item};
+ghost use Rattle.device_core.specs.Values.{DeviceValue};
+ghost use Rattle.rule_types.specs.declared.roles.MatchOperator.TheVariants.{NotEqual};
+ghost use Rattle.rule_types.specs.declared.roles.PlainKey.{PlainKey};
+ghost use Rattle.rule_types.specs.declared.roles.PlainKey.TheVariants as plain;
+ghost use Rattle.rule_types.specs.declared.roles.UpKey.{UpKey};
+ghost use Rattle.rule_types.specs.declared.roles.UpKey.TheVariants as up;
+ghost use Rattle.rule_types.specs.declared.part.Comparison.{Comparison};
+ghost use Rattle.rule_types.specs.declared.part.UpMatch.{UpMatch};
+ghost use Rattle.eval_state.specs.Chains.{device_at};
+ghost use Rattle.eval_state.specs.declared.state.State.{State};
+ghost use Rattle.eval_laws.specs.Comparing.{ComparesAsItStands, ComparesWithoutItsEnd};
+ghost use Rattle.eval_matching.specs.Holding.{agrees, holds, members, one};
+ghost use Rattle.eval_matching.specs.Laws.{IsFirstToMeet, NoneMeets};
+ghost use Rattle.eval_matching.specs.Subjects.{found_place, is_known, plain_subject, up_subject};
+
+/// A search finds one device that meets all of the matches, and of several the nearest.
+pub fn one_device_meets_all_matches()
+    ensures { (parts : List UpMatch) (state : State) (place : ℕ) → found_place parts state ≡ Some place → IsFirstToMeet parts state place }
+{}
+
+/// A search finds nothing exactly where no device of the chain meets all of the matches.
+pub fn nothing_is_found_where_no_device_meets_all_matches()
+    ensures { (parts : List UpMatch) (state : State) → (found_place parts state ≡ None) ↔ NoneMeets parts state }
+{}
+
+/// `!=` of a list holds exactly where no member fits.
+pub fn a_list_differs_where_no_member_fits()
+    ensures { (texts : List Text) (choice : List (List Item)) → holds (members texts) (record { operator = NotEqual; choice = choice }) ≡ not (list_any (choice_fits choice) texts) }
+{}
+
+/// `==` of any key but ATTR and ATTRS holds exactly where the choice fits a text that the key looks at,
+/// as that stands.
+pub fn texts_are_compared_as_they_stand()
+    ensures event { (key : PlainKey) (state : State) → ((name : Text) → ¬ (key ≡ plain.Attr name)) → ComparesAsItStands (plain_subject key state) }
+    ensures device { (key : UpKey) (state : State) (place : ℕ) → ((name : Text) → ¬ (key ≡ up.Attrs name)) → ComparesAsItStands (up_subject key state place) }
+    ensures program { (state : State) → ComparesAsItStands (one state.result) }
+{}
+
+/// CONST looks at the constant of its name as it stands, and where the event gives none, `==` fails and
+/// `!=` holds.
+pub fn constants_are_compared_as_they_stand()
+    ensures given { (name text : Text) (state : State) (wanted : Comparison) → is_known name ≡ true → value_of state.event.constants name ≡ Some text → holds (plain_subject (plain.Const name) state) wanted ≡ agrees wanted.operator (choice_fits wanted.choice text) }
+    ensures absent { (name : Text) (state : State) (wanted : Comparison) → is_known name ≡ true → value_of state.event.constants name ≡ None → holds (plain_subject (plain.Const name) state) wanted ≡ agrees wanted.operator false }
+{}
+
+/// `==` of ATTR and ATTRS holds exactly where the choice fits the attribute, if the last pattern of the
+/// choice ends in whitespace, and else exactly where it fits the attribute without the whitespace at its
+/// end.
+pub fn attributes_are_compared_without_their_end()
+    ensures event { (name text : Text) (state : State) → value_of state.event.device.attrs name ≡ Some text → ComparesWithoutItsEnd (plain_subject (plain.Attr name) state) text }
+    ensures device { (name text : Text) (state : State) (place : ℕ) (device : DeviceValue) → device_at state.event place ≡ Some device → value_of device.attrs name ≡ Some text → ComparesWithoutItsEnd (up_subject (up.Attrs name) state place) text }
+{}

@@ -1,0 +1,28 @@
+//! The bounds on what an answer weighs and on its notes, whatever the rules, the event and the database
+//! are.
+//!
+//! Each function here is empty: its contract is the law.
+ghost use Rattle.std.specs.Prelude.{◌≡◌, ◌≤◌, List, length, Ok};
+ghost use Rattle.std.specs.List.{sum_by};
+ghost use Rattle.text_tables.specs.Texts.{Text};
+ghost use Rattle.hwdb_lookup.specs.declared.entry.Entry.{Entry};
+ghost use Rattle.rule_types.specs.Rules.{Rule};
+ghost use Rattle.device_core.specs.Faults.{block_gives};
+ghost use Rattle.device_core.specs.Values.{EventValue};
+ghost use Rattle.eval_rules.specs.Outcomes.{outcome};
+ghost use Rattle.eval_laws.specs.Allowances.{most_weight};
+ghost use Rattle.eval_laws.specs.Counts.{part_count};
+ghost use Rattle.eval_laws.specs.Weights.{outcome_weight};
+
+/// The texts that an event comes to, each with one more, are together at most four times its block and
+/// 128, and for each part of a rule 32,896, the length of its attribute and that of its file's name, and
+/// for each IMPORT besides twice the block and all keys and values of the database, each with one more.
+pub fn an_answer_weighs_no_more_than_is_allowed()
+    ensures { (rules : List Rule) (entries : List Entry) (block : Text) (event : EventValue) → block_gives block ≡ Ok event → outcome_weight (outcome rules entries event) ≤ most_weight (length block) entries rules }
+{}
+
+/// An event comes to no more notes than its rules have parts: each part is met at most once, and leaves
+/// at most one note.
+pub fn each_part_leaves_at_most_one_note()
+    ensures { (rules : List Rule) (entries : List Entry) (event : EventValue) → length (outcome rules entries event).notes ≤ sum_by part_count rules }
+{}

@@ -1,5 +1,0 @@
-mod Marking
-mod Staying
-mod Ruling
-mod Coursing
-mod Skipping

@@ -1,4 +1,0 @@
-pub mod Checks
-pub mod Courses
-pub mod Layout
-pub mod Marks

@@ -1,0 +1,13 @@
+-- A text as one word.
+use Rattle.std.specs.Prelude.{ℕ, not, List, filter}
+use Rattle.std.specs.List.{join_with_byte, slice_split}
+use Rattle.text_bytes.specs.Names.{underscore, is_whitespace}
+use Rattle.text_bytes.specs.Texts.{is_empty}
+
+-- the words of a text: its longest runs of bytes that are no whitespace
+abbrev pub words : List ℕ → List (List ℕ)
+words text = filter (λ word. not (is_empty word)) (slice_split is_whitespace text)
+
+-- the words of a text with `_` between each two, and no whitespace at its ends
+unfoldable pub underscored : List ℕ → List ℕ
+underscored text = join_with_byte underscore (words text)

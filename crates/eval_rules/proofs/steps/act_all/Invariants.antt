@@ -1,0 +1,7 @@
+use Rattle.std.proofs.Common.{◌≡◌, drop}
+use Rattle.eval_acts.specs.Acts.{act_step}
+use Rattle.eval_rules.specs.Steps.{walk}
+use Rattle.eval_rules.proofs.steps.act_all.Given as goal
+
+abbrev pub invariant-loop-part : goal.invariant-loop-part
+invariant-loop-part g l = walk (act_step (g.L.Lookup.entries l.lookup) l.rule) (drop l.part-index l.parts) l.scene ≡ walk (act_step (g.L.Lookup.entries l.fn.lookup) l.fn.rule) l.fn.parts l.fn.scene

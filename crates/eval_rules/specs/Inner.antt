@@ -1,0 +1,52 @@
+-- Serves inner proofs only: what functions below the public ones leave.
+use Rattle.std.specs.Prelude.{◌≡◌, ℕ, ◌+◌, List, ◌++◌, Option, None, drop}
+use Rattle.std.specs.List.{prefix_len}
+use Rattle.std.specs.List.Sorted.{IsStrictlySortedBy}
+use Rattle.text_bytes.specs.Insertion.{text_order}
+use Rattle.text_tables.specs.Texts.{Text, AreOnce, is_among}
+use Rattle.text_tables.specs.Pairs.{Pair, named, names}
+use Rattle.eval_state.specs.declared.notes.Note.{Note}
+use Rattle.eval_state.specs.declared.scene.Scene.{Scene}
+use Rattle.rule_types.specs.Rules.{Rule}
+use Rattle.eval_rules.specs.Steps.{with_selected}
+use Rattle.eval_rules.specs.Jumps.{is_passed}
+use Rattle.eval_rules.specs.declared.outcome.Command.{Command}
+use Rattle.eval_rules.specs.declared.outcome.Outcome.{Outcome}
+
+-- a scene in which no device is selected
+abbrev pub unselected : Scene → Scene
+unselected s = record s { state = with_selected None s.state }
+
+-- a scene with further notes
+abbrev pub with_notes : List Note → Scene → Scene
+with_notes notes s = record s { notes = s.notes ++ notes }
+
+-- an outcome that is made of a scene, of properties and of commands
+abbrev pub made_of : Scene → List Pair → List Command → Outcome
+made_of s env runs = record {
+  name = s.state.name;
+  owner = s.owner;
+  group = s.group;
+  mode = s.mode;
+  priority = s.priority;
+  watch = s.watch;
+  persist = s.persist;
+  labels = s.labels;
+  links = s.state.links;
+  tags = s.state.tags;
+  env = env;
+  attrs = s.attrs;
+  sysctls = s.sysctls;
+  runs = runs;
+  notes = s.notes;
+}
+
+-- the place of the next rule that is not passed over while a label is sought, or none is, from a place on
+abbrev pub landing : Option Text → List Rule → ℕ → ℕ
+landing sought rules from = from + prefix_len (is_passed sought) (drop from rules)
+
+-- the names of properties, which have each once, in rising order
+pub record AreSortedNames (pairs : List Pair) (found : List Text) : Type 0 where
+  pub once : AreOnce (names pairs)
+  pub rises : IsStrictlySortedBy text_order found
+  pub same : (name : Text) → is_among found name ≡ named pairs name

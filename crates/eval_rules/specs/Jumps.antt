@@ -1,0 +1,29 @@
+-- Rules one behind another, those of all files as one list, with their jumps.
+use Rattle.std.specs.Prelude.{Bool, false, not, if◌then◌else◌, List, [], ◌∷◌, Option, Some, None}
+use Rattle.text_tables.specs.Texts.{Text, same_text}
+use Rattle.hwdb_lookup.specs.declared.entry.Entry.{Entry}
+use Rattle.rule_types.specs.Rules.{Rule}
+use Rattle.eval_state.specs.declared.scene.Scene.{Scene}
+use Rattle.eval_rules.specs.Steps.{apply}
+
+-- whether a label has a name
+abbrev pub is_label : Text → Option Text → Bool
+is_label name None = false
+is_label name (Some label) = same_text label name
+
+-- whether a rule is passed over: a label is sought, and it is not the rule's
+abbrev pub is_passed : Option Text → Rule → Bool
+is_passed None r = false
+is_passed (Some name) r = not (is_label name r.label)
+
+-- the label that is sought behind a rule: that of its GOTO, where the rule's end was reached
+abbrev pub sought_after : Bool → Rule → Option Text
+sought_after reached r = if reached then r.goto else None
+
+-- rules one behind another, perhaps while a label is sought: the first that has it is evaluated, and those above it are
+-- passed over
+unfoldable pub run : List Entry → Option Text → List Rule → Scene → Scene
+run entries sought [] s = s
+run entries sought (r ∷ rs) s =
+    if is_passed sought r then run entries sought rs s
+    else run entries (sought_after (apply entries r s).1 r) rs (apply entries r s).0

@@ -1,0 +1,5 @@
+pub mod Inner
+pub mod Jumps
+pub mod Outcomes
+pub mod Laws
+pub mod Steps

@@ -1,0 +1,78 @@
+-- What an event comes to.
+use Rattle.std.specs.Prelude.{List, [], ◌∷◌, ◌++◌, None, option_map, flat_map, fold}
+use Rattle.text_bytes.specs.Insertion.{put_by}
+use Rattle.text_tables.specs.Pairs.{Pair}
+use Rattle.hwdb_lookup.specs.declared.entry.Entry.{Entry}
+use Rattle.rule_types.specs.Names.{run_name}
+use Rattle.rule_types.specs.declared.keys.Key.TheVariants as key
+use Rattle.rule_types.specs.Rules.{Rule}
+use Rattle.device_core.specs.Values.{EventValue}
+use Rattle.eval_state.specs.declared.state.State.{State}
+use Rattle.eval_rendering.specs.Rendering.{render}
+use Rattle.eval_rendering.specs.declared.rendered.Mode.TheVariants.{Plain}
+use Rattle.eval_rendering.specs.declared.rendered.Rendered.{Rendered}
+use Rattle.eval_rendering.specs.declared.rendered.Rendered.TheVariants as rendered
+use Rattle.eval_state.specs.Notes.{note_about, word_of_key}
+use Rattle.eval_state.specs.Runs.{RunValue, run_kind}
+use Rattle.eval_state.specs.Scenes.{start}
+use Rattle.eval_state.specs.declared.note_kind.NoteKind.TheVariants.{TextTooLong}
+use Rattle.eval_state.specs.declared.notes.Note.{Note}
+use Rattle.eval_state.specs.declared.scene.Scene.{Scene}
+use Rattle.eval_rules.specs.Steps.{with_selected}
+use Rattle.eval_rules.specs.Jumps.{run}
+use Rattle.eval_rules.specs.declared.outcome.Command.{Command}
+use Rattle.eval_rules.specs.declared.outcome.Outcome.{Outcome}
+
+-- a RUN as it is rendered in the end: over what is then known, but with the device that its rule had selected
+abbrev pub run_text : State → RunValue → Rendered
+run_text state kept = render kept.template (with_selected kept.selected state) Plain
+
+-- a RUN as a command, once it is rendered; one that is too long is left out
+abbrev pub command : RunValue → Rendered → List Command
+command kept (rendered.Text text) = record { kind = run_kind kept.braces; text = text } ∷ []
+command kept rendered.TooLong = []
+
+-- the note of a RUN that is too long, with its braces where it has any
+abbrev pub late_note : RunValue → Rendered → List Note
+late_note kept (rendered.Text text) = []
+late_note kept rendered.TooLong = note_about kept.rule TextTooLong (word_of_key key.Run (option_map run_name kept.braces)) ∷ []
+
+-- the commands of what is kept, in its order
+abbrev pub commands : State → List RunValue → List Command
+commands state runs = flat_map (λ kept. command kept (run_text state kept)) runs
+
+-- the notes about these commands
+abbrev pub late_notes : State → List RunValue → List Note
+late_notes state runs = flat_map (λ kept. late_note kept (run_text state kept)) runs
+
+-- a property in its place among others that are sorted by name, byte by byte
+abbrev pub put : List Pair → Pair → List Pair
+put pairs pair = put_by (λ p. p.0) (λ earlier later. later) pairs pair
+
+-- properties, sorted by name
+abbrev pub by_name : List Pair → List Pair
+by_name pairs = fold put [] pairs
+
+-- what a scene comes to when no rule is left
+unfoldable pub outcome_of : Scene → Outcome
+outcome_of s = record {
+  name = s.state.name;
+  owner = s.owner;
+  group = s.group;
+  mode = s.mode;
+  priority = s.priority;
+  watch = s.watch;
+  persist = s.persist;
+  labels = s.labels;
+  links = s.state.links;
+  tags = s.state.tags;
+  env = by_name s.state.env;
+  attrs = s.attrs;
+  sysctls = s.sysctls;
+  runs = commands s.state s.runs;
+  notes = s.notes ++ late_notes s.state s.runs;
+}
+
+-- what an event comes to: all rules run over it from its start, and in the end what they keep is rendered
+abbrev pub outcome : List Rule → List Entry → EventValue → Outcome
+outcome rules entries event = outcome_of (run entries None rules (start event))

@@ -1,0 +1,60 @@
+-- One rule, step by step.
+use Rattle.std.specs.Prelude.{ℕ, Bool, true, if◌then◌else◌, is_some, List, [], ◌∷◌, Option, fold}
+use Rattle.hwdb_lookup.specs.declared.entry.Entry.{Entry}
+use Rattle.rule_types.specs.declared.part.Comparison.{Comparison}
+use Rattle.rule_types.specs.declared.part.PlainMatch.{PlainMatch}
+use Rattle.rule_types.specs.declared.part.UpMatch.{UpMatch}
+use Rattle.rule_types.specs.Rules.{Rule}
+use Rattle.eval_state.specs.declared.state.State.{State}
+use Rattle.eval_matching.specs.Holding.{holds, one}
+use Rattle.eval_matching.specs.Subjects.{found_place, plain_subject}
+use Rattle.eval_state.specs.declared.scene.Scene.{Scene}
+use Rattle.eval_acts.specs.Acts.{act_step}
+use Rattle.eval_acts.specs.Reaching.{reached}
+use Rattle.eval_assignments.specs.Steps.{set_step}
+
+-- what an event has come to, and whether the rule goes on
+abbrev pub Went : Type 0
+Went = Scene × Bool
+
+-- what a rule does next, where it goes on; where it does not, what was changed until then stays
+abbrev pub onward : (Scene → Went) → Went → Went
+onward next went = if went.1 then next went.0 else went
+
+-- the parts of a rule that are of one step, one behind another
+unfoldable pub walk : {P : Type 0} → (P → Scene → Went) → List P → Scene → Went
+walk step [] s = (s, true)
+walk step (p ∷ ps) s = onward (walk step ps) (step p s)
+
+-- a match of the event: one of SYSCTL leaves its note, and the rule goes on where the match holds
+unfoldable pub plain_step : Rule → PlainMatch → Scene → Went
+plain_step r part s = (reached r part.key s, holds (plain_subject part.key s.state) part.wanted)
+
+-- a match of the result of the last program
+unfoldable pub result_step : Comparison → Scene → Went
+result_step part s = (s, holds (one s.state.result) part)
+
+-- what is known of an event, with the device at a place selected, or none
+abbrev pub with_selected : Option ℕ → State → State
+with_selected place state = record state { selected = place }
+
+-- the search for one device: the nearest that meets all of the matches is selected, or none where none does; without a
+-- match nothing is searched, and the selection stays
+abbrev pub search : List UpMatch → Scene → Went
+search [] s = (s, true)
+search (part ∷ parts) s =
+    (record s { state = with_selected (found_place (part ∷ parts) s.state) s.state }, is_some (found_place (part ∷ parts) s.state))
+
+-- the assignments, none of which stops a rule
+abbrev pub set_all : Rule → Scene → Went
+set_all r s = (fold (set_step r) s r.sets, true)
+
+-- a rule in its five steps: the matches of the event, the search for one device, what acts, the matches of the result,
+-- the assignments; the second part of what it comes to says whether its end was reached
+unfoldable pub apply : List Entry → Rule → Scene → Went
+apply entries r s =
+    onward (set_all r)
+    (onward (walk result_step r.results)
+    (onward (walk (act_step entries r) r.acts)
+    (onward (search r.up)
+    (walk (plain_step r) r.plain s))))

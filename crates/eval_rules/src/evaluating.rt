@@ -1,0 +1,182 @@
+//! An event, from its start to its outcome.
+ghost use Rattle.std.specs.Prelude.{◌≡◌, ◌++◌, OnOk, IfOk, option_map};
+ghost use Rattle.rule_types.specs.Names.{run_name};
+ghost use Rattle.eval_rules.specs.Steps.{with_selected};
+ghost use Rattle.eval_rules.specs.Outcomes.{command, commands, late_note, late_notes, outcome, outcome_of, run_text};
+ghost use Rattle.eval_rules.specs.Inner.{made_of, unselected, with_notes};
+
+use crate::outcome::{Command, Commands, Outcome};
+use crate::rules::run;
+use crate::sorting::by_name;
+use device_core::Event;
+use eval_rendering::{Mode, Rendered, render};
+use eval_state::{Run, Runs, Scene, State};
+use hwdb_lookup::Lookup;
+use rule_core::RuleSet;
+use rule_types::Key;
+use std::alloc::{AllocError, Global};
+use std::mem;
+use text_tables::OwnedPairs;
+
+/// Renders a RUN with the device that its rule had selected, which is selected from then on.
+fn run_text(alloc: Global, kept: &Run<'_>, state: &mut State<'_>) -> Result<Rendered, AllocError>
+    ensures text { IfOk result (λ text. text ≡ run_text state.old kept.now) }
+    ensures selects { OnOk result (state.new ≡ with_selected kept.now.selected state.old) }
+{
+    state.selected = kept.selected();
+    render(alloc, kept.template(), state, Mode::Plain)
+}
+
+/// What stands in the braces of a RUN, if it has any.
+fn braces(kept: &Run<'_>) -> Option<&'static [u8]>
+    ensures { option_map (λ text. text.now) result ≡ option_map run_name kept.now.braces }
+{
+    match kept.braces() {
+        Some(kind) => Some(kind.name()),
+        None => None,
+    }
+}
+
+/// Takes in a RUN that was rendered: as a command, or with a note where it is too long.
+fn take_run(
+    alloc: Global,
+    kept: &Run<'_>,
+    rendered: Rendered,
+    commands: &mut Commands,
+    scene: &mut Scene<'_>,
+) -> Result<(), AllocError>
+    ensures commands { OnOk result (commands.new ≡ commands.old ++ command kept.now rendered) }
+    ensures scene { OnOk result (scene.new ≡ with_notes (late_note kept.now rendered) scene.old) }
+{
+    match rendered {
+        Rendered::Text(text) => commands.push(Command {
+            kind: kept.kind(),
+            text,
+        }),
+        Rendered::TooLong => scene.note_too_long(alloc, kept.rule(), Key::Run, braces(kept)),
+    }
+}
+
+/// Renders what is to be run, one behind another.
+fn render_runs(
+    alloc: Global,
+    runs: &[Run<'_>],
+    scene: &mut Scene<'_>,
+) -> Result<Commands, AllocError>
+    ensures commands { IfOk result (λ done. done ≡ commands scene.old.state runs.now) }
+    ensures scene { OnOk result (unselected scene.new ≡ with_notes (late_notes scene.old.state runs.now) (unselected scene.old)) }
+{
+    let mut commands = Commands::new(alloc);
+    for kept in runs {
+        let rendered = run_text(alloc, kept, &mut scene.state)?;
+        take_run(alloc, kept, rendered, &mut commands, scene)?;
+    }
+    Ok(commands)
+}
+
+/// What is to be run, rendered, and the properties, sorted, where no rule is left.
+fn rendered(alloc: Global, scene: &mut Scene<'_>) -> Result<(Commands, OwnedPairs), AllocError>
+    ensures { IfOk result (λ done. made_of scene.new done.1 done.0 ≡ outcome_of scene.old) }
+{
+    let runs = mem::replace(&mut scene.runs, Runs::new(alloc));
+    let commands = render_runs(alloc, runs.as_slice(), scene)?;
+    let env = by_name(alloc, &scene.state.env)?;
+    Ok((commands, env))
+}
+
+/// The outcome that is made of a scene, of commands and of properties.
+fn outcome_with(scene: Scene<'_>, commands: Commands, env: OwnedPairs) -> Outcome
+    ensures { result ≡ made_of scene.entry env commands }
+{
+    let Scene {
+        state,
+        owner,
+        group,
+        mode,
+        priority,
+        watch,
+        persist,
+        labels,
+        attrs,
+        sysctls,
+        runs: _,
+        notes,
+        finals: _,
+    } = scene;
+    let State {
+        name,
+        links,
+        tags,
+        event: _,
+        selected: _,
+        result: _,
+        env: _,
+    } = state;
+    Outcome {
+        name,
+        owner,
+        group,
+        mode,
+        priority,
+        watch,
+        persist,
+        labels,
+        links,
+        tags,
+        env,
+        attrs,
+        sysctls,
+        runs: commands,
+        notes,
+    }
+}
+
+/// What a scene comes to when no rule is left: what is to be run is rendered, and properties are sorted.
+/// The error comes where memory is refused.
+pub fn finish(alloc: Global, mut scene: Scene<'_>) -> Result<Outcome, AllocError>
+    ensures { IfOk result (λ outcome. outcome ≡ outcome_of scene.entry) }
+{
+    match rendered(alloc, &mut scene) {
+        Ok((commands, env)) => Ok(outcome_with(scene, commands, env)),
+        Err(refused) => {
+            drop(scene);
+            Err(refused)
+        }
+    }
+}
+
+/// What an event comes to, where rules and event are lent for one time.
+fn evaluate<'a, L: Lookup>(
+    alloc: Global,
+    rules: &'a RuleSet,
+    event: &'a Event<'_>,
+    lookup: &L,
+) -> Result<Outcome, AllocError>
+    ensures { IfOk result (λ answer. answer ≡ outcome rules.now.rules (L.entries lookup.now) event.now) }
+{
+    let mut scene = Scene::new(alloc, event)?;
+    match run(alloc, rules.rules(), lookup, &mut scene) {
+        Ok(()) => finish(alloc, scene),
+        Err(refused) => {
+            drop(scene);
+            Err(refused)
+        }
+    }
+}
+
+/// What an event comes to by the rules as they are read, as udev(7) has it: each rule in turn over what
+/// the rules before it left, jumps followed, the database asked where a rule imports from it; then each
+/// RUN rendered with what is known in the end. Programs, builtins other than `hwdb` and files are not
+/// run or read, and leave notes.
+///
+/// The error comes where memory is refused.
+pub fn evaluate_plain<L: Lookup>(
+    alloc: Global,
+    rules: &RuleSet,
+    event: &Event<'_>,
+    lookup: &L,
+) -> Result<Outcome, AllocError>
+    ensures { IfOk result (λ answer. answer ≡ outcome rules.now.rules (L.entries lookup.now) event.now) }
+{
+    evaluate(alloc, rules, event, lookup)
+}

@@ -1,0 +1,17 @@
+//! All rules over one event, as they were read.
+//!
+//! A rule is five steps, each of them parts one behind another that may stop it; the rules of all files are one list, and a
+//! jump passes rules over until one has its label. Both are told as folds over what an event has come to, so that what
+//! holds of each step holds of all rules. What is to be run is rendered when no rule is left, and only then is the outcome
+//! made.
+#![tactic(auto)]
+
+mod evaluating;
+mod outcome;
+mod rules;
+mod sorting;
+mod steps;
+
+pub use evaluating::{evaluate_plain, finish};
+pub use outcome::{Command, Commands, Outcome};
+pub use steps::apply;

@@ -1,0 +1,96 @@
+//! What an event comes to.
+ghost use Rattle.std.specs.Prelude.{◌≡◌, ◌++◌, ◌∷◌, [], OnOk, OnErr};
+
+use eval_state::Notes;
+use rule_types::RunType;
+use std::alloc::{AllocError, Global};
+use std::marker::Model;
+use text_bytes::Bytes;
+use text_tables::{OwnedPairs, OwnedTexts};
+
+/// A command that udev would run when all rules are done.
+#[derive(Debug, Drop)]
+pub struct Command {
+    /// Whether it is a program or a builtin.
+    pub kind: RunType,
+    /// The command, its substitutions made.
+    pub text: Bytes,
+}
+
+/// Commands in the order in which they are run.
+#[derive(Debug, Drop)]
+pub struct Commands {
+    held: Vec<Command>,
+}
+
+impl Model for Commands {
+    ghost use Rattle.std.specs.Prelude.{List};
+    ghost use Rattle.eval_rules.specs.declared.outcome.Command.{Command};
+
+    ghost Value = { List Command };
+
+    ghost view = { λ c. c.held.items };
+}
+
+impl Commands {
+    /// No commands.
+    pub(crate) fn new(alloc: Global) -> Commands
+        ensures { result ≡ [] }
+    {
+        Commands {
+            held: Vec::new(alloc),
+        }
+    }
+
+    /// Adds a command at the end. Where memory is refused, the commands stay as they are.
+    pub(crate) fn push(&mut self, command: Command) -> Result<(), AllocError>
+        ensures commands { OnOk result (self.new ≡ self.old ++ command ∷ []) }
+        ensures refused { OnErr result (self.new ≡ self.old) }
+    {
+        self.held.push(command)?;
+        Ok(())
+    }
+
+    /// Lends the commands, in their order.
+    pub fn as_slice(&self) -> &[Command]
+        ensures { result.now ≡ self.now }
+    {
+        &self.held
+    }
+}
+
+/// What an event comes to when all rules have run over it: what udev(7) would do with its device, and
+/// what a dry run did not do.
+#[derive(Drop)]
+pub struct Outcome {
+    /// The name of a network device, where a rule assigned one.
+    pub name: Option<Bytes>,
+    /// The owner of the device's node, as it was written.
+    pub owner: Option<Bytes>,
+    /// The group of the device's node, as it was written.
+    pub group: Option<Bytes>,
+    /// The mode of the device's node, as it was written.
+    pub mode: Option<Bytes>,
+    /// How links of this device stand against those of others (`link_priority`), where it was assigned.
+    pub priority: Option<i32>,
+    /// Whether the device's node is watched (`watch`, `nowatch`), where it was assigned.
+    pub watch: Option<bool>,
+    /// Whether what is known of the device stays in udev's database (`db_persist`).
+    pub persist: bool,
+    /// The labels of security modules, by module, in the order in which these were named first.
+    pub labels: OwnedPairs,
+    /// The links to the device's node.
+    pub links: OwnedTexts,
+    /// The tags.
+    pub tags: OwnedTexts,
+    /// The properties, sorted by name, byte by byte.
+    pub env: OwnedPairs,
+    /// The attributes that would be written, in the order in which they were named first.
+    pub attrs: OwnedPairs,
+    /// The kernel parameters that would be written, in the order in which they were named first.
+    pub sysctls: OwnedPairs,
+    /// The commands that would be run.
+    pub runs: Commands,
+    /// What a dry run did not do, in the order of evaluation; the notes about commands come last.
+    pub notes: Notes,
+}

@@ -1,0 +1,74 @@
+//! Rules one behind another, with their jumps.
+//!
+//! The rules of all files are one list: a jump looks for its label below its rule, and the next rule
+//! that has it stands in the same file. Most rules end without a jump, and then the next one follows.
+ghost use Rattle.std.specs.Prelude.{◌≡◌, ◌≤◌, None, OnOk, length, option_map};
+ghost use Rattle.std.specs.List.{prefix_len};
+ghost use Rattle.eval_rules.specs.Jumps.{is_passed, run, sought_after};
+ghost use Rattle.eval_rules.specs.Inner.{landing};
+
+use crate::steps::apply;
+use eval_state::Scene;
+use hwdb_lookup::Lookup;
+use rule_types::Rule;
+use std::alloc::{AllocError, Global};
+
+/// Whether a rule is passed over while a label is sought.
+fn is_passed(sought: Option<&[u8]>, rule: &Rule) -> bool
+    ensures { result ≡ is_passed (option_map (λ t. t.now) sought.entry) rule.now }
+{
+    match (sought, rule.label()) {
+        (None, _) => false,
+        (Some(_), None) => true,
+        (Some(name), Some(label)) => label != name,
+    }
+}
+
+/// The label that is sought behind a rule.
+fn sought_after(reached: bool, rule: &Rule) -> Option<&[u8]>
+    ensures { option_map (λ t. t.now) result ≡ sought_after reached rule.now }
+{
+    if reached { rule.goto() } else { None }
+}
+
+/// How many rules from the front on are passed over.
+fn passed_len(sought: Option<&[u8]>, rules: &[Rule]) -> usize
+    ensures value { result ≡ prefix_len (is_passed (option_map (λ t. t.now) sought.entry)) rules.now }
+    ensures within { result ≤ length rules.now }
+{
+    rules
+        .iter()
+        .take_while(|rule| is_passed(sought, rule))
+        .count()
+}
+
+/// The place of the next rule that is not passed over, from a place on.
+fn landing(sought: Option<&[u8]>, rules: &[Rule], from: usize) -> usize
+    requires { from ≤ length rules.now }
+    ensures place { result ≡ landing (option_map (λ t. t.now) sought.entry) rules.now from }
+    ensures behind { from ≤ result }
+{
+    let (_, behind) = rules.split_at(from);
+    from + passed_len(sought, behind)
+}
+
+/// Evaluates rules, one behind another. Behind a rule whose end was reached and that jumps, those are
+/// passed over that stand between it and the next one with the label. The error comes where memory is
+/// refused.
+#[tactic(auto, using(crate::proofs::Running::run_end))]
+pub(crate) fn run<'a, L: Lookup>(
+    alloc: Global,
+    rules: &'a [Rule],
+    lookup: &L,
+    scene: &mut Scene<'a>,
+) -> Result<(), AllocError>
+    ensures { OnOk result (scene.new ≡ run (L.entries lookup.now) None rules.now scene.old) }
+{
+    let mut place = 0;
+    while place < rules.len() {
+        let rule = &rules[place];
+        let reached = apply(alloc, rule, lookup, scene)?;
+        place = landing(sought_after(reached, rule), rules, place + 1);
+    }
+    Ok(())
+}

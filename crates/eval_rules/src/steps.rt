@@ -1,0 +1,158 @@
+//! One rule, step by step.
+//!
+//! Most rules fail at their first match: until one holds that takes memory, nothing is taken.
+ghost use Rattle.std.specs.Prelude.{◌≡◌, OnOk, OnErr, IfOk, fold};
+ghost use Rattle.std.specs.List.{list_all};
+ghost use Rattle.eval_matching.specs.Holding.{holds, one};
+ghost use Rattle.eval_state.specs.Scenes.{IsBlank};
+ghost use Rattle.eval_acts.specs.Acts.{act_step};
+ghost use Rattle.eval_assignments.specs.Steps.{set_step};
+ghost use Rattle.eval_rules.specs.Steps.{apply, plain_step, result_step, search, walk};
+
+use eval_acts::{act_step, reached};
+use eval_assignments::set_step;
+use eval_matching::{found_place, plain_holds, result_holds};
+use eval_state::{Scene, State};
+use hwdb_lookup::Lookup;
+use rule_types::{Act, Assignment, Comparison, PlainMatch, Rule, UpMatch};
+use std::alloc::{AllocError, Global};
+
+/// Reaches a match of the event, and answers whether it holds.
+#[tactic(auto, unfolding(crate::specs::Steps::plain_step))]
+fn plain_step(
+    alloc: Global,
+    rule: &Rule,
+    part: &PlainMatch,
+    scene: &mut Scene<'_>,
+) -> Result<bool, AllocError>
+    ensures { IfOk result (λ on. (scene.new, on) ≡ plain_step rule.now part.now scene.old) }
+{
+    let holds = plain_holds(part, &scene.state);
+    reached(alloc, rule, part, scene)?;
+    Ok(holds)
+}
+
+/// Whether the matches of the event hold, up to the first that does not.
+fn match_event(
+    alloc: Global,
+    rule: &Rule,
+    parts: &[PlainMatch],
+    scene: &mut Scene<'_>,
+) -> Result<bool, AllocError>
+    ensures { IfOk result (λ on. (scene.new, on) ≡ walk (plain_step rule.now) parts.now scene.old) }
+{
+    for part in parts {
+        if !plain_step(alloc, rule, part, scene)? {
+            return Ok(false);
+        }
+    }
+    Ok(true)
+}
+
+/// Selects the nearest device that meets all of the matches, or none, and answers whether one does.
+/// Without a match nothing is searched.
+fn search(parts: &[UpMatch], scene: &mut Scene<'_>) -> bool
+    ensures { (scene.new, result) ≡ search parts.now scene.old }
+{
+    if parts.is_empty() {
+        return true;
+    }
+    let place = found_place(parts, &scene.state);
+    scene.state.selected = place;
+    place.is_some()
+}
+
+/// Acts part by part, up to the first that stops the rule.
+fn act_all<L: Lookup>(
+    alloc: Global,
+    rule: &Rule,
+    parts: &[Act],
+    lookup: &L,
+    scene: &mut Scene<'_>,
+) -> Result<bool, AllocError>
+    ensures { IfOk result (λ on. (scene.new, on) ≡ walk (act_step (L.entries lookup.now) rule.now) parts.now scene.old) }
+{
+    for part in parts {
+        if !act_step(alloc, rule, part, lookup, scene)? {
+            return Ok(false);
+        }
+    }
+    Ok(true)
+}
+
+/// Whether all matches of the result of the last program hold.
+fn results_hold(parts: &[Comparison], state: &State<'_>) -> bool
+    ensures { result ≡ list_all (holds (one state.now.result)) parts.now }
+{
+    parts.iter().all(|part| result_holds(part, state))
+}
+
+/// Goes through the matches of the result, and answers whether they hold.
+#[tactic(auto, using(crate::proofs::Walks::results_hold))]
+fn match_results(parts: &[Comparison], scene: &Scene<'_>) -> bool
+    ensures { (scene.now, result) ≡ walk result_step parts.now scene.now }
+{
+    results_hold(parts, &scene.state)
+}
+
+/// Makes assignments, one behind another.
+fn set_all<'a>(
+    alloc: Global,
+    rule: &'a Rule,
+    parts: &'a [Assignment],
+    scene: &mut Scene<'a>,
+) -> Result<(), AllocError>
+    ensures { OnOk result (scene.new ≡ fold (set_step rule.now) scene.old parts.now) }
+{
+    for part in parts {
+        set_step(alloc, rule, part, scene)?;
+    }
+    Ok(())
+}
+
+/// Goes through a rule's five steps, up to the first that stops it, and answers whether its end was
+/// reached.
+#[tactic(auto, unfolding(crate::specs::Steps::apply))]
+fn take_steps<'a, L: Lookup>(
+    alloc: Global,
+    rule: &'a Rule,
+    lookup: &L,
+    scene: &mut Scene<'a>,
+) -> Result<bool, AllocError>
+    ensures { IfOk result (λ on. (scene.new, on) ≡ apply (L.entries lookup.now) rule.now scene.old) }
+{
+    if !match_event(alloc, rule, rule.plain(), scene)? {
+        return Ok(false);
+    }
+    if !search(rule.up(), scene) {
+        return Ok(false);
+    }
+    if !act_all(alloc, rule, rule.acts(), lookup, scene)? {
+        return Ok(false);
+    }
+    if !match_results(rule.results(), scene) {
+        return Ok(false);
+    }
+    set_all(alloc, rule, rule.sets(), scene)?;
+    Ok(true)
+}
+
+/// Evaluates a rule, and answers whether its end was reached: the matches of the event, the search for
+/// one device, what acts, the matches of the result, the assignments. Where one of them stops the rule,
+/// what was changed until then stays. The error comes where memory is refused; the scene is then
+/// cleared.
+pub fn apply<'a, L: Lookup>(
+    alloc: Global,
+    rule: &'a Rule,
+    lookup: &L,
+    scene: &mut Scene<'a>,
+) -> Result<bool, AllocError>
+    ensures scene { IfOk result (λ on. (scene.new, on) ≡ apply (L.entries lookup.now) rule.now scene.old) }
+    ensures refused { OnErr result (IsBlank scene.new) }
+{
+    let went = take_steps(alloc, rule, lookup, scene);
+    if went.is_err() {
+        scene.clear(alloc);
+    }
+    went
+}

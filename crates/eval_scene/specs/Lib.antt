@@ -1,4 +1,0 @@
-pub mod Finals
-pub mod Notes
-pub mod Runs
-pub mod Scenes

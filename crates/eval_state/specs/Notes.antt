@@ -1,0 +1,31 @@
+-- Notes: what rules asked for that a dry run does not do.
+use Rattle.std.specs.Prelude.{codes, [], ◌∷◌, ◌++◌, Option, Some, None}
+use Rattle.text_bytes.specs.Names.{open_brace, close_brace}
+use Rattle.text_tables.specs.Texts.{Text}
+use Rattle.text_bytes.specs.Messages.{word_of}
+use Rattle.rule_types.specs.Names.{key_name}
+use Rattle.rule_types.specs.declared.keys.Key.{Key}
+use Rattle.rule_types.specs.Rules.{Rule}
+use Rattle.eval_state.specs.declared.note_kind.NoteKind.{NoteKind}
+use Rattle.eval_state.specs.declared.note_kind.NoteKind.TheVariants.{ImportNotRun, BuiltinNotRun, BadHwdbArguments, NoAnswer, TestNotMade, SysctlNotRead, TextTooLong, NameIgnored}
+use Rattle.eval_state.specs.declared.notes.Note.{Note}
+
+-- the text of each kind of note
+abbrev pub text_of : NoteKind → Text
+text_of ImportNotRun = codes "import not run"
+text_of BuiltinNotRun = codes "builtin not run"
+text_of BadHwdbArguments = codes "bad hwdb arguments"
+text_of NoAnswer = codes "no answer for program"
+text_of TestNotMade = codes "test not made"
+text_of SysctlNotRead = codes "sysctl not read"
+text_of TextTooLong = codes "text too long"
+text_of NameIgnored = codes "name ignored"
+
+-- the note that something of a rule was not done: where the rule stands, and the first 32 bytes of a text
+abbrev pub note_about : Rule → NoteKind → Text → Note
+note_about r kind text = record { file = r.file; line = r.line; kind = kind; word = word_of text }
+
+-- a key as a note names it: with its attribute in braces, if it has one
+abbrev pub word_of_key : Key → Option Text → Text
+word_of_key key None = key_name key
+word_of_key key (Some attribute) = key_name key ++ open_brace ∷ (attribute ++ close_brace ∷ [])

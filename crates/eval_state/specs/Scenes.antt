@@ -1,0 +1,45 @@
+-- What an event has come to: where nothing is left, before any rule has run, with a note more, and with other properties.
+use Rattle.std.specs.Prelude.{◌≡◌, false, List, [], ◌∷◌, ◌++◌, None}
+use Rattle.text_tables.specs.Texts.{Text}
+use Rattle.text_tables.specs.Pairs.{Pair}
+use Rattle.device_core.specs.Values.{EventValue}
+use Rattle.rule_types.specs.Rules.{Rule}
+use Rattle.eval_state.specs.Start as states
+use Rattle.eval_state.specs.Finals.{no_finals}
+use Rattle.eval_state.specs.Notes.{note_about}
+use Rattle.eval_state.specs.declared.note_kind.NoteKind.{NoteKind}
+use Rattle.eval_state.specs.declared.scene.Scene.{Scene}
+
+-- a scene in which nothing is left but the event itself
+abbrev pub blank : EventValue → Scene
+blank event = record {
+  state = states.blank event;
+  owner = None;
+  group = None;
+  mode = None;
+  priority = None;
+  watch = None;
+  persist = false;
+  labels = [];
+  attrs = [];
+  sysctls = [];
+  runs = [];
+  notes = [];
+  finals = no_finals;
+}
+
+-- nothing is left of a scene but its event
+abbrev pub IsBlank : Scene → Type 0
+IsBlank s = s ≡ blank s.state.event
+
+-- what an event has come to before any rule has run: its state as it begins, and nothing collected
+abbrev pub start : EventValue → Scene
+start event = record (blank event) { state = states.start event }
+
+-- one note more: that something of a rule was not done, told with a text
+abbrev pub noted : Rule → NoteKind → Text → Scene → Scene
+noted r kind text s = record s { notes = s.notes ++ note_about r kind text ∷ [] }
+
+-- a scene with other properties
+abbrev pub with_env : List Pair → Scene → Scene
+with_env env s = record s { state = record s.state { env = env } }

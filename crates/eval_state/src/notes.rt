@@ -1,0 +1,104 @@
+//! Notes: what rules asked for that a dry run does not do.
+//!
+//! A note is kept as what it says and not as text: texts are made once, where they are written.
+ghost use Rattle.std.specs.Prelude.{◌≡◌, ◌++◌, ◌∷◌, [], OnOk, OnErr, IfOk, option_map};
+ghost use Rattle.eval_state.specs.Notes.{note_about, word_of_key};
+
+use crate::note_kind::NoteKind;
+use rule_types::{Key, Rule};
+use std::alloc::{AllocError, Global};
+use std::marker::Model;
+use text_bytes::{Bytes, word_of};
+
+/// A note about a rule.
+#[derive(Debug, Drop)]
+pub struct Note {
+    /// The name of the rule's file.
+    pub file: Bytes,
+    /// The number of the rule's line, as the rule has it.
+    pub line: u32,
+    /// What was not done.
+    pub kind: NoteKind,
+    /// The first 32 bytes of the text that it is about, before they are escaped.
+    pub word: Bytes,
+}
+
+impl Note {
+    /// The note that something of a rule was not done, told with a text. The error comes where memory
+    /// is refused.
+    pub fn about(
+        alloc: Global,
+        rule: &Rule,
+        kind: NoteKind,
+        text: &[u8],
+    ) -> Result<Note, AllocError>
+        ensures { IfOk result (λ note. note ≡ note_about rule.now kind text.now) }
+    {
+        Ok(Note {
+            file: Bytes::copy_of(alloc, rule.file())?,
+            line: rule.line(),
+            kind,
+            word: Bytes::copy_of(alloc, word_of(text))?,
+        })
+    }
+}
+
+/// Notes in the order in which they were left.
+#[derive(Debug, Drop)]
+pub struct Notes {
+    held: Vec<Note>,
+}
+
+impl Model for Notes {
+    ghost use Rattle.std.specs.Prelude.{List};
+    ghost use Rattle.eval_state.specs.declared.notes.Note.{Note};
+
+    ghost Value = { List Note };
+
+    ghost view = { λ n. n.held.items };
+}
+
+impl Notes {
+    /// No notes.
+    pub fn new(alloc: Global) -> Notes
+        ensures { result ≡ [] }
+    {
+        Notes {
+            held: Vec::new(alloc),
+        }
+    }
+
+    /// Lends the notes, in their order.
+    pub fn as_slice(&self) -> &[Note]
+        ensures { result.now ≡ self.now }
+    {
+        &self.held
+    }
+
+    /// Adds a note at the end. Where memory is refused, the notes stay as they are.
+    pub fn add(&mut self, note: Note) -> Result<(), AllocError>
+        ensures notes { OnOk result (self.new ≡ self.old ++ note ∷ []) }
+        ensures refused { OnErr result (self.new ≡ self.old) }
+    {
+        self.held.push(note)?;
+        Ok(())
+    }
+}
+
+/// A key as a note names it: with its attribute in braces, if it has one. The error comes where
+/// memory is refused.
+pub(crate) fn word_of_key(
+    alloc: Global,
+    key: Key,
+    attribute: Option<&[u8]>,
+) -> Result<Vec<u8>, AllocError>
+    ensures { IfOk result (λ word. word.items ≡ word_of_key key (option_map (λ text. text.now) attribute.entry)) }
+{
+    let mut word = Vec::from_slice(alloc, key.name())?;
+    if let Some(attribute) = attribute {
+        word.push(b'{')?;
+        word.extend_from_slice(attribute)?;
+        word.push(b'}')?;
+    }
+    Ok(word)
+}

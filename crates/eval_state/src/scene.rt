@@ -1,0 +1,122 @@
+//! All that is collected while rules run.
+ghost use Rattle.std.specs.Prelude.{◌≡◌, OnOk, OnErr, IfOk, option_map};
+ghost use Rattle.eval_state.specs.Notes.{word_of_key};
+ghost use Rattle.eval_state.specs.Scenes.{blank, noted, start};
+ghost use Rattle.eval_state.specs.declared.note_kind.NoteKind.TheVariants.{TextTooLong};
+
+use crate::finals::Finals;
+use crate::note_kind::NoteKind;
+use crate::notes::{Note, Notes, word_of_key};
+use crate::runs::Runs;
+use crate::state::State;
+use device_core::Event;
+use rule_types::{Key, Rule};
+use std::alloc::{AllocError, Global};
+use text_bytes::Bytes;
+use text_tables::OwnedPairs;
+
+/// What an event has come to so far.
+#[derive(Drop)]
+pub struct Scene<'a> {
+    /// What is known of the event, which later rules look at.
+    pub state: State<'a>,
+    /// The owner of the device's node, as it was written.
+    pub owner: Option<Bytes>,
+    /// The group of the device's node, as it was written.
+    pub group: Option<Bytes>,
+    /// The mode of the device's node, as it was written.
+    pub mode: Option<Bytes>,
+    /// How links of this device stand against those of others (`link_priority`).
+    pub priority: Option<i32>,
+    /// Whether the device's node is watched (`watch`, `nowatch`).
+    pub watch: Option<bool>,
+    /// Whether what is known of the device stays in udev's database (`db_persist`).
+    pub persist: bool,
+    /// Labels of security modules.
+    pub labels: OwnedPairs,
+    /// Attributes that are to be written.
+    pub attrs: OwnedPairs,
+    /// Kernel parameters that are to be written.
+    pub sysctls: OwnedPairs,
+    /// What is to be run.
+    pub runs: Runs<'a>,
+    /// What was not done.
+    pub notes: Notes,
+    /// The keys that no longer change.
+    pub finals: Finals,
+}
+
+impl<'a> Scene<'a> {
+    /// What an event has come to before any rule has run: its state as it begins, and nothing
+    /// collected. The error comes where memory is refused.
+    pub fn new(alloc: Global, event: &'a Event<'_>) -> Result<Scene<'a>, AllocError>
+        ensures { IfOk result (λ scene. scene ≡ start event.now) }
+    {
+        Ok(Scene {
+            state: State::new(alloc, event)?,
+            owner: None,
+            group: None,
+            mode: None,
+            priority: None,
+            watch: None,
+            persist: false,
+            labels: OwnedPairs::new(alloc),
+            attrs: OwnedPairs::new(alloc),
+            sysctls: OwnedPairs::new(alloc),
+            runs: Runs::new(alloc),
+            notes: Notes::new(alloc),
+            finals: Finals::none(),
+        })
+    }
+
+    /// Forgets all but the event itself: what is called where memory was refused, so that nothing half
+    /// done is taken for what the event has come to.
+    pub fn clear(&mut self, alloc: Global)
+        ensures { self.new ≡ blank self.old.state.event }
+    {
+        self.state.clear(alloc);
+        self.owner = None;
+        self.group = None;
+        self.mode = None;
+        self.priority = None;
+        self.watch = None;
+        self.persist = false;
+        self.labels.clear();
+        self.attrs.clear();
+        self.sysctls.clear();
+        self.runs.clear();
+        self.notes = Notes::new(alloc);
+        self.finals = Finals::none();
+    }
+
+    /// Leaves a note that something of a rule was not done, told with a text. The error comes where
+    /// memory is refused; the scene then stays as it is.
+    pub fn note(
+        &mut self,
+        alloc: Global,
+        rule: &Rule,
+        kind: NoteKind,
+        text: &[u8],
+    ) -> Result<(), AllocError>
+        ensures scene { OnOk result (self.new ≡ noted rule.now kind text.now self.old) }
+        ensures refused { OnErr result (self.new ≡ self.old) }
+    {
+        self.notes.add(Note::about(alloc, rule, kind, text)?)
+    }
+
+    /// Leaves a note that a text of a key was too long; the note names the key, with its attribute if
+    /// it has one. The error comes where memory is refused; the scene then stays as it is.
+    pub fn note_too_long(
+        &mut self,
+        alloc: Global,
+        rule: &Rule,
+        key: Key,
+        attribute: Option<&[u8]>,
+    ) -> Result<(), AllocError>
+        ensures scene { OnOk result (self.new ≡ noted rule.now TextTooLong (word_of_key key (option_map (λ text. text.now) attribute.entry)) self.old) }
+        ensures refused { OnErr result (self.new ≡ self.old) }
+    {
+        let word = word_of_key(alloc, key, attribute)?;
+        self.note(alloc, rule, NoteKind::TextTooLong, &word)
+    }
+}

@@ -1,5 +1,0 @@
-use Rattle.eval_weight.proofs.Counted.{notes_counted}
-use Rattle.eval_weight.proofs.laws.each_part_leaves_at_most_one_note.Goals as goal
-
-pub returns : goal.returns
-returns c = notes_counted

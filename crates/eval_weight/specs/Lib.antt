@@ -1,4 +1,0 @@
-pub mod Weights
-pub mod Allowances
-pub mod Counts
-pub mod Inner

@@ -1,0 +1,10 @@
+pub mod First
+pub mod Listing
+pub mod Accepting
+pub mod Saying
+pub mod Answering
+pub mod Telling
+pub mod Cuts
+pub mod Indexing
+pub mod Typing
+pub mod Spelling

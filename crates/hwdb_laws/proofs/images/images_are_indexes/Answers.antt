@@ -1,0 +1,6 @@
+use Rattle.hwdb_laws.proofs.Accepting.{image_accepted, image_len}
+use Rattle.hwdb_laws.proofs.Listing.{image_permutes}
+use Rattle.hwdb_laws.proofs.images.images_are_indexes.Goals as goal
+
+pub returns : goal.returns
+returns c = record { accepted = image_accepted; length = image_len; listed = image_permutes }

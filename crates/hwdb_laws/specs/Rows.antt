@@ -1,0 +1,29 @@
+-- Two indexes, byte by byte.
+use Rattle.std.specs.Prelude.{ℕ, List, ◌∷◌, [], ◌++◌, codes}
+use Rattle.text_core.specs.declared.item.Item.TheVariants.{Byte, Many}
+use Rattle.hwdb_lookup.specs.declared.entry.Entry.{Entry}
+use Rattle.index_reading.specs.Numbers.{number_bytes}
+
+-- numbers, one behind another
+abbrev pub numbers_bytes : List ℕ → List ℕ
+numbers_bytes [] = []
+numbers_bytes (n ∷ ns) = number_bytes n ++ numbers_bytes ns
+
+-- the index of no entry: the root alone
+abbrev pub empty_index : List ℕ
+empty_index =
+    codes "devdryhw" ++ numbers_bytes (2 ∷ 1 ∷ 0 ∷ 0 ∷ 0 ∷ 0 ∷ [])
+    ++ numbers_bytes (0 ∷ 0 ∷ 1 ∷ 0 ∷ 0 ∷ 0 ∷ [])
+
+-- ` K=V` for `a*`, in line 2 of t.hwdb
+abbrev pub one_entry : Entry
+one_entry = record { pattern = Byte 97 ∷ Many ∷ []; key = codes "K"; value = codes "V"; order = 0; file = codes "t.hwdb"; line = 2 }
+
+abbrev pub one_entry_index : List ℕ
+one_entry_index =
+    codes "devdryhw" ++ numbers_bytes (2 ∷ 3 ∷ 1 ∷ 0 ∷ 8 ∷ 0 ∷ [])
+    ++ numbers_bytes (0 ∷ 0 ∷ 1 ∷ 1 ∷ 0 ∷ 0 ∷ [])
+    ++ (1 ∷ 97 ∷ 0 ∷ 0 ∷ []) ++ numbers_bytes (0 ∷ 2 ∷ 1 ∷ 0 ∷ 0 ∷ [])
+    ++ (3 ∷ 0 ∷ 0 ∷ 0 ∷ []) ++ numbers_bytes (0 ∷ 3 ∷ 0 ∷ 0 ∷ 1 ∷ [])
+    ++ numbers_bytes (0 ∷ 1 ∷ 1 ∷ 1 ∷ 0 ∷ 2 ∷ 6 ∷ 2 ∷ [])
+    ++ codes "KVt.hwdb"

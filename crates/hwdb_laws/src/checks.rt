@@ -1,0 +1,12 @@
+//! What the definition of a fault comes to.
+ghost use Rattle.std.specs.Prelude.{◌≡◌, ℕ, List};
+ghost use Rattle.index_reading.specs.Accepted.{Accepted, FailsFirst};
+ghost use Rattle.index_reading.specs.declared.fault.IndexFault.{IndexFault};
+
+/// The law of faults; it does nothing when it is called.
+///
+/// A file has one fault at most, and an index has none.
+pub fn a_file_fails_one_check_first()
+    ensures one { (bytes : List ℕ) (fault other : IndexFault) → FailsFirst bytes fault → FailsFirst bytes other → fault ≡ other }
+    ensures none { (bytes : List ℕ) (fault : IndexFault) → Accepted bytes → FailsFirst bytes fault → ⊥ }
+{}

@@ -1,0 +1,14 @@
+//! Laws of the database: of its files, of the paths of its trie, and of its index.
+//!
+//! A law is the contract of a function with an empty body. Nothing stands on this crate.
+#![tactic(auto)]
+
+pub mod bounds;
+pub mod checks;
+pub mod images;
+pub mod indexes;
+pub mod layout;
+pub mod paths;
+pub mod reading;
+pub mod sources;
+pub mod written;

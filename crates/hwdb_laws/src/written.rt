@@ -1,0 +1,19 @@
+//! What an index answers.
+ghost use Rattle.std.specs.Prelude.{◌≡◌, ℕ, List};
+ghost use Rattle.hwdb_lookup.specs.Orders.{Rising};
+ghost use Rattle.hwdb_lookup.specs.Query.{query, sourced};
+ghost use Rattle.hwdb_lookup.specs.declared.entry.Entry.{Entry};
+ghost use Rattle.trie_nodes.specs.Values.{listed};
+ghost use Rattle.trie_build.specs.Sizes.{KeepsBounds};
+ghost use Rattle.index_reading.specs.Contents.{contents};
+ghost use Rattle.trie_core.specs.Entries.{AreTyped};
+ghost use Rattle.trie_core.specs.Image.{image};
+
+/// The law of an index's answers; it does nothing when it is called.
+///
+/// To every modalias the index that is written of some entries answers as the entries do, with the
+/// same files and lines.
+pub fn indexes_answer_as_their_entries()
+    ensures query { (es : List Entry) → Rising es → KeepsBounds es → AreTyped es → (modalias : List ℕ) → query (listed (contents (image es)).nodes (contents (image es)).values) modalias ≡ query es modalias }
+    ensures sources { (es : List Entry) → Rising es → KeepsBounds es → AreTyped es → (modalias : List ℕ) → sourced (listed (contents (image es)).nodes (contents (image es)).values) modalias ≡ sourced es modalias }
+{}

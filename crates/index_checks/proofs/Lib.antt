@@ -1,4 +1,0 @@
-pub mod Bits
-pub mod Failing
-pub mod Faults
-pub mod Sums

@@ -1,4 +1,0 @@
-pub mod Image
-pub mod Entries
-pub mod Rows
-pub mod Sound

@@ -1,5 +1,0 @@
-use Rattle.index_reading.proofs.First.{no_file, no_line}
-use Rattle.index_reading.proofs.law.values_of_version_1_have_no_file.Goals as goal
-
-pub returns : goal.returns
-returns c = record { file = no_file; line = no_line }

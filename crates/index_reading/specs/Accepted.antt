@@ -1,0 +1,107 @@
+-- Which files are an index: eight conditions, of which a file that is none fails a first.
+use Rattle.std.specs.Prelude.{◌≡◌, ◌≢◌, ◌↔◌, ◌⊎◌, ℕ, ◌+◌, ◌^◌, ◌<◌, ◌≤◌, List, IsTrue, length, map, nat_eq, sum}
+use Rattle.std.specs.List.{range_with_len, starts_with}
+use Rattle.index_reading.specs.Header.{first_version, header_len, header_of, magic, second_version, whole_len}
+use Rattle.index_reading.specs.Kinds.{root_kind, byte_kind, among_kind}
+use Rattle.index_reading.specs.Records.{node, value}
+use Rattle.index_reading.specs.declared.records.NodeRecord.{NodeRecord}
+use Rattle.index_reading.specs.declared.records.ValueRecord.{ValueRecord}
+use Rattle.index_reading.specs.declared.records.Span.{Span}
+use Rattle.index_reading.specs.declared.fault.IndexFault.{IndexFault}
+use Rattle.index_reading.specs.declared.fault.IndexFault.TheVariants.{Short, Magic, Version, Size, Shape, Label, Text, Order}
+
+-- how many nodes, values and sets there may be
+abbrev pub max_nodes : ℕ
+max_nodes = 2 ^ 26
+
+abbrev pub max_values : ℕ
+max_values = 2 ^ 24
+
+abbrev pub max_sets : ℕ
+max_sets = 2 ^ 26
+
+-- a node at least, not too many of each, and the length that they ask for
+pub record HasSize (bytes : List ℕ) : Type 0 where
+  pub some : 0 < (header_of bytes).nodes
+  pub nodes : (header_of bytes).nodes ≤ max_nodes
+  pub values : (header_of bytes).values ≤ max_values
+  pub sets : (header_of bytes).sets ≤ max_sets
+  pub reserved : (header_of bytes).reserved ≡ 0
+  pub whole : length bytes ≡ whole_len (header_of bytes)
+
+-- how many children and how many values the nodes before node i have
+abbrev pub children_before : List ℕ → ℕ → ℕ
+children_before bytes i = sum (map (λ k. (node bytes k).count) (range_with_len 0 i))
+
+abbrev pub values_before : List ℕ → ℕ → ℕ
+values_before bytes i = sum (map (λ k. (node bytes k).values) (range_with_len 0 i))
+
+-- Node i has its children behind those of the nodes before it, the root being no child, and behind itself, and its
+-- values behind those of the nodes before it.
+pub record IsInPlace (i children values : ℕ) (n : NodeRecord) : Type 0 where
+  pub first : n.first ≡ 1 + children
+  pub later : i < n.first
+  pub first_value : n.first_value ≡ values
+
+-- each node is in its place, and they have all nodes but the root as children, and all values
+pub record HasShape (bytes : List ℕ) : Type 0 where
+  pub each : (i : ℕ) → i < (header_of bytes).nodes → IsInPlace i (children_before bytes i) (values_before bytes i) (node bytes i)
+  pub children : 1 + children_before bytes (header_of bytes).nodes ≡ (header_of bytes).nodes
+  pub values : values_before bytes (header_of bytes).nodes ≡ (header_of bytes).values
+
+-- Node i of an index of some sets is labelled: as the root where it is node 0, and else as one of the items of a
+-- pattern. Only a byte is given with a byte, only a set with the number of one.
+pub record IsLabelled (sets i : ℕ) (n : NodeRecord) : Type 0 where
+  pub root : (n.kind ≡ root_kind) ↔ (i ≡ 0)
+  pub known : n.kind ≤ among_kind
+  pub byte : n.kind ≢ byte_kind → n.byte ≡ 0
+  pub first_zero : n.first_zero ≡ 0
+  pub second_zero : n.second_zero ≡ 0
+  pub no_set : n.kind ≢ among_kind → n.set ≡ 0
+  pub a_set : n.kind ≡ among_kind → n.set < sets
+
+-- a part lies within a text of some length
+abbrev pub IsWithin : ℕ → Span → Type 0
+IsWithin len span = span.place + span.len ≤ len
+
+-- a value's texts lie within the text, and its key is not empty
+pub record HasTexts (len : ℕ) (v : ValueRecord) : Type 0 where
+  pub some : 0 < v.key.len
+  pub key : IsWithin len v.key
+  pub value : IsWithin len v.value
+  pub file : IsWithin len v.file
+
+-- the orders of a node's values rise strictly
+abbrev pub OrdersRise : List ℕ → NodeRecord → Type 0
+OrdersRise bytes n = (j : ℕ) → n.first_value ≤ j → j + 1 < n.first_value + n.values → (value bytes j).order < (value bytes (j + 1)).order
+
+-- what a check asks for
+abbrev pub Holds : IndexFault → List ℕ → Type 0
+Holds Short bytes = header_len ≤ length bytes
+Holds Magic bytes = IsTrue (starts_with nat_eq bytes magic)
+Holds Version bytes = ((header_of bytes).version ≡ first_version) ⊎ ((header_of bytes).version ≡ second_version)
+Holds Size bytes = HasSize bytes
+Holds Shape bytes = HasShape bytes
+Holds Label bytes = (i : ℕ) → i < (header_of bytes).nodes → IsLabelled (header_of bytes).sets i (node bytes i)
+Holds Text bytes = (j : ℕ) → j < (header_of bytes).values → HasTexts (header_of bytes).text (value bytes j)
+Holds Order bytes = (i : ℕ) → i < (header_of bytes).nodes → OrdersRise bytes (node bytes i)
+
+-- the place of a check among all
+abbrev pub place : IndexFault → ℕ
+place Short = 0
+place Magic = 1
+place Version = 2
+place Size = 3
+place Shape = 4
+place Label = 5
+place Text = 6
+place Order = 7
+
+-- a file is an index where each check holds
+abbrev pub Accepted : List ℕ → Type 0
+Accepted bytes = (check : IndexFault) → Holds check bytes
+
+-- a check is the first that a file fails: it does not hold, and all before it do
+pub record FailsFirst (bytes : List ℕ) (check : IndexFault) : Type 0 where
+  pub earlier : (other : IndexFault) → place other < place check → Holds other bytes
+  pub fails : Holds check bytes → ⊥

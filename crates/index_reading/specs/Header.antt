@@ -1,0 +1,68 @@
+-- The header of an index, field by field, and where the parts behind it stand.
+use Rattle.std.specs.Prelude.{ℕ, ◌+◌, ◌*◌, ◌==◌, List, ◌++◌, codes, if◌then◌else◌}
+use Rattle.index_reading.specs.Numbers.{number_at, number_bytes}
+use Rattle.index_reading.specs.declared.header.Header.{Header}
+use Rattle.index_reading.specs.declared.header.Places.{Places}
+
+-- what each index begins with
+abbrev pub magic : List ℕ
+magic = codes "devdryhw"
+
+-- the two versions: values of the first have no file and no line
+abbrev pub first_version : ℕ
+first_version = 1
+
+abbrev pub second_version : ℕ
+second_version = 2
+
+-- what a header says, each field by its place
+abbrev pub header_of : List ℕ → Header
+header_of bytes = record {
+  version = number_at bytes 8;
+  nodes = number_at bytes 12;
+  values = number_at bytes 16;
+  sets = number_at bytes 20;
+  text = number_at bytes 24;
+  reserved = number_at bytes 28;
+}
+
+-- a header as it is written
+abbrev pub header_bytes : Header → List ℕ
+header_bytes h =
+    magic ++ number_bytes h.version ++ number_bytes h.nodes ++ number_bytes h.values
+    ++ number_bytes h.sets ++ number_bytes h.text ++ number_bytes h.reserved
+
+-- how many bytes the header, a node, a set and a value have
+abbrev pub header_len : ℕ
+header_len = 32
+
+abbrev pub node_len : ℕ
+node_len = 24
+
+abbrev pub set_len : ℕ
+set_len = 32
+
+abbrev pub value_len : ℕ → ℕ
+value_len version = if version == first_version then 20 else 32
+
+-- the nodes stand behind the header, then the values, the sets and the text
+abbrev pub values_start : Header → ℕ
+values_start h = header_len + node_len * h.nodes
+
+abbrev pub sets_start : Header → ℕ
+sets_start h = values_start h + value_len h.version * h.values
+
+abbrev pub text_start : Header → ℕ
+text_start h = sets_start h + set_len * h.sets
+
+abbrev pub whole_len : Header → ℕ
+whole_len h = text_start h + h.text
+
+-- where the parts stand, and where the last of them ends
+abbrev pub places_of : Header → Places
+places_of h = record {
+  values = values_start h;
+  sets = sets_start h;
+  text = text_start h;
+  end = whole_len h;
+}

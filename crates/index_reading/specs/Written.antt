@@ -1,0 +1,80 @@
+-- An index as it is written: version 2.
+use Rattle.std.specs.Prelude.{ℕ, ◌<◌, ◌≡◌, List, ◌++◌, length, take, drop, slice_index_or, flat_map, All}
+use Rattle.text_core.specs.declared.byte_set.ByteSet.{ByteSet}
+use Rattle.index_reading.specs.Header.{header_bytes, header_of, second_version, set_len, whole_len}
+use Rattle.index_reading.specs.Numbers.{IsSmall}
+use Rattle.index_reading.specs.Records.{node, node_bytes, set, set_bytes, text_of, value, value_bytes}
+use Rattle.index_reading.specs.declared.header.Header.{Header}
+use Rattle.index_reading.specs.declared.records.NodeRecord.{NodeRecord}
+use Rattle.index_reading.specs.declared.records.ValueRecord.{ValueRecord}
+use Rattle.index_reading.specs.declared.records.Span.{Span}
+
+-- what is to be written behind the header, in its order
+pub record Draft : Type 0 where
+  pub nodes : List NodeRecord
+  pub values : List ValueRecord
+  pub sets : List ByteSet
+  pub text : List ℕ
+
+-- the header of a draft
+abbrev pub draft_header : Draft → Header
+draft_header d = record {
+  version = second_version;
+  nodes = length d.nodes;
+  values = length d.values;
+  sets = length d.sets;
+  text = length d.text;
+  reserved = 0;
+}
+
+-- what stands from the sets on, from the values on and from the nodes on
+abbrev pub written_sets : Draft → List ℕ
+written_sets d = flat_map set_bytes d.sets ++ d.text
+
+abbrev pub written_values : Draft → List ℕ
+written_values d = flat_map value_bytes d.values ++ written_sets d
+
+abbrev pub written_nodes : Draft → List ℕ
+written_nodes d = flat_map node_bytes d.nodes ++ written_values d
+
+-- the whole
+unfoldable pub written : Draft → List ℕ
+written d = header_bytes (draft_header d) ++ written_nodes d
+
+-- whether the numbers of a record can be written
+pub record IsSmallNode (n : NodeRecord) : Type 0 where
+  pub set : IsSmall n.set
+  pub first : IsSmall n.first
+  pub count : IsSmall n.count
+  pub first_value : IsSmall n.first_value
+  pub values : IsSmall n.values
+
+pub record IsSmallSpan (s : Span) : Type 0 where
+  pub place : IsSmall s.place
+  pub len : IsSmall s.len
+
+pub record IsSmallValue (v : ValueRecord) : Type 0 where
+  pub key : IsSmallSpan v.key
+  pub value : IsSmallSpan v.value
+  pub order : IsSmall v.order
+  pub file : IsSmallSpan v.file
+  pub line : IsSmall v.line
+
+-- whether all numbers of a draft can be written, and its sets are sets
+pub record IsWritable (d : Draft) : Type 0 where
+  pub nodes : All IsSmallNode d.nodes
+  pub values : All IsSmallValue d.values
+  pub sets : All (λ (s : ByteSet). length s.bits ≡ set_len) d.sets
+  pub few_nodes : IsSmall (length d.nodes)
+  pub few_values : IsSmall (length d.values)
+  pub few_sets : IsSmall (length d.sets)
+  pub short : IsSmall (length d.text)
+
+-- The bytes of an index say what a draft says: its records, by number, and the parts of its text.
+pub record SaysDraft (bytes : List ℕ) (d : Draft) : Type 0 where
+  pub header : header_of bytes ≡ draft_header d
+  pub whole : length bytes ≡ whole_len (header_of bytes)
+  pub node : (i : ℕ) (n : NodeRecord) → i < length d.nodes → node bytes i ≡ slice_index_or d.nodes i n
+  pub value : (j : ℕ) (v : ValueRecord) → j < length d.values → value bytes j ≡ slice_index_or d.values j v
+  pub set : (s : ℕ) (e : ByteSet) → s < length d.sets → set bytes s ≡ slice_index_or d.sets s e
+  pub text : (s : Span) → text_of bytes s ≡ take s.len (drop s.place d.text)

@@ -1,5 +1,0 @@
-use Rattle.index_sources.proofs.Indexing.{accepted, answers, lists, short, tells}
-use Rattle.index_sources.proofs.laws.what_is_read_makes_an_index.Goals as goal
-
-pub returns : goal.returns
-returns c = record { accepted = accepted; length = short; listed = lists; query = answers; sources = tells }

@@ -1,5 +1,0 @@
-use Rattle.rule_core.proofs.Outcomes.{read_by_line}
-use Rattle.rule_core.proofs.laws.each_line_is_a_rule_or_a_message.Goals as goal
-
-pub returns : goal.returns
-returns c = read_by_line

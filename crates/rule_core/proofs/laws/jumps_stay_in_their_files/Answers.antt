@@ -1,5 +1,0 @@
-use Rattle.rule_core.proofs.Landing.{jumps_stay}
-use Rattle.rule_core.proofs.laws.jumps_stay_in_their_files.Goals as goal
-
-pub returns : goal.returns
-returns c = jumps_stay

@@ -1,0 +1,41 @@
+-- Serves the proofs of this crate alone: the parts of a rule taken one by one.
+use Rattle.std.specs.Prelude.{ℕ, List, [], ◌∷◌, ◌++◌, Option, Some, None, filter_map}
+use Rattle.text_bytes.specs.declared.message.MessageKind.TheVariants.{GivenTwice}
+use Rattle.rule_parts.specs.declared.finding.Finding.{Finding}
+use Rattle.rule_types.specs.declared.part.Part.{Part}
+use Rattle.rule_types.specs.declared.part.Part.TheVariants as part
+use Rattle.rule_parts.specs.Values.{finding}
+use Rattle.rule_core.specs.Drafts.{Draft, act_in, assignment_in, first, given_again_behind, goto_in, label_in, plain_in, result_in, up_in}
+
+-- the parts of a rule by what they are for, in written order
+abbrev pub written : List Part → Draft
+written parts = record {
+  label = first (filter_map label_in parts);
+  goto = first (filter_map goto_in parts);
+  plain = filter_map plain_in parts;
+  up = filter_map up_in parts;
+  acts = filter_map act_in parts;
+  results = filter_map result_in parts;
+  sets = filter_map assignment_in parts;
+  findings = given_again_behind [] parts;
+}
+
+-- a name, or the one that was given before it
+abbrev pub first_given : Option (List ℕ) → List ℕ → Option (List ℕ)
+first_given (Some name) later = Some name
+first_given None name = Some name
+
+-- what is to be said of a name, by the one that was given before it
+abbrev pub again : Option (List ℕ) → List ℕ → List Finding
+again None name = []
+again (Some name) later = finding GivenTwice later ∷ []
+
+-- one part more
+abbrev pub with_part : Draft → Part → Draft
+with_part d (part.Plain m) = record d { plain = d.plain ++ m ∷ [] }
+with_part d (part.Up m) = record d { up = d.up ++ m ∷ [] }
+with_part d (part.Act a) = record d { acts = d.acts ++ a ∷ [] }
+with_part d (part.Result c) = record d { results = d.results ++ c ∷ [] }
+with_part d (part.Set a) = record d { sets = d.sets ++ a ∷ [] }
+with_part d (part.Label name) = record d { label = first_given d.label name; findings = d.findings ++ again d.label name }
+with_part d (part.Goto name) = record d { goto = first_given d.goto name; findings = d.findings ++ again d.goto name }

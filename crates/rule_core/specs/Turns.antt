@@ -1,0 +1,71 @@
+-- In which order the parts of a rule are evaluated that act, and those that assign.
+use Rattle.std.specs.Prelude.{ℕ, zero, suc, ◌+◌, ◌==◌, List, [], ◌∷◌, filter, flat_map}
+use Rattle.rule_types.specs.declared.roles.Target.{Target}
+use Rattle.rule_types.specs.declared.roles.Target.TheVariants as target
+use Rattle.rule_types.specs.declared.part.Act.{Act}
+use Rattle.rule_types.specs.declared.part.Assignment.{Assignment}
+use Rattle.rule_types.specs.declared.part.Change.{Change}
+use Rattle.rule_types.specs.declared.part.Change.TheVariants as change
+use Rattle.rule_types.specs.declared.part.Deed.{Deed}
+use Rattle.rule_types.specs.declared.part.Deed.TheVariants as deed
+use Rattle.rule_types.specs.declared.part.Import.{Import}
+use Rattle.rule_types.specs.declared.part.Import.TheVariants as import
+
+-- the turn of what an act does: TEST, then PROGRAM, then IMPORT by its type
+abbrev pub turn_of_import : Import → ℕ
+turn_of_import (import.File text) = 2
+turn_of_import (import.Program text) = 3
+turn_of_import (import.Builtin text) = 4
+turn_of_import (import.Db name) = 5
+turn_of_import (import.Cmdline name) = 6
+turn_of_import (import.Parent names) = 7
+
+abbrev pub turn_of_deed : Deed → ℕ
+turn_of_deed (deed.Test mask path) = 0
+turn_of_deed (deed.Program text) = 1
+turn_of_deed (deed.Import i) = turn_of_import i
+
+abbrev pub turn_of_act : Act → ℕ
+turn_of_act a = turn_of_deed a.deed
+
+-- the turn of what an assignment changes: OPTIONS, then the texts by their keys, then RUN
+abbrev pub turn_of_target : Target → ℕ
+turn_of_target target.Owner = 1
+turn_of_target target.Group = 2
+turn_of_target target.Mode = 3
+turn_of_target target.Tag = 4
+turn_of_target (target.Seclabel name) = 5
+turn_of_target (target.Env name) = 6
+turn_of_target target.Name = 7
+turn_of_target target.Symlink = 8
+turn_of_target (target.Attr name) = 9
+turn_of_target (target.Sysctl name) = 10
+
+abbrev pub turn_of_change : Change → ℕ
+turn_of_change (change.Option known) = 0
+turn_of_change (change.Text to text) = turn_of_target to
+turn_of_change (change.Run type text) = 11
+
+abbrev pub turn_of_assignment : Assignment → ℕ
+turn_of_assignment a = turn_of_change a.change
+
+-- those that have a turn, in written order
+abbrev pub of_turn : {X : Type 0} → (X → ℕ) → List X → ℕ → List X
+of_turn turn xs t = filter (λ x. turn x == t) xs
+
+-- so many turns, from this one on
+abbrev pub turns_from : ℕ → ℕ → List ℕ
+turns_from t zero = []
+turns_from t (suc n) = t ∷ turns_from (t + 1) n
+
+-- parts turn by turn, of which there are so many
+abbrev pub by_turn : {X : Type 0} → (X → ℕ) → ℕ → List X → List X
+by_turn turn n xs = flat_map (of_turn turn xs) (turns_from 0 n)
+
+-- acts in the order of evaluation
+abbrev pub acts_by_turn : List Act → List Act
+acts_by_turn acts = by_turn turn_of_act 8 acts
+
+-- assignments in the order of evaluation
+abbrev pub assignments_by_turn : List Assignment → List Assignment
+assignments_by_turn assignments = by_turn turn_of_assignment 12 assignments

@@ -1,0 +1,76 @@
+//! Reading a joined line.
+ghost use Rattle.std.specs.Prelude.{◌≡◌, Err, IfOk, MatchResult, Ok};
+ghost use Rattle.rule_parts.specs.Faults.{FaultOf};
+ghost use Rattle.rule_tokens.specs.Lines.{items_of};
+ghost use Rattle.rule_core.specs.Drafts.{draft, draft_of, parts_of, token_finding};
+
+use crate::draft::Draft;
+use crate::places::behind;
+use crate::style::add_style;
+use crate::turns::{sort_acts, sort_assignments};
+use rule_parts::{Finding, PartFault, read_part};
+use rule_tokens::{TokenFaultKind, Tokens, letters_before_quote};
+use rule_types::Part;
+use std::alloc::{AllocError, Global};
+use text_bytes::MessageKind;
+
+/// The most bytes of a joined line.
+const MOST_BYTES: usize = 16_384;
+
+/// Reads a joined line as a rule, as udev(7) has it.
+///
+/// What is wrong is that the line has more than 16,384 bytes, or else it is the fault of the first
+/// token that has one; `Memory` comes only where a growth was refused.
+pub fn read_draft(alloc: Global, line: &[u8]) -> Result<Draft, PartFault>
+    ensures { MatchResult result (λ d. draft_of line.now ≡ Ok d) (λ f. FaultOf f (draft_of line.now)) }
+{
+    if line.len() > MOST_BYTES {
+        let found = Finding::about(alloc, MessageKind::LineTooLong, &[])?;
+        return Err(PartFault::Wrong(found));
+    }
+    let parts = read_parts(alloc, line)?;
+    Ok(draft(alloc, line, parts)?)
+}
+
+/// The parts of a line, up to the first token with a fault, which is then what is wrong.
+#[tactic(auto, using(crate::proofs::Drafting::part_read))]
+fn read_parts(alloc: Global, line: &[u8]) -> Result<Vec<Part>, PartFault>
+    ensures { MatchResult result (λ parts. parts_of line.now (items_of line.now) ≡ Ok parts.items) (λ f. FaultOf f (parts_of line.now (items_of line.now))) }
+{
+    let mut parts = Vec::new(alloc);
+    for item in Tokens::new(line) {
+        match item {
+            Ok(token) => parts.push(read_part(alloc, &token)?)?,
+            Err(fault) => {
+                let found = token_finding(alloc, fault.kind, behind(fault.at, line))?;
+                return Err(PartFault::Wrong(found));
+            }
+        }
+    }
+    Ok(parts)
+}
+
+/// What is wrong with a part of a line, from its first byte on, that is no token.
+fn token_finding(alloc: Global, kind: TokenFaultKind, text: &[u8]) -> Result<Finding, AllocError>
+    ensures { IfOk result (λ found. found ≡ token_finding kind text.now) }
+{
+    match kind {
+        TokenFaultKind::Syntax => Finding::about(alloc, MessageKind::BadSyntax, text),
+        TokenFaultKind::Prefix => Finding::about(
+            alloc,
+            MessageKind::BadPrefix,
+            letters_before_quote(text),
+        ),
+    }
+}
+
+/// The draft of the parts of a line.
+fn draft(alloc: Global, line: &[u8], parts: Vec<Part>) -> Result<Draft, AllocError>
+    ensures { IfOk result (λ d. d ≡ draft line.now parts.items) }
+{
+    let mut draft = Draft::of(alloc, parts)?;
+    sort_acts(&mut draft.acts)?;
+    sort_assignments(&mut draft.sets)?;
+    add_style(alloc, &mut draft.findings, line)?;
+    Ok(draft)
+}

@@ -1,0 +1,90 @@
+//! The joined lines of a file, as they are given to a caller.
+ghost use Rattle.std.specs.Prelude.{◌≡◌};
+ghost use Rattle.rule_core.specs.Lines.{joined_as};
+ghost use Rattle.text_bytes.specs.Messages.{capped};
+
+use crate::text::Text;
+use std::marker::Model;
+use text_bytes::capped;
+
+/// A joined line of a rules file: the text of a rule, which may borrow the file.
+#[derive(Debug, Drop)]
+pub struct JoinedLine<'a> {
+    number: u32,
+    text: Text<'a>,
+}
+
+impl<'a> Model for JoinedLine<'a> {
+    ghost use Rattle.rule_core.specs.Lines.{NumberedLine};
+
+    ghost Value = { NumberedLine };
+
+    ghost view = { λ l. record { number = l.number; text = l.text } };
+}
+
+impl<'a> JoinedLine<'a> {
+    /// The joined line of a text that begins in the line of this number.
+    pub(crate) fn new(number: usize, text: Text<'a>) -> JoinedLine<'a>
+        ensures { result ≡ record { number = capped number; text = text.entry } }
+    {
+        JoinedLine {
+            number: capped(number),
+            text,
+        }
+    }
+
+    /// The number of the first line of the file that is part of this one, counted from 1; a number
+    /// over 2^32 - 1 is given as that one. A comment before it is no part of it.
+    pub fn number(&self) -> u32
+        ensures { result ≡ self.now.number }
+    {
+        self.number
+    }
+
+    /// The joined bytes, without the backslashes that continue a line. They are never empty.
+    pub fn text(&self) -> &[u8]
+        ensures { result.now ≡ self.now.text }
+    {
+        self.text.as_slice()
+    }
+}
+
+/// The joined lines of a rules file.
+#[derive(Debug, Drop)]
+pub struct JoinedLines<'a> {
+    lines: Vec<JoinedLine<'a>>,
+    open_at: Option<u32>,
+}
+
+impl<'a> Model for JoinedLines<'a> {
+    ghost use Rattle.rule_core.specs.Lines.{Joined};
+
+    ghost Value = { Joined };
+
+    ghost view = { λ j. record { lines = j.lines.items; open_at = j.open_at } };
+}
+
+impl<'a> JoinedLines<'a> {
+    /// The joined lines, and the number of the line that begins an open one.
+    pub(crate) fn new(lines: Vec<JoinedLine<'a>>, open_at: Option<u32>) -> JoinedLines<'a>
+        ensures { result ≡ joined_as lines.entry.items open_at }
+    {
+        JoinedLines { lines, open_at }
+    }
+
+    /// The joined lines that are not empty, in the order of the file.
+    pub fn lines(&self) -> &[JoinedLine<'a>]
+        ensures { result.now ≡ self.now.lines }
+    {
+        &self.lines
+    }
+
+    /// The number of the first line of a joined line that is still open where the file ends: the
+    /// last line that is kept ends in a backslash. Such a line is no rule. It is given also where
+    /// nothing but backslashes is in it.
+    pub fn open_at(&self) -> Option<u32>
+        ensures { result ≡ self.now.open_at }
+    {
+        self.open_at
+    }
+}

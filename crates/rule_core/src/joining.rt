@@ -1,0 +1,103 @@
+//! Joining the lines of a rules file, as udev(7) says: a line that ends in a backslash is continued
+//! by the next, and comments are skipped wherever they stand.
+ghost use Rattle.std.specs.Prelude.{◌≡◌, [], None, IfOk, OnOk};
+ghost use Rattle.rule_core.specs.Lines.{joined_lines};
+ghost use Rattle.rule_core.specs.Steps.{after, ended, sofar};
+
+use crate::joined::{JoinedLine, JoinedLines};
+use crate::pieces::{Piece, is_comment, piece_of, unindented_line};
+use crate::text::Text;
+use std::alloc::{AllocError, Global};
+use std::marker::Model;
+use text_bytes::{Lines, capped};
+
+/// A joined line of which all lines so far end in a backslash.
+#[derive(Debug, Drop)]
+struct OpenLine<'a> {
+    number: usize,
+    text: Text<'a>,
+}
+
+impl<'a> Model for OpenLine<'a> {
+    ghost use Rattle.std.specs.Prelude.{true};
+    ghost use Rattle.rule_core.specs.Lines.{Piece};
+
+    ghost Value = { Piece };
+
+    ghost view = { λ o. record { number = o.number; text = o.text; continues = true } };
+}
+
+/// What the lines so far have given.
+#[derive(Debug, Drop)]
+struct Joining<'a> {
+    lines: Vec<JoinedLine<'a>>,
+    pending: Option<OpenLine<'a>>,
+}
+
+impl<'a> Model for Joining<'a> {
+    ghost use Rattle.rule_core.specs.Steps.{SoFar};
+
+    ghost Value = { SoFar };
+
+    ghost view = { λ j. record { lines = j.lines.items; pending = j.pending } };
+}
+
+impl<'a> Joining<'a> {
+    /// No line so far.
+    fn new(alloc: Global) -> Joining<'a>
+        ensures { result ≡ sofar [] None }
+    {
+        Joining {
+            lines: Vec::new(alloc),
+            pending: None,
+        }
+    }
+
+    /// Takes what the next kept line gives.
+    fn take(&mut self, alloc: Global, piece: &Piece<'a>) -> Result<(), AllocError>
+        ensures { OnOk result (self.new ≡ after self.old piece.now) }
+    {
+        let (number, text) = match self.pending.take() {
+            None => (piece.number, Text::whole(piece.text)),
+            Some(begun) => (begun.number, begun.text.continued(alloc, piece.text)?),
+        };
+        if piece.continues {
+            self.pending = Some(OpenLine { number, text });
+        } else if !text.as_slice().is_empty() {
+            self.lines.push(JoinedLine::new(number, text))?;
+        }
+        Ok(())
+    }
+
+    /// The joined lines, where no line follows.
+    fn ended(self) -> JoinedLines<'a>
+        ensures { result ≡ ended self.entry }
+    {
+        let open_at = match &self.pending {
+            None => None,
+            Some(begun) => Some(capped(begun.number)),
+        };
+        JoinedLines::new(self.lines, open_at)
+    }
+}
+
+/// Joins the lines of a rules file, as udev(7) says. Lines are cut at newlines, and the last need
+/// not have one. The spaces and tabs at the start of a line are skipped. A line that then begins
+/// with `#` is a comment: it is skipped whatever it ends in, and neither ends nor continues the
+/// line around it. A line that ends in `\` loses it and is joined with the next line that is kept.
+/// What is then empty is dropped.
+///
+/// A line that is continued by no other borrows the file's bytes. The error comes where memory is
+/// refused.
+pub fn joined_lines<'a>(alloc: Global, bytes: &'a [u8]) -> Result<JoinedLines<'a>, AllocError>
+    ensures { IfOk result (λ joined. joined ≡ joined_lines bytes.now) }
+{
+    let mut joining = Joining::new(alloc);
+    for line in Lines::new(bytes) {
+        let line = unindented_line(&line);
+        if !is_comment(&line) {
+            joining.take(alloc, &piece_of(&line))?;
+        }
+    }
+    Ok(joining.ended())
+}

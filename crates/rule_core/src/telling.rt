@@ -1,0 +1,20 @@
+//! What is to be said of a rule.
+ghost use Rattle.std.specs.Prelude.{◌≡◌, ◌++◌, ◌∷◌, [], OnOk};
+ghost use Rattle.rule_parts.specs.Values.{finding};
+
+use rule_parts::Finding;
+use std::alloc::{AllocError, Global};
+use text_bytes::MessageKind;
+
+/// Adds what is to be said to what was said before.
+pub(crate) fn tell(
+    alloc: Global,
+    findings: &mut Vec<Finding>,
+    kind: MessageKind,
+    text: &[u8],
+) -> Result<(), AllocError>
+    ensures { OnOk result (findings.new.items ≡ findings.old.items ++ finding kind text.now ∷ []) }
+{
+    findings.push(Finding::about(alloc, kind, text)?)?;
+    Ok(())
+}

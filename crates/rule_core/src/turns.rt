@@ -1,0 +1,94 @@
+//! In which order the parts of a rule are evaluated that act, and those that assign.
+//!
+//! Each part has a number, its turn, so that a stable sort by turns gives the order.
+ghost use Rattle.std.specs.Prelude.{◌≡◌, OnOk};
+ghost use Rattle.rule_core.specs.Turns.{acts_by_turn, assignments_by_turn, turn_of_act, turn_of_assignment, turn_of_change, turn_of_deed, turn_of_import, turn_of_target};
+
+use rule_types::{Act, Assignment, Change, Deed, Import, Target};
+use std::alloc::AllocError;
+
+/// Sorts acts into the order of evaluation; those of one turn keep their order. The error comes
+/// where memory is refused.
+pub(crate) fn sort_acts(acts: &mut Vec<Act>) -> Result<(), AllocError>
+    ensures { OnOk result (acts.new.items ≡ acts_by_turn acts.old.items) }
+{
+    acts.sort_by_key(|act| turn_of_act(act))?;
+    Ok(())
+}
+
+/// Sorts assignments into the order of evaluation; those of one turn keep their order. The error
+/// comes where memory is refused.
+pub(crate) fn sort_assignments(assignments: &mut Vec<Assignment>) -> Result<(), AllocError>
+    ensures { OnOk result (assignments.new.items ≡ assignments_by_turn assignments.old.items) }
+{
+    assignments.sort_by_key(|assignment| turn_of_assignment(assignment))?;
+    Ok(())
+}
+
+/// The turn of an act.
+fn turn_of_act(act: &Act) -> u8
+    ensures { result ≡ turn_of_act act.now }
+{
+    turn_of_deed(&act.deed)
+}
+
+/// The turn of what an act does: TEST, then PROGRAM, then IMPORT by its type.
+fn turn_of_deed(deed: &Deed) -> u8
+    ensures { result ≡ turn_of_deed deed.now }
+{
+    match deed {
+        Deed::Test(_, _) => 0,
+        Deed::Program(_) => 1,
+        Deed::Import(import) => turn_of_import(import),
+    }
+}
+
+/// The turn of an IMPORT, by its type.
+fn turn_of_import(import: &Import) -> u8
+    ensures { result ≡ turn_of_import import.now }
+{
+    match import {
+        Import::File(_) => 2,
+        Import::Program(_) => 3,
+        Import::Builtin(_) => 4,
+        Import::Db(_) => 5,
+        Import::Cmdline(_) => 6,
+        Import::Parent(_) => 7,
+    }
+}
+
+/// The turn of an assignment.
+fn turn_of_assignment(assignment: &Assignment) -> u8
+    ensures { result ≡ turn_of_assignment assignment.now }
+{
+    turn_of_change(&assignment.change)
+}
+
+/// The turn of what an assignment changes: OPTIONS, then the texts by their keys, then RUN.
+fn turn_of_change(change: &Change) -> u8
+    ensures { result ≡ turn_of_change change.now }
+{
+    match change {
+        Change::Option(_) => 0,
+        Change::Text(target, _) => turn_of_target(target),
+        Change::Run(_, _) => 11,
+    }
+}
+
+/// The turn of an assignment of a text, by its key.
+fn turn_of_target(target: &Target) -> u8
+    ensures { result ≡ turn_of_target target.now }
+{
+    match target {
+        Target::Owner => 1,
+        Target::Group => 2,
+        Target::Mode => 3,
+        Target::Tag => 4,
+        Target::Seclabel(_) => 5,
+        Target::Env(_) => 6,
+        Target::Name => 7,
+        Target::Symlink => 8,
+        Target::Attr(_) => 9,
+        Target::Sysctl(_) => 10,
+    }
+}

@@ -1,5 +1,0 @@
-use Rattle.rule_drafts.proofs.Counting.{none_is_lost}
-use Rattle.rule_drafts.proofs.laws.no_part_is_lost.Goals as goal
-
-pub returns : goal.returns
-returns c = none_is_lost

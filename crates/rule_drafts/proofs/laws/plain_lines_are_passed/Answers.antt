@@ -1,6 +1,0 @@
-use Rattle.rule_drafts.proofs.GapPlaces.{gaps_stand}
-use Rattle.rule_drafts.proofs.Gaps.{plain_is_passed}
-use Rattle.rule_drafts.proofs.laws.plain_lines_are_passed.Goals as goal
-
-pub returns : goal.returns
-returns c = λ line tokens e. plain_is_passed line tokens (gaps_stand line tokens e)

@@ -1,5 +1,0 @@
-use Rattle.rule_jumps.proofs.Labelled.{reaches}
-use Rattle.rule_jumps.proofs.laws.a_jump_that_is_not_lost_reaches_a_rule.Goals as goal
-
-pub returns : goal.returns
-returns c = reaches

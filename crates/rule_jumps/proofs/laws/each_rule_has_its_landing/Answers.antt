@@ -1,8 +1,0 @@
-use Rattle.std.proofs.Common.{List, sym, subst}
-use Rattle.rule_jumps.specs.Landings.{AreLandings}
-use Rattle.rule_jumps.specs.declared.jumps.Landing.{Landing}
-use Rattle.rule_jumps.proofs.Placed.{are_landings, only_landings}
-use Rattle.rule_jumps.proofs.laws.each_rule_has_its_landing.Goals as goal
-
-pub returns : goal.returns
-returns c = λ rules found. (only_landings rules found, λ same. subst (λ (ls : List Landing). AreLandings rules ls) (sym same) (are_landings rules))

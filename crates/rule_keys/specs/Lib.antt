@@ -1,5 +1,0 @@
-pub mod Names
-pub mod Topics
-pub mod Operators
-pub mod Roles
-pub mod Written

@@ -1,0 +1,124 @@
+-- Names that are given again.
+use Rattle.std.proofs.Common.{◌≡◌, ◌∙◌, ◌++◌, ◌∷◌, ℕ, List, [], ap, refl, filter_map}
+use Rattle.text_bytes.specs.declared.message.MessageKind.TheVariants.{GivenTwice}
+use Rattle.rule_parts.specs.Values.{finding}
+use Rattle.rule_parts.specs.declared.finding.Finding.{Finding}
+use Rattle.rule_types.specs.declared.part.Part.{Part}
+use Rattle.rule_types.specs.declared.part.Part.TheVariants as part
+use Rattle.rule_core.specs.Drafts.{again_in, given_again, given_again_behind, goto_in, label_in}
+use Rattle.rule_core.specs.Laws.{GivesAgain, IsGivenAmong, IsToldWhereAgain}
+use Rattle.rule_core.proofs.Taking.{none_said, said_behind}
+
+label_again : (before behind : List Part) (given name : List ℕ) → given_again (filter_map label_in (before ++ part.Label given ∷ behind)) name ≡ finding GivenTwice name ∷ []
+label_again [] behind given name = refl
+label_again (part.Plain m ∷ before) behind given name = label_again before behind given name
+label_again (part.Up m ∷ before) behind given name = label_again before behind given name
+label_again (part.Act a ∷ before) behind given name = label_again before behind given name
+label_again (part.Result c ∷ before) behind given name = label_again before behind given name
+label_again (part.Set a ∷ before) behind given name = label_again before behind given name
+label_again (part.Label l ∷ before) behind given name = refl
+label_again (part.Goto l ∷ before) behind given name = label_again before behind given name
+
+no_label : (parts : List Part) → ((before behind : List Part) (given : List ℕ) → parts ≡ before ++ part.Label given ∷ behind → ⊥) → filter_map label_in parts ≡ []
+no_label [] none = refl
+no_label (part.Plain m ∷ parts) none = no_label parts (λ before behind given cut. none (part.Plain m ∷ before) behind given (ap (λ (ps : List Part). part.Plain m ∷ ps) cut))
+no_label (part.Up m ∷ parts) none = no_label parts (λ before behind given cut. none (part.Up m ∷ before) behind given (ap (λ (ps : List Part). part.Up m ∷ ps) cut))
+no_label (part.Act a ∷ parts) none = no_label parts (λ before behind given cut. none (part.Act a ∷ before) behind given (ap (λ (ps : List Part). part.Act a ∷ ps) cut))
+no_label (part.Result c ∷ parts) none = no_label parts (λ before behind given cut. none (part.Result c ∷ before) behind given (ap (λ (ps : List Part). part.Result c ∷ ps) cut))
+no_label (part.Set a ∷ parts) none = no_label parts (λ before behind given cut. none (part.Set a ∷ before) behind given (ap (λ (ps : List Part). part.Set a ∷ ps) cut))
+no_label (part.Label l ∷ parts) none = absurd (none [] parts l refl)
+no_label (part.Goto l ∷ parts) none = no_label parts (λ before behind given cut. none (part.Goto l ∷ before) behind given (ap (λ (ps : List Part). part.Goto l ∷ ps) cut))
+
+goto_again : (before behind : List Part) (given name : List ℕ) → given_again (filter_map goto_in (before ++ part.Goto given ∷ behind)) name ≡ finding GivenTwice name ∷ []
+goto_again [] behind given name = refl
+goto_again (part.Plain m ∷ before) behind given name = goto_again before behind given name
+goto_again (part.Up m ∷ before) behind given name = goto_again before behind given name
+goto_again (part.Act a ∷ before) behind given name = goto_again before behind given name
+goto_again (part.Result c ∷ before) behind given name = goto_again before behind given name
+goto_again (part.Set a ∷ before) behind given name = goto_again before behind given name
+goto_again (part.Label l ∷ before) behind given name = goto_again before behind given name
+goto_again (part.Goto l ∷ before) behind given name = refl
+
+no_goto : (parts : List Part) → ((before behind : List Part) (given : List ℕ) → parts ≡ before ++ part.Goto given ∷ behind → ⊥) → filter_map goto_in parts ≡ []
+no_goto [] none = refl
+no_goto (part.Plain m ∷ parts) none = no_goto parts (λ before behind given cut. none (part.Plain m ∷ before) behind given (ap (λ (ps : List Part). part.Plain m ∷ ps) cut))
+no_goto (part.Up m ∷ parts) none = no_goto parts (λ before behind given cut. none (part.Up m ∷ before) behind given (ap (λ (ps : List Part). part.Up m ∷ ps) cut))
+no_goto (part.Act a ∷ parts) none = no_goto parts (λ before behind given cut. none (part.Act a ∷ before) behind given (ap (λ (ps : List Part). part.Act a ∷ ps) cut))
+no_goto (part.Result c ∷ parts) none = no_goto parts (λ before behind given cut. none (part.Result c ∷ before) behind given (ap (λ (ps : List Part). part.Result c ∷ ps) cut))
+no_goto (part.Set a ∷ parts) none = no_goto parts (λ before behind given cut. none (part.Set a ∷ before) behind given (ap (λ (ps : List Part). part.Set a ∷ ps) cut))
+no_goto (part.Label l ∷ parts) none = no_goto parts (λ before behind given cut. none (part.Label l ∷ before) behind given (ap (λ (ps : List Part). part.Label l ∷ ps) cut))
+no_goto (part.Goto l ∷ parts) none = absurd (none [] parts l refl)
+
+-- what is said of a part more
+told_again : (parts : List Part) (p : Part) (name : List ℕ) → again_in parts p ≡ finding GivenTwice name ∷ [] → given_again_behind [] (parts ++ p ∷ []) ≡ given_again_behind [] parts ++ finding GivenTwice name ∷ []
+told_again parts p name e = said_behind [] parts p ∙ ap (λ (fs : List Finding). given_again_behind [] parts ++ fs) e
+
+said_of_again : (before : List Part) (earlier : Part) (behind : List Part) (p : Part) (name : List ℕ) → GivesAgain earlier p name → again_in (before ++ earlier ∷ behind) p ≡ finding GivenTwice name ∷ []
+said_of_again before (part.Label given) behind (part.Label later) name e = label_again before behind given later ∙ ap (λ (n : List ℕ). finding GivenTwice n ∷ []) e
+said_of_again before (part.Goto given) behind (part.Goto later) name e = goto_again before behind given later ∙ ap (λ (n : List ℕ). finding GivenTwice n ∷ []) e
+said_of_again before (part.Plain m) behind (part.Plain w) name e = absurd e
+said_of_again before (part.Plain m) behind (part.Up w) name e = absurd e
+said_of_again before (part.Plain m) behind (part.Act w) name e = absurd e
+said_of_again before (part.Plain m) behind (part.Result w) name e = absurd e
+said_of_again before (part.Plain m) behind (part.Set w) name e = absurd e
+said_of_again before (part.Plain m) behind (part.Label w) name e = absurd e
+said_of_again before (part.Plain m) behind (part.Goto w) name e = absurd e
+said_of_again before (part.Up m) behind (part.Plain w) name e = absurd e
+said_of_again before (part.Up m) behind (part.Up w) name e = absurd e
+said_of_again before (part.Up m) behind (part.Act w) name e = absurd e
+said_of_again before (part.Up m) behind (part.Result w) name e = absurd e
+said_of_again before (part.Up m) behind (part.Set w) name e = absurd e
+said_of_again before (part.Up m) behind (part.Label w) name e = absurd e
+said_of_again before (part.Up m) behind (part.Goto w) name e = absurd e
+said_of_again before (part.Act a) behind (part.Plain w) name e = absurd e
+said_of_again before (part.Act a) behind (part.Up w) name e = absurd e
+said_of_again before (part.Act a) behind (part.Act w) name e = absurd e
+said_of_again before (part.Act a) behind (part.Result w) name e = absurd e
+said_of_again before (part.Act a) behind (part.Set w) name e = absurd e
+said_of_again before (part.Act a) behind (part.Label w) name e = absurd e
+said_of_again before (part.Act a) behind (part.Goto w) name e = absurd e
+said_of_again before (part.Result c) behind (part.Plain w) name e = absurd e
+said_of_again before (part.Result c) behind (part.Up w) name e = absurd e
+said_of_again before (part.Result c) behind (part.Act w) name e = absurd e
+said_of_again before (part.Result c) behind (part.Result w) name e = absurd e
+said_of_again before (part.Result c) behind (part.Set w) name e = absurd e
+said_of_again before (part.Result c) behind (part.Label w) name e = absurd e
+said_of_again before (part.Result c) behind (part.Goto w) name e = absurd e
+said_of_again before (part.Set a) behind (part.Plain w) name e = absurd e
+said_of_again before (part.Set a) behind (part.Up w) name e = absurd e
+said_of_again before (part.Set a) behind (part.Act w) name e = absurd e
+said_of_again before (part.Set a) behind (part.Result w) name e = absurd e
+said_of_again before (part.Set a) behind (part.Set w) name e = absurd e
+said_of_again before (part.Set a) behind (part.Label w) name e = absurd e
+said_of_again before (part.Set a) behind (part.Goto w) name e = absurd e
+said_of_again before (part.Label l) behind (part.Plain w) name e = absurd e
+said_of_again before (part.Label l) behind (part.Up w) name e = absurd e
+said_of_again before (part.Label l) behind (part.Act w) name e = absurd e
+said_of_again before (part.Label l) behind (part.Result w) name e = absurd e
+said_of_again before (part.Label l) behind (part.Set w) name e = absurd e
+said_of_again before (part.Label l) behind (part.Goto w) name e = absurd e
+said_of_again before (part.Goto l) behind (part.Plain w) name e = absurd e
+said_of_again before (part.Goto l) behind (part.Up w) name e = absurd e
+said_of_again before (part.Goto l) behind (part.Act w) name e = absurd e
+said_of_again before (part.Goto l) behind (part.Result w) name e = absurd e
+said_of_again before (part.Goto l) behind (part.Set w) name e = absurd e
+said_of_again before (part.Goto l) behind (part.Label w) name e = absurd e
+
+said_once : (parts : List Part) (p : Part) → ((name : List ℕ) → IsGivenAmong parts p name → ⊥) → again_in parts p ≡ []
+said_once parts (part.Plain m) none = refl
+said_once parts (part.Up m) none = refl
+said_once parts (part.Act a) none = refl
+said_once parts (part.Result c) none = refl
+said_once parts (part.Set a) none = refl
+said_once parts (part.Label later) none =
+    let gone : filter_map label_in parts ≡ [] = no_label parts (λ before behind given cut. none later (record { before = before; earlier = part.Label given; behind = behind; cut = cut; again = refl })) in
+    ap (λ (names : List (List ℕ)). given_again names later) gone
+said_once parts (part.Goto later) none =
+    let gone : filter_map goto_in parts ≡ [] = no_goto parts (λ before behind given cut. none later (record { before = before; earlier = part.Goto given; behind = behind; cut = cut; again = refl })) in
+    ap (λ (names : List (List ℕ)). given_again names later) gone
+
+pub is_told : (parts : List Part) (p : Part) → IsToldWhereAgain parts p
+is_told parts p = record {
+  again = λ name g. told_again parts p name (ap (λ (ps : List Part). again_in ps p) g.cut ∙ said_of_again g.before g.earlier g.behind p name g.again);
+  once = λ none. none_said parts p (said_once parts p none);
+}

@@ -1,0 +1,205 @@
+-- Gaps of which nothing is to be said.
+use Rattle.std.proofs.Common.{◌≡◌, ◌↔◌, ℕ, ◌+◌, ◌<◌, ◌==◌, ◌&&◌, ◌||◌, Bool, true, false, cond, List, [], ◌∷◌, ◌++◌, length, drop, refl, ap, sym, ◌∙◌, arith}
+use Rattle.std.proofs.lemmas.Bool.{eq-eqb, eqb-true, false≢true}
+use Rattle.std.specs.List.{list_all}
+use Rattle.std.proofs.lemmas.List.Sums.{sum_by-append, sum_by-cons}
+use Rattle.text_bytes.specs.Names.{comma, is_blank}
+use Rattle.text_bytes.specs.declared.message.MessageKind.TheVariants.{BlankExpected, CommaExpected, ReadAsAssign}
+use Rattle.rule_tokens.specs.Grammar.{AllAre, Placed, is_gap_byte}
+use Rattle.rule_tokens.specs.Values.{ends_in}
+use Rattle.rule_parts.specs.Parts.{is_read_as_assign}
+use Rattle.rule_parts.specs.Values.{finding}
+use Rattle.rule_parts.specs.declared.finding.Finding.{Finding}
+use Rattle.rule_core.specs.Laws.{IsPlain, IsPlainBehind, IsPlainGap}
+use Rattle.rule_core.specs.Places.{AreGaps, AreGapsBehind}
+use Rattle.rule_core.specs.Style.{between, commas, gap_findings, operator_findings, style_behind, style_findings}
+
+-- ---- bytes
+
+both : (a b : Bool) → (a && b) ≡ true → (a ≡ true) × (b ≡ true)
+both true b e = (refl, e)
+both false b e = cc
+
+-- a byte of a gap that is no comma is a blank
+is_blank_byte : (b : ℕ) → is_gap_byte b ≡ true → (b == comma) ≡ false → is_blank b ≡ true
+is_blank_byte b g n = by (is_blank b) refl
+  where
+    by : (c : Bool) → is_blank b ≡ c → c ≡ true
+    by true e = refl
+    by false e = absurd (false≢true (sym (ap (λ d. d || (b == comma)) e ∙ n) ∙ g))
+
+-- a blank is no comma
+no_comma : (b : ℕ) → is_blank b ≡ true → (b == comma) ≡ false
+no_comma b e = by (b == comma) refl
+  where
+    by : (c : Bool) → (b == comma) ≡ c → c ≡ false
+    by true f = absurd (false≢true (ap is_blank (sym (eqb-true b comma f)) ∙ e))
+    by false f = refl
+
+one_more : (b : ℕ) (gap : List ℕ) → commas (b ∷ gap) ≡ cond (b == comma) 1 0 + commas gap
+one_more b gap = sum_by-cons (λ c. cond (c == comma) 1 0) b gap
+
+-- ---- no comma
+
+blank_so : (gap : List ℕ) → AllAre is_gap_byte gap → commas gap ≡ 0 → AllAre is_blank gap
+blank_so [] g n = refl
+blank_so (b ∷ gap) g n = by (b == comma) refl (blank_so gap)
+  where
+    byte : (is_gap_byte b ≡ true) × AllAre is_gap_byte gap
+    byte = both (is_gap_byte b) (list_all is_gap_byte gap) g
+
+    count : (c : Bool) → (b == comma) ≡ c → cond c 1 0 + commas gap ≡ 0
+    count c e = ap (λ d. cond d 1 0 + commas gap) (sym e) ∙ sym (one_more b gap) ∙ n
+
+    by : (c : Bool) → (b == comma) ≡ c → (AllAre is_gap_byte gap → commas gap ≡ 0 → AllAre is_blank gap) → AllAre is_blank (b ∷ gap)
+    by true e more = let one : 1 + commas gap ≡ 0 = count true e in absurd (omega arith)
+    by false e more =
+        let none : 0 + commas gap ≡ 0 = count false e in
+        ap (λ d. d && list_all is_blank gap) (is_blank_byte b byte.0 e) ∙ more byte.1 (omega arith)
+
+not_counted : (c : Bool) (n : ℕ) → c ≡ false → cond c 1 0 + n ≡ n
+not_counted true n e = cc
+not_counted false n e = omega arith
+
+so_blank : (gap : List ℕ) → AllAre is_blank gap → commas gap ≡ 0
+so_blank [] h = refl
+so_blank (b ∷ gap) h =
+    let two = both (is_blank b) (list_all is_blank gap) h in
+    one_more b gap ∙ not_counted (b == comma) (commas gap) (no_comma b two.0) ∙ so_blank gap two.1
+
+-- ---- one comma
+
+ends_behind : (b c : ℕ) (gap : List ℕ) → 0 < length gap → ends_in c (b ∷ gap) ≡ ends_in c gap
+ends_behind b c [] h = absurd (omega arith)
+ends_behind b c (d ∷ gap) h = refl
+
+plain_so : (gap : List ℕ) → AllAre is_gap_byte gap → commas gap ≡ 1 → ends_in comma gap ≡ false → IsPlainGap gap
+plain_so [] g n e = let none : 0 ≡ 1 = n in absurd (omega arith)
+plain_so (b ∷ gap) g n e = by (b == comma) refl (plain_so gap)
+  where
+    byte : (is_gap_byte b ≡ true) × AllAre is_gap_byte gap
+    byte = both (is_gap_byte b) (list_all is_gap_byte gap) g
+
+    count : (c : Bool) → (b == comma) ≡ c → cond c 1 0 + commas gap ≡ 1
+    count c f = ap (λ d. cond d 1 0 + commas gap) (sym f) ∙ sym (one_more b gap) ∙ n
+
+    some : (gap : List ℕ) → (b == comma) ≡ true → ends_in comma (b ∷ gap) ≡ false → 0 < length gap
+    some [] f e = absurd (false≢true (sym e ∙ f))
+    some (c ∷ gap) f e = omega arith
+
+    here : b ≡ comma → commas gap ≡ 0 → 0 < length gap → IsPlainGap (b ∷ gap)
+    here same none h = record {
+      before = [];
+      behind = gap;
+      spelled = ap (λ c. c ∷ gap) same;
+      blank_before = refl;
+      blank_behind = blank_so gap byte.1 none;
+      some_behind = h;
+    }
+
+    farther : is_blank b ≡ true → IsPlainGap gap → IsPlainGap (b ∷ gap)
+    farther blank p = record {
+      before = b ∷ p.before;
+      behind = p.behind;
+      spelled = ap (λ rest. b ∷ rest) p.spelled;
+      blank_before = ap (λ d. d && list_all is_blank p.before) blank ∙ p.blank_before;
+      blank_behind = p.blank_behind;
+      some_behind = p.some_behind;
+    }
+
+    long : (gap : List ℕ) → commas gap ≡ 1 → 0 < length gap
+    long [] f = let none : 0 ≡ 1 = f in absurd (omega arith)
+    long (c ∷ gap) f = omega arith
+
+    by : (c : Bool) → (b == comma) ≡ c → (AllAre is_gap_byte gap → commas gap ≡ 1 → ends_in comma gap ≡ false → IsPlainGap gap) → IsPlainGap (b ∷ gap)
+    by true f more =
+        let one : 1 + commas gap ≡ 1 = count true f in
+        here (eqb-true b comma f) (omega arith) (some gap f e)
+    by false f more =
+        let one : 0 + commas gap ≡ 1 = count false f in
+        let same : commas gap ≡ 1 = omega arith in
+        farther (is_blank_byte b byte.0 f) (more byte.1 same (sym (ends_behind b comma gap (long gap same)) ∙ e))
+
+commas_both : (xs ys : List ℕ) → commas (xs ++ ys) ≡ commas xs + commas ys
+commas_both xs ys = sum_by-append (λ c. cond (c == comma) 1 0) xs ys
+
+one_comma : (gap : List ℕ) → IsPlainGap gap → commas gap ≡ 1
+one_comma gap p =
+    let all : commas gap ≡ commas p.before + commas (comma ∷ p.behind) = ap commas p.spelled ∙ commas_both p.before (comma ∷ p.behind) in
+    let last : commas (comma ∷ p.behind) ≡ 1 + commas p.behind = one_more comma p.behind in
+    let none : commas p.before ≡ 0 = so_blank p.before p.blank_before in
+    let neither : commas p.behind ≡ 0 = so_blank p.behind p.blank_behind in
+    omega (arith, all, last, none, neither)
+
+ends_blank : (gap : List ℕ) → 0 < length gap → AllAre is_blank gap → ends_in comma gap ≡ false
+ends_blank [] h a = absurd (omega arith)
+ends_blank (b ∷ []) h a = no_comma b (both (is_blank b) true a).0
+ends_blank (b ∷ c ∷ gap) h a = ends_blank (c ∷ gap) (omega arith) (both (is_blank b) (list_all is_blank (c ∷ gap)) a).1
+
+ends_far : (before behind : List ℕ) → 0 < length behind → AllAre is_blank behind → ends_in comma (before ++ comma ∷ behind) ≡ false
+ends_far [] behind h a = ends_behind comma comma behind h ∙ ends_blank behind h a
+ends_far (b ∷ []) behind h a = ends_far [] behind h a
+ends_far (b ∷ c ∷ before) behind h a = ends_far (c ∷ before) behind h a
+
+-- ---- what is to be said
+
+front_empty : (xs ys : List Finding) → xs ++ ys ≡ [] → xs ≡ []
+front_empty [] ys e = refl
+front_empty (x ∷ xs) ys e = cc
+
+back_empty : (xs ys : List Finding) → xs ++ ys ≡ [] → ys ≡ []
+back_empty [] ys e = e
+back_empty (x ∷ xs) ys e = cc
+
+both_empty : (xs ys : List Finding) → xs ≡ [] → ys ≡ [] → xs ++ ys ≡ []
+both_empty xs ys e f = ap (λ zs. zs ++ ys) e ∙ f
+
+unsaid : (b : Bool) (f : Finding) → cond b (f ∷ []) [] ≡ [] → b ≡ false
+unsaid true f e = cc
+unsaid false f e = refl
+
+passed : (b : Bool) (f : Finding) → cond b [] (f ∷ []) ≡ [] → b ≡ true
+passed true f e = refl
+passed false f e = cc
+
+gap_passed : (gap key : List ℕ) → AllAre is_gap_byte gap → gap_findings gap key ≡ [] → IsPlainGap gap
+gap_passed gap key g e =
+    let first : List Finding = cond (commas gap == 1) [] (finding CommaExpected key ∷ []) in
+    let second : List Finding = cond (ends_in comma gap) (finding BlankExpected key ∷ []) [] in
+    plain_so gap g (eqb-true (commas gap) 1 (passed (commas gap == 1) (finding CommaExpected key) (front_empty first second e))) (unsaid (ends_in comma gap) (finding BlankExpected key) (back_empty first second e))
+
+plain_gap_passed : (gap key : List ℕ) → IsPlainGap gap → gap_findings gap key ≡ []
+plain_gap_passed gap key p =
+    both_empty (cond (commas gap == 1) [] (finding CommaExpected key ∷ [])) (cond (ends_in comma gap) (finding BlankExpected key ∷ []) [])
+    (ap (λ b. cond b [] (finding CommaExpected key ∷ [])) (eq-eqb (commas gap) 1 (one_comma gap p)))
+    (ap (λ b. cond b (finding BlankExpected key ∷ []) []) (ap (ends_in comma) p.spelled ∙ ends_far p.before p.behind p.some_behind p.blank_behind))
+
+behind_passed : (line : List ℕ) (place : ℕ) (tokens : List Placed) → AreGapsBehind line place tokens → style_behind line place tokens ≡ [] → IsPlainBehind line place tokens
+behind_passed line place [] g e = blank_so (drop place line) g (eqb-true (commas (drop place line)) 0 (passed (commas (drop place line) == 0) (finding CommaExpected []) e))
+behind_passed line place (t ∷ tokens) g e =
+    let gap : List Finding = gap_findings (between place t.span.start line) t.parts.head.key in
+    let others : List Finding = operator_findings t ++ style_behind line t.span.end tokens in
+    let rest = back_empty gap others e in (
+      gap_passed (between place t.span.start line) t.parts.head.key g.0 (front_empty gap others e),
+      unsaid (is_read_as_assign t) (finding ReadAsAssign t.parts.head.key) (front_empty (operator_findings t) (style_behind line t.span.end tokens) rest),
+      behind_passed line t.span.end tokens g.1 (back_empty (operator_findings t) (style_behind line t.span.end tokens) rest),
+    )
+
+unread : (t : Placed) → is_read_as_assign t ≡ false → operator_findings t ≡ []
+unread t e = ap (λ b. cond b (finding ReadAsAssign t.parts.head.key ∷ []) []) e
+
+plain_behind_passed : (line : List ℕ) (place : ℕ) (tokens : List Placed) → IsPlainBehind line place tokens → style_behind line place tokens ≡ []
+plain_behind_passed line place [] p = ap (λ b. cond b [] (finding CommaExpected [] ∷ [])) (eq-eqb (commas (drop place line)) 0 (so_blank (drop place line) p))
+plain_behind_passed line place (t ∷ tokens) p =
+    both_empty (gap_findings (between place t.span.start line) t.parts.head.key) (operator_findings t ++ style_behind line t.span.end tokens) (plain_gap_passed (between place t.span.start line) t.parts.head.key p.0)
+    (both_empty (operator_findings t) (style_behind line t.span.end tokens) (unread t p.1) (plain_behind_passed line t.span.end tokens p.2))
+
+pub plain_is_passed : (line : List ℕ) (tokens : List Placed) → AreGaps line tokens → (style_findings line tokens ≡ []) ↔ IsPlain line tokens
+plain_is_passed line [] g = (λ e. tt, λ p. refl)
+plain_is_passed line (t ∷ tokens) g = (
+  λ e. (
+    unsaid (is_read_as_assign t) (finding ReadAsAssign t.parts.head.key) (front_empty (operator_findings t) (style_behind line t.span.end tokens) e),
+    behind_passed line t.span.end tokens g (back_empty (operator_findings t) (style_behind line t.span.end tokens) e),
+  ),
+  λ p. both_empty (operator_findings t) (style_behind line t.span.end tokens) (unread t p.0) (plain_behind_passed line t.span.end tokens p.1),
+)

@@ -1,0 +1,31 @@
+-- The joined lines of a file with what becomes of their jumps, some lines below others.
+use Rattle.std.proofs.Common.{ℕ, List, map, zip}
+use Rattle.std.specs.List.{flat_map}
+use Rattle.text_bytes.specs.declared.message.Message.{Message}
+use Rattle.rule_core.specs.Lines.{NumberedLine}
+use Rattle.rule_core.specs.Drafts.{draft_of}
+use Rattle.rule_jumps.specs.Jumps.{Names, is_lost, is_unused, landings_below}
+use Rattle.rule_jumps.specs.declared.jumps.Landing.{Landing}
+use Rattle.rule_types.specs.Rules.{Rule}
+use Rattle.rule_core.specs.Rules.{Reading, line_messages, line_rules, names_of, reading_of}
+
+-- the names of lines for jumps
+abbrev pub names_in : List NumberedLine → List Names
+names_in ls = map (λ r. names_of r.read) (map reading_of ls)
+
+-- the names of a line for jumps
+abbrev pub names_at : NumberedLine → Names
+names_at l = names_of (draft_of l.text)
+
+-- what becomes of the jumps of a line, below those above and above those below
+abbrev pub landing_at : List Names → NumberedLine → List NumberedLine → Landing
+landing_at above l ls = record { lost = is_lost (names_at l).goto (names_in ls); unused = is_unused (names_at l).label above }
+
+abbrev pub landed_below : List Names → List NumberedLine → List (Reading × Landing)
+landed_below above ls = zip (map reading_of ls) (landings_below above (names_in ls))
+
+abbrev pub told_below : List ℕ → List Names → List NumberedLine → List Message
+told_below file above ls = flat_map (λ x. line_messages file x.0.line x.0.read x.1) (landed_below above ls)
+
+abbrev pub rules_below : List ℕ → List Names → List NumberedLine → List Rule
+rules_below file above ls = flat_map (λ x. line_rules file x.0.line x.0.read x.1) (landed_below above ls)

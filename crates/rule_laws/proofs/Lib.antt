@@ -1,0 +1,20 @@
+pub mod Nuls
+pub mod Standing
+pub mod RunLaws
+mod Labelled
+mod Reached
+mod Placed
+pub mod Law
+pub mod TemplatesAgain
+mod Conditions
+mod Again
+mod Counting
+mod GapPlaces
+mod Gaps
+mod Landed
+mod Numbering
+mod Listing
+mod Ordering
+mod Outcomes
+mod Understanding
+mod Landing

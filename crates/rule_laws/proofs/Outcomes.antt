@@ -1,0 +1,118 @@
+-- Each joined line comes to one rule, or to no rule and one message.
+use Rattle.std.proofs.Common.{◌≡◌, ◌↔◌, ℕ, ◌||◌, Bool, true, false, not, cond, List, [], ◌∷◌, ◌++◌, Option, Some, None, Result, Ok, Err, refl, sym, ◌∙◌, ap}
+use Rattle.std.proofs.lemmas.Bool.{false≢true}
+use Rattle.std.proofs.lemmas.List.Folds.{Any-from_list_any, list_any-from_Any}
+use Rattle.std.specs.Cmp.Lexicographic.{bytes_decides}
+use Rattle.std.specs.List.{flat_map, list_any}
+use Rattle.text_bytes.specs.declared.message.Message.{Message}
+use Rattle.text_bytes.specs.declared.source_file.SourceFile.{SourceFile}
+use Rattle.rule_core.specs.Lines.{NumberedLine, joined_lines}
+use Rattle.rule_parts.specs.declared.finding.Finding.{Finding}
+use Rattle.rule_core.specs.Drafts.{Draft, draft_of}
+use Rattle.rule_jumps.specs.Jumps.{Names, has_label, is_lost, is_named, is_unused, landings}
+use Rattle.rule_jumps.specs.declared.jumps.Landing.{Landing}
+use Rattle.rule_laws.specs.Outcomes.{AllComeTo, ComesTo, HasLabel, IsReadByLine, Outcome, messages_in, one_message, one_rule, rules_in}
+use Rattle.rule_types.specs.Rules.{Rule}
+use Rattle.rule_core.specs.Rules.{line_messages, line_rules, message_at, names_of, open_messages, rule_at}
+use Rattle.rule_laws.proofs.Landed.{landing_at, names_at, names_in, rules_below, told_below}
+
+-- ---- labels of rules
+
+-- a name that is found is the name
+pub named_so : (name : List ℕ) (label : Option (List ℕ)) → is_named name label ≡ true → label ≡ Some name
+named_so name None h = absurd (false≢true h)
+named_so name (Some other) h = ap (λ n. Some n) (sym ((bytes_decides name other).0 h))
+
+so_named : (name : List ℕ) (label : Option (List ℕ)) → label ≡ Some name → is_named name label ≡ true
+so_named name label e = ap (is_named name) e ∙ (bytes_decides name name).1 refl
+
+-- whether one of these rules bears the label
+abbrev pub bears : List ℕ → List Rule → Bool
+bears name rules = list_any (λ r. is_named name r.label) rules
+
+bears_so : (name : List ℕ) (rules : List Rule) → bears name rules ≡ true → HasLabel name rules
+bears_so name rules h =
+    let a = Any-from_list_any (λ (r : Rule). is_named name r.label) rules h in
+    (a.0, a.1, a.2, a.3, named_so name a.1.label a.4)
+
+pub so_bears : (name : List ℕ) (rules : List Rule) → HasLabel name rules → bears name rules ≡ true
+so_bears name rules a = list_any-from_Any (λ (r : Rule). is_named name r.label) rules (a.0, a.1, a.2, a.3, so_named name a.1.label a.4)
+
+-- the rules of lines bear the labels of the lines
+same_labels : (file : List ℕ) (above : List Names) (ls : List NumberedLine) (name : List ℕ) → bears name (rules_below file above ls) ≡ has_label name (names_in ls)
+same_labels file above [] name = refl
+same_labels file above (l ∷ ls) name = by (draft_of l.text) (landing_at above l ls) (rules_below file (names_at l ∷ above) ls) (same_labels file (names_at l ∷ above) ls name)
+  where
+    by : (read : Result Draft Finding) (k : Landing) (rules : List Rule) → bears name rules ≡ has_label name (names_in ls)
+        → bears name (line_rules file l.number read k ++ rules) ≡ (is_named name (names_of read).label || has_label name (names_in ls))
+    by (Ok d) k rules e = ap (λ b. is_named name d.label || b) e
+    by (Err wrong) k rules e = e
+
+-- a jump is kept exactly where one of these rules bears its label
+jump_kept : (goto : Option (List ℕ)) (below : List Names) (rules : List Rule) → ((name : List ℕ) → bears name rules ≡ has_label name below)
+    → (name : List ℕ) → (cond (is_lost goto below) None goto ≡ Some name) ↔ ((goto ≡ Some name) × HasLabel name rules)
+jump_kept None below rules same name = (λ e. cc, λ h. h.0)
+jump_kept (Some other) below rules same name = by (has_label other below) refl
+  where
+    one : Some other ≡ Some name → other ≡ name
+    one e = cc
+
+    by : (b : Bool) → has_label other below ≡ b → (cond (not b) None (Some other) ≡ Some name) ↔ ((Some other ≡ Some name) × HasLabel name rules)
+    by true e = (λ s. (s, bears_so name rules (same name ∙ ap (λ n. has_label n below) (sym (one s)) ∙ e)), λ h. h.0)
+    by false e = (λ s. cc, λ h. absurd (false≢true (sym e ∙ ap (λ n. has_label n below) (one h.0) ∙ sym (same name) ∙ so_bears name rules h.1)))
+
+-- ---- lines
+
+-- what a line comes to that is read so
+abbrev outcome_of : List ℕ → ℕ → Result Draft Finding → Landing → Outcome
+outcome_of file n (Ok d) k = one_rule (rule_at file n d k) (line_messages file n (Ok d) k)
+outcome_of file n (Err wrong) k = one_message (message_at file n wrong)
+
+-- what lines below others come to
+abbrev outcomes_below : List ℕ → List Names → List NumberedLine → List Outcome
+outcomes_below file above [] = []
+outcomes_below file above (l ∷ ls) = outcome_of file l.number (draft_of l.text) (landing_at above l ls) ∷ outcomes_below file (names_at l ∷ above) ls
+
+rules_are : (file : List ℕ) (above : List Names) (ls : List NumberedLine) → rules_below file above ls ≡ flat_map rules_in (outcomes_below file above ls)
+rules_are file above [] = refl
+rules_are file above (l ∷ ls) = by (draft_of l.text) (landing_at above l ls) (rules_below file (names_at l ∷ above) ls) (outcomes_below file (names_at l ∷ above) ls) (rules_are file (names_at l ∷ above) ls)
+  where
+    by : (read : Result Draft Finding) (k : Landing) (rules : List Rule) (os : List Outcome) → rules ≡ flat_map rules_in os → line_rules file l.number read k ++ rules ≡ flat_map rules_in (outcome_of file l.number read k ∷ os)
+    by (Ok d) k rules os e = ap (λ rs. rule_at file l.number d k ∷ rs) e
+    by (Err wrong) k rules os e = e
+
+messages_are : (file : List ℕ) (above : List Names) (ls : List NumberedLine) → told_below file above ls ≡ flat_map messages_in (outcomes_below file above ls)
+messages_are file above [] = refl
+messages_are file above (l ∷ ls) = by (draft_of l.text) (landing_at above l ls) (told_below file (names_at l ∷ above) ls) (outcomes_below file (names_at l ∷ above) ls) (messages_are file (names_at l ∷ above) ls)
+  where
+    by : (read : Result Draft Finding) (k : Landing) (told : List Message) (os : List Outcome) → told ≡ flat_map messages_in os → line_messages file l.number read k ++ told ≡ flat_map messages_in (outcome_of file l.number read k ∷ os)
+    by (Ok d) k told os e = ap (λ ms. line_messages file l.number (Ok d) k ++ ms) e
+    by (Err wrong) k told os e = ap (λ ms. message_at file l.number wrong ∷ ms) e
+
+all_come : (file : List ℕ) (above : List Names) (ls : List NumberedLine) → AllComeTo file ls (outcomes_below file above ls)
+all_come file above [] = tt
+all_come file above (l ∷ ls) = (by (draft_of l.text) refl, all_come file (names_at l ∷ above) ls)
+  where
+    behind : List Rule
+    behind = flat_map rules_in (outcomes_below file (names_at l ∷ above) ls)
+
+    by : (read : Result Draft Finding) → draft_of l.text ≡ read
+        → ComesTo file l (outcome_of file l.number read (record { lost = is_lost (names_of read).goto (names_in ls); unused = is_unused (names_of read).label above })) behind
+    by (Err wrong) e = record { wrong = wrong; reads = e; is = refl }
+    by (Ok d) e = record {
+      draft = d;
+      landing = record { lost = is_lost d.goto (names_in ls); unused = is_unused d.label above };
+      reads = e;
+      is = refl;
+      told = refl;
+      jump = jump_kept d.goto (names_in ls) behind (λ name. ap (bears name) (sym (rules_are file (names_at l ∷ above) ls)) ∙ same_labels file (names_at l ∷ above) ls name);
+    }
+
+pub read_by_line : (f : SourceFile) → IsReadByLine f
+unfolding landings
+read_by_line f = record {
+  outcomes = outcomes_below f.name [] (joined_lines f.bytes).lines;
+  each = all_come f.name [] (joined_lines f.bytes).lines;
+  rules = rules_are f.name [] (joined_lines f.bytes).lines;
+  messages = ap (λ ms. ms ++ open_messages f.name (joined_lines f.bytes).open_at) (messages_are f.name [] (joined_lines f.bytes).lines);
+}

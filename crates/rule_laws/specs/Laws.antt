@@ -1,0 +1,43 @@
+-- What the rules of files come to, whatever stands in the files.
+use Rattle.std.specs.Prelude.{◌≡◌, ◌⊎◌, ℕ, true, false, List, [], map, All, Any, Contains, None, Ok}
+use Rattle.std.specs.List.{AllZip}
+use Rattle.text_bytes.specs.declared.source_file.SourceFile.{SourceFile}
+use Rattle.rule_core.specs.Lines.{NumberedLine, Piece, is_comment, joined_lines, kept, lines, numbered_from, piece_of, run_number, run_text, runs, unindented}
+use Rattle.text_bytes.specs.Messages.{capped}
+use Rattle.rule_core.specs.Drafts.{Draft, draft_of}
+use Rattle.rule_jumps.specs.declared.jumps.Landing.{Landing}
+use Rattle.rule_types.specs.Rules.{Rule}
+use Rattle.rule_core.specs.Rules.{file_rules, rule_at}
+
+-- neither a jump without its label nor a label that no jump ends at
+abbrev pub well_landed : Landing
+well_landed = record { lost = false; unused = false }
+
+-- a rule is a joined line just as it is written, its jump and its label included, and nothing is to be said of it
+pub record IsWritten (file : List ℕ) (l : NumberedLine) (r : Rule) : Type 0 where
+  pub draft : Draft
+  pub reads : draft_of l.text ≡ Ok draft
+  pub is : r ≡ rule_at file l.number draft well_landed
+  pub quiet : draft.findings ≡ []
+
+-- the physical lines of a file, as they are written
+abbrev pub written_lines : SourceFile → List NumberedLine
+written_lines f = numbered_from 1 (lines f.bytes)
+
+-- the runs of physical lines that are joined, comments left out
+abbrev pub runs_of : SourceFile → List (List Piece)
+runs_of f = runs (map piece_of (kept (written_lines f)))
+
+-- lines that are joined are empty, or one of these rules, at the number of their first
+abbrev pub IsEmptyOrRule : List Rule → List Piece → Type 0
+IsEmptyOrRule rules run = (run_text run ≡ []) ⊎ Contains (map (λ r. r.line) rules) (capped (run_number run))
+
+-- a physical line of a file is a comment, or one of lines that are joined and are empty or a rule
+abbrev pub IsKnown : SourceFile → NumberedLine → Type 0
+IsKnown f l = (is_comment (unindented l) ≡ true) ⊎ Any (λ run. Contains run (piece_of (unindented l)) × IsEmptyOrRule (file_rules f) run) (runs_of f)
+
+-- All that stands in a file is understood: its joined lines are its rules, none is open at its end, and each physical line is a rule or part of one, empty, or a comment.
+pub record IsUnderstood (f : SourceFile) : Type 0 where
+  pub rules : AllZip (IsWritten f.name) (joined_lines f.bytes).lines (file_rules f)
+  pub closed : (joined_lines f.bytes).open_at ≡ None
+  pub lines : All (IsKnown f) (written_lines f)

@@ -1,0 +1,40 @@
+-- The order of the messages about a file.
+use Rattle.std.specs.Prelude.{◌≡◌, ◌<◌, ◌≤◌, ◌^◌, ◌-◌, ℕ, List, [], ◌∷◌, ⊤}
+use Rattle.text_bytes.specs.declared.message.Message.{Message}
+use Rattle.text_bytes.specs.declared.message.MessageKind.{MessageKind}
+use Rattle.text_bytes.specs.declared.message.MessageKind.TheVariants as kind
+
+-- where a message stands among those about one line, by its kind: the V by number, then S1 to S3, and S4 last; none of the database is among them
+abbrev pub rank : MessageKind → ℕ
+rank kind.BadSyntax = 1
+rank kind.UnknownKey = 2
+rank kind.OperatorNotAllowed = 3
+rank kind.WrongAttribute = 4
+rank kind.BadValue = 5
+rank kind.BadSubstitution = 6
+rank kind.NoLaterLabel = 7
+rank kind.GivenTwice = 8
+rank kind.LineTooLong = 9
+rank kind.BadPrefix = 10
+rank kind.SetNotSupported = 11
+rank kind.OpenAtEnd = 12
+rank kind.CommaExpected = 13
+rank kind.BlankExpected = 13
+rank kind.ReadAsAssign = 13
+rank kind.LabelUnused = 14
+rank other = 0
+
+-- a message stands rightly before another: its line is not behind the other's, and about one line its kind is not; lines over the greatest number that is told can't be told apart
+pub record StandsBefore (m n : Message) : Type 0 where
+  pub line : m.line ≤ n.line
+  pub rank : m.line ≡ n.line → m.line < 2 ^ 32 - 1 → rank m.kind ≤ rank n.kind
+
+-- a message stands rightly before the first of these, if there is one
+abbrev pub StandsBeforeAny : Message → List Message → Type 0
+StandsBeforeAny m [] = ⊤
+StandsBeforeAny m (n ∷ messages) = StandsBefore m n
+
+-- each message stands rightly before the next
+abbrev pub AreInOrder : List Message → Type 0
+AreInOrder [] = ⊤
+AreInOrder (m ∷ messages) = StandsBeforeAny m messages × AreInOrder messages

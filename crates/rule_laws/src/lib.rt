@@ -1,0 +1,12 @@
+//! Laws of rules: of lines, tokens, parts, templates and jumps, and of all that is read of rules files.
+//!
+//! A law is the contract of a function with an empty body. No code stands on this crate.
+#![tactic(auto)]
+
+pub mod drafts;
+pub mod jumps;
+pub mod lines;
+pub mod parts;
+pub mod rules;
+pub mod templates;
+pub mod tokens;

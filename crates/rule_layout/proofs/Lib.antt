@@ -1,4 +1,0 @@
-mod Counting
-pub mod Heading
-pub mod Placing
-pub mod Sketching

@@ -1,3 +1,0 @@
-pub mod Jumps
-pub mod Passes
-pub mod Sketches

@@ -1,9 +1,0 @@
--- Serves the inner proofs only: the bytes of a text, however they are held.
-use Rattle.std.specs.Prelude.{ℕ, List}
-use Rattle.rule_lines.specs.declared.text.Held.{Held}
-use Rattle.rule_lines.specs.declared.text.Held.TheVariants as held
-
--- the bytes of a text, one behind the other
-abbrev pub held_bytes : Held → List ℕ
-held_bytes (held.Whole s) = s.now
-held_bytes (held.Joined v) = v.items

@@ -1,5 +1,0 @@
-use Rattle.rule_parts.proofs.Conditions.{first_fault_counts}
-use Rattle.rule_parts.proofs.laws.the_first_fault_counts.Goals as goal
-
-pub returns : goal.returns
-returns c = first_fault_counts

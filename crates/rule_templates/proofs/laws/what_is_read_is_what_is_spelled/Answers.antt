@@ -1,5 +1,0 @@
-use Rattle.rule_templates.proofs.Law.{is_read}
-use Rattle.rule_templates.proofs.laws.what_is_read_is_what_is_spelled.Goals as goal
-
-pub returns : goal.returns
-returns c = is_read

@@ -1,5 +1,0 @@
-use Rattle.rule_tokens.proofs.Meanings.{one_meaning}
-use Rattle.rule_tokens.proofs.laws.value_has_one_meaning.Goals as goal
-
-pub returns : goal.returns
-returns c = one_meaning

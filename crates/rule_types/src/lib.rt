@@ -1,0 +1,25 @@
+//! What a rule is: its keys, what each of them takes, its parts, and the rule itself.
+//!
+//! Whoever evaluates rules needs these types and not how rules are read, so that they stand below both.
+#![tactic(auto)]
+
+mod keys;
+mod operators;
+mod part;
+mod roles;
+mod rule;
+mod rule_option;
+mod topics;
+mod types;
+mod written;
+mod written_parts;
+
+pub use keys::{Key, key_of};
+pub use operators::{is_read_as_assign, read_as};
+pub use part::{Act, Assignment, Change, Comparison, Deed, Import, Part, PlainMatch, UpMatch};
+pub use roles::{AssignOperator, MatchOperator, PlainKey, Role, Target, UpKey, role_of};
+pub use rule::Rule;
+pub use rule_option::RuleOption;
+pub use rule_tokens::Operator;
+pub use topics::{Topic, topic_of};
+pub use types::{ImportType, RunType, import_type_of, run_type_of};

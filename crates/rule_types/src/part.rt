@@ -1,0 +1,111 @@
+//! One part of a rule, by what it is for.
+
+use crate::roles::{AssignOperator, MatchOperator, PlainKey, Target, UpKey};
+use crate::rule_option::RuleOption;
+use crate::types::RunType;
+use rule_templates::Template;
+use text_bytes::Bytes;
+use text_core::Choice;
+
+/// A part of a rule: what one token asks for.
+#[derive(Debug, Drop)]
+pub enum Part {
+    /// A match of the event.
+    Plain(PlainMatch),
+    /// A match of one device of the chain.
+    Up(UpMatch),
+    /// Something that is done, and perhaps stops the rule.
+    Act(Act),
+    /// A match of the result of PROGRAM.
+    Result(Comparison),
+    /// An assignment.
+    Set(Assignment),
+    /// The name that jumps find the rule by.
+    Label(Bytes),
+    /// The label to which the rule jumps.
+    Goto(Bytes),
+}
+
+/// Patterns, and whether one of them is to fit or none.
+#[derive(Debug, Drop)]
+pub struct Comparison {
+    /// `==` where one is to fit, `!=` where none is.
+    pub operator: MatchOperator,
+    /// The patterns.
+    pub choice: Choice,
+}
+
+/// A match of the event.
+#[derive(Debug, Drop)]
+pub struct PlainMatch {
+    /// What is compared.
+    pub key: PlainKey,
+    /// What it is compared with.
+    pub wanted: Comparison,
+}
+
+/// A match of one device of the chain.
+#[derive(Debug, Drop)]
+pub struct UpMatch {
+    /// What is compared.
+    pub key: UpKey,
+    /// What it is compared with.
+    pub wanted: Comparison,
+}
+
+/// Something that is done while a rule is matched.
+#[derive(Debug, Drop)]
+pub struct Act {
+    /// `==` where the rule goes on if it is done, `!=` where it goes on if it is not.
+    pub operator: MatchOperator,
+    /// What is done.
+    pub deed: Deed,
+}
+
+/// What an act does.
+#[derive(Debug, Drop)]
+pub enum Deed {
+    /// TEST asks whether the event device has a file, with a mask of file modes if there is one.
+    Test(Option<Bytes>, Template),
+    /// PROGRAM asks for the output of a command.
+    Program(Template),
+    /// IMPORT takes properties.
+    Import(Import),
+}
+
+/// From where IMPORT takes properties.
+#[derive(Debug, Drop)]
+pub enum Import {
+    /// The output of a command.
+    Program(Template),
+    /// A command that is built into udev.
+    Builtin(Template),
+    /// A file, by its path.
+    File(Template),
+    /// The parent device: the properties whose names fit. Case counts.
+    Parent(Choice),
+    /// The kernel's command line, by a parameter's name.
+    Cmdline(Bytes),
+    /// udev's database, by a property's name.
+    Db(Bytes),
+}
+
+/// An assignment.
+#[derive(Debug, Drop)]
+pub struct Assignment {
+    /// How it stands to what was there. An operator that the key takes as `=` is that.
+    pub operator: AssignOperator,
+    /// What is changed.
+    pub change: Change,
+}
+
+/// What an assignment changes.
+#[derive(Debug, Drop)]
+pub enum Change {
+    /// An option of OPTIONS.
+    Option(RuleOption),
+    /// A text, once its substitutions are made.
+    Text(Target, Template),
+    /// RUN: a command that is run in the end, with its type if one is given; else it is a program.
+    Run(Option<RunType>, Template),
+}

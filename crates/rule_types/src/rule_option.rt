@@ -1,0 +1,20 @@
+//! What OPTIONS asks for.
+
+/// An option of a rule, as OPTIONS names it in udev(7).
+#[derive(Clone, Copy, Debug, PartialEq, Eq)]
+pub enum RuleOption {
+    /// `link_priority=N`: how links of this device stand against those of others.
+    LinkPriority(i32),
+    /// `string_escape=none`: no byte of a link or a name is replaced.
+    KeepEscapes,
+    /// `string_escape=replace`: spaces of a link are replaced too.
+    ReplaceEscapes,
+    /// `watch`: the device's node is watched for changes.
+    Watch,
+    /// `nowatch`: it is not.
+    NoWatch,
+    /// `db_persist`: what is known of the device stays when udev's database is cleared.
+    DbPersist,
+    /// `static_node=TEXT` or `log_level=TEXT`, which change nothing here.
+    Ignored,
+}

@@ -1,0 +1,163 @@
+//! What a token is about: its key with what stands in its braces.
+ghost use Rattle.std.specs.Prelude.{◌≡◌, IfSome, Some, option_map};
+ghost use Rattle.rule_types.specs.Names.{import_name, run_name};
+ghost use Rattle.std.specs.List.{prefix_len};
+ghost use Rattle.rule_types.specs.Written.{attribute_of_topic, key_of_topic};
+ghost use Rattle.rule_types.specs.Topics.{bare, import_in, is_mask, is_octal, mask_in, name_in, run_type_in, topic_of};
+
+use crate::keys::Key;
+use crate::types::{ImportType, RunType, import_type_of, run_type_of};
+use text_bytes::Bytes;
+
+/// A key with what stands in its braces, if it is what the key takes.
+#[derive(Debug, Drop)]
+pub enum Topic {
+    Action,
+    Devpath,
+    Kernel,
+    Subsystem,
+    Driver,
+    Kernels,
+    Subsystems,
+    Drivers,
+    Tags,
+    Result,
+    /// With an attribute's name.
+    Attrs(Bytes),
+    /// With a constant's name.
+    Const(Bytes),
+    /// With a mask of file modes, if there is one: 1 to 5 octal digits.
+    Test(Option<Bytes>),
+    Program,
+    /// With its type.
+    Import(ImportType),
+    Name,
+    Symlink,
+    Tag,
+    /// With an attribute's name.
+    Attr(Bytes),
+    /// With a kernel parameter's name.
+    Sysctl(Bytes),
+    /// With a property's name.
+    Env(Bytes),
+    Owner,
+    Group,
+    Mode,
+    /// With a security module's name.
+    Seclabel(Bytes),
+    /// With its type, if one is given.
+    Run(Option<RunType>),
+    Options,
+    Label,
+    Goto,
+}
+
+/// What a token with this key and attribute is about. `None` where the key lacks an attribute or
+/// does not take this one; an empty attribute is taken by no key.
+#[tactic(auto, unfolding(crate::specs::Topics::topic_of))]
+pub fn topic_of(key: Key, attribute: Option<Bytes>) -> Option<Topic>
+    ensures topic { result ≡ topic_of key attribute }
+    ensures written { IfSome result (λ topic. (key_of_topic topic ≡ key) × (attribute_of_topic topic ≡ attribute)) }
+{
+    match key {
+        Key::Action => bare(attribute, Topic::Action),
+        Key::Devpath => bare(attribute, Topic::Devpath),
+        Key::Kernel => bare(attribute, Topic::Kernel),
+        Key::Subsystem => bare(attribute, Topic::Subsystem),
+        Key::Driver => bare(attribute, Topic::Driver),
+        Key::Kernels => bare(attribute, Topic::Kernels),
+        Key::Subsystems => bare(attribute, Topic::Subsystems),
+        Key::Drivers => bare(attribute, Topic::Drivers),
+        Key::Tags => bare(attribute, Topic::Tags),
+        Key::Result => bare(attribute, Topic::Result),
+        Key::Attrs => Some(Topic::Attrs(name_in(attribute)?)),
+        Key::Const => Some(Topic::Const(name_in(attribute)?)),
+        Key::Test => Some(Topic::Test(mask_in(attribute)?)),
+        Key::Program => bare(attribute, Topic::Program),
+        Key::Import => Some(Topic::Import(import_in(attribute)?)),
+        Key::Name => bare(attribute, Topic::Name),
+        Key::Symlink => bare(attribute, Topic::Symlink),
+        Key::Tag => bare(attribute, Topic::Tag),
+        Key::Attr => Some(Topic::Attr(name_in(attribute)?)),
+        Key::Sysctl => Some(Topic::Sysctl(name_in(attribute)?)),
+        Key::Env => Some(Topic::Env(name_in(attribute)?)),
+        Key::Owner => bare(attribute, Topic::Owner),
+        Key::Group => bare(attribute, Topic::Group),
+        Key::Mode => bare(attribute, Topic::Mode),
+        Key::Seclabel => Some(Topic::Seclabel(name_in(attribute)?)),
+        Key::Run => Some(Topic::Run(run_type_in(attribute)?)),
+        Key::Options => bare(attribute, Topic::Options),
+        Key::Label => bare(attribute, Topic::Label),
+        Key::Goto => bare(attribute, Topic::Goto),
+    }
+}
+
+/// A topic that takes no attribute.
+fn bare(attribute: Option<Bytes>, topic: Topic) -> Option<Topic>
+    ensures { result ≡ bare attribute topic }
+{
+    match attribute {
+        None => Some(topic),
+        Some(_) => None,
+    }
+}
+
+/// The name that an attribute gives.
+fn name_in(attribute: Option<Bytes>) -> Option<Bytes>
+    ensures { result ≡ name_in attribute }
+{
+    match attribute {
+        None => None,
+        Some(name) if name.as_slice().is_empty() => None,
+        Some(name) => Some(name),
+    }
+}
+
+/// The mask that an attribute gives, or that there is none.
+fn mask_in(attribute: Option<Bytes>) -> Option<Option<Bytes>>
+    ensures { result ≡ mask_in attribute }
+{
+    match attribute {
+        None => Some(None),
+        Some(mask) if is_mask(mask.as_slice()) => Some(Some(mask)),
+        Some(_) => None,
+    }
+}
+
+/// The type of IMPORT that an attribute names.
+fn import_in(attribute: Option<Bytes>) -> Option<ImportType>
+    ensures known { result ≡ import_in attribute }
+    ensures named { IfSome result (λ known. Some (import_name known) ≡ attribute) }
+{
+    match attribute {
+        None => None,
+        Some(name) => import_type_of(name.as_slice()),
+    }
+}
+
+/// The type of RUN that an attribute names, or that there is none.
+fn run_type_in(attribute: Option<Bytes>) -> Option<Option<RunType>>
+    ensures known { result ≡ run_type_in attribute }
+    ensures named { IfSome result (λ known. option_map run_name known ≡ attribute) }
+{
+    match attribute {
+        None => Some(None),
+        Some(name) => Some(Some(run_type_of(name.as_slice())?)),
+    }
+}
+
+/// Whether a text is 1 to 5 octal digits.
+fn is_mask(text: &[u8]) -> bool
+    ensures { result ≡ is_mask text.now }
+{
+    1 <= text.len() && text.len() <= 5 && octal_digits(text) == text.len()
+}
+
+/// How many octal digits a text begins with.
+fn octal_digits(text: &[u8]) -> usize
+    ensures { result ≡ prefix_len is_octal text.now }
+{
+    text.iter()
+        .take_while(|byte| b'0' <= **byte && **byte <= b'7')
+        .count()
+}

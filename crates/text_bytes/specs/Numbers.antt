@@ -1,0 +1,26 @@
+-- Numbers in decimal digits.
+use Rattle.std.specs.Prelude.{ℕ, ◌+◌, ◌-◌, ◌*◌, Bool, not, ◌&&◌, nat_le, nat_lt, List, [], ◌∷◌, Option, Some, None, if◌then◌else◌}
+use Rattle.std.specs.List.{list_all}
+use Rattle.text_bytes.specs.Names.{digit_zero, digit_nine}
+use Rattle.text_bytes.specs.Texts.{is_empty}
+
+-- the digits `0` to `9` of ASCII
+abbrev pub is_digit : ℕ → Bool
+is_digit b = nat_le digit_zero b && nat_le b digit_nine
+
+-- whether a text is one digit or more, and nothing else
+abbrev pub is_decimal : List ℕ → Bool
+is_decimal text = not (is_empty text) && list_all is_digit text
+
+-- the number that digits write behind those of n
+abbrev pub decimal_behind : ℕ → List ℕ → ℕ
+decimal_behind n [] = n
+decimal_behind n (b ∷ text) = decimal_behind (10 * n + (b - digit_zero)) text
+
+-- the number that digits write, the greatest place first
+abbrev pub decimal : List ℕ → ℕ
+decimal text = decimal_behind 0 text
+
+-- the number that a text of one digit or more writes, where it is below a bound
+unfoldable pub decimal_below : ℕ → List ℕ → Option ℕ
+decimal_below bound text = if is_decimal text && nat_lt (decimal text) bound then Some (decimal text) else None

@@ -1,0 +1,110 @@
+//! Messages about a line of a file.
+//!
+//! A message is kept as what it says and not as text: the texts are made once, where they are written.
+ghost use Rattle.std.specs.Prelude.{◌≡◌, IfOk};
+ghost use Rattle.text_bytes.specs.Messages.{capped, message, word_of};
+
+use crate::bytes::Bytes;
+use std::alloc::{AllocError, Global};
+
+/// How many bytes of a text a message keeps.
+const MAX_WORD: usize = 32;
+
+/// What is wrong with a line: of the database (H), with a rule (V), or with how a rule is written (S).
+#[derive(Clone, Copy, Debug, PartialEq, Eq)]
+pub enum MessageKind {
+    /// H1: a property stands before the first match of its paragraph.
+    PropertyWithoutMatch,
+    /// H2: no property line follows the matches of a paragraph.
+    MatchWithoutProperty,
+    /// H3: a line that is not indented stands after the properties of a paragraph.
+    UnindentedLine,
+    /// H4: a property has no `=`.
+    NoEquals,
+    /// H5: nothing stands before the `=` of a property.
+    EmptyKey,
+    /// H6: a match is no pattern that is supported.
+    PatternNotSupported,
+    /// V1: a part of a rule is no token.
+    BadSyntax,
+    /// V2: a token's key is none of udev's.
+    UnknownKey,
+    /// V3: a key does not take its operator.
+    OperatorNotAllowed,
+    /// V4: a key lacks its attribute, or does not take the one that it has.
+    WrongAttribute,
+    /// V5: a value is none of those that its key takes.
+    BadValue,
+    /// V6: a value has a substitution that is none.
+    BadSubstitution,
+    /// V7: no later rule of the file has the label that a rule jumps to.
+    NoLaterLabel,
+    /// V8: a rule has a second label, or jumps a second time.
+    GivenTwice,
+    /// V9: a rule has more than 16,384 bytes.
+    LineTooLong,
+    /// V10: the letters before a value are no prefix that is allowed there.
+    BadPrefix,
+    /// V11: a set of a pattern has a class, which is not supported.
+    SetNotSupported,
+    /// V12: the last line of a file is to be continued.
+    OpenAtEnd,
+    /// S1: not exactly one comma stands between two tokens, or one stands behind the last.
+    CommaExpected,
+    /// S2: a comma stands directly before a token.
+    BlankExpected,
+    /// S3: an operator is read as `=`.
+    ReadAsAssign,
+    /// S4: nothing jumps to a label.
+    LabelUnused,
+}
+
+/// A message about a line of a file.
+#[derive(Debug, Drop)]
+pub struct Message {
+    /// The name of the file.
+    pub file: Bytes,
+    /// The number of the line, counted from 1; a number over 2^32 - 1 is given as that one.
+    pub line: u32,
+    /// What is wrong.
+    pub kind: MessageKind,
+    /// The first 32 bytes of the part of the line that it is about, before they are escaped.
+    pub word: Bytes,
+}
+
+impl Message {
+    /// The message that something is wrong with a line of a file, told with a text of that line.
+    ///
+    /// The error comes where memory is refused.
+    pub fn about(
+        alloc: Global,
+        file: &[u8],
+        number: usize,
+        kind: MessageKind,
+        text: &[u8],
+    ) -> Result<Message, AllocError>
+        ensures { IfOk result (λ told. told ≡ message file.now number kind text.now) }
+    {
+        Ok(Message {
+            file: Bytes::copy_of(alloc, file)?,
+            line: capped(number),
+            kind,
+            word: Bytes::copy_of(alloc, word_of(text))?,
+        })
+    }
+}
+
+/// The number of a line as messages and entries of the database give it: one over 2^32 - 1 as that.
+pub fn capped(number: usize) -> u32
+    ensures { result ≡ capped number }
+{
+    number.min(u32::MAX as usize) as u32
+}
+
+/// What a message keeps of a text: its first 32 bytes.
+#[tactic(auto, using(std::proofs::lemmas::List::take_min))]
+pub fn word_of(text: &[u8]) -> &[u8]
+    ensures { result.now ≡ word_of text.now }
+{
+    &text[..MAX_WORD.min(text.len())]
+}

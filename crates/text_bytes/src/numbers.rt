@@ -1,0 +1,34 @@
+//! Numbers in decimal digits.
+ghost use Rattle.std.specs.Prelude.{◌≡◌, ◌≤◌, ◌<◌, ◌^◌, IfSome};
+ghost use Rattle.text_bytes.specs.Numbers.{decimal_below, is_digit};
+
+/// Whether a byte is one of the digits `0` to `9`.
+pub fn is_digit(byte: u8) -> bool
+    ensures { result ≡ is_digit byte }
+{
+    b'0' <= byte && byte <= b'9'
+}
+
+/// The number that a text of one decimal digit or more writes, where it is below a bound. Zeros at
+/// its start count for nothing, and any other byte makes it no number.
+#[tactic(auto, unfolding(crate::specs::Numbers::decimal_below))]
+pub fn decimal_below(bound: u64, text: &[u8]) -> Option<u64>
+    requires { bound ≤ 2 ^ 32 }
+    ensures value { result ≡ decimal_below bound text.now }
+    ensures below { IfSome result (λ number. number < bound) }
+{
+    if text.is_empty() {
+        return None;
+    }
+    let mut number = 0u64;
+    for byte in text {
+        if !is_digit(*byte) {
+            return None;
+        }
+        number = 10 * number + u64::from(*byte - b'0');
+        if number >= bound {
+            return None;
+        }
+    }
+    Some(number)
+}

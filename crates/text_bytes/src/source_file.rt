@@ -1,0 +1,40 @@
+//! Files as they are handed in, whole and in memory: no crate below the program opens one.
+ghost use Rattle.std.specs.Prelude.{◌≡◌};
+ghost use Rattle.text_bytes.specs.Kinds.{suffix_of};
+
+use crate::bytes::Bytes;
+
+/// What a file holds.
+#[derive(Clone, Copy, Debug, PartialEq, Eq)]
+pub enum FileKind {
+    /// Records of the hardware database, as hwdb(7) says.
+    Hwdb,
+    /// Rules, as udev(7) says.
+    Rules,
+}
+
+impl FileKind {
+    /// How the names of a folder's files of this kind end; files that are named one by one may have
+    /// any name.
+    pub fn suffix(self) -> &'static str
+        ensures { result.now ≡ suffix_of self }
+    {
+        match self {
+            FileKind::Hwdb => ".hwdb",
+            FileKind::Rules => ".rules",
+        }
+    }
+}
+
+/// A file that was read whole.
+#[derive(Debug, Drop)]
+pub struct SourceFile {
+    /// What it holds.
+    pub kind: FileKind,
+    /// The place of its folder among those of its kind: the least wins where names are equal.
+    pub rank: u8,
+    /// Its name: as given, or for a folder's file the name without the folder.
+    pub name: Bytes,
+    /// All that stands in it.
+    pub bytes: Bytes,
+}

@@ -1,0 +1,69 @@
+//! What a text begins with and ends in, and its blanks.
+ghost use Rattle.std.specs.Prelude.{◌≡◌, ◌≤◌, ◌<◌, ◌+◌, length, option_map, IfSome};
+ghost use Rattle.std.specs.List.{prefix_len};
+ghost use Rattle.text_bytes.specs.Names.{is_blank, is_whitespace};
+ghost use Rattle.text_bytes.specs.Texts.{begins_with, ends_in, split_once, unindented};
+
+use crate::search::find;
+
+/// Whether a byte is a space or a tab.
+pub fn is_blank(byte: u8) -> bool
+    ensures { result ≡ is_blank byte }
+{
+    byte == b' ' || byte == b'\t'
+}
+
+/// Whether a byte is a space or one of the controls from tab to carriage return.
+pub fn is_whitespace(byte: u8) -> bool
+    ensures { result ≡ is_whitespace byte }
+{
+    byte == b' ' || (b'\t' <= byte && byte <= b'\r')
+}
+
+/// Whether a text begins with a byte.
+pub fn begins_with(byte: u8, text: &[u8]) -> bool
+    ensures { result ≡ begins_with byte text.now }
+{
+    match text.first() {
+        None => false,
+        Some(first) => *first == byte,
+    }
+}
+
+/// Whether a text ends in a byte.
+pub fn ends_in(byte: u8, text: &[u8]) -> bool
+    ensures { result ≡ ends_in byte text.now }
+{
+    match text.last() {
+        None => false,
+        Some(last) => *last == byte,
+    }
+}
+
+/// A text without the spaces and tabs at its start.
+pub fn unindented(text: &[u8]) -> &[u8]
+    ensures { result.now ≡ unindented text.now }
+{
+    let (_, behind) = text.split_at(leading_blanks(text));
+    behind
+}
+
+/// How many spaces and tabs a text begins with.
+fn leading_blanks(text: &[u8]) -> usize
+    ensures value { result ≡ prefix_len is_blank text.now }
+    ensures within { result ≤ length text.now }
+{
+    text.iter().take_while(|byte| is_blank(**byte)).count()
+}
+
+/// What stands before the first such byte of a text, and what behind it.
+#[tactic(auto, unfolding(crate::specs::Texts::split_once))]
+pub fn split_once(byte: u8, text: &[u8]) -> Option<(&[u8], &[u8])>
+    ensures value { option_map (λ p. (p.0.now, p.1.now)) result ≡ split_once byte text.now }
+    ensures shorter { IfSome result (λ p. length p.0.now + length p.1.now < length text.now) }
+{
+    match find(byte, text) {
+        Some(at) => Some((&text[..at], &text[at + 1..])),
+        None => None,
+    }
+}

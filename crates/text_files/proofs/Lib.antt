@@ -1,3 +1,0 @@
-pub mod Escaping
-pub mod Placing
-pub mod Winning

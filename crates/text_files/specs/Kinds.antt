@@ -1,9 +1,0 @@
--- The kinds of files.
-use Rattle.std.specs.Prelude.{ℕ, List, codes}
-use Rattle.text_files.specs.declared.source_file.FileKind.{FileKind}
-use Rattle.text_files.specs.declared.source_file.FileKind.TheVariants.{Hwdb, Rules}
-
--- how the names of a folder's files of a kind end
-abbrev pub suffix_of : FileKind → List ℕ
-suffix_of Hwdb = codes ".hwdb"
-suffix_of Rules = codes ".rules"

@@ -1,0 +1,15 @@
+pub mod LineWays
+pub mod Winning
+pub mod Caseless
+pub mod Pieces
+pub mod Shifting
+pub mod Lawful
+pub mod Belonging
+pub mod Ranges
+pub mod Places
+pub mod Cases
+pub mod Classes
+pub mod Spelling
+pub mod Enclosed
+pub mod Bars
+pub mod Splitting

@@ -1,0 +1,22 @@
+//! What holds of the order of files and of escaped texts, whichever they are.
+//!
+//! Each function does nothing: its contract is a law of the definitions that the other contracts cite.
+ghost use Rattle.std.specs.Prelude.{◌≡◌, ◌<◌, List, ℕ, All, Any};
+ghost use Rattle.text_bytes.specs.Escapes.{escape_text, unescaped};
+ghost use Rattle.text_bytes.specs.FileOrder.{ordered, with_suffix};
+ghost use Rattle.text_bytes.specs.OrderLaws.{IsFirstOfLeastRank, NamesRise};
+ghost use Rattle.text_bytes.specs.declared.source_file.SourceFile.{SourceFile};
+
+/// In the order of files the names rise, each file is the first of least rank of its name among
+/// those that end in the suffix, and each name of those is there.
+pub fn kept_files()
+    ensures rise { (suffix : List ℕ) (files : List SourceFile) → NamesRise (ordered suffix files) }
+    ensures first { (suffix : List ℕ) (files : List SourceFile) → All (IsFirstOfLeastRank (with_suffix suffix files)) (ordered suffix files) }
+    ensures there { (suffix : List ℕ) (files : List SourceFile) → All (λ g. Any (λ f. f.name ≡ g.name) (ordered suffix files)) (with_suffix suffix files) }
+{}
+
+/// An escaped text is read back as the text that it was made of, so that no two texts are written
+/// alike.
+pub fn escaped_is_read_back()
+    ensures { (text : List ℕ) → All (λ b. b < 256) text → unescaped (escape_text text) ≡ text }
+{}

@@ -1,4 +1,0 @@
-pub mod Sequences
-pub mod Places
-pub mod Staying
-pub mod Joining

@@ -1,4 +1,0 @@
-pub mod Safe
-pub mod Laws
-pub mod Words
-pub mod Steps

@@ -1,0 +1,17 @@
+pub mod Distinguishing
+pub mod Counting
+pub mod Children
+pub mod Paths
+pub mod Orders
+pub mod Later
+pub mod Sharing
+pub mod Numbering
+pub mod Sizing
+pub mod Holding
+pub mod Sorting
+pub mod MadeNodes
+pub mod Building
+pub mod Answering
+pub mod Fronting
+pub mod Splitting
+pub mod Bounding

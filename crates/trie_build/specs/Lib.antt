@@ -1,0 +1,11 @@
+pub mod Tree
+pub mod Sizes
+pub mod Distinct
+pub mod Order
+pub mod Paths
+pub mod Content
+pub mod Groups
+pub mod Building
+pub mod Shown
+pub mod Fronts
+pub mod Rows

@@ -1,0 +1,69 @@
+-- How long the index file of a list of entries is, and how large a trie may be.
+use Rattle.std.specs.Prelude.{ℕ, ◌+◌, ◌-◌, ◌*◌, ◌^◌, ◌≤◌, List, ◌∷◌, [], length, map, flat_map, sum_by, slice_index_or}
+use Rattle.std.specs.Ordering.{nat_cmp}
+use Rattle.std.specs.Cmp.Lexicographic.{slice_cmp}
+use Rattle.std.specs.declared.cmp.Ordering.{Ordering}
+use Rattle.text_core.specs.declared.item.Item.{Item}
+use Rattle.text_core.specs.declared.item.Item.TheVariants.{Byte, One, Many, Among}
+use Rattle.hwdb_lookup.specs.Bounds.{max_entries}
+use Rattle.hwdb_lookup.specs.declared.entry.Entry.{Entry}
+use Rattle.trie_build.specs.Distinct.{distinct}
+use Rattle.trie_build.specs.Paths.{paths_of}
+
+-- how a text, or the bytes of a set, compares with another: byte by byte
+abbrev pub text_cmp : List ℕ → List ℕ → Ordering
+text_cmp s t = slice_cmp nat_cmp s t
+
+-- the bytes of a label's set, where it has one
+abbrev pub set_in : Item → List (List ℕ)
+set_in (Byte b) = []
+set_in One = []
+set_in Many = []
+set_in (Among set) = set.bits ∷ []
+
+-- a path's last label; for the root, which has none, one without a set
+abbrev pub last_label : List Item → Item
+last_label p = slice_index_or p (length p - 1) One
+
+-- the sets by which nodes are reached, as their bytes, each once, sorted
+abbrev pub sets_of : List Entry → List (List ℕ)
+sets_of es = distinct text_cmp (flat_map (λ p. set_in (last_label p)) (paths_of es))
+
+-- the names of the files that the entries come from, each once, sorted
+abbrev pub names_of : List Entry → List (List ℕ)
+names_of es = distinct text_cmp (map (λ e. e.file) es)
+
+-- how many bytes an index has for its header, for a node, for a value and for a set
+abbrev pub header_len : ℕ
+header_len = 32
+
+abbrev pub node_len : ℕ
+node_len = 24
+
+abbrev pub value_len : ℕ
+value_len = 32
+
+abbrev pub set_len : ℕ
+set_len = 32
+
+-- the bytes of the texts of an index: each entry's key and value, and each file's name once
+abbrev pub text_len : List Entry → ℕ
+text_len es = sum_by (λ e. length e.key + length e.value) es + sum_by length (names_of es)
+
+-- how many bytes the index of a list of entries has
+abbrev pub index_len : List Entry → ℕ
+index_len es = header_len + node_len * length (paths_of es) + value_len * length es + set_len * length (sets_of es) + text_len es
+
+-- how many nodes a trie may have
+abbrev pub max_nodes : ℕ
+max_nodes = 2 ^ 26
+
+-- how many bytes its index may have
+abbrev pub max_index_len : ℕ
+max_index_len = 2 ^ 32 - 1
+
+-- a trie of a list of entries is not too large: by its entries, its nodes and the bytes of its index
+pub record KeepsBounds (es : List Entry) : Type 0 where
+  pub entries : length es ≤ max_entries
+  pub nodes : length (paths_of es) ≤ max_nodes
+  pub index : index_len es ≤ max_index_len

@@ -1,0 +1,17 @@
+//! The trie of a database: which nodes it has, in which order, and how it is made of the entries.
+#![tactic(auto)]
+
+mod build;
+mod fault;
+mod fronts;
+mod groups;
+mod made;
+mod order;
+mod rows;
+mod size;
+mod trie;
+
+pub use fault::TrieFault;
+pub use made::trie_of;
+pub use order::{compare, compare_labels};
+pub use trie::Trie;

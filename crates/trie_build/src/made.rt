@@ -1,0 +1,24 @@
+//! The trie of entries that were read.
+ghost use Rattle.std.specs.Prelude.{◌≡◌, IfOk};
+ghost use Rattle.hwdb_lookup.specs.Orders.{Rising};
+ghost use Rattle.trie_build.specs.Sizes.{KeepsBounds};
+
+use crate::fault::TrieFault;
+use crate::trie::Trie;
+use hwdb_lookup::Entry;
+use std::alloc::{AllocError, Global};
+
+/// The trie of entries that are not too large, as those are that were read from files.
+///
+/// Fails only where there is no memory for it; the entries are dropped then.
+pub fn trie_of(alloc: Global, entries: Vec<Entry>) -> Result<Trie, AllocError>
+    requires rising { Rising entries.items }
+    requires bounds { KeepsBounds entries.items }
+    ensures { IfOk result (λ t. t.entries ≡ entries.items) }
+{
+    match Trie::build(alloc, entries) {
+        Ok(trie) => Ok(trie),
+        Err(TrieFault::Memory) => Err(AllocError),
+        Err(TrieFault::TooLarge) => unreachable!(),
+    }
+}

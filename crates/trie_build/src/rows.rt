@@ -1,0 +1,166 @@
+//! The entries, sorted by their patterns.
+//!
+//! Entries that begin alike then stand side by side, so that a node is a range of them. They are
+//! sorted once, by number, and stay where they are.
+ghost use Rattle.std.specs.Prelude.{◌≡◌, ◌-◌, ◌<◌, ◌≤◌, ◌^◌, All, IfOk, OnOk, length, map, slice_index_or, []};
+ghost use Rattle.std.specs.List.{range_with_len};
+ghost use Rattle.std.specs.List.Sorted.{IsPermutation};
+ghost use Rattle.hwdb_lookup.specs.Bounds.{max_entries};
+ghost use Rattle.trie_build.specs.Rows.{AreAlike, AreShared, HasFront, IsCommon, IsSorted, SameRise, Tells, pattern_at, patterns, row_cmp, untold};
+
+use crate::fronts::{FRONT, front_of};
+use crate::order::{compare, compare_labels};
+use hwdb_lookup::Entry;
+use std::alloc::{AllocError, Global};
+use std::cmp::Ordering;
+use text_core::Item;
+
+/// The pattern of an entry, with the entry's number.
+#[derive(Clone, Copy, Debug)]
+pub(crate) struct Row<'a> {
+    /// The items of the pattern.
+    pub(crate) items: &'a [Item],
+    /// The bytes of the pattern's first labels.
+    pub(crate) front: [u8; FRONT],
+    /// The entry's number.
+    pub(crate) number: u32,
+}
+
+/// What a row's front leaves open of its pattern: where it has a last byte, all labels before that are told.
+fn untold<'a>(row: &Row<'a>) -> &'a [Item]
+    ensures { result.now ≡ untold row.now.front row.now.items.now }
+{
+    if row.front[FRONT - 1] == 0 {
+        return row.items;
+    }
+    let (_, rest) = row.items.split_at(row.items.len().min(FRONT - 1));
+    rest
+}
+
+/// How a row compares with another: by the patterns, of which the first labels mostly decide, and of
+/// one pattern by the numbers.
+fn compare_rows(row: &Row<'_>, other: &Row<'_>) -> Ordering
+    ensures { result ≡ row_cmp row.now other.now }
+{
+    match row.front.cmp(&other.front) {
+        Ordering::Equal => {
+            compare(untold(row), untold(other)).then(row.number.cmp(&other.number))
+        }
+        order => order,
+    }
+}
+
+/// A row for each entry, in order.
+fn rows_in_order<'a>(alloc: Global, entries: &'a [Entry]) -> Result<Vec<Row<'a>>, AllocError>
+    requires { length entries.now ≤ max_entries }
+    ensures numbers { IfOk result (λ rows. map (λ r. r.number) rows.items ≡ range_with_len 0 (length entries.now)) }
+    ensures rows { IfOk result (λ rows. All (Tells entries.now) rows.items) }
+{
+    let mut rows = Vec::with_capacity(alloc, entries.len())?;
+    for (i, entry) in entries.iter().enumerate() {
+        rows.push(Row {
+            items: entry.pattern.items(),
+            front: front_of(entry.pattern.items()),
+            number: i as u32,
+        })?;
+    }
+    Ok(rows)
+}
+
+/// A row for each entry, sorted by pattern, and of one pattern by number.
+pub(crate) fn sorted_rows<'a>(
+    alloc: Global,
+    entries: &'a [Entry],
+) -> Result<Vec<Row<'a>>, AllocError>
+    requires { length entries.now ≤ max_entries }
+    ensures numbers { IfOk result (λ rows. IsPermutation (range_with_len 0 (length entries.now)) (map (λ r. r.number) rows.items)) }
+    ensures rows { IfOk result (λ rows. All (Tells entries.now) rows.items) }
+    ensures sorted { IfOk result (λ rows. IsSorted (patterns rows.items)) }
+    ensures rise { IfOk result (λ rows. SameRise rows.items) }
+{
+    let mut rows = rows_in_order(alloc, entries)?;
+    rows.sort_by(|row, other| compare_rows(row, other))?;
+    Ok(rows)
+}
+
+/// Sorted rows, and how many labels each has at its front in common with the row before it.
+#[derive(Clone, Copy, Debug)]
+pub(crate) struct Sorted<'r, 'a> {
+    /// The rows.
+    pub(crate) rows: &'r [Row<'a>],
+    /// A number for each row.
+    pub(crate) shared: &'r [usize],
+}
+
+/// How many labels two patterns have in common at their fronts.
+fn common_front(pattern: &[Item], other: &[Item]) -> usize
+    ensures { IsCommon pattern.now other.now result }
+{
+    let len = pattern.len().min(other.len());
+    for at in 0..len {
+        if compare_labels(&pattern[at], &other[at]) != Ordering::Equal {
+            return at;
+        }
+    }
+    len
+}
+
+/// How many bytes two fronts have in common, up to the first in which they differ.
+fn common_bytes(front: &[u8; FRONT], other: &[u8; FRONT]) -> usize
+    ensures { AreAlike front.now other.now result }
+{
+    for at in 0..FRONT {
+        if front[at] != other[at] {
+            return at;
+        }
+    }
+    FRONT
+}
+
+/// How many labels a row has in common with the row before it; the first has none. Mostly their fronts tell, and no
+/// pattern is looked at.
+fn shared_at(rows: &[Row<'_>], at: usize) -> usize
+    requires within { at < length (patterns rows.now) }
+    requires fronts { All HasFront rows.now }
+    ensures { 0 < at → IsCommon (pattern_at (patterns rows.now) (at - 1)) (pattern_at (patterns rows.now) at) result }
+{
+    if at == 0 {
+        return 0;
+    }
+    let bytes = common_bytes(&rows[at - 1].front, &rows[at].front);
+    if bytes < FRONT {
+        return bytes;
+    }
+    common_front(items_at(rows, at - 1), items_at(rows, at))
+}
+
+/// How many labels each row has at its front in common with the row before it.
+pub(crate) fn shared_fronts(alloc: Global, rows: &[Row<'_>]) -> Result<Vec<usize>, AllocError>
+    requires { All HasFront rows.now }
+    ensures { IfOk result (λ shared. AreShared (patterns rows.now) shared.items) }
+{
+    let mut shared = Vec::with_capacity(alloc, rows.len())?;
+    for at in 0..rows.len() {
+        shared.push(shared_at(rows, at))?;
+    }
+    Ok(shared)
+}
+
+/// The numbers of the entries, row by row.
+pub(crate) fn numbers_of(alloc: Global, rows: &[Row<'_>]) -> Result<Vec<u32>, AllocError>
+    ensures { IfOk result (λ numbers. numbers.items ≡ map (λ r. r.number) rows.now) }
+{
+    let mut numbers = Vec::with_capacity(alloc, rows.len())?;
+    for row in rows {
+        numbers.push(row.number)?;
+    }
+    Ok(numbers)
+}
+
+/// The pattern of a row.
+pub(crate) fn items_at<'a>(rows: &[Row<'a>], at: usize) -> &'a [Item]
+    requires { at < length (patterns rows.now) }
+    ensures { result.now ≡ pattern_at (patterns rows.now) at }
+{
+    rows[at].items
+}

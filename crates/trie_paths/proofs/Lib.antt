@@ -1,6 +1,0 @@
-pub mod Children
-pub mod Counting
-pub mod Distinguishing
-pub mod Later
-pub mod Orders
-pub mod Paths

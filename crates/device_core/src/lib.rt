@@ -16,6 +16,7 @@ mod splitter;
 pub use devices::{Device, DeviceNumber};
 pub use events::Event;
 pub use faults::{BlockFault, BlockFaultKind};
+pub use lines::{DeviceField, LineKind};
 pub use programs::ProgramAnswer;
 pub use read::read_block;
 pub use splitter::{SplitFault, Splitter, Taken};

@@ -8,27 +8,41 @@ ghost use Rattle.device_core.specs.Steps.{Gives, plain_row};
 use crate::faults::BlockFaultKind;
 use text_bytes::find;
 
-/// What a line about the device above says of it.
+/// What a line about the device above says of it, each by its letter.
 #[derive(Clone, Copy)]
-pub(crate) enum DeviceField {
+pub enum DeviceField {
+    /// `U`: its subsystem.
     Subsystem,
+    /// `V`: its driver.
     Driver,
+    /// `N`: the name of its node.
     Node,
+    /// `D`: the numbers of its node.
     Devnum,
+    /// `A`: an attribute.
     Attribute,
+    /// `E`: a property.
     Property,
+    /// `G`: a tag.
     Tag,
+    /// `S`: a link.
     Link,
 }
 
-/// What a line is about.
+/// What a line of an event block is about, each by its letter.
 #[derive(Clone, Copy)]
-pub(crate) enum LineKind {
+pub enum LineKind {
+    /// `C`: the action.
     Action,
+    /// `P`: a device, with its path.
     Device,
+    /// The device above.
     Field(DeviceField),
+    /// `K`: a constant.
     Constant,
+    /// `Q`: a command.
     Command,
+    /// `R`: the answer to the command above.
     Answer,
 }
 

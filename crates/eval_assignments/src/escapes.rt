@@ -8,7 +8,7 @@ use std::alloc::{AllocError, Global};
 
 /// How a rule treats the bytes of links and names.
 #[derive(Clone, Copy, Debug, PartialEq, Eq)]
-pub(crate) enum Escape {
+pub enum Escape {
     /// Bytes that do not belong there are replaced; spaces separate links.
     Usual,
     /// `string_escape=none`: nothing is replaced; spaces separate links.

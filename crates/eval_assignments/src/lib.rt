@@ -13,4 +13,5 @@ mod options;
 mod properties;
 mod step;
 
+pub use escapes::Escape;
 pub use step::set_step;

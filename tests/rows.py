@@ -1,8 +1,8 @@
 #!/usr/bin/env python3
 """Runs the program as the tables in tests/tables/ say, each row in a folder of its own, and compares what it wrote.
 
-Each table is a file of tests/tables/ with a list ROWS; a file whose name begins with `_` is no table, but helps some.
-A row is told in one line, `ok TABLE: NAME`, or `not ok TABLE: NAME` with what differs below it.
+Each table is a file of tests/tables/ with a list ROWS; what tables share stands in tests/tables/kinds/. A row is told in
+one line, `ok TABLE: NAME`, or `not ok TABLE: NAME` with what differs below it.
 
 usage: tests/rows.py PROGRAM [TABLE..]    without TABLE all of them
 """
@@ -16,7 +16,7 @@ from pathlib import Path
 
 HERE = Path(__file__).resolve().parent
 sys.path.insert(0, str(HERE))
-from tables.row import FOLDER, Begins, Link, as_bytes  # noqa: E402
+from tables.kinds.row import FOLDER, Begins, Link, as_bytes  # noqa: E402
 
 SECONDS = 60
 
@@ -59,8 +59,7 @@ def run_row(program, table, row):
 
 def main(program, tables):
     """Runs all rows of the tables, and answers whether each went as it says."""
-    files = [path.stem for path in (HERE / "tables").glob("*.py")]
-    tables = tables or sorted(name for name in files if name != "row" and not name.startswith("_"))
+    tables = tables or sorted(path.stem for path in (HERE / "tables").glob("*.py"))
     rows = [(table, row) for table in tables for row in importlib.import_module(f"tables.{table}").ROWS]
     names = [(table, row.name) for table, row in rows]
     twice = sorted({name for name in names if names.count(name) > 1})

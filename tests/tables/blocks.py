@@ -1,5 +1,5 @@
 """Event blocks: what each line gives its device, and where a block is faulty."""
-from tables.row import Row
+from tables.kinds.row import Row
 
 EVENTS = "events -r none"
 

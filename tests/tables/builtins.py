@@ -1,5 +1,5 @@
 """IMPORT{builtin}: what `hwdb` finds along the chain and by a modalias, and what is noted of other commands."""
-from tables.row import Row
+from tables.kinds.row import Row
 
 HUBS = "usb:v1D6B*\n ID_VENDOR=Linux\n"
 

@@ -1,7 +1,7 @@
 """Choices of patterns, as the values of rules have them, with and without a prefix that lets case be ignored."""
 from tables.kinds.answered import answer, block
 from tables.kinds.verified import verified
-from tables.row import Row, as_bytes
+from tables.kinds.row import Row, as_bytes
 
 # the value as it is written, with what stands before its quote; kernel's names that fit; names that don't
 OF_NAMES = [

@@ -1,5 +1,5 @@
 """Whitespace at the end of a text: a constant is compared with it, an attribute by its own rule, all else with it."""
-from tables.row import Row
+from tables.kinds.row import Row
 
 DEVICE = "C: add\nP: /devices/x\n"
 ANSWER = "event add /devices/x\nenv ACTION=add\nenv DEVPATH=/devices/x\n"

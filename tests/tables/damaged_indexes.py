@@ -6,8 +6,8 @@ follows from the nodes before it, so that a wrong count is seen at the next node
 does not use is 0, and only the root has kind 0 (`label`). A place and a length lie within the text, and a key is not
 empty (`text`). What passes all of them changes what is answered, or nothing.
 """
-from tables._index_bytes import BYTE, MANY, ROOT, WITH_FILE, WITHOUT_FILE, index, node, with_bytes
-from tables.row import Row, as_bytes
+from tables.kinds.index_bytes import BYTE, MANY, ROOT, WITH_FILE, WITHOUT_FILE, index, node, with_bytes
+from tables.kinds.row import Row, as_bytes
 
 CHECKS = ("short", "magic", "version", "size", "shape", "label", "text", "order")
 VERSIONS = (("version 1", WITHOUT_FILE), ("version 2", WITH_FILE))

@@ -1,6 +1,6 @@
 """Files of the hardware database: what their lines mean, each message, and which entry counts."""
-from tables._index_bytes import EMPTY
-from tables.row import Row
+from tables.kinds.index_bytes import EMPTY
+from tables.kinds.row import Row
 
 
 def query(name, text, modalias, output, messages=""):

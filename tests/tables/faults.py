@@ -1,7 +1,7 @@
 """Faults of a rule: the one message of its line, which of several it is, and the word that it bears."""
 from tables.kinds.answered import answered
 from tables.kinds.verified import verified
-from tables.row import Row
+from tables.kinds.row import Row
 
 UNUSED = "S4 label unused: {}"
 

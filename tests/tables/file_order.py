@@ -1,6 +1,6 @@
 """Which files of the folders are read, and in which order."""
 from tables.kinds.answered import answer, block
-from tables.row import Row
+from tables.kinds.row import Row
 
 RULES = ["etc/udev/rules.d", "run/udev/rules.d", "usr/local/lib/udev/rules.d", "usr/lib/udev/rules.d"]
 DATABASE = ["etc/udev/hwdb.d", "usr/lib/udev/hwdb.d"]

@@ -3,7 +3,7 @@
 The run of a row may be root's, whom no permission stops. So what can't be read is a link that leads to itself, and what
 can't be listed is a file in place of a folder; bench/odd_files.sh shows a folder without permission to another user.
 """
-from tables.row import FOLDER, Link, Row
+from tables.kinds.row import FOLDER, Link, Row
 from tables.words import EMPTY_INDEX, FIRST_VERSION
 
 ETC, LIB = "mnt/etc/udev/hwdb.d", "mnt/usr/lib/udev/hwdb.d"

@@ -1,7 +1,7 @@
 """Indexes: what `update` writes, compared with bytes made by the format, and what `query` and `events` answer from one."""
-from tables._index_bytes import AMONG, BYTE, EMPTY, MANY, ONE, ROOT, WITH_FILE, WITHOUT_FILE
-from tables._index_bytes import byte_set, index, node, with_bytes
-from tables.row import Row
+from tables.kinds.index_bytes import AMONG, BYTE, EMPTY, MANY, ONE, ROOT, WITH_FILE, WITHOUT_FILE
+from tables.kinds.index_bytes import byte_set, index, node, with_bytes
+from tables.kinds.row import Row
 
 
 def update(name, files, wanted):

@@ -1,7 +1,7 @@
 """Labels and jumps: which jump is lost, which label is unused, and where a jump goes on."""
 from tables.kinds.answered import answered
 from tables.kinds.verified import verified
-from tables.row import Row
+from tables.kinds.row import Row
 
 
 def lost(name):

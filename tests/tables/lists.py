@@ -1,6 +1,6 @@
 """Lists of links and tags, and tables of names with values, as assignments change them."""
 from tables.kinds.answered import answered, answer, block
-from tables.row import Row
+from tables.kinds.row import Row
 
 
 def refused(name, line, text, *lines):

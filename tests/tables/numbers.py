@@ -1,6 +1,6 @@
 """Numbers as rules and blocks have them: leading zeros, the greatest that counts, and what is no number."""
 from tables.kinds.answered import answer, answered, block
-from tables.row import Row
+from tables.kinds.row import Row
 
 
 def refused(line, *lines):

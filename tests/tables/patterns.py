@@ -1,6 +1,6 @@
 """Patterns and the texts that fit them, by `query` over a database file and by matches of rules."""
 from tables.kinds.answered import answer, block
-from tables.row import Row
+from tables.kinds.row import Row
 
 TRACKBALL = "mouse:*:name:*[tT]rack[bB]all*:*"
 

@@ -1,5 +1,5 @@
 """Substitutions: what each stands for, and what becomes of a text in the name of a link or of a network device."""
-from tables.row import Row, as_bytes
+from tables.kinds.row import Row, as_bytes
 
 # A disk without a node or a number, below another device; one program answers `ab cd ef`, another `ab cd`.
 DISK = (

@@ -3,7 +3,7 @@
 What rows of the other tables ask of one part is asked here of an answer as a whole. The lines of an answer stand in this
 order: event, name, owner, group, mode, priority, watch, persist, label, link, tag, env by key, attr, sysctl, run, note.
 """
-from tables.row import Row
+from tables.kinds.row import Row
 
 BARE = "C: add\nP: /x\n"
 DISK = "C: add\nP: /devices/pci0/block/sda\nU: block\nN: sda\nD: 8:0\n"

@@ -1,6 +1,6 @@
 """Texts as messages and answers show them: what is escaped, and where the word of a message ends."""
 from tables.kinds.answered import answered
-from tables.row import Row
+from tables.kinds.row import Row
 
 ONE_BAD = "1 files checked, 0 good, 1 bad\n"
 

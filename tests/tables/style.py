@@ -1,7 +1,7 @@
 """What `verify` says of rules that mean something, but are not written well."""
 from tables.kinds.answered import answered
 from tables.kinds.verified import verified
-from tables.row import Row
+from tables.kinds.row import Row
 
 
 def comma(key=""):

@@ -1,7 +1,7 @@
 """Tokens of rules: what is one, what its value means, and each fault."""
 from tables.kinds.answered import answered
 from tables.kinds.verified import verified
-from tables.row import as_bytes
+from tables.kinds.row import as_bytes
 
 
 def bad(line, at=0, shown=None):

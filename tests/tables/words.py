@@ -2,7 +2,7 @@
 
 The texts of usage begin as clap writes them; what stands behind their first lines is clap's own.
 """
-from tables.row import Begins, Row
+from tables.kinds.row import Begins, Row
 
 HELP = """\
 A dry run of udev's rules and hardware database

@@ -1,5 +1,5 @@
 """Rows of `events` over one rules file: what the answers to some blocks are."""
-from tables.row import Row, as_bytes
+from tables.kinds.row import Row, as_bytes
 
 # The first words of the lines of an answer, in their order.
 ORDER = "event name owner group mode priority watch nowatch persist label link tag env attr sysctl run note".split()

@@ -1,5 +1,5 @@
 """Rows of `verify` over one rules file."""
-from tables.row import Row, as_bytes
+from tables.kinds.row import Row, as_bytes
 
 
 def verified(name, *lines, ends=b"\n"):

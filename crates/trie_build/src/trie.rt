@@ -14,12 +14,12 @@ use crate::build::nodes_of;
 use crate::fault::TrieFault;
 use crate::rows::{Sorted, numbers_of, shared_fronts, sorted_rows};
 use crate::size::{index_fits, names_of, sets_of};
-use hwdb_lookup::{Entry, Lookup, MAX_ENTRIES, Sourced};
+use hwdb_lookup::{Entry, Found, Lookup, MAX_ENTRIES, Sourced};
 use std::alloc::{AllocError, Global};
 use std::marker::Model;
 use std::ops::Range;
 use text_core::Item;
-use trie_nodes::{Database, Found, Node, Nodes};
+use trie_nodes::{Database, Node, Nodes};
 
 /// A database whose patterns are a trie: a query costs what the nodes do that the modalias reaches.
 #[derive(Debug, Drop)]
@@ -200,13 +200,7 @@ impl Database for Trie {
 
     fn value(&self, j: u32) -> Found<'_> {
         let entry = &self.entries[self.numbers[j as usize] as usize];
-        Found {
-            key: entry.key.as_slice(),
-            value: entry.value.as_slice(),
-            order: entry.order,
-            file: entry.file.as_slice(),
-            line: entry.line,
-        }
+        Found::of(entry)
     }
 }
 

@@ -107,6 +107,13 @@ impl Trie {
         })
     }
 
+    /// What holds of every trie. It is called for the proofs alone, which learn it by the look at a field.
+    fn known(&self)
+        ensures { IsTrie self.now }
+    {
+        let _ = &self.nodes;
+    }
+
     /// Lends the entries, in order.
     pub fn entries(&self) -> &[Entry]
         ensures value { result.now ≡ self.now.entries }
@@ -154,8 +161,7 @@ impl Trie {
         ensures count { IfOk result (λ r. r.1 ≡ active_count self.now.entries modalias.now) }
         ensures bound { IfOk result (λ r. r.1 ≤ length (paths_of self.now.entries) * (length modalias.now + 1)) }
     {
-        // The look at the field tells the proof what holds of a trie.
-        let _ = &self.nodes;
+        self.known();
         trie_nodes::visits(alloc, self, modalias)
     }
 }
@@ -168,8 +174,7 @@ impl Nodes for Trie {
     }
 
     fn root(&self) -> u32 {
-        // The look at the field tells the proof what holds of a trie.
-        let _ = &self.nodes;
+        self.known();
         0
     }
 
@@ -208,8 +213,7 @@ impl Lookup for Trie {
     ghost entries = { λ t. t.entries };
 
     fn query(&self, alloc: Global, modalias: &[u8]) -> Result<Vec<(&[u8], &[u8])>, AllocError> {
-        // The look at the field tells the proof what holds of a trie.
-        let _ = &self.nodes;
+        self.known();
         trie_nodes::query(alloc, self, modalias)
     }
 
@@ -218,8 +222,7 @@ impl Lookup for Trie {
         alloc: Global,
         modalias: &[u8],
     ) -> Result<Vec<Sourced<'_>>, AllocError> {
-        // The look at the field tells the proof what holds of a trie.
-        let _ = &self.nodes;
+        self.known();
         trie_nodes::query_sources(alloc, self, modalias)
     }
 }

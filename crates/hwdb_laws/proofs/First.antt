@@ -1,6 +1,7 @@
 -- An index of version 1 names no files.
 use Rattle.std.proofs.Common.{◌≡◌, ℕ, List, [], ap}
-use Rattle.index_reading.specs.Header.{first_version, header_of}
+use Rattle.hwdb_lookup.specs.Bounds.{first_version}
+use Rattle.index_reading.specs.Header.{header_of}
 use Rattle.index_reading.specs.Records.{text_of, value, value_at, value_start}
 use Rattle.index_reading.specs.declared.records.ValueRecord.{ValueRecord}
 use Rattle.index_reading.specs.Contents.{value_of}

@@ -11,7 +11,7 @@ use Rattle.text_core.specs.declared.item.Item.{Item}
 use Rattle.text_core.specs.declared.reading.Reading.TheVariants.{Exact}
 use Rattle.text_core.specs.declared.spell.Head.{Head}
 use Rattle.trie_build.specs.Sizes.{set_in}
-use Rattle.index_reading.specs.Header.{set_len}
+use Rattle.hwdb_lookup.specs.Bounds.{set_len}
 
 -- the set of a label, where it has one, has 32 bytes
 abbrev pub IsWhole : Item → Type 0

@@ -19,7 +19,7 @@ use Rattle.trie_build.specs.Sizes.{last_label, set_in, sets_of, text_cmp}
 use Rattle.trie_build.proofs.Distinguishing.{all_in, distinct_is, get_in, in_flat_map, in_map}
 use Rattle.trie_build.proofs.Orders.{texts_order}
 use Rattle.trie_build.proofs.Paths.{path_is_front}
-use Rattle.index_reading.specs.Header.{set_len}
+use Rattle.hwdb_lookup.specs.Bounds.{set_len}
 use Rattle.index_reading.specs.Numbers.{IsSmall}
 use Rattle.trie_core.specs.Entries.{AreTyped}
 use Rattle.hwdb_laws.proofs.Spelling.{AreWhole, IsWhole, whole_spell}

@@ -1,6 +1,7 @@
 //! What an index of version 1 says.
 ghost use Rattle.std.specs.Prelude.{◌≡◌, ℕ, List, []};
-ghost use Rattle.index_reading.specs.Header.{first_version, header_of};
+ghost use Rattle.hwdb_lookup.specs.Bounds.{first_version};
+ghost use Rattle.index_reading.specs.Header.{header_of};
 ghost use Rattle.index_reading.specs.Contents.{value_of};
 
 /// The law of version 1; it does nothing when it is called.

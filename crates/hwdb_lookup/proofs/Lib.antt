@@ -2,5 +2,6 @@ pub mod Counting
 pub mod Placing
 pub mod Keys
 pub mod Orders
-pub mod References
+pub mod Places
+pub mod Stripping
 pub mod Unique

@@ -1,5 +1,5 @@
 -- Where an entry is put among others.
-use Rattle.std.proofs.Common.{◌≡◌, ℕ, zero, suc, ◌+◌, ◌<◌, ◌≤◌, List, ◌∷◌, [], length, drop, fold, add-one, set, insert, get_or, refl, sym, ◌∙◌, ap, arith, subst, All, cond, true, false, nat_lt}
+use Rattle.std.proofs.Common.{◌≡◌, ℕ, zero, suc, ◌+◌, ◌<◌, ◌≤◌, List, ◌∷◌, [], length, drop, fold, map, add-one, set, insert, get_or, refl, sym, ◌∙◌, ap, arith, subst, All, cond, true, false, nat_lt}
 use Rattle.std.proofs.Math.Seq.{drop-cons}
 use Rattle.std.proofs.lemmas.List.Elements.{All-cons}
 use Rattle.std.specs.List.{AllWithin, HoldsAt}
@@ -7,6 +7,7 @@ use Rattle.std.specs.declared.cmp.Ordering.{Ordering}
 use Rattle.std.specs.declared.cmp.Ordering.TheVariants.{Less, Equal, Greater}
 use Rattle.text_core.specs.Fits.{fits}
 use Rattle.hwdb_lookup.specs.declared.entry.Entry.{Entry}
+use Rattle.hwdb_lookup.specs.Found.{stripped}
 use Rattle.hwdb_lookup.specs.Query.{fitting, key_order, placed, put, winner}
 use Rattle.hwdb_lookup.specs.Winning.{KeysRise}
 use Rattle.hwdb_lookup.proofs.Keys.{before_trans, turned, itself, same_key}
@@ -78,21 +79,21 @@ module _ (es : List Entry) (m : List ℕ) (i : ℕ) (e : Entry) (within : i < le
   split = rw add-one (drop-cons es i e within ∙ ap (λ (x : Entry). x ∷ drop (suc i) es) (sym is))
 
   -- it fits, and is put among those that won
-  pub puts_next : (won more : List Entry) → fits e.pattern m ≡ true → more ≡ put won e → KeysRise won
-      → KeysRise more × (fold put more (fitting (drop (i + 1) es) m) ≡ fold put won (fitting (drop i es) m))
+  pub puts_next : (won more : List Entry) → fits e.pattern m ≡ true → more ≡ put won (stripped e) → KeysRise won
+      → KeysRise more × (fold put more (map stripped (fitting (drop (i + 1) es) m)) ≡ fold put won (map stripped (fitting (drop i es) m)))
   puts_next won more fit is_put rises = (
-    subst KeysRise (sym is_put) (put_rises won e rises),
-    ap (λ (l : List Entry). fold put l (fitting (drop (i + 1) es) m)) is_put
-        ∙ ap (λ b. fold put won (cond b (e ∷ fitting (drop (i + 1) es) m) (fitting (drop (i + 1) es) m))) (sym fit)
-        ∙ ap (λ (l : List Entry). fold put won (fitting l m)) (sym split),
+    subst KeysRise (sym is_put) (put_rises won (stripped e) rises),
+    ap (λ (l : List Entry). fold put l (map stripped (fitting (drop (i + 1) es) m))) is_put
+        ∙ ap (λ b. fold put won (map stripped (cond b (e ∷ fitting (drop (i + 1) es) m) (fitting (drop (i + 1) es) m)))) (sym fit)
+        ∙ ap (λ (l : List Entry). fold put won (map stripped (fitting l m))) (sym split),
   )
 
   -- it does not fit
   pub passes_next : (won more : List Entry) → fits e.pattern m ≡ false → more ≡ won → KeysRise won
-      → KeysRise more × (fold put more (fitting (drop (i + 1) es) m) ≡ fold put won (fitting (drop i es) m))
+      → KeysRise more × (fold put more (map stripped (fitting (drop (i + 1) es) m)) ≡ fold put won (map stripped (fitting (drop i es) m)))
   passes_next won more unfit same rises = (
     subst KeysRise (sym same) rises,
-    ap (λ (l : List Entry). fold put l (fitting (drop (i + 1) es) m)) same
-        ∙ ap (λ b. fold put won (cond b (e ∷ fitting (drop (i + 1) es) m) (fitting (drop (i + 1) es) m))) (sym unfit)
-        ∙ ap (λ (l : List Entry). fold put won (fitting l m)) (sym split),
+    ap (λ (l : List Entry). fold put l (map stripped (fitting (drop (i + 1) es) m))) same
+        ∙ ap (λ b. fold put won (map stripped (cond b (e ∷ fitting (drop (i + 1) es) m) (fitting (drop (i + 1) es) m)))) (sym unfit)
+        ∙ ap (λ (l : List Entry). fold put won (map stripped (fitting l m))) (sym split),
   )

@@ -1,5 +1,5 @@
--- How much a database may hold.
-use Rattle.std.specs.Prelude.{ℕ, ◌-◌, ◌^◌}
+-- How much a database may hold, and how long what an index has of it is.
+use Rattle.std.specs.Prelude.{ℕ, ◌-◌, ◌^◌, ◌==◌, if◌then◌else◌}
 
 -- entries
 abbrev pub max_entries : ℕ
@@ -16,3 +16,23 @@ max_text_bytes = 2 ^ 30
 -- bytes of the names of the files that were read
 abbrev pub max_name_bytes : ℕ
 max_name_bytes = 2 ^ 28
+
+-- the two versions of an index: values of the first have no file and no line
+abbrev pub first_version : ℕ
+first_version = 1
+
+abbrev pub second_version : ℕ
+second_version = 2
+
+-- how many bytes the header of an index, a node, a value and a set have
+abbrev pub header_len : ℕ
+header_len = 32
+
+abbrev pub node_len : ℕ
+node_len = 24
+
+abbrev pub value_len : ℕ → ℕ
+value_len version = if version == first_version then 20 else 32
+
+abbrev pub set_len : ℕ
+set_len = 32

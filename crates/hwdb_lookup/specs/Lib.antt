@@ -3,3 +3,4 @@ pub mod Query
 pub mod Places
 pub mod Bounds
 pub mod Orders
+pub mod Found

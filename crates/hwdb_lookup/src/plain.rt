@@ -52,8 +52,8 @@ impl Lookup for PlainDb {
     fn query(&self, alloc: Global, modalias: &[u8]) -> Result<Vec<(&[u8], &[u8])>, AllocError> {
         let won = winners(alloc, &self.listed, modalias)?;
         let mut found = Vec::with_capacity(alloc, won.len())?;
-        for entry in &won {
-            found.push((entry.key.as_slice(), entry.value.as_slice()))?;
+        for winner in &won {
+            found.push((winner.key, winner.value))?;
         }
         Ok(found)
     }
@@ -65,12 +65,12 @@ impl Lookup for PlainDb {
     ) -> Result<Vec<Sourced<'_>>, AllocError> {
         let won = winners(alloc, &self.listed, modalias)?;
         let mut found = Vec::with_capacity(alloc, won.len())?;
-        for entry in &won {
+        for winner in &won {
             found.push(Sourced {
-                key: entry.key.as_slice(),
-                value: entry.value.as_slice(),
-                file: entry.file.as_slice(),
-                line: entry.line,
+                key: winner.key,
+                value: winner.value,
+                file: winner.file,
+                line: winner.line,
             })?;
         }
         Ok(found)

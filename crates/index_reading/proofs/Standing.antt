@@ -5,7 +5,8 @@ use Rattle.std.proofs.lemmas.List.{drop-drop, get_or-drop, take_at}
 use Rattle.byteorder.specs.Numbers.{little_number-reads_back}
 use Rattle.text_core.specs.declared.byte_set.ByteSet.{ByteSet}
 use Rattle.index_reading.specs.Numbers.{number_at, number_bytes}
-use Rattle.index_reading.specs.Header.{header_bytes, header_of, text_start, value_len, whole_len}
+use Rattle.hwdb_lookup.specs.Bounds.{value_len}
+use Rattle.index_reading.specs.Header.{header_bytes, header_of, text_start, whole_len}
 use Rattle.index_reading.specs.Records.{node_at, node_bytes, span_at, value_at, value_bytes, node, value, set, set_bytes, text_of, value_start, set_start}
 use Rattle.index_reading.specs.Written.{Draft, SaysDraft, IsWritable, draft_header, written, written_nodes, written_values, written_sets}
 use Rattle.index_reading.specs.declared.header.Header.{Header}

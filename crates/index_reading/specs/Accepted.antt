@@ -1,7 +1,8 @@
 -- Which files are an index: eight conditions, of which a file that is none fails a first.
 use Rattle.std.specs.Prelude.{◌≡◌, ◌≢◌, ◌↔◌, ◌⊎◌, ℕ, ◌+◌, ◌^◌, ◌<◌, ◌≤◌, List, IsTrue, length, map, nat_eq, sum}
 use Rattle.std.specs.List.{range_with_len, starts_with}
-use Rattle.index_reading.specs.Header.{first_version, header_len, header_of, magic, second_version, whole_len}
+use Rattle.hwdb_lookup.specs.Bounds.{first_version, header_len, second_version}
+use Rattle.index_reading.specs.Header.{header_of, magic, whole_len}
 use Rattle.index_reading.specs.Kinds.{root_kind, byte_kind, among_kind}
 use Rattle.index_reading.specs.Records.{node, value}
 use Rattle.index_reading.specs.declared.records.NodeRecord.{NodeRecord}

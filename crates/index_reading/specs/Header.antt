@@ -1,5 +1,6 @@
 -- The header of an index, field by field, and where the parts behind it stand.
-use Rattle.std.specs.Prelude.{ℕ, ◌+◌, ◌*◌, ◌==◌, List, ◌++◌, codes, if◌then◌else◌}
+use Rattle.std.specs.Prelude.{ℕ, ◌+◌, ◌*◌, List, ◌++◌, codes}
+use Rattle.hwdb_lookup.specs.Bounds.{header_len, node_len, set_len, value_len}
 use Rattle.index_reading.specs.Numbers.{number_at, number_bytes}
 use Rattle.index_reading.specs.declared.header.Header.{Header}
 use Rattle.index_reading.specs.declared.header.Places.{Places}
@@ -7,13 +8,6 @@ use Rattle.index_reading.specs.declared.header.Places.{Places}
 -- what each index begins with
 abbrev pub magic : List ℕ
 magic = codes "devdryhw"
-
--- the two versions: values of the first have no file and no line
-abbrev pub first_version : ℕ
-first_version = 1
-
-abbrev pub second_version : ℕ
-second_version = 2
 
 -- what a header says, each field by its place
 abbrev pub header_of : List ℕ → Header
@@ -31,19 +25,6 @@ abbrev pub header_bytes : Header → List ℕ
 header_bytes h =
     magic ++ number_bytes h.version ++ number_bytes h.nodes ++ number_bytes h.values
     ++ number_bytes h.sets ++ number_bytes h.text ++ number_bytes h.reserved
-
--- how many bytes the header, a node, a set and a value have
-abbrev pub header_len : ℕ
-header_len = 32
-
-abbrev pub node_len : ℕ
-node_len = 24
-
-abbrev pub set_len : ℕ
-set_len = 32
-
-abbrev pub value_len : ℕ → ℕ
-value_len version = if version == first_version then 20 else 32
 
 -- the nodes stand behind the header, then the values, the sets and the text
 abbrev pub values_start : Header → ℕ

@@ -1,7 +1,8 @@
 -- The records of an index, field by field: nodes, values and sets, by number, and parts of the text.
 use Rattle.std.specs.Prelude.{ℕ, ◌+◌, ◌*◌, ◌==◌, List, ◌∷◌, ◌++◌, take, drop, if◌then◌else◌}
 use Rattle.text_core.specs.declared.byte_set.ByteSet.{ByteSet}
-use Rattle.index_reading.specs.Header.{first_version, header_len, header_of, node_len, set_len, sets_start, text_start, value_len, values_start}
+use Rattle.hwdb_lookup.specs.Bounds.{first_version, header_len, node_len, set_len, value_len}
+use Rattle.index_reading.specs.Header.{header_of, sets_start, text_start, values_start}
 use Rattle.index_reading.specs.Numbers.{byte_at, number_at, number_bytes}
 use Rattle.index_reading.specs.declared.header.Header.{Header}
 use Rattle.index_reading.specs.declared.records.NodeRecord.{NodeRecord}

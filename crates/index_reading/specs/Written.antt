@@ -1,7 +1,8 @@
 -- An index as it is written: version 2.
 use Rattle.std.specs.Prelude.{ℕ, ◌<◌, ◌≡◌, List, ◌++◌, length, take, drop, slice_index_or, flat_map, All}
 use Rattle.text_core.specs.declared.byte_set.ByteSet.{ByteSet}
-use Rattle.index_reading.specs.Header.{header_bytes, header_of, second_version, set_len, whole_len}
+use Rattle.hwdb_lookup.specs.Bounds.{second_version, set_len}
+use Rattle.index_reading.specs.Header.{header_bytes, header_of, whole_len}
 use Rattle.index_reading.specs.Numbers.{IsSmall}
 use Rattle.index_reading.specs.Records.{node, node_bytes, set, set_bytes, text_of, value, value_bytes}
 use Rattle.index_reading.specs.declared.header.Header.{Header}

@@ -1,6 +1,7 @@
 //! The header of an index, which says how many records there are, and so where each part stands.
 ghost use Rattle.std.specs.Prelude.{◌≡◌, ◌≤◌, ◌<◌, ◌*◌, ◌^◌, ◌++◌, OnOk, OnErr, length};
-ghost use Rattle.index_reading.specs.Header.{header_bytes, header_len, header_of, places_of, value_len};
+ghost use Rattle.hwdb_lookup.specs.Bounds.{header_len, value_len};
+ghost use Rattle.index_reading.specs.Header.{header_bytes, header_of, places_of};
 
 use crate::numbers::{number_at, put_numbers};
 use std::alloc::AllocError;

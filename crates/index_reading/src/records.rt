@@ -2,7 +2,7 @@
 //!
 //! A record is what stands in the bytes, whether or not it makes sense.
 ghost use Rattle.std.specs.Prelude.{◌≡◌, ◌+◌, ◌≤◌, ◌++◌, OnOk, OnErr, length};
-ghost use Rattle.index_reading.specs.Header.{node_len, value_len};
+ghost use Rattle.hwdb_lookup.specs.Bounds.{node_len, value_len};
 ghost use Rattle.index_reading.specs.Records.{node_at, node_bytes, span_at, value_at, value_bytes};
 
 use crate::header::NODE_LEN;

@@ -3,10 +3,10 @@ ghost use Rattle.trie_nodes.specs.Values.{listed};
 
 use crate::index::Index;
 use crate::kinds::{AMONG, BYTE, MANY};
-use hwdb_lookup::{Lookup, Sourced};
+use hwdb_lookup::{Found, Lookup, Sourced};
 use std::alloc::{AllocError, Global};
 use std::ops::Range;
-use trie_nodes::{Database, Found, Nodes};
+use trie_nodes::{Database, Nodes};
 
 impl<'a> Nodes for Index<'a> {
     ghost nodes = { λ index. index.nodes };

@@ -11,9 +11,6 @@ use Rattle.trie_build.specs.Content.{Content, IsTrie, all_values, entry_at, no_e
 use Rattle.trie_build.proofs.Answering.{listed_answers, number_within, value_told}
 
 module _ (t held : Content) (view : t ≡ held) (is : IsTrie held) where
-  pub holds : IsTrie t
-  holds = subst IsTrie (sym view) is
-
   pub value_inside : (j : ℕ) → j < length (all_values t) → j < length held.numbers
   value_inside j h =
       let len : length (all_values t) ≡ length t.numbers = simp length-map in

@@ -1,9 +1,10 @@
 -- Serves inner proofs only: the length of an index, by the nodes that are made for it.
 use Rattle.std.specs.Prelude.{ℕ, ◌+◌, ◌*◌, List, flat_map, length}
+use Rattle.hwdb_lookup.specs.Bounds.{header_len, node_len, second_version, set_len, value_len}
 use Rattle.hwdb_lookup.specs.declared.entry.Entry.{Entry}
 use Rattle.trie_nodes.specs.declared.node.Node.{Node}
 use Rattle.trie_build.specs.Distinct.{distinct}
-use Rattle.trie_build.specs.Sizes.{header_len, node_len, set_in, set_len, text_cmp, text_len, value_len}
+use Rattle.trie_build.specs.Sizes.{set_in, text_cmp, text_len}
 
 -- how many bytes the key and the value of an entry have
 abbrev pub own_len : Entry → ℕ
@@ -19,4 +20,4 @@ node_sets nodes = distinct text_cmp (flat_map (λ n. set_in n.label) nodes)
 
 -- how many bytes the index of entries has whose nodes these are
 abbrev pub index_len_by : List Node → List Entry → ℕ
-index_len_by nodes es = header_len + node_len * length nodes + value_len * length es + set_len * length (node_sets nodes) + text_len es
+index_len_by nodes es = header_len + node_len * length nodes + value_len second_version * length es + set_len * length (node_sets nodes) + text_len es

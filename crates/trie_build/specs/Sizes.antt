@@ -5,7 +5,7 @@ use Rattle.std.specs.Cmp.Lexicographic.{slice_cmp}
 use Rattle.std.specs.declared.cmp.Ordering.{Ordering}
 use Rattle.text_core.specs.declared.item.Item.{Item}
 use Rattle.text_core.specs.declared.item.Item.TheVariants.{Byte, One, Many, Among}
-use Rattle.hwdb_lookup.specs.Bounds.{max_entries}
+use Rattle.hwdb_lookup.specs.Bounds.{header_len, max_entries, node_len, second_version, set_len, value_len}
 use Rattle.hwdb_lookup.specs.declared.entry.Entry.{Entry}
 use Rattle.trie_build.specs.Distinct.{distinct}
 use Rattle.trie_build.specs.Paths.{paths_of}
@@ -33,26 +33,13 @@ sets_of es = distinct text_cmp (flat_map (λ p. set_in (last_label p)) (paths_of
 abbrev pub names_of : List Entry → List (List ℕ)
 names_of es = distinct text_cmp (map (λ e. e.file) es)
 
--- how many bytes an index has for its header, for a node, for a value and for a set
-abbrev pub header_len : ℕ
-header_len = 32
-
-abbrev pub node_len : ℕ
-node_len = 24
-
-abbrev pub value_len : ℕ
-value_len = 32
-
-abbrev pub set_len : ℕ
-set_len = 32
-
 -- the bytes of the texts of an index: each entry's key and value, and each file's name once
 abbrev pub text_len : List Entry → ℕ
 text_len es = sum_by (λ e. length e.key + length e.value) es + sum_by length (names_of es)
 
--- how many bytes the index of a list of entries has
+-- how many bytes the index of a list of entries has, in the version that is written
 abbrev pub index_len : List Entry → ℕ
-index_len es = header_len + node_len * length (paths_of es) + value_len * length es + set_len * length (sets_of es) + text_len es
+index_len es = header_len + node_len * length (paths_of es) + value_len second_version * length es + set_len * length (sets_of es) + text_len es
 
 -- how many nodes a trie may have
 abbrev pub max_nodes : ℕ

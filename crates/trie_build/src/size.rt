@@ -101,22 +101,15 @@ fn texts_fit(entries: &[Entry], names: &[&[u8]], room: u128) -> bool
     }
 }
 
-/// How many bytes the texts of an entry have, with the name of its file.
-fn all_len(entry: &Entry) -> u128
-    ensures { result ≡ all_len entry.now }
-{
-    entry.key.as_slice().len() as u128
-        + entry.value.as_slice().len() as u128
-        + entry.file.as_slice().len() as u128
-}
-
 /// Whether all texts of entries fit into some room, even if none were from the same file.
 fn texts_fit_apart(entries: &[Entry], room: u128) -> bool
     ensures { IsTrue result → sum_by all_len entries.now ≤ room }
 {
     let mut left = room;
     for entry in entries {
-        let len = all_len(entry);
+        let len = entry.key.as_slice().len() as u128
+            + entry.value.as_slice().len() as u128
+            + entry.file.as_slice().len() as u128;
         if len > left {
             return false;
         }

@@ -14,12 +14,12 @@ use crate::build::nodes_of;
 use crate::fault::TrieFault;
 use crate::rows::{Sorted, numbers_of, shared_fronts, sorted_rows};
 use crate::size::{index_fits, names_of, sets_of};
-use hwdb_lookup::{Entry, Lookup, MAX_ENTRIES, Sourced};
+use hwdb_lookup::{Entry, Found, Lookup, MAX_ENTRIES, Sourced};
 use std::alloc::{AllocError, Global};
 use std::marker::Model;
 use std::ops::Range;
 use text_core::Item;
-use trie_nodes::{Database, Found, Node, Nodes};
+use trie_nodes::{Database, Node, Nodes};
 
 /// A database whose patterns are a trie: a query costs what the nodes do that the modalias reaches.
 #[derive(Debug, Drop)]
@@ -107,6 +107,13 @@ impl Trie {
         })
     }
 
+    /// What holds of every trie. It is called for the proofs alone, which learn it by the look at a field.
+    fn known(&self)
+        ensures { IsTrie self.now }
+    {
+        let _ = &self.nodes;
+    }
+
     /// Lends the entries, in order.
     pub fn entries(&self) -> &[Entry]
         ensures value { result.now ≡ self.now.entries }
@@ -154,8 +161,7 @@ impl Trie {
         ensures count { IfOk result (λ r. r.1 ≡ active_count self.now.entries modalias.now) }
         ensures bound { IfOk result (λ r. r.1 ≤ length (paths_of self.now.entries) * (length modalias.now + 1)) }
     {
-        // The look at the field tells the proof what holds of a trie.
-        let _ = &self.nodes;
+        self.known();
         trie_nodes::visits(alloc, self, modalias)
     }
 }
@@ -168,8 +174,7 @@ impl Nodes for Trie {
     }
 
     fn root(&self) -> u32 {
-        // The look at the field tells the proof what holds of a trie.
-        let _ = &self.nodes;
+        self.known();
         0
     }
 
@@ -200,13 +205,7 @@ impl Database for Trie {
 
     fn value(&self, j: u32) -> Found<'_> {
         let entry = &self.entries[self.numbers[j as usize] as usize];
-        Found {
-            key: entry.key.as_slice(),
-            value: entry.value.as_slice(),
-            order: entry.order,
-            file: entry.file.as_slice(),
-            line: entry.line,
-        }
+        Found::of(entry)
     }
 }
 
@@ -214,8 +213,7 @@ impl Lookup for Trie {
     ghost entries = { λ t. t.entries };
 
     fn query(&self, alloc: Global, modalias: &[u8]) -> Result<Vec<(&[u8], &[u8])>, AllocError> {
-        // The look at the field tells the proof what holds of a trie.
-        let _ = &self.nodes;
+        self.known();
         trie_nodes::query(alloc, self, modalias)
     }
 
@@ -224,8 +222,7 @@ impl Lookup for Trie {
         alloc: Global,
         modalias: &[u8],
     ) -> Result<Vec<Sourced<'_>>, AllocError> {
-        // The look at the field tells the proof what holds of a trie.
-        let _ = &self.nodes;
+        self.known();
         trie_nodes::query_sources(alloc, self, modalias)
     }
 }

@@ -17,7 +17,8 @@ use Rattle.trie_build.specs.Sizes.{KeepsBounds, last_label, names_of, set_in, se
 use Rattle.trie_build.proofs.Counting.{few_sets, sum_within}
 use Rattle.trie_build.proofs.Distinguishing.{distinct_is, map_in}
 use Rattle.trie_build.proofs.Orders.{texts_order}
-use Rattle.index_reading.specs.Header.{header_bytes, second_version}
+use Rattle.hwdb_lookup.specs.Bounds.{second_version}
+use Rattle.index_reading.specs.Header.{header_bytes}
 use Rattle.index_reading.specs.Numbers.{IsSmall}
 use Rattle.index_reading.specs.Records.{node_bytes, value_bytes}
 use Rattle.index_reading.specs.Written.{draft_header}

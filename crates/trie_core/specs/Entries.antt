@@ -2,7 +2,7 @@
 use Rattle.std.specs.Prelude.{◌≡◌, List, ℕ, length, All}
 use Rattle.hwdb_lookup.specs.declared.entry.Entry.{Entry}
 use Rattle.trie_build.specs.Sizes.{sets_of}
-use Rattle.index_reading.specs.Header.{set_len}
+use Rattle.hwdb_lookup.specs.Bounds.{set_len}
 use Rattle.index_reading.specs.Numbers.{IsSmall}
 
 -- orders and lines have 32 bits, and sets 32 bytes

@@ -11,7 +11,8 @@ mod texts;
 mod values;
 mod write;
 
+pub use hwdb_lookup::Found;
 pub use index_reading::{Index, IndexFault};
 pub use trie_build::{Trie, TrieFault};
-pub use trie_nodes::{Database, Found, Node, Nodes};
+pub use trie_nodes::{Database, Node, Nodes};
 pub use write::write_index;

@@ -4,7 +4,7 @@
 //! besides it stand only the numbers of the entries in the order of the values, and where the names
 //! of the files begin.
 ghost use Rattle.std.specs.Prelude.{◌≡◌, IfOk};
-ghost use Rattle.index_reading.specs.Header.{second_version};
+ghost use Rattle.hwdb_lookup.specs.Bounds.{second_version};
 ghost use Rattle.index_reading.specs.Numbers.{IsSmall};
 ghost use Rattle.trie_core.specs.Image.{image};
 

@@ -1,21 +1,17 @@
 -- What the active nodes have is what the listed entries that fit have.
-use Rattle.std.proofs.Common.{◌≡◌, ℕ, ◌+◌, ◌-◌, ◌<◌, ◌≤◌, nat_lt, Bool, true, false, cond, List, ◌∷◌, [], ◌++◌, length, filter, map, fold, refl, sym, ◌∙◌, ap}
+use Rattle.std.proofs.Common.{◌≡◌, ℕ, ◌+◌, ◌-◌, ◌<◌, ◌≤◌, Bool, true, false, cond, List, ◌∷◌, [], ◌++◌, length, filter, map, fold, refl, sym, ◌∙◌, ap}
 use Rattle.std.specs.List.{flat_map, range_with_len}
-use Rattle.std.specs.declared.cmp.Ordering.{Ordering}
-use Rattle.std.specs.declared.cmp.Ordering.TheVariants.{Less, Equal, Greater}
 use Rattle.std.proofs.lemmas.List.{map-append}
 use Rattle.text_core.specs.declared.item.Item.{Item}
 use Rattle.text_core.specs.Fits.{fits}
 use Rattle.hwdb_lookup.specs.declared.entry.Entry.{Entry}
-use Rattle.hwdb_lookup.specs.Query.{key_order, placed, put, winners}
+use Rattle.hwdb_lookup.specs.Found.{stripped}
+use Rattle.hwdb_lookup.specs.Query.{put, winners}
+use Rattle.hwdb_lookup.proofs.Stripping.{fold_same}
 use Rattle.trie_nodes.specs.declared.node.Node.{Node}
 use Rattle.trie_nodes.specs.Tree.{numbers, path, is_active, active_after}
 use Rattle.trie_nodes.specs.Values.{Value, bare, entry, listed, value_at, values_of}
 use Rattle.trie_nodes.proofs.Picking.{range_step}
-
--- an entry without its pattern
-abbrev pub stripped : Entry → Entry
-stripped e = record { pattern = []; key = e.key; value = e.value; order = e.order; file = e.file; line = e.line }
 
 abbrev fits_entry : List ℕ → Entry → Bool
 fits_entry m e = fits e.pattern m
@@ -61,19 +57,6 @@ module _ (nodes : List Node) (values : List Value) (m : List ℕ) where
       ∙ ap (λ (l : List Entry). map bare (values_of nodes values x) ++ l) (properties xs)
       ∙ sym (map-append bare (values_of nodes values x) (flat_map (values_of nodes values) xs))
 
-put_same : (es : List Entry) (e : Entry) → map stripped (put es e) ≡ put (map stripped es) (stripped e)
-put_same [] e = refl
-put_same (x ∷ es) e = by (put_same es e) (key_order x.key e.key) where
-  by : map stripped (put es e) ≡ put (map stripped es) (stripped e)
-      → (o : Ordering) → map stripped (placed o e x es (put es e)) ≡ placed o (stripped e) (stripped x) (map stripped es) (put (map stripped es) (stripped e))
-  by rest Less = ap (λ (l : List Entry). stripped x ∷ l) rest
-  by rest Equal = elim (nat_lt e.order x.order) as (λ v. stripped (cond v x e) ∷ map stripped es ≡ cond v (stripped x) (stripped e) ∷ map stripped es) [ true ↦ refl | false ↦ refl ]
-  by rest Greater = refl
-
-fold_same : (acc es : List Entry) → map stripped (fold put acc es) ≡ fold put (map stripped acc) (map stripped es)
-fold_same acc [] = refl
-fold_same acc (e ∷ es) = fold_same (put acc e) es ∙ ap (λ (l : List Entry). fold put l (map stripped es)) (put_same acc e)
-
 -- what the active nodes have that counts
 pub winners_by_nodes : (nodes : List Node) (values : List Value) (m : List ℕ)
     → map stripped (winners (listed nodes values) m) ≡ fold put [] (map bare (flat_map (values_of nodes values) (active_after nodes m)))
@@ -81,11 +64,6 @@ winners_by_nodes nodes values m =
     ap (λ l. map stripped (fold put [] l)) (fit_listed nodes values m (numbers nodes))
     ∙ fold_same [] (flat_map (at nodes values m) (active_after nodes m))
     ∙ ap (fold put []) (properties nodes values m (active_after nodes m))
-
--- what does not look at the pattern is the same of the stripped entries
-pub same_stripped : {A : Type 0} (f : Entry → A) → ((e : Entry) → f (stripped e) ≡ f e) → (es : List Entry) → map f (map stripped es) ≡ map f es
-same_stripped f same [] = refl
-same_stripped f same (e ∷ es) = ap (λ x. x ∷ map f (map stripped es)) (same e) ∙ ap (λ l. f e ∷ l) (same_stripped f same es)
 
 -- one value more is put
 pub put_next : (vs : List Value) (acc acc2 : List Entry) (e : Entry) (j end : ℕ) → j < end → end ≤ length vs → e ≡ bare (value_at vs j) → acc2 ≡ put acc e

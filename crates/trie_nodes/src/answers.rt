@@ -1,15 +1,14 @@
 //! What the nodes of a database answer for a modalias: only the active nodes are looked at.
 ghost use Rattle.std.specs.Prelude.{◌≡◌, ◌<◌, [], All, IfOk, OnOk, flat_map, fold, length, map};
+ghost use Rattle.hwdb_lookup.specs.Found.{all_seen};
 ghost use Rattle.hwdb_lookup.specs.Query.{put, query, shown, shown_origin, sourced};
 ghost use Rattle.hwdb_lookup.specs.Winning.{KeysRise};
-ghost use Rattle.trie_nodes.specs.Found.{all_seen};
 ghost use Rattle.trie_nodes.specs.Tree.{active_after};
 ghost use Rattle.trie_nodes.specs.Values.{bare, listed, values_of};
 
-use crate::found::{Found, put};
 use crate::tree::Database;
 use crate::walk::visits;
-use hwdb_lookup::Sourced;
+use hwdb_lookup::{Found, Sourced, put};
 use std::alloc::{AllocError, Global};
 
 /// Puts the values of a node, in order.

@@ -2,7 +2,7 @@ use Rattle.std.proofs.Common.{List, ◌∙◌, sym, subst}
 use Rattle.hwdb_lookup.specs.Winning.{KeysRise}
 use Rattle.hwdb_lookup.specs.declared.entry.Entry.{Entry}
 use Rattle.hwdb_lookup.proofs.Placing.{put_rises}
-use Rattle.trie_nodes.specs.Found.{all_seen, seen}
+use Rattle.hwdb_lookup.specs.Found.{all_seen, seen}
 use Rattle.trie_nodes.specs.Values.{Value}
 use Rattle.trie_nodes.proofs.Listing.{put_next}
 use Rattle.trie_nodes.proofs.answers.put_values.Goals as goal

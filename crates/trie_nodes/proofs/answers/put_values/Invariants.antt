@@ -2,7 +2,7 @@ use Rattle.std.proofs.Common.{◌≡◌, ◌-◌, map, fold}
 use Rattle.std.specs.List.{range_with_len}
 use Rattle.hwdb_lookup.specs.Query.{put}
 use Rattle.hwdb_lookup.specs.Winning.{KeysRise}
-use Rattle.trie_nodes.specs.Found.{all_seen}
+use Rattle.hwdb_lookup.specs.Found.{all_seen}
 use Rattle.trie_nodes.specs.Values.{bare, value_at, values_of}
 use Rattle.trie_nodes.proofs.answers.put_values.Given as goal
 

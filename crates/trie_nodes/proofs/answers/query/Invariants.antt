@@ -1,6 +1,6 @@
 use Rattle.std.proofs.Common.{◌≡◌, map, take}
 use Rattle.hwdb_lookup.specs.Query.{property, shown}
-use Rattle.trie_nodes.specs.Found.{all_seen}
+use Rattle.hwdb_lookup.specs.Found.{all_seen}
 use Rattle.trie_nodes.proofs.answers.query.Given as goal
 
 abbrev pub invariant-loop-winner : goal.invariant-loop-winner

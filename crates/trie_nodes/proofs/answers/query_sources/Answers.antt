@@ -1,10 +1,11 @@
 use Rattle.std.proofs.Common.{List, map, ap, sym, ◌∙◌, arith, refl}
 use Rattle.std.proofs.lemmas.List.{take_all}
 use Rattle.hwdb_lookup.specs.Query.{origin, winners}
+use Rattle.hwdb_lookup.proofs.Stripping.{same_stripped}
 use Rattle.trie_nodes.specs.declared.node.Node.{Node}
-use Rattle.trie_nodes.specs.Found.{all_seen}
+use Rattle.hwdb_lookup.specs.Found.{all_seen}
 use Rattle.trie_nodes.specs.Values.{Value, listed}
-use Rattle.trie_nodes.proofs.Listing.{same_stripped, winners_by_nodes}
+use Rattle.trie_nodes.proofs.Listing.{winners_by_nodes}
 use Rattle.trie_nodes.proofs.answers.query_sources.Goals as goal
 
 pub returns : goal.returns

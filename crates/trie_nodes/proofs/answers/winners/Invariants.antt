@@ -2,7 +2,7 @@ use Rattle.std.proofs.Common.{◌≡◌, [], map, fold, take}
 use Rattle.std.specs.List.{flat_map}
 use Rattle.hwdb_lookup.specs.Query.{put}
 use Rattle.hwdb_lookup.specs.Winning.{KeysRise}
-use Rattle.trie_nodes.specs.Found.{all_seen}
+use Rattle.hwdb_lookup.specs.Found.{all_seen}
 use Rattle.trie_nodes.specs.Values.{bare, values_of}
 use Rattle.trie_nodes.proofs.answers.winners.Given as goal
 

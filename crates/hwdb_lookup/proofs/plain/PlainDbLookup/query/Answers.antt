@@ -1,7 +1,13 @@
-use Rattle.hwdb_lookup.proofs.References.{shown_more}
+use Rattle.std.proofs.Common.{map, ap, ◌∙◌, arith, refl}
+use Rattle.std.proofs.lemmas.List.{take_all}
+use Rattle.hwdb_lookup.specs.Found.{all_seen}
+use Rattle.hwdb_lookup.specs.Query.{property, winners}
+use Rattle.hwdb_lookup.proofs.Stripping.{told_of_winners}
 use Rattle.hwdb_lookup.proofs.plain.PlainDbLookup.query.Goals as goal
 
-pub loop-entry-preserved : goal.loop-entry-preserved
-loop-entry-preserved c =
-    shown_more c.loop-entry.found.items c.push.new.self.items c.deref-entry-items.result.now c.loop-entry.entry-index c.entry-item.result c.as_slice.result c.as_slice-in-loop-entry.result
-    c.in_ok-push.ensures.items c.loop-entry.invariant c.loop-entry-test.true c.entry-item.is c.as_slice.ensures c.as_slice-in-loop-entry.ensures
+pub returns : goal.returns
+returns c =
+    c.loop-winner.invariant
+    ∙ ap (λ l. map property (all_seen l)) (take_all c.loop-winner.winner-index c.deref-winner-items.result.now (omega arith) ∙ c.deref-winner-items.ensures.value)
+    ∙ told_of_winners property (λ e. refl) (all_seen c.in_ok-won.won.items) c.deref.result.now c.args.modalias.now c.in_ok-won.ensures
+    ∙ ap (λ es. map property (winners es c.args.modalias.now)) (c.deref.ensures.value ∙ c.self.view_is)

@@ -1,12 +1,13 @@
-use Rattle.std.proofs.Common.{◌≡◌}
-use Rattle.hwdb_lookup.specs.Query.{origin, shown_origin}
-use Rattle.hwdb_lookup.specs.declared.lookup.Sourced.{Sourced}
-use Rattle.hwdb_lookup.proofs.References.{origins_more}
+use Rattle.std.proofs.Common.{map, ap, ◌∙◌, arith, refl}
+use Rattle.std.proofs.lemmas.List.{take_all}
+use Rattle.hwdb_lookup.specs.Found.{all_seen}
+use Rattle.hwdb_lookup.specs.Query.{origin, winners}
+use Rattle.hwdb_lookup.proofs.Stripping.{told_of_winners}
 use Rattle.hwdb_lookup.proofs.plain.PlainDbLookup.query_sources.Goals as goal
 
-pub loop-entry-preserved : goal.loop-entry-preserved
-loop-entry-preserved c =
-    let own : Sourced = record { key = c.as_slice.result; value = c.as_slice-in-loop-entry.result; file = c.as_slice-in-loop-entry-2.result; line = c.entry-item.result.now.line } in
-    let same : shown_origin own ≡ origin c.entry-item.result.now = cc (c.as_slice.ensures, c.as_slice-in-loop-entry.ensures, c.as_slice-in-loop-entry-2.ensures) in
-    origins_more c.loop-entry.found.items c.push.new.self.items c.deref-entry-items.result.now c.loop-entry.entry-index c.entry-item.result own
-    c.in_ok-push.ensures.items c.loop-entry.invariant c.loop-entry-test.true c.entry-item.is same
+pub returns : goal.returns
+returns c =
+    c.loop-winner.invariant
+    ∙ ap (λ l. map origin (all_seen l)) (take_all c.loop-winner.winner-index c.deref-winner-items.result.now (omega arith) ∙ c.deref-winner-items.ensures.value)
+    ∙ told_of_winners origin (λ e. refl) (all_seen c.in_ok-won.won.items) c.deref.result.now c.args.modalias.now c.in_ok-won.ensures
+    ∙ ap (λ es. map origin (winners es c.args.modalias.now)) (c.deref.ensures.value ∙ c.self.view_is)

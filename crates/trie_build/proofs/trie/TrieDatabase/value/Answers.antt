@@ -1,4 +1,4 @@
-use Rattle.std.proofs.Common.{◌≡◌, ◌<◌, sym, length, arith, rules, vec_len}
+use Rattle.std.proofs.Common.{◌≡◌, ◌∙◌, ◌<◌, sym, length, arith, rules, vec_len}
 use Rattle.trie_build.specs.Content.{Content}
 use Rattle.trie_build.proofs.Holding.{entry_inside, value_is}
 use Rattle.trie_build.proofs.trie.TrieDatabase.value.Goals as goal
@@ -13,5 +13,4 @@ index-entry-requires c =
 pub returns : goal.returns
 returns c =
     let held : Content = record { entries = c.self.inside.entries.items; numbers = c.self.inside.numbers.items; nodes = c.self.inside.nodes.items } in
-    let own = value_is c.args.self.now held (sym c.self.view_is) c.self.invariant.0 c.args.j c.index.result.now c.index-entry.result.now c.requires c.index.ensures c.index-entry.ensures in
-    rw (c.as_slice.ensures, c.as_slice-2.ensures, c.as_slice-3.ensures) own
+    c.of.ensures ∙ value_is c.args.self.now held (sym c.self.view_is) c.self.invariant.0 c.args.j c.index.result.now c.index-entry.result.now c.requires c.index.ensures c.index-entry.ensures

@@ -1,7 +1,7 @@
 use Rattle.std.proofs.Common.{ap, ◌∙◌}
-use Rattle.trie_nodes.specs.Found.{all_seen}
-use Rattle.trie_nodes.proofs.Places.{wins, loses, enters}
-use Rattle.trie_nodes.proofs.found.put.Goals as goal
+use Rattle.hwdb_lookup.specs.Found.{all_seen}
+use Rattle.hwdb_lookup.proofs.Places.{wins, loses, enters}
+use Rattle.hwdb_lookup.proofs.found.put.Goals as goal
 
 pub returns-then-index-found : goal.returns-then-index-found
 returns-then-index-found c =

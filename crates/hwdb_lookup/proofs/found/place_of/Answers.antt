@@ -1,9 +1,9 @@
 use Rattle.std.proofs.Common.{rules, of_calls}
 use Rattle.std.proofs.lemmas.Fn.{always_returns_same}
 use Rattle.hwdb_lookup.specs.Query.{key_order}
-use Rattle.trie_nodes.specs.Found.{seen}
-use Rattle.trie_nodes.proofs.Places.{is_place}
-use Rattle.trie_nodes.proofs.found.place_of.Goals as goal
+use Rattle.hwdb_lookup.specs.Found.{seen}
+use Rattle.hwdb_lookup.proofs.Places.{is_place}
+use Rattle.hwdb_lookup.proofs.found.place_of.Goals as goal
 
 pub returns : goal.returns
 returns c =

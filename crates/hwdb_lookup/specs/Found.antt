@@ -1,7 +1,7 @@
 -- What was found for a device, as entries whose pattern is left out.
 use Rattle.std.specs.Prelude.{[], List, map}
 use Rattle.hwdb_lookup.specs.declared.entry.Entry.{Entry}
-use Rattle.trie_nodes.specs.declared.found.Found.{Found}
+use Rattle.hwdb_lookup.specs.declared.found.Found.{Found}
 
 -- a property that was found, as an entry
 abbrev pub seen : Found → Entry
@@ -10,3 +10,7 @@ seen f = record { pattern = []; key = f.key.now; value = f.value.now; order = f.
 -- properties that were found, as entries
 abbrev pub all_seen : List Found → List Entry
 all_seen fs = map seen fs
+
+-- an entry without its pattern
+abbrev pub stripped : Entry → Entry
+stripped e = record { pattern = []; key = e.key; value = e.value; order = e.order; file = e.file; line = e.line }

@@ -2,18 +2,16 @@
 use Rattle.std.proofs.Common.{◌≡◌, ℕ, zero, suc, ◌+◌, ◌<◌, ◌≤◌, List, ◌∷◌, [], ◌++◌, length, map, take, drop, set, insert, get_or, sym, ◌∙◌, ap, arith, subst, cond, Result, Ok, Err, ⊎_elim}
 use Rattle.std.proofs.Math.ListN.{get_or-map}
 use Rattle.std.proofs.lemmas.Bool.{cases_order, lt-ltb, le-ltb}
-use Rattle.std.proofs.lemmas.List.{length-map, map-set, map-append, take-map, drop-map, set-get_or, get_or_default, take_more}
+use Rattle.std.proofs.lemmas.List.{length-map, map-set, map-append, take-map, drop-map, set-get_or, get_or_default}
 use Rattle.std.specs.List.{AllWithin, HoldsAt}
 use Rattle.std.specs.List.Sorted.{IsBinarySearchResult, IsSearchInRange, IsNonDecreasingBy}
 use Rattle.std.specs.Ordering.{ordering_index}
 use Rattle.std.specs.declared.cmp.Ordering.TheVariants.{Less, Greater}
-use Rattle.std.specs.Borrow.{Bor}
 use Rattle.hwdb_lookup.specs.Places.{IsPlace}
-use Rattle.trie_nodes.specs.Found.{seen, all_seen}
-use Rattle.trie_nodes.specs.declared.found.Found.{Found}
+use Rattle.hwdb_lookup.specs.Found.{seen, all_seen}
+use Rattle.hwdb_lookup.specs.declared.found.Found.{Found}
 use Rattle.hwdb_lookup.specs.declared.entry.Entry.{Entry}
-use Rattle.hwdb_lookup.specs.declared.lookup.Sourced.{Sourced}
-use Rattle.hwdb_lookup.specs.Query.{Origin, key_order, origin, property, put, shown, shown_origin, winner}
+use Rattle.hwdb_lookup.specs.Query.{key_order, put, winner}
 use Rattle.hwdb_lookup.specs.Winning.{KeysRise}
 use Rattle.hwdb_lookup.proofs.Placing.{put_found, put_new}
 use Rattle.hwdb_lookup.proofs.Keys.{rank_rises, same_key}
@@ -83,34 +81,3 @@ enters ws i r within low high =
     ∙ ap (λ (es : List Entry). es ++ (seen r) ∷ all_seen (drop i ws)) (sym (take-map seen i ws))
     ∙ ap (λ (es : List Entry). take i (all_seen ws) ++ (seen r) ∷ es) (sym (drop-map seen i ws))
     ∙ sym (put_new (all_seen ws) i (seen r) within low high)
-
--- what f gives of one entry more
-next_mapped : {A : Type 0} (f : Entry → A) (ws : List Found) (i : ℕ) (r : Found) → i < length ws → r ≡ get_or ws i r
-    → map f (take i (all_seen ws)) ++ f (seen r) ∷ [] ≡ map f (take (i + 1) (all_seen ws))
-next_mapped f ws i r within is =
-    let inside : i < length (all_seen ws) = simp length-map within in
-    ap (λ (x : Entry). map f (take i (all_seen ws)) ++ f x ∷ []) (sym (there ws i r r inside is))
-    ∙ sym (map-append f (take i (all_seen ws)) (get_or (all_seen ws) i (seen r) ∷ []))
-    ∙ ap (map f) (sym (take_more (all_seen ws) i (seen r) inside))
-
--- one pair more is shown
-pub shown_more : (ps more : List (Bor (List ℕ) × Bor (List ℕ))) (ws : List Found) (i : ℕ) (r : Found) (key value : Bor (List ℕ))
-    → more ≡ ps ++ (key, value) ∷ [] → shown ps ≡ map property (take i (all_seen ws)) → i < length ws → r ≡ get_or ws i r
-    → key.now ≡ r.key.now → value.now ≡ r.value.now → shown more ≡ map property (take (i + 1) (all_seen ws))
-shown_more ps more ws i r key value e so_far within is k v =
-    let pair : (List ℕ × List ℕ) = (key.now, value.now) in
-    let same : pair ≡ property (seen r) = cc in
-    ap shown e ∙ map-append (λ p. (p.0.now, p.1.now)) ps ((key, value) ∷ [])
-    ∙ ap (λ (qs : List (List ℕ × List ℕ)). qs ++ pair ∷ []) so_far
-    ∙ ap (λ (q : List ℕ × List ℕ). map property (take i (all_seen ws)) ++ q ∷ []) same
-    ∙ next_mapped property ws i r within is
-
--- one property more is shown with where it comes from
-pub origins_more : (ss more : List Sourced) (ws : List Found) (i : ℕ) (r : Found) (s : Sourced)
-    → more ≡ ss ++ s ∷ [] → map shown_origin ss ≡ map origin (take i (all_seen ws)) → i < length ws → r ≡ get_or ws i r
-    → shown_origin s ≡ origin (seen r) → map shown_origin more ≡ map origin (take (i + 1) (all_seen ws))
-origins_more ss more ws i r s e so_far within is same =
-    ap (map shown_origin) e ∙ map-append shown_origin ss (s ∷ [])
-    ∙ ap (λ (os : List Origin). os ++ shown_origin s ∷ []) so_far
-    ∙ ap (λ (o : Origin). map origin (take i (all_seen ws)) ++ o ∷ []) same
-    ∙ next_mapped origin ws i r within is

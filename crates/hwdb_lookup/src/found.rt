@@ -3,11 +3,12 @@
 //! Those that count so far are kept sorted by key, and each further one is put in its place by a
 //! binary search.
 ghost use Rattle.std.specs.Prelude.{◌≡◌, OnOk};
+ghost use Rattle.hwdb_lookup.specs.Found.{all_seen, seen, stripped};
 ghost use Rattle.hwdb_lookup.specs.Places.{IsPlace};
 ghost use Rattle.hwdb_lookup.specs.Query.{put};
 ghost use Rattle.hwdb_lookup.specs.Winning.{KeysRise};
-ghost use Rattle.trie_nodes.specs.Found.{all_seen, seen};
 
+use crate::entry::Entry;
 use std::alloc::AllocError;
 
 /// A property, with the order of its entry, and where it comes from.
@@ -25,8 +26,24 @@ pub struct Found<'a> {
     pub line: u32,
 }
 
-/// Puts a property that is listed later in its place among those that count.
-pub(crate) fn put<'a>(won: &mut Vec<Found<'a>>, found: Found<'a>) -> Result<(), AllocError>
+impl<'a> Found<'a> {
+    /// The property that an entry gives.
+    pub fn of(entry: &'a Entry) -> Found<'a>
+        ensures { seen result ≡ stripped entry.now }
+    {
+        Found {
+            key: entry.key.as_slice(),
+            value: entry.value.as_slice(),
+            order: entry.order,
+            file: entry.file.as_slice(),
+            line: entry.line,
+        }
+    }
+}
+
+/// Puts a property that is listed later in its place among those that count: it takes the place of
+/// one with its key, unless that is of a greater order.
+pub fn put<'a>(won: &mut Vec<Found<'a>>, found: Found<'a>) -> Result<(), AllocError>
     requires { KeysRise (all_seen won.old.items) }
     ensures { OnOk result (all_seen won.new.items ≡ put (all_seen won.old.items) (seen found.entry)) }
 {

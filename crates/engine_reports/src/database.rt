@@ -39,20 +39,13 @@ pub fn report_on_query(
     ensures refused { IfErr result (λ e. IsSaid e (query_over line.now files.items opened.entry)) }
 {
     match opened {
-        None => query_files(alloc, line, files),
+        None => {
+            let (trie, messages) = read_database(alloc, line, files)?;
+            Ok(answered(alloc, line, &trie, &messages)?)
+        }
         Some(Ok(index)) => Ok(answered(alloc, line, &index, &[])?),
         Some(Err(fault)) => Err(Refusal::Index(fault)),
     }
-}
-
-/// What `query` says of the files handed in.
-fn query_files(alloc: Global, line: &Line<'_>, files: Vec<SourceFile>) -> Result<Report, Refusal>
-    ensures said { IfOk result (λ r. said r ≡ database_outcome (query_outcome line.now) (files_read FileKind.Hwdb line.now files.items)) }
-    ensures status { IfOk result (λ r. r.status < 3) }
-    ensures refused { IfErr result (λ e. IsSaid e (database_outcome (query_outcome line.now) (files_read FileKind.Hwdb line.now files.items))) }
-{
-    let (trie, messages) = read_database(alloc, line, files)?;
-    Ok(answered(alloc, line, &trie, &messages)?)
 }
 
 /// The trie of the entries of the files that are read, and the messages about these. The files are

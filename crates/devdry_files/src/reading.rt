@@ -43,15 +43,13 @@ fn file_at<D: Disk>(
     ensures memory { IfErr result (λ fault. fault ≡ ReadFault.Memory
         → D.may_answer disk.now (NoContent (string_bytes path) DiskFault.OutOfMemory)) }
 {
-    match bytes_at(alloc, disk, path) {
-        Ok(bytes) => Ok(SourceFile {
-            kind,
-            rank,
-            name,
-            bytes,
-        }),
-        Err(fault) => Err(fault),
-    }
+    let bytes = bytes_at(alloc, disk, path)?;
+    Ok(SourceFile {
+        kind,
+        rank,
+        name,
+        bytes,
+    })
 }
 
 // The path of a name in a folder.
@@ -175,16 +173,6 @@ pub fn read_all<D: Disk>(
     Ok(files)
 }
 
-// The bytes of the file at a path that is named.
-fn named_bytes<D: Disk>(alloc: Global, disk: &D, path: &str) -> Result<Bytes, ReadFault>
-    ensures bytes { IfOk result (λ bytes. D.may_answer disk.now (Content path.now bytes)) }
-    ensures fault { IfErr result (HasPath (λ p. (p ≡ path.now)
-        × IsUnread (D.may_answer disk.now) p)) }
-{
-    let path = String::from_str(alloc, path)?;
-    bytes_at(alloc, disk, path)
-}
-
 /// Reads the index that is wanted, if one is: all bytes of the file at its path.
 ///
 /// `ReadFault::Path` comes where the file can't be read, or where there is none, with the path as it
@@ -198,8 +186,9 @@ pub fn read_index<D: Disk>(
     ensures index { IfOk result (IsIndexWanted (D.may_answer disk.now) wanted.now) }
     ensures fault { IfErr result (HasPath (IsFaultyIndex (D.may_answer disk.now) wanted.now)) }
 {
-    match wanted.index {
-        Some(path) => Ok(Some(named_bytes(alloc, disk, path)?)),
-        None => Ok(None),
-    }
+    let Some(path) = wanted.index else {
+        return Ok(None);
+    };
+    let path = String::from_str(alloc, path)?;
+    Ok(Some(bytes_at(alloc, disk, path)?))
 }

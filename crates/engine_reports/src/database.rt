@@ -2,10 +2,10 @@
 //!
 //! `query` asks an index where one is handed in, and else a trie of the entries that were read, as
 //! events do. `update` makes the same trie, of which the index is written.
-ghost use Rattle.std.specs.Prelude.{◌≡◌, ◌<◌, length, IfOk, IfErr};
-ghost use Rattle.hwdb_lookup.specs.Orders.{Rising};
-ghost use Rattle.trie_build.specs.Sizes.{KeepsBounds};
-ghost use Rattle.trie_core.specs.Image.{image};
+ghost use Rattle.std.specs.Prelude.{◌≡◌, ◌<◌, List, length, IfOk, IfErr};
+ghost use Rattle.text_bytes.specs.declared.message.Message.{Message};
+ghost use Rattle.hwdb_lookup.specs.declared.entry.Entry.{Entry};
+ghost use Rattle.engine_ends.specs.Delivery.{Outcome};
 ghost use Rattle.engine_reports.specs.Outcomes.{database_outcome, query_outcome, query_over, update_outcome, update_status};
 ghost use Rattle.engine_reports.specs.FilesRead.{files_read};
 ghost use Rattle.engine_reports.specs.Reports.{IsSaid, said};
@@ -16,12 +16,12 @@ use crate::messages::message_lines;
 use crate::refusal::Refusal;
 use crate::report::Report;
 use engine_ends::Line;
-use hwdb_core::{Database, read_sources};
-use hwdb_lookup::{Entry, Lookup};
+use hwdb_core::read_sources;
+use hwdb_lookup::Lookup;
 use index_reading::{Index, IndexFault};
 use std::alloc::{AllocError, Global};
 use text_bytes::{FileKind, Message, SourceFile};
-use trie_build::trie_of;
+use trie_build::{Trie, trie_of};
 use trie_core::write_index;
 
 /// What `query` says of the files of the database, or of the index that was opened in their place.
@@ -39,43 +39,32 @@ pub fn report_on_query(
     ensures refused { IfErr result (λ e. IsSaid e (query_over line.now files.items opened.entry)) }
 {
     match opened {
-        None => query_files(alloc, line, files),
+        None => {
+            let (trie, messages) = read_database(alloc, line, files)?;
+            Ok(answered(alloc, line, &trie, &messages)?)
+        }
         Some(Ok(index)) => Ok(answered(alloc, line, &index, &[])?),
         Some(Err(fault)) => Err(Refusal::Index(fault)),
     }
 }
 
-/// What `query` says of the files handed in.
-fn query_files(alloc: Global, line: &Line<'_>, files: Vec<SourceFile>) -> Result<Report, Refusal>
-    ensures said { IfOk result (λ r. said r ≡ database_outcome (query_outcome line.now) (files_read FileKind.Hwdb line.now files.items)) }
-    ensures status { IfOk result (λ r. r.status < 3) }
-    ensures refused { IfErr result (λ e. IsSaid e (database_outcome (query_outcome line.now) (files_read FileKind.Hwdb line.now files.items))) }
+/// The trie of the entries of the files that are read, and the messages about these. The files are
+/// given back as soon as their entries are known.
+fn read_database(
+    alloc: Global,
+    line: &Line<'_>,
+    files: Vec<SourceFile>,
+) -> Result<(Trie, Vec<Message>), Refusal>
+    ensures read { IfOk result (λ read. (say : List Entry → List Message → Outcome)
+        → say read.0.entries read.1.items ≡ database_outcome say (files_read FileKind.Hwdb line.now files.items)) }
+    ensures refused { IfErr result (λ e. (say : List Entry → List Message → Outcome)
+        → IsSaid e (database_outcome say (files_read FileKind.Hwdb line.now files.items))) }
 {
     let files = files_read(alloc, FileKind::Hwdb, line, files)?;
-    query_these(alloc, line, files)
-}
-
-/// The same of the files that are read. They are given back as soon as their entries are known.
-fn query_these(alloc: Global, line: &Line<'_>, files: Vec<SourceFile>) -> Result<Report, Refusal>
-    ensures said { IfOk result (λ r. said r ≡ database_outcome (query_outcome line.now) files.items) }
-    ensures status { IfOk result (λ r. r.status < 3) }
-    ensures refused { IfErr result (λ e. IsSaid e (database_outcome (query_outcome line.now) files.items)) }
-{
     let database = read_sources(alloc, &files)?;
     drop(files);
-    let report = queried(alloc, line, database)?;
-    Ok(report)
-}
-
-/// The answer by a trie of the entries, and the messages about the files.
-fn queried(alloc: Global, line: &Line<'_>, database: Database) -> Result<Report, AllocError>
-    requires rising { Rising database.entries.items }
-    requires bounds { KeepsBounds database.entries.items }
-    ensures said { IfOk result (λ r. said r ≡ query_outcome line.now database.entries.items database.messages.items) }
-    ensures status { IfOk result (λ r. r.status < 3) }
-{
     let trie = trie_of(alloc, database.entries)?;
-    answered(alloc, line, &trie, &database.messages)
+    Ok((trie, database.messages))
 }
 
 /// The answer to the line's modalias, and the messages about the files.
@@ -110,47 +99,25 @@ pub fn report_on_update(
     ensures status { IfOk result (λ r. r.status < 3) }
     ensures refused { IfErr result (λ e. IsSaid e (database_outcome (update_outcome line.now) (files_read FileKind.Hwdb line.now files.items))) }
 {
-    let files = files_read(alloc, FileKind::Hwdb, line, files)?;
-    update_these(alloc, line, files)
-}
-
-/// The same of the files that are read. They are given back as soon as their entries are known.
-fn update_these(alloc: Global, line: &Line<'_>, files: Vec<SourceFile>) -> Result<Report, Refusal>
-    ensures said { IfOk result (λ r. said r ≡ database_outcome (update_outcome line.now) files.items) }
-    ensures status { IfOk result (λ r. r.status < 3) }
-    ensures refused { IfErr result (λ e. IsSaid e (database_outcome (update_outcome line.now) files.items)) }
-{
-    let database = read_sources(alloc, &files)?;
-    drop(files);
-    let report = updated(alloc, line, database)?;
-    Ok(report)
+    let (trie, messages) = read_database(alloc, line, files)?;
+    Ok(updated(alloc, line, &trie, &messages)?)
 }
 
 /// The index of the entries, and the messages about the files, which make a strict run fail.
-fn updated(alloc: Global, line: &Line<'_>, database: Database) -> Result<Report, AllocError>
-    requires rising { Rising database.entries.items }
-    requires bounds { KeepsBounds database.entries.items }
-    ensures said { IfOk result (λ r. said r ≡ update_outcome line.now database.entries.items database.messages.items) }
+fn updated(
+    alloc: Global,
+    line: &Line<'_>,
+    entries: &Trie,
+    messages: &[Message],
+) -> Result<Report, AllocError>
+    ensures said { IfOk result (λ r. said r ≡ update_outcome line.now entries.now.entries messages.now) }
     ensures status { IfOk result (λ r. r.status < 3) }
 {
-    let messages = message_lines(alloc, &database.messages)?;
-    let status = update_status(line.strict, &database.messages);
-    let output = index_of(alloc, database.entries)?;
     Ok(Report {
-        output,
-        messages,
-        status,
+        output: write_index(alloc, entries)?,
+        messages: message_lines(alloc, messages)?,
+        status: update_status(line.strict, messages),
     })
-}
-
-/// The index of entries.
-fn index_of(alloc: Global, entries: Vec<Entry>) -> Result<Vec<u8>, AllocError>
-    requires rising { Rising entries.items }
-    requires bounds { KeepsBounds entries.items }
-    ensures { IfOk result (λ index. index.items ≡ image entries.items) }
-{
-    let trie = trie_of(alloc, entries)?;
-    write_index(alloc, &trie)
 }
 
 /// The status of `update`: 1 where it is strict and there is a message.

@@ -13,10 +13,7 @@ use index_reading::{Index, IndexFault};
 pub fn open_index(index: Option<&[u8]>) -> Option<Result<Index<'_>, IndexFault>>
     ensures { Opens (option_map (λ bytes. bytes.now) index.entry) result }
 {
-    match index {
-        Some(bytes) => Some(Index::open(bytes)),
-        None => None,
-    }
+    Some(Index::open(index?))
 }
 
 /// The line on an index that fails a check.

@@ -3,30 +3,20 @@ ghost use Rattle.std.specs.Prelude.{◌≡◌, [], IfOk, OnErr, option_copied};
 ghost use Rattle.eval_state.specs.Scenes.{IsBlank};
 ghost use Rattle.eval_rendering.specs.Rendering.{render};
 ghost use Rattle.eval_rendering.specs.declared.rendered.Mode.TheVariants.{Plain};
-ghost use Rattle.eval_matching.specs.Holding.{agrees};
 ghost use Rattle.eval_acts.specs.Acts.{act_step, imported, on_text, performed, too_long};
 ghost use Rattle.eval_acts.specs.Imports.{run_builtin};
 ghost use Rattle.eval_acts.specs.Questions.{asked, tested, with_result};
 
 use crate::imports::{import_parent, not_run, run_builtin};
 use crate::questions::{ask, clear_result, look_for};
+use eval_matching::agrees;
 use eval_rendering::{Mode, Rendered, render};
 use eval_state::Scene;
 use hwdb_lookup::Lookup;
 use rule_templates::Template;
-use rule_types::{Act, Deed, Import, MatchOperator, Rule};
+use rule_types::{Act, Deed, Import, Rule};
 use std::alloc::{AllocError, Global};
 use text_bytes::Bytes;
-
-/// `!=` turns round whether something was done.
-fn agrees(operator: MatchOperator, done: bool) -> bool
-    ensures { result ≡ agrees operator done }
-{
-    match operator {
-        MatchOperator::Equal => done,
-        MatchOperator::NotEqual => !done,
-    }
-}
 
 /// Notes that the text of an act is too long, so that it is not done.
 fn too_long(

@@ -1,7 +1,7 @@
 -- What comes of a rule, by its course.
 use Rattle.std.proofs.Common.{◌≡◌, ℕ, ◌-◌, ◌<◌, Bool, true, false, cond, ◌&&◌, List, [], ◌∷◌, length, fold, map, get_or, slice_get, is_some, Option, Some, None, option_map, refl, ap, sym, ◌∙◌}
 use Rattle.std.specs.List.{list_all}
-use Rattle.std.specs.Option.{option_and_then}
+use Rattle.std.specs.Option.{option_and_then, option_or}
 use Rattle.std.proofs.lemmas.List.{get_or-map}
 use Rattle.std.proofs.lemmas.List.Folds.{list_all_at}
 use Rattle.std.proofs.lemmas.Option.{same_Some, slice_get-get_or, slice_get_within}
@@ -32,7 +32,7 @@ use Rattle.eval_acts.specs.Reaching.{reached}
 use Rattle.eval_assignments.specs.Steps.{set_step}
 use Rattle.eval_rules.specs.Steps.{Went, apply, onward, plain_step, result_step, search, set_all, walk, with_selected}
 use Rattle.eval_core.specs.Checks.{check_of, choice_check, is_other, is_ruled_out, seen}
-use Rattle.eval_core.specs.Courses.{as_foretold, course_behind, course_by, course_in, course_of, first_mark, foretold, guard_in, guarded, has_no_more, mark_by, mark_in, mark_of, part_mark, refused, search_in, searched}
+use Rattle.eval_core.specs.Courses.{as_foretold, course_behind, course_by, course_in, course_of, foretold, guard_in, guarded, has_no_more, mark_by, mark_in, mark_of, part_mark, refused, search_in, searched}
 use Rattle.eval_core.specs.Marks.{driver, is_lacking, mark, marks, subsystem}
 use Rattle.eval_core.specs.declared.checks.Check.{Check}
 use Rattle.eval_core.specs.declared.courses.Course.{Course}
@@ -216,11 +216,11 @@ module _ (es : List Entry) (names : List Text) (r : Rule) (s : Scene) where
       by_first None e = refl
       by_first (Some m) e = at_mark part parts m plain ups (λ lacks. none_meets s.state (part ∷ parts) 0 part refl (absent s.state part m e lacks))
 
-      by_mark : (last : UpMatch) → slice_get (part ∷ parts) (length (part ∷ parts) - 1) ≡ Some last → (o : Option ℕ) → part_mark last ≡ o → Known (searched (first_mark o (part_mark part)))
+      by_mark : (last : UpMatch) → slice_get (part ∷ parts) (length (part ∷ parts) - 1) ≡ Some last → (o : Option ℕ) → part_mark last ≡ o → Known (searched (option_or o (part_mark part)))
       by_mark last at None e = by_first (part_mark part) refl
       by_mark last at (Some m) e = at_mark part parts m plain ups (λ lacks. none_meets s.state (part ∷ parts) (length (part ∷ parts) - 1) last at (absent s.state last m e lacks))
 
-      by_last : (u : Option UpMatch) → slice_get (part ∷ parts) (length (part ∷ parts) - 1) ≡ u → Known (searched (first_mark (mark_in u) (part_mark part)))
+      by_last : (u : Option UpMatch) → slice_get (part ∷ parts) (length (part ∷ parts) - 1) ≡ u → Known (searched (option_or (mark_in u) (part_mark part)))
       by_last None e = by_first (part_mark part) refl
       by_last (Some last) e = by_mark last e (part_mark last) refl
 

@@ -1,6 +1,7 @@
 -- A rule that is ruled out changes nothing.
 use Rattle.std.proofs.Common.{◌≡◌, ℕ, zero, suc, ◌+◌, ◌-◌, Bool, true, false, cond, not, ◌&&◌, ◌==◌, List, [], ◌∷◌, length, get_or, position, slice_get, Option, Some, None, option_map, refl, ap, sym, ◌∙◌, true≢false, arith}
 use Rattle.std.specs.List.{list_all}
+use Rattle.std.specs.Option.{option_or}
 use Rattle.std.specs.Cmp.Lexicographic.{bytes_decides}
 use Rattle.std.proofs.lemmas.Bool.{eq-eqb}
 use Rattle.std.proofs.lemmas.List.Quantifiers.{position-Some}
@@ -31,7 +32,7 @@ use Rattle.eval_state.specs.declared.scene.Scene.{Scene}
 use Rattle.eval_acts.specs.Acts.{act_step}
 use Rattle.eval_acts.specs.Reaching.{reached}
 use Rattle.eval_rules.specs.Steps.{apply, onward, plain_step, result_step, search, set_all, walk}
-use Rattle.eval_core.specs.Checks.{asked, attribute_seen, behind_five, check_by, check_in, check_of, choice_check, differs, first_check, head_slot, is_other, is_ruled_out, seen, slot_of}
+use Rattle.eval_core.specs.Checks.{asked, attribute_seen, behind_five, check_by, check_in, check_of, choice_check, differs, head_slot, is_other, is_ruled_out, seen, slot_of}
 use Rattle.eval_core.specs.declared.checks.Check.{Check}
 
 -- ---- what does not fit
@@ -142,7 +143,7 @@ module _ (names : List Text) (r : Rule) (s : Scene) where
   missed key wanted h = by (check_by (slot_of names key) (exact_sketch wanted.choice)) refl h
     where
       by : (check : Option Check) → check_by (slot_of names key) (exact_sketch wanted.choice) ≡ check
-          → is_ruled_out (seen names s.state.event) (first_check check (check_by (head_slot key) (exact_head wanted.choice))) ≡ true → Misses r s key wanted
+          → is_ruled_out (seen names s.state.event) (option_or check (check_by (head_slot key) (exact_head wanted.choice))) ≡ true → Misses r s key wanted
       by None e k = key_missed_at_its_head key wanted k
       by (Some check) e k = key_missed key wanted (ap (is_ruled_out (seen names s.state.event)) e ∙ k)
 

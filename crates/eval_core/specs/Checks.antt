@@ -1,5 +1,6 @@
 -- Serves inner proofs only: what is seen of an event before its rules run, and which rules this rules out.
 use Rattle.std.specs.Prelude.{ℕ, ◌+◌, ◌==◌, Bool, true, false, not, List, [], ◌∷◌, map, position, slice_get, Option, Some, None, option_map}
+use Rattle.std.specs.Option.{option_or}
 use Rattle.text_tables.specs.Texts.{Text, same_text}
 use Rattle.text_tables.specs.Pairs.{value_of}
 use Rattle.text_core.specs.declared.item.Item.{Item}
@@ -45,14 +46,9 @@ check_by None wanted = None
 check_by (Some slot) None = None
 check_by (Some slot) (Some wanted) = Some (record { slot = slot; sketch = wanted })
 
--- the first of two checks that is there
-abbrev pub first_check : Option Check → Option Check → Option Check
-first_check None other = other
-first_check (Some check) other = Some check
-
 -- the check of what a key looks at, by the text of a choice, or by the first byte of its pattern
 abbrev pub choice_check : List Text → PlainKey → List (List Item) → Option Check
-choice_check names key choice = first_check (check_by (slot_of names key) (exact_sketch choice)) (check_by (head_slot key) (exact_head choice))
+choice_check names key choice = option_or (check_by (slot_of names key) (exact_sketch choice)) (check_by (head_slot key) (exact_head choice))
 
 -- a check of a match by `==`; one by `!=` has none
 abbrev pub asked : MatchOperator → Option Check → Option Check

@@ -1,5 +1,6 @@
 -- Serves inner proofs only: what is known of rules before they are looked at.
 use Rattle.std.specs.Prelude.{ℕ, ◌-◌, Bool, true, false, ◌&&◌, if◌then◌else◌, List, [], ◌∷◌, length, slice_get, Option, Some, None}
+use Rattle.std.specs.Option.{option_or}
 use Rattle.text_bytes.specs.Texts.{is_empty}
 use Rattle.text_tables.specs.Texts.{Text}
 use Rattle.text_core.specs.declared.item.Item.{Item}
@@ -62,11 +63,6 @@ mark_in (Some part) = part_mark part
 abbrev pub last_mark : List UpMatch → Option ℕ
 last_mark parts = mark_in (slice_get parts (length parts - 1))
 
--- the first of two marks that is there
-abbrev pub first_mark : Option ℕ → Option ℕ → Option ℕ
-first_mark None other = other
-first_mark (Some mark) other = Some mark
-
 -- the course of a rule that searches for one device, if there is a mark that this one has
 abbrev pub searched : Option ℕ → Course
 searched None = Open
@@ -80,7 +76,7 @@ guard_in names (part ∷ other ∷ parts) = Open
 
 -- the course of a rule with these matches of the event, and these of one device, of which this is the first
 abbrev pub search_in : List PlainMatch → List UpMatch → UpMatch → Course
-search_in [] parts part = searched (first_mark (last_mark parts) (part_mark part))
+search_in [] parts part = searched (option_or (last_mark parts) (part_mark part))
 search_in (other ∷ plain) parts part = Open
 
 -- whether a rule has nothing behind its matches of the event and of a device

@@ -6,7 +6,7 @@
 //! pattern for the kernel's name the first byte is known, nearly always.
 ghost use Rattle.std.specs.Prelude.{◌≡◌, ◌<◌, ◌≤◌, length, position, IfOk, IfSome};
 ghost use Rattle.text_tables.specs.Texts.{same_text};
-ghost use Rattle.eval_core.specs.Checks.{asked, attribute_slot, check_by, check_of, check_with, choice_check, first_check, head_slot, slot_of};
+ghost use Rattle.eval_core.specs.Checks.{attribute_slot, check_by, check_of, check_with, choice_check, head_slot, slot_of};
 
 use crate::heads::exact_head;
 use crate::sketches::exact_sketch;
@@ -39,10 +39,7 @@ fn place_of(names: &[Bytes], name: &[u8]) -> Option<usize>
 fn attribute_slot(names: &[Bytes], name: &[u8]) -> Option<usize>
     ensures { result ≡ attribute_slot names.now name.now }
 {
-    match place_of(names, name) {
-        Some(place) => Some(place + 5),
-        None => None,
-    }
+    Some(place_of(names, name)? + 5)
 }
 
 /// Where what a key looks at stands among what is seen of an event, if it is there.
@@ -63,10 +60,10 @@ fn slot_of(names: &[Bytes], key: &PlainKey) -> Option<usize>
 fn check_by(slot: Option<usize>, sketch: Option<u64>) -> Option<Check>
     ensures { result ≡ check_by slot sketch }
 {
-    match (slot, sketch) {
-        (Some(slot), Some(sketch)) => Some(Check { slot, sketch }),
-        _ => None,
-    }
+    Some(Check {
+        slot: slot?,
+        sketch: sketch?,
+    })
 }
 
 /// Where the first byte of what a key looks at stands among what is seen of an event, if it is there.
@@ -79,64 +76,38 @@ fn head_slot(key: &PlainKey) -> Option<usize>
     }
 }
 
-/// The first of two checks that is there.
-fn first_check(check: Option<Check>, other: Option<Check>) -> Option<Check>
-    ensures { result ≡ first_check check other }
-{
-    match check {
-        Some(check) => Some(check),
-        None => other,
-    }
-}
-
 /// The check of what a key looks at, by the text of a choice, or by the first byte of its pattern.
 pub(crate) fn choice_check(names: &[Bytes], key: &PlainKey, choice: &Choice) -> Option<Check>
     ensures { result ≡ choice_check names.now key.now choice.now }
 {
-    first_check(
-        check_by(slot_of(names, key), exact_sketch(choice)),
-        check_by(head_slot(key), exact_head(choice)),
-    )
+    check_by(slot_of(names, key), exact_sketch(choice)).or(check_by(
+        head_slot(key),
+        exact_head(choice),
+    ))
 }
 
-/// A check of a match by `==`; one by `!=` has none.
-fn asked(operator: MatchOperator, check: Option<Check>) -> Option<Check>
-    ensures { result ≡ asked operator check }
-{
-    match operator {
-        MatchOperator::Equal => check,
-        MatchOperator::NotEqual => None,
-    }
-}
-
-/// The check of a match.
+/// The check of a match by `==`; one by `!=` has none.
 fn check_with(names: &[Bytes], part: &PlainMatch) -> Option<Check>
     ensures { result ≡ check_with names.now part.now }
 {
-    asked(
-        part.wanted.operator,
-        choice_check(names, &part.key, &part.wanted.choice),
-    )
+    match part.wanted.operator {
+        MatchOperator::Equal => choice_check(names, &part.key, &part.wanted.choice),
+        MatchOperator::NotEqual => None,
+    }
 }
 
 /// The check of a rule, by its first match.
 pub(crate) fn check_of(names: &[Bytes], rule: &Rule) -> Option<Check>
     ensures { result ≡ check_of names.now rule.now }
 {
-    match rule.plain().first() {
-        Some(part) => check_with(names, part),
-        None => None,
-    }
+    check_with(names, rule.plain().first()?)
 }
 
 /// The name of the attribute that a rule looks at first, if it does.
 fn first_attribute(rule: &Rule) -> Option<&[u8]> {
-    match rule.plain().first() {
-        Some(part) => match &part.key {
-            PlainKey::Attr(name) => Some(name.as_slice()),
-            _ => None,
-        },
-        None => None,
+    match &rule.plain().first()?.key {
+        PlainKey::Attr(name) => Some(name.as_slice()),
+        _ => None,
     }
 }
 

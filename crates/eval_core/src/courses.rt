@@ -5,7 +5,7 @@
 //! the event has something else than one text, and those that search for a device with something that no
 //! device of the chain has.
 ghost use Rattle.std.specs.Prelude.{◌≡◌, map, IfOk};
-ghost use Rattle.eval_core.specs.Courses.{course_behind, course_of, first_mark, foretold, guard_in, guarded, has_no_more, last_mark, mark_by, mark_of, part_mark, refused, search_in, searched, thing_of};
+ghost use Rattle.eval_core.specs.Courses.{course_behind, course_of, foretold, guard_in, guarded, has_no_more, last_mark, part_mark, refused, search_in, searched, thing_of};
 
 use crate::checks::{Check, check_of, choice_check};
 use crate::marks::{DRIVER, MarkSet, SUBSYSTEM, mark};
@@ -14,7 +14,6 @@ use crate::sketches::{exact_sketch, sketch};
 use rule_types::{MatchOperator, PlainMatch, Rule, UpKey, UpMatch};
 use std::alloc::{AllocError, Global};
 use text_bytes::Bytes;
-use text_core::Choice;
 
 /// What is known of a rule before it is looked at.
 #[derive(Clone, Copy, Debug)]
@@ -86,51 +85,24 @@ fn thing_of(key: &UpKey) -> Option<u64>
     }
 }
 
-/// A mark, where both its parts are known.
-fn mark_by(thing: Option<u64>, value: Option<u64>) -> Option<usize>
-    ensures { result ≡ mark_by thing value }
-{
-    match (thing, value) {
-        (Some(thing), Some(value)) => Some(mark(thing, value)),
-        _ => None,
-    }
-}
-
-/// The mark of what a match asks for by its operator: one by `!=` asks for none.
-fn mark_of(operator: MatchOperator, key: &UpKey, choice: &Choice) -> Option<usize>
-    ensures { result ≡ mark_of operator key.now choice.now }
-{
-    match operator {
-        MatchOperator::Equal => mark_by(thing_of(key), exact_sketch(choice)),
-        MatchOperator::NotEqual => None,
-    }
-}
-
-/// The mark of what a match asks for, if it has one.
+/// The mark of what a match asks for, if it has one: one by `!=` asks for none.
 fn part_mark(part: &UpMatch) -> Option<usize>
     ensures { result ≡ part_mark part.now }
 {
-    mark_of(part.wanted.operator, &part.key, &part.wanted.choice)
+    match part.wanted.operator {
+        MatchOperator::Equal => Some(mark(
+            thing_of(&part.key)?,
+            exact_sketch(&part.wanted.choice)?,
+        )),
+        MatchOperator::NotEqual => None,
+    }
 }
 
 /// The mark of what the last of some matches asks for, if it has one.
 fn last_mark(parts: &[UpMatch]) -> Option<usize>
     ensures { result ≡ last_mark parts.now }
 {
-    match parts.last() {
-        Some(part) => part_mark(part),
-        None => None,
-    }
-}
-
-/// The first of two marks that is there.
-fn first_mark(mark: Option<usize>, other: Option<usize>) -> Option<usize>
-    ensures { result ≡ first_mark mark other }
-{
-    match mark {
-        Some(mark) => Some(mark),
-        None => other,
-    }
+    part_mark(parts.last()?)
 }
 
 /// The course of a rule that has no more than these matches of the event.
@@ -156,7 +128,7 @@ fn search_in(plain: &[PlainMatch], parts: &[UpMatch], part: &UpMatch) -> Course
     ensures { result ≡ search_in plain.now parts.now part.now }
 {
     if plain.is_empty() {
-        searched(first_mark(last_mark(parts), part_mark(part)))
+        searched(last_mark(parts).or(part_mark(part)))
     } else {
         Course::Open
     }

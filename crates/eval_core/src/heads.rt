@@ -32,10 +32,7 @@ fn byte_item(item: &Item) -> Option<u64>
 fn head_of(items: &[Item]) -> Option<u64>
     ensures { result ≡ head_of items.now }
 {
-    match items.first() {
-        Some(item) => byte_item(item),
-        None => None,
-    }
+    byte_item(items.first()?)
 }
 
 /// The first byte of the texts that a choice fits, where it is one pattern, which begins with a byte: the
@@ -43,8 +40,5 @@ fn head_of(items: &[Item]) -> Option<u64>
 pub fn exact_head(choice: &Choice) -> Option<u64>
     ensures { result ≡ exact_head choice.now }
 {
-    match only_part(choice.parts()) {
-        Some(items) => head_of(items),
-        None => None,
-    }
+    head_of(only_part(choice.parts())?)
 }

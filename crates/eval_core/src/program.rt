@@ -77,19 +77,6 @@ fn evaluate<'a, L: Lookup>(
 }
 
 impl Program {
-    /// The rules as they are laid out, lent.
-    fn layout(&self) -> Layout<'_>
-        ensures rules { result.rules.now ≡ self.now }
-        ensures laid_out { IsLaidOut result.rules.now result.passes.now result.names.now result.courses.now }
-    {
-        Layout {
-            rules: &self.rules,
-            passes: &self.passes,
-            names: &self.names,
-            courses: &self.courses,
-        }
-    }
-
     /// What an event comes to by the rules, as `evaluate_plain` has it.
     ///
     /// The error comes where memory is refused.
@@ -101,6 +88,12 @@ impl Program {
     ) -> Result<Outcome, AllocError>
         ensures { IfOk result (λ answer. answer ≡ outcome self.now (L.entries lookup.now) event.now) }
     {
-        evaluate(alloc, self.layout(), event, lookup)
+        let layout = Layout {
+            rules: &self.rules,
+            passes: &self.passes,
+            names: &self.names,
+            courses: &self.courses,
+        };
+        evaluate(alloc, layout, event, lookup)
     }
 }

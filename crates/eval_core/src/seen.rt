@@ -14,10 +14,7 @@ use text_bytes::Bytes;
 fn attribute_seen(device: &Device<'_>, name: &[u8]) -> Option<u64>
     ensures { result ≡ attribute_seen device.now name.now }
 {
-    match device.attrs().get(name) {
-        Some(value) => Some(sketch(trimmed(value))),
-        None => None,
-    }
+    Some(sketch(trimmed(device.attrs().get(name)?)))
 }
 
 /// The sketches of an event's action and of its device's kernel name, subsystem and driver, the first

@@ -72,15 +72,11 @@ fn items_sketch(items: &[Item]) -> u64
 pub(crate) fn only_part(parts: &[Pattern]) -> Option<&[Item]>
     ensures { option_map (λ items. items.now) result ≡ only_part parts.now }
 {
-    match parts.split_first() {
-        Some((part, others)) => {
-            if others.is_empty() {
-                Some(part.items())
-            } else {
-                None
-            }
-        }
-        None => None,
+    let (part, others) = parts.split_first()?;
+    if others.is_empty() {
+        Some(part.items())
+    } else {
+        None
     }
 }
 
@@ -89,14 +85,10 @@ pub(crate) fn only_part(parts: &[Pattern]) -> Option<&[Item]>
 pub fn exact_sketch(choice: &Choice) -> Option<u64>
     ensures { result ≡ exact_sketch choice.now }
 {
-    match only_part(choice.parts()) {
-        Some(items) => {
-            if are_words(items) {
-                Some(items_sketch(items))
-            } else {
-                None
-            }
-        }
-        None => None,
+    let items = only_part(choice.parts())?;
+    if are_words(items) {
+        Some(items_sketch(items))
+    } else {
+        None
     }
 }

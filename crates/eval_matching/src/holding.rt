@@ -9,8 +9,8 @@ use rule_types::{Comparison, MatchOperator};
 use text_bytes::is_whitespace;
 use text_core::{Choice, Item, Pattern};
 
-/// `!=` turns the answer round.
-fn agrees(operator: MatchOperator, fits: bool) -> bool
+/// What comes of an answer by an operator: `==` leaves it, and `!=` turns it round.
+pub fn agrees(operator: MatchOperator, fits: bool) -> bool
     ensures { result ≡ agrees operator fits }
 {
     match operator {

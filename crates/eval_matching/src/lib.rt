@@ -9,5 +9,6 @@ mod holding;
 mod plain;
 mod upward;
 
+pub use holding::agrees;
 pub use plain::{plain_holds, result_holds};
 pub use upward::found_place;

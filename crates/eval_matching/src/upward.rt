@@ -36,10 +36,7 @@ fn driver_at<'a>(state: &State<'a>, place: usize) -> &'a [u8]
 fn attribute_at<'a>(state: &State<'a>, place: usize, name: &[u8]) -> Option<&'a [u8]>
     ensures { option_map (λ value. value.now) result ≡ option_and_then (λ device. value_of device.attrs name.now) (device_at state.now.event place) }
 {
-    match state.event.device_at(place) {
-        Some(device) => device.attrs().get(name),
-        None => None,
-    }
+    state.event.device_at(place)?.attrs().get(name)
 }
 
 /// Whether a comparison holds of the tags of the device at a place.

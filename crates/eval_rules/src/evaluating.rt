@@ -31,10 +31,7 @@ fn run_text(alloc: Global, kept: &Run<'_>, state: &mut State<'_>) -> Result<Rend
 fn braces(kept: &Run<'_>) -> Option<&'static [u8]>
     ensures { option_map (λ text. text.now) result ≡ option_map run_name kept.now.braces }
 {
-    match kept.braces() {
-        Some(kind) => Some(kind.name()),
-        None => None,
-    }
+    Some(kept.braces()?.name())
 }
 
 /// Takes in a RUN that was rendered: as a command, or with a note where it is too long.

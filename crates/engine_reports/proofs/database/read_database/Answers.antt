@@ -1,0 +1,19 @@
+use Rattle.std.proofs.Common.{subst, sym}
+use Rattle.std.proofs.lemmas.Result.{err_from_is_err_and}
+use Rattle.trie_build.specs.Sizes.{KeepsBounds}
+use Rattle.trie_build.proofs.Bounding.{never_too_large}
+use Rattle.engine_reports.proofs.Bounds.{entries_refused, outcome_few}
+use Rattle.engine_reports.proofs.database.read_database.Goals as goal
+
+pub returns-in_err-database-clause-refused : goal.returns-in_err-database-clause-refused
+returns-in_err-database-clause-refused c =
+    let p = err_from_is_err_and c.from_residual-in_err-database.result c.from_residual-in_err-database.ensures.1 in
+    rw (p.1, p.2, ← c.in_ok-files.ensures, ← c.deref.ensures.value) (λ say. entries_refused say c.deref.result.now c.in_err-database.field-0.0 c.in_err-database.ensures.too_many)
+
+pub trie_of-requires-clause-bounds : goal.trie_of-requires-clause-bounds
+trie_of-requires-clause-bounds c = subst KeepsBounds (sym c.in_ok-database.ensures.entries) (never_too_large c.deref.result.now c.in_ok-database.ensures.within)
+
+pub returns-clause-read : goal.returns-clause-read
+returns-clause-read c say =
+    let few = outcome_few say c.deref.result.now c.in_ok-database.ensures.within in
+    rw (c.in_ok-trie.ensures, c.in_ok-database.ensures.entries, c.in_ok-database.ensures.messages, ← c.in_ok-files.ensures, ← c.deref.ensures.value) (sym few)

@@ -2,7 +2,7 @@
 //!
 //! Those that count so far are kept sorted by key, and each further one is put in its place by a
 //! binary search.
-ghost use Rattle.std.specs.Prelude.{◌≡◌, OnOk};
+ghost use Rattle.std.specs.Prelude.{◌≡◌, OnErr, OnOk};
 ghost use Rattle.hwdb_lookup.specs.Found.{all_seen, seen, stripped};
 ghost use Rattle.hwdb_lookup.specs.Places.{IsPlace};
 ghost use Rattle.hwdb_lookup.specs.Query.{put};
@@ -41,11 +41,14 @@ impl<'a> Found<'a> {
     }
 }
 
-/// Puts a property that is listed later in its place among those that count: it takes the place of
-/// one with its key, unless that is of a greater order.
+/// Puts a property that is listed later in its place among those that count, whose keys rise: it takes
+/// the place of one with its key, unless that is of a greater order.
+///
+/// Where memory is refused, those that count stay as they were.
 pub fn put<'a>(won: &mut Vec<Found<'a>>, found: Found<'a>) -> Result<(), AllocError>
     requires { KeysRise (all_seen won.old.items) }
-    ensures { OnOk result (all_seen won.new.items ≡ put (all_seen won.old.items) (seen found.entry)) }
+    ensures put { OnOk result (all_seen won.new.items ≡ put (all_seen won.old.items) (seen found.entry)) }
+    ensures refused { OnErr result (won.new.items ≡ won.old.items) }
 {
     match place_of(won, found.key) {
         Ok(place) => {

@@ -13,7 +13,7 @@ loop-entry-preserved c = elim c.if-fits.branch [
   | then-fits+in_ok-put w ↦
       let next = puts_next c.args.entries.now c.args.modalias.now c.loop-entry.entry-index c.entry-item.result c.loop-entry-test.true c.entry-item.is
       (all_seen c.loop-entry.won.items) (all_seen c.if-fits.won.items) (sym c.fits.ensures ∙ w.if-fits.true)
-      (ap (λ v. all_seen v.items) w.won-is ∙ w.in_ok-put.ensures ∙ ap (put (all_seen c.loop-entry.won.items)) w.of.ensures) c.loop-entry.invariant.rises in
+      (ap (λ v. all_seen v.items) w.won-is ∙ w.in_ok-put.ensures.put ∙ ap (put (all_seen c.loop-entry.won.items)) w.of.ensures) c.loop-entry.invariant.rises in
       record { rises = next.0; so_far = next.1 ∙ c.loop-entry.invariant.so_far }
   | else-fits w ↦
       let next = passes_next c.args.entries.now c.args.modalias.now c.loop-entry.entry-index c.entry-item.result c.loop-entry-test.true c.entry-item.is

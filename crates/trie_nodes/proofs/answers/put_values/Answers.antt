@@ -12,7 +12,7 @@ loop-j-preserved g c =
     let values : List Value = g.D.Database.values c.args.database.now in
     let won : List Entry = all_seen c.loop-j.won.items in
     record {
-      rise = subst KeysRise (sym c.in_ok-put.ensures) (put_rises won (seen c.value.result) c.loop-j.invariant.rise);
+      rise = subst KeysRise (sym c.in_ok-put.ensures.put) (put_rises won (seen c.value.result) c.loop-j.invariant.rise);
       so_far = put_next values won (all_seen c.put.new.won.items) (seen c.value.result) c.loop-j.j c.values_of-numbers.result.end c.loop-j-test.true c.values_of-numbers.ensures.within
-          c.value.ensures c.in_ok-put.ensures ∙ c.loop-j.invariant.so_far;
+          c.value.ensures c.in_ok-put.ensures.put ∙ c.loop-j.invariant.so_far;
     }

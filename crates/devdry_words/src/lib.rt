@@ -1,7 +1,7 @@
 //! Reads the words of a command line of `devdry`, by `clap`.
 //!
 //! A crate of its own, since whatever stands on `clap` is slow to check: the types that the words
-//! become stand in `engine_line`, and only the program needs this crate.
+//! become stand in `engine_ends`, and only the program needs this crate.
 #![tactic(auto)]
 
 mod commands;

@@ -2,7 +2,7 @@
 //!
 //! Rules and the hardware database both match texts against patterns, so the pattern stands here,
 //! below the crates that read them, beside the texts and files that they share: what `text_bytes`
-//! and `text_files` hold comes with this crate.
+//! holds comes with this crate.
 #![tactic(auto)]
 
 mod byte_set;

@@ -6,7 +6,7 @@
 //! ones.
 #![tactic(auto)]
 ghost use Rattle.std.specs.Prelude.{◌≡◌, IfOk, drop};
-ghost use Rattle.std_alloc.specs.Vec.Iter.{into_iter_items};
+ghost use Rattle.std.specs.Vec.Iter.{into_iter_items};
 
 mod running;
 mod telling;

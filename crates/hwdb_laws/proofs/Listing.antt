@@ -35,7 +35,7 @@ use Rattle.trie_core.proofs.Imaging.{no_entry, node_is, nodes_len, value_is, val
 use Rattle.trie_core.proofs.Members.{number_found, number_within, pattern_is}
 use Rattle.trie_core.proofs.Permuting.{nodes_permute}
 use Rattle.hwdb_laws.proofs.Saying.{written_contents}
-use Rattle.trie_core.proofs.Sounding.{no_node, no_value as no_record}
+use Rattle.index_reading.proofs.Standing.{no_node, no_value as no_record}
 use Rattle.trie_core.proofs.Spelling.{root_path, set_there}
 use Rattle.trie_core.proofs.Texting.{key_read, name_read, told, told_in, value_read}
 

@@ -188,6 +188,9 @@ ROWS = [
         "a file that is no index", ["query", "--index", "r.rules", "abc"], {"r.rules": DISK_RULE},
         line="devdry: index: magic\n", status=1),
     Row("an absent file", ["verify", "none.rules"], line="devdry: cannot read none.rules\n", status=3),
+    Row(
+        "an absent file whose name is escaped", ["verify", "a\n\x1bb\\"], line="devdry: cannot read a\\x0A\\x1Bb\\x5C\n",
+        status=3),
     Row("help", ["query", "--help"], output=None),
     Row("unknown words", ["verify", "--none"], line=None, status=2),
 ]

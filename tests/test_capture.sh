@@ -348,6 +348,38 @@ devdry-capture: ${deep%/d}: its block has over 65,536 bytes, and is left out" \
 
 same "no device" "1
 devdry-capture: $sys/class: no device" "$(said=$("$capture" --sysfs "$sys" "$sys/class" 2>&1); printf '%s\n%s' $? "$said")"
+
+# A file that is no record, one that can't be read, and a tree without a device.
+ends() { said=$("$@" 2>&1); printf '%s\n%s' $? "$said"; }
+echo "looking at device '/devices/x':" > "$work/walk"
+same "--from of what is no record" "1
+devdry-capture: $work/walk: it has no device" "$(ends "$capture" --from "$work/walk")"
+same "--from of an empty input" "1
+devdry-capture: -: it has no device" "$(ends "$capture" --from - < /dev/null)"
+same "--from of a folder" 1 "$(ends "$capture" --from "$work" | head -n 1)"
+mkdir -p "$work/bare/devices"
+same "--all of a tree without a device" "1
+devdry-capture: $work/bare: it has no device" "$(ends "$capture" --sysfs "$work/bare" --all)"
+
+# An output that fails, by each awk, and one whose reader closes it.
+for awk in awk mawk gawk 'busybox awk' original-awk; do
+    has "${awk%% *}" || continue
+    mkdir -p "$work/bin" && printf '#!/bin/sh\nexec %s "$@"\n' "$(command -v "${awk%% *}")${awk#"${awk%% *}"}" > "$work/bin/awk"
+    chmod +x "$work/bin/awk"
+    same "an output that is full, by $awk" "3 devdry-capture: write failed" \
+        "$({ said=$(PATH=$work/bin:$PATH "$capture" --from "$work/db" 2>&1 >&3); echo "$? $said"; } 3> /dev/full)"
+done
+same "an output that is closed" "3 devdry-capture: write failed" \
+    "$({ said=$("$capture" --from "$work/db" 2>&1 >&-); echo "$? $said"; })"
+same "help to an output that is full" "3 devdry-capture: write failed" \
+    "$({ said=$("$capture" --help 2>&1 >&3); echo "$? $said"; } 3> /dev/full)"
+{
+    sleep 0.2
+    "$capture" --from "$work/db" 2> "$work/err"
+    echo $? > "$work/status"
+} | true
+same "a reader that closes early" "3|" "$(cat "$work/status")|$(cat "$work/err")"
+
 status() { "$@" > /dev/null 2>&1; echo $?; }
 same "no words" 2 "$(status "$capture")"
 same "an option that there is not" 2 "$(status "$capture" --none)"

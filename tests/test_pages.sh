@@ -7,8 +7,9 @@ cd "$top/man" || exit 1
 
 for page in *.1; do
     if has mandoc; then
-        # (what it says of the machine's own index of pages names no file)
-        same "$page by mandoc -T lint" "" "$(mandoc -T lint "$page" 2>&1 | grep -F "$page:")"
+        # (which other pages this machine has is no matter of this page)
+        same "$page by mandoc -T lint" "" \
+            "$(mandoc -T lint "$page" 2>&1 | grep -F "$page:" | grep -v 'referenced manual not found')"
     else
         skipped "$page by mandoc -T lint" "there is no mandoc"
     fi

@@ -58,31 +58,51 @@ else
 fi
 
 if has pre-commit && has git; then
+    # hooked PROJECT FOLDER: the hooks over a project whose rules lie in that folder, beside a file that ends in .rules and
+    # is not udev's
     hooked() {
         (
-            cd "$work/$1" && export HOME=$work PRE_COMMIT_HOME=$work/cache
-            git init -q . && git add rules hwdb
-            git config --global --replace-all safe.directory '*'
-            pre-commit try-repo "$top" --all-files
+            rm -rf "$work/hooked" && mkdir -p "$work/hooked/$2" "$work/hooked/polkit/rules.d" && cd "$work/hooked" || exit
+            cp "$work/$1/rules/"* "$2" && cp -r "$work/$1/hwdb" . && echo 'polkit.addRule(function() {});' > polkit/rules.d/50.rules
+            export HOME=$work PRE_COMMIT_HOME=$work/cache
+            git init -q . && git add . && git config --global --replace-all safe.directory '*'
+            shift 2
+            pre-commit "$@" --all-files
         )
     }
-    goes_well "pre-commit: good files" hooked good
-    refused "pre-commit: mistakes" "$rules_message" hooked bad
-    refused "pre-commit: mistakes in the database" "$hwdb_message" hooked bad
+    goes_well "pre-commit: good files" hooked good udev try-repo "$top"
+    refused "pre-commit: mistakes" "udev/60-mine.rules:2: V2 unknown key: SUBSYSTEMM" hooked bad udev try-repo "$top"
+    refused "pre-commit: mistakes in the database" "$hwdb_message" hooked bad udev try-repo "$top"
+    # (the recipe itself, over what is committed here)
+    sed "s|https://example.org/devdry|$top|; s|v0.1.0|$(git -C "$top" rev-parse HEAD 2> /dev/null)|" \
+        "$ci/pre-commit-config.yaml" > "$work/hooks.yaml"
+    goes_well "pre-commit: good files in rules/" hooked good rules run -c "$work/hooks.yaml"
+    refused "pre-commit: mistakes in rules/" "$rules_message" hooked bad rules run -c "$work/hooks.yaml"
 else
     skipped "pre-commit" "there is no pre-commit"
 fi
 
 # The messages of the bad project, as a build writes them.
 in_project bad sh -c 'devdry verify --no-summary rules/*.rules; devdry update --strict hwdb/*.hwdb > /dev/null' 2> "$work/messages"
+# (and odd ones: of a file whose name has a colon, two alike, and one that cuts its word inside a character)
+{
+    printf '%s\n' 'a:1\x09".rules:7: V1 bad syntax: "\x5C:1: V2 b' 'b.rules:3: S2 blank after a comma expected: TAG'
+    printf 'b.rules:3: S2 blank after a comma expected: TAG\nc.rules:4: V5 bad value: %031d\303\n' 0
+} >> "$work/messages"
 count=$(wc -l < "$work/messages")
 
-report() { { cat "$1"; echo; } | sed -nf "$ci/codequality.sed"; }
+# report FILE: what GitLab's job makes of the messages in the file
+report() {
+    (
+        mkdir -p "$work/job/ci" && cp "$ci/codequality.awk" "$work/job/ci" && cp "$1" "$work/job/messages"
+        cd "$work/job" && sed -n 's/^    - \(iconv .*\) > report.json$/\1/p' "$ci/gitlab.yml" | sh
+    )
+}
 if has python3; then
     said=$(python3 - "$ci/devdry-matcher.json" "$work/messages" << 'END'
 import json, re, sys
 matchers = json.load(open(sys.argv[1]))["problemMatcher"]
-for line in open(sys.argv[2]):
+for line in open(sys.argv[2], encoding="utf-8", errors="replace"):
     for matcher in matchers:
         pattern = matcher["pattern"][0]
         found = re.search(pattern["regexp"], line.rstrip("\n"))
@@ -91,20 +111,27 @@ for line in open(sys.argv[2]):
 END
     )
     same "GitHub's matcher takes each message" "$count" "$(wc -l <<< "$said")"
-    same "and its parts" "error rules/60-mine.rules 2 V2 unknown key: SUBSYSTEMM
-warning rules/60-mine.rules 6 S2 blank after a comma expected: TAG" "$(sed -n '1p;3p' <<< "$said")"
+    same "and its parts" 'error rules/60-mine.rules 2 V2 unknown key: SUBSYSTEMM
+warning rules/60-mine.rules 6 S2 blank after a comma expected: TAG
+error a:1\x09".rules 7 V1 bad syntax: "\x5C:1: V2 b' "$(grep -e 'SUBSYSTEMM$' -e '^warning rules' -e '^error a:1' <<< "$said")"
     python3 -c 'import yaml' 2> /dev/null && for file in "$top/.pre-commit-hooks.yaml" "$ci"/*.yml "$ci"/*.yaml; do
         goes_well "${file##*/} is YAML" python3 -c 'import sys, yaml; yaml.safe_load(open(sys.argv[1]))' "$file"
     done
-    printf '%s\n' 'a\x09".rules:7: V1 bad syntax: "\x5C' >> "$work/messages"
-    said=$(report "$work/messages" | python3 -c '
+    for locale in C C.UTF-8; do
+        said=$(LC_ALL=$locale report "$work/messages" | python3 -c '
 import json, sys
-for it in json.load(sys.stdin):
-    print(it["location"]["path"], it["location"]["lines"]["begin"], it["severity"], it["description"])')
-    same "GitLab's report has each message" "$((count + 1))" "$(wc -l <<< "$said")"
-    same "and their parts" 'rules/60-mine.rules 2 major V2 unknown key: SUBSYSTEMM
+found = json.loads(sys.stdin.buffer.read().decode("utf-8"))
+for it in found:
+    print(it["location"]["path"], it["location"]["lines"]["begin"], it["severity"], it["description"])
+assert len({it["fingerprint"] for it in found}) == len(found)' 2>&1)
+        same "GitLab's report has each message, in $locale" "$count" "$(wc -l <<< "$said")"
+        same "and their parts, in $locale" 'rules/60-mine.rules 2 major V2 unknown key: SUBSYSTEMM
 rules/60-mine.rules 6 minor S2 blank after a comma expected: TAG
-a\x09".rules 7 major V1 bad syntax: "\x5C' "$(sed -n '1p;3p;$p' <<< "$said")"
+a:1\x09".rules 7 major V1 bad syntax: "\x5C:1: V2 b
+b.rules 3 minor S2 blank after a comma expected: TAG
+b.rules 3 minor S2 blank after a comma expected: TAG
+c.rules 4 major V5 bad value: 0000000000000000000000000000000' "$(sed -n '1p;3p' <<< "$said"; tail -n 4 <<< "$said")"
+    done
     same "without a message it is empty" "[]" "$(report /dev/null | python3 -c 'import json, sys; print(json.load(sys.stdin))')"
 else
     skipped "GitHub's matcher and GitLab's report" "there is no python3"
@@ -129,7 +156,7 @@ if has emacs; then
           (compilation-mode)
           (compilation--ensure-parse (point-max))
           (princ (format "%d errors, %d warnings" compilation-num-errors-found compilation-num-warnings-found)))' 2> /dev/null)
-    same "emacs' counts of messages" "$((count)) errors, 1 warnings" "$said"
+    same "emacs' counts of messages" "$((count - 3)) errors, 3 warnings" "$said"
 else
     skipped "emacs" "there is no emacs"
 fi

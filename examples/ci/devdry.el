@@ -3,7 +3,7 @@
 ;; remarks on style are warnings.
 (require 'compile)
 (add-to-list 'compilation-error-regexp-alist-alist
-             '(devdry "^\\([^:\n]+\\):\\([0-9]+\\): \\(?:[VH]\\|\\(S\\)\\)[0-9]+ " 1 2 nil (3)))
+             '(devdry "^\\(.+?\\):\\([0-9]+\\): \\(?:[VH]\\|\\(S\\)\\)[0-9]+ " 1 2 nil (3)))
 (add-to-list 'compilation-error-regexp-alist 'devdry)
 (provide 'devdry)
 ;;; devdry.el ends here

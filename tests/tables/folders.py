@@ -18,7 +18,7 @@ def record(value, match="m"):
 
 
 def cannot_read(path):
-    """The line on a file, a folder or an index that can't be read."""
+    """The line on a file, a folder or an index that can't be read, the path as it is escaped."""
     return f"devdry: cannot read {path}\n"
 
 
@@ -76,6 +76,16 @@ UNREAD = [
     ("an index that is not there, for events", "events --index b.index a.rules", {"a.rules": ""}, "b.index"),
     ("a folder as an index", f"query m --index {ETC}", {ETC: FOLDER}, ETC),
     ("an index that links to itself", "events --index i -r none", {"i": Link("i")}, "i"),
+    ("a named file whose name moves the cursor", ["verify", "\x1b[2J\x7fé.rules"], {}, "\\x1B[2J\\x7Fé.rules"),
+    ("a path with backslashes, side by side and at its ends", ["query", "m", "\\\\a\\"], {}, "\\x5C\\x5Ca\\x5C"),
+    ("an empty path", ["verify", ""], {}, ""),
+    ("a name in an image that writes a line of its own", "verify -r mnt",
+     {f"{RULES[3]}/60-good.rules": "", f"{RULES[0]}/x\n60-good.rules:1: V1 bad syntax.rules": Link("nothing")},
+     f"{RULES[0]}/x\\x0A60-good.rules:1: V1 bad syntax.rules"),
+    ("a folder in a root whose name has a newline", ["query", "m", "-r", "a\nb"], {"a\nb/etc/udev/hwdb.d": ""},
+     "a\\x0Ab/etc/udev/hwdb.d"),
+    ("a name that is not UTF-8 below one with a tab", ["query", "m", "-r", "\t"], {b"\t/etc/udev/hwdb.d/\xff.hwdb": ""},
+     "\\x09/etc/udev/hwdb.d"),
     ("an index is not looked for below the root", "query m --index a.index -r mnt", {"mnt/a.index": FIRST_VERSION}, "a.index"),
     ("a named file is not looked for below the root", "verify a.rules -r mnt", {"mnt/a.rules": ""}, "a.rules"),
 ]

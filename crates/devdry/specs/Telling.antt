@@ -1,5 +1,6 @@
 -- What is told of words, of lines and of files that can't be used, by the status.
 use Rattle.std.specs.Prelude.{◌≡◌, ℕ, List, [], ◌∷◌, ◌++◌, codes, string_bytes}
+use Rattle.text_bytes.specs.Escapes.{escape_text}
 use Rattle.text_bytes.specs.Names.{newline}
 use Rattle.engine_ends.specs.declared.line.LineFault.{LineFault}
 use Rattle.engine_ends.specs.declared.line.LineFault.TheVariants.{Help, Usage, Memory}
@@ -8,9 +9,9 @@ use Rattle.engine_ends.specs.Delivery.{Delivers, Tells, out_of_memory}
 use Rattle.devdry_files.specs.declared.fault.ReadFault.{ReadFault}
 use Rattle.devdry_files.specs.declared.fault.ReadFault.TheVariants as read
 
--- the line on a file or a folder that could not be read
+-- the line on a file or a folder that could not be read, its path escaped
 abbrev pub cannot_read : List ℕ → List ℕ
-cannot_read path = codes "devdry: cannot read " ++ path ++ newline ∷ []
+cannot_read path = codes "devdry: cannot read " ++ escape_text path ++ newline ∷ []
 
 -- what is told where an argument is not UTF-8
 abbrev pub not_text : List ℕ

@@ -5,6 +5,8 @@
 //! All of it stands in functions over a disk, a source and sinks; `main` itself hands them the real
 //! ones.
 #![tactic(auto)]
+ghost use Rattle.std.specs.Prelude.{◌≡◌, IfOk, drop};
+ghost use Rattle.std_alloc.specs.Vec.Iter.{into_iter_items};
 
 mod running;
 mod telling;
@@ -13,13 +15,22 @@ use crate::running::run_words;
 use crate::telling::tell_arguments_fault;
 use devdry_files::RealDisk;
 use engine_ends::{SinkOver, SourceOver};
+use std::alloc::{AllocError, Global};
+use std::env::Args;
 use std::process::ExitCode;
 use std::rt::Env;
 use std::{env, io};
 
+// The words of a command line behind the first, which is the program's name.
+fn words_of(alloc: Global, all: Args) -> Result<Vec<String>, AllocError>
+    ensures { IfOk result (λ words. words.items ≡ drop 1 (into_iter_items all)) }
+{
+    all.skip(1).collect(alloc)
+}
+
 // The words after the program's name.
 fn arguments<R: Env + AllocGlobal>(rt: &R) -> io::Result<Vec<String>> {
-    Ok(env::args(rt)?.skip(1).collect(rt.alloc())?)
+    Ok(words_of(rt.alloc(), env::args(rt)?)?)
 }
 
 fn main(rt: HostRuntime) -> ExitCode {

@@ -7,14 +7,14 @@ ghost use Rattle.engine_ends.specs.Delivery.{Tells, out_of_memory};
 ghost use Rattle.devdry.specs.Telling.{TellsLineFault, TellsReadFault, cannot_read, not_text};
 
 use devdry_files::ReadFault;
-use engine_ends::{LineFault, Sink, deliver, tell, tell_in_pieces, tell_out_of_memory};
+use engine_ends::{LineFault, Sink, deliver, tell, tell_out_of_memory, tell_word};
 use std::io::{self, ErrorKind};
 
 /// Help was given; `serve` gives the other statuses of a run that goes well.
 const WELL: u8 = 0;
 /// The words are not understood.
 const USAGE: u8 = 2;
-/// A file, the input or an output failed.
+/// A file, a folder, the input or an output failed.
 const FAILED: u8 = 3;
 
 const NOT_TEXT: &[u8] = b"error: an argument is not UTF-8
@@ -62,13 +62,10 @@ pub(crate) fn tell_read_fault<E: Sink>(fault: &ReadFault, error: &mut E) -> u8
     }
 }
 
-/// Tells which file or folder could not be read.
+/// Tells which file or folder could not be read, its path escaped: a name in an image may hold any
+/// byte but a slash and a NUL, also a newline with a line of its own behind it.
 fn tell_unreadable<E: Sink>(path: &str, error: &mut E) -> u8
     ensures { Tells (cannot_read path.now) 3 result (E.shown error.old) (E.shown error.new) }
 {
-    tell_in_pieces(
-        error,
-        &[b"devdry: cannot read ", path.as_bytes(), b"\n"],
-        FAILED,
-    )
+    tell_word(error, b"devdry: cannot read ", path.as_bytes(), FAILED)
 }

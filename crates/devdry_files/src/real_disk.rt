@@ -2,12 +2,16 @@
 //!
 //! This is the one place where files are opened. Its `may_answer` allows each answer, since no
 //! contract can say what the system gives; that the answers are those of the disk is shown by tests.
-//! So it is kept thin: what is made of a listing and of an open file is said by clauses of their own.
+//! So it is kept thin: what is made of an answer of the system, a listing, an open file or an error,
+//! is said by clauses of their own.
 ghost use Rattle.std.specs.Fs.{dir_entry_name};
+ghost use Rattle.std.specs.IoError.{error_kind};
 ghost use Rattle.std.specs.Iterator.{Drains, IsFinite};
 ghost use Rattle.std.specs.declared.alloc.Global.{Global};
 ghost use Rattle.std.specs.declared.fs.DirEntry.{DirEntry};
-ghost use Rattle.std.specs.Prelude.{◌≡◌, ⊤, IfOk, IfSome, List, Ok, map, string_bytes};
+ghost use Rattle.std.specs.Prelude.{◌≡◌, ⊤, Err, IfOk, IfSome, List, MatchResult, Ok, false, map, string_bytes};
+ghost use Rattle.devdry_files.specs.Errors.{fault_from};
+ghost use Rattle.devdry_files.specs.declared.disk.DiskFault.TheVariants.{OutOfMemory};
 
 use crate::disk::{Disk, DiskFault, Entry};
 use std::alloc::Global;
@@ -31,14 +35,24 @@ impl<'r, R> RealDisk<'r, R> {
     }
 }
 
-// Whether a folder is at the path, or a symlink to one. What can't be looked at is none, so that
-// reading it says why; but want of memory for the look itself is told of.
-fn is_folder<R: Files>(rt: &R, path: Path<'_>) -> Result<bool, DiskFault> {
-    match fs::metadata(rt, path).map_err(DiskFault::from) {
-        Ok(metadata) => Ok(metadata.is_dir()),
+// Whether a folder is at a path, by the look at it. What can't be looked at is none, so that reading
+// it says why; but memory that is refused to the look itself is told of.
+fn folder_by(looked: Result<bool, DiskFault>) -> Result<bool, DiskFault>
+    ensures { MatchResult looked (λ is. result ≡ Ok is)
+        (λ fault. (fault ≡ OutOfMemory → result ≡ Err OutOfMemory)
+        × ((fault ≡ OutOfMemory → ⊥) → result ≡ Ok false)) }
+{
+    match looked {
+        Ok(is) => Ok(is),
         Err(DiskFault::OutOfMemory) => Err(DiskFault::OutOfMemory),
         Err(_) => Ok(false),
     }
+}
+
+// Whether a folder is at the path, or a symlink to one.
+fn is_folder<R: Files>(rt: &R, path: Path<'_>) -> Result<bool, DiskFault> {
+    let looked = fs::metadata(rt, path).map(|metadata| metadata.is_dir());
+    folder_by(looked.map_err(DiskFault::from))
 }
 
 // An entry of a listing, looked at.
@@ -70,6 +84,26 @@ fn entries_of<R: Files + Drop, I: Iterator<Item = io::Result<DirEntry<R>>> + Dro
     Ok(entries)
 }
 
+// The entries of a listing that may not have been opened.
+fn entries_from<R: Files + Drop, I: Iterator<Item = io::Result<DirEntry<R>>> + Drop>(
+    alloc: Global,
+    rt: &R,
+    opened: io::Result<I>,
+) -> Result<Vec<Entry>, DiskFault>
+    requires can { IfOk opened (λ listing. I.can_next listing) }
+    requires ends { IfOk opened (λ listing. IsFinite (I.remaining listing)) }
+    ensures { MatchResult opened
+        (λ listing. IfOk result (λ entries. (found : List (DirEntry R Global R.File R.Dir))
+        × Drains I.next_gives listing (map Ok found)
+        × (map (λ e. string_bytes e.name) entries.items ≡ map dir_entry_name found)))
+        (λ error. result ≡ Err (fault_from (error_kind error))) }
+{
+    match opened {
+        Ok(listing) => entries_of(alloc, rt, listing),
+        Err(error) => Err(DiskFault::from(error)),
+    }
+}
+
 // All that a reader has left.
 pub(crate) fn bytes_of<F: Read + Drop>(alloc: Global, mut file: F) -> io::Result<Bytes>
     ensures { IfOk result (λ read. IfSome (F.remaining file) (λ bytes. read ≡ bytes)) }
@@ -79,14 +113,26 @@ pub(crate) fn bytes_of<F: Read + Drop>(alloc: Global, mut file: F) -> io::Result
     Ok(Bytes::new(bytes))
 }
 
+// The bytes of a file that may not have been opened.
+fn bytes_from<F: Read + Drop>(alloc: Global, opened: io::Result<F>) -> Result<Bytes, DiskFault>
+    ensures { MatchResult opened
+        (λ file. IfOk result (λ read. IfSome (F.remaining file) (λ bytes. read ≡ bytes)))
+        (λ error. result ≡ Err (fault_from (error_kind error))) }
+{
+    match opened {
+        Ok(file) => Ok(bytes_of(alloc, file)?),
+        Err(error) => Err(DiskFault::from(error)),
+    }
+}
+
 impl<R: Files + AllocGlobal + Clone + Drop> Disk for RealDisk<'_, R> {
     ghost may_answer = { λ _ _. ⊤ };
 
     fn list(&self, alloc: Global, path: &str) -> Result<Vec<Entry>, DiskFault> {
-        entries_of(alloc, self.rt, fs::read_dir(self.rt, path)?)
+        entries_from(alloc, self.rt, fs::read_dir(self.rt, path))
     }
 
     fn read(&self, alloc: Global, path: &str) -> Result<Bytes, DiskFault> {
-        Ok(bytes_of(alloc, File::open(self.rt, path)?)?)
+        bytes_from(alloc, File::open(self.rt, path))
     }
 }

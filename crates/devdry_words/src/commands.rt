@@ -18,7 +18,7 @@ const STATUSES: &str = "Status:
      --strict was given, or an event block is faulty, or there
      are too many rules or entries, or the index is refused
   2  the words of the command are not understood
-  3  a file, the input or an output failed
+  3  a file, a folder, the input or an output failed
   4  out of memory
 
 Examples:

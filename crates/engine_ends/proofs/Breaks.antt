@@ -19,7 +19,7 @@ take-middle first text rest n h = take-append-add first (text ++ rest) n ∙ ap 
 within-middle : (first text rest : List ℕ) (n : ℕ) → n ≤ length text → length first + n ≤ length (first ++ (text ++ rest))
 within-middle first text rest n h = grind (arith, common_steps)
 
-breaks-in-middle : (before mid now : SinkState) (first text rest : List ℕ) → Takes before first mid → BreaksOff mid text now → BreaksOff before (first ++ (text ++ rest)) now
+pub breaks-in-middle : (before mid now : SinkState) (first text rest : List ℕ) → Takes before first mid → BreaksOff mid text now → BreaksOff before (first ++ (text ++ rest)) now
 breaks-in-middle before mid now first text rest takes breaks = record {
   taken = (
     length first + breaks.taken.0,

@@ -3,11 +3,13 @@
 //! The messages go out before the answer, each as one text. A status under 3 says that all of both
 //! was written and flushed; 3 says that a device failed; 4 that memory was refused. A line on a
 //! failure is made of texts that are there already, so that telling of it needs no memory.
-ghost use Rattle.std.specs.Prelude.{◌≡◌, ◌<◌, flat_map};
+ghost use Rattle.std.specs.Prelude.{◌≡◌, ◌<◌, ◌++◌, ◌∷◌, [], flat_map};
+ghost use Rattle.text_bytes.specs.Escapes.{escape_text};
+ghost use Rattle.text_bytes.specs.Names.{newline};
 ghost use Rattle.engine_ends.specs.Delivery.{Delivers, Tells, out_of_memory};
 
 use crate::device::{DeviceFault, Sink};
-use crate::writing::{hand_on, hand_on_each};
+use crate::writing::{hand_on, hand_on_each, hand_on_word};
 
 const WRITE_FAILED: &[u8] = b"devdry: write failed\n";
 
@@ -61,6 +63,18 @@ pub fn tell_in_pieces<E: Sink>(error: &mut E, line: &[&[u8]], status: u8) -> u8
     ensures { Tells (flat_map (λ t. t.now) line.now) status result (E.shown error.old) (E.shown error.new) }
 {
     match hand_on_each(error, line) {
+        Ok(()) => status,
+        Err(DeviceFault) => 3,
+    }
+}
+
+/// Writes a line on a failure that is a text and a word, the word escaped, so that it can't end the
+/// line, and gives its status, or 3 where the error output failed.
+pub fn tell_word<E: Sink>(error: &mut E, text: &[u8], word: &[u8], status: u8) -> u8
+    ensures { Tells (text.now ++ escape_text word.now ++ newline ∷ []) status result
+        (E.shown error.old) (E.shown error.new) }
+{
+    match hand_on_word(error, text, word) {
         Ok(()) => status,
         Err(DeviceFault) => 3,
     }

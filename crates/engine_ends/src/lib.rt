@@ -13,7 +13,7 @@ mod places;
 mod std_streams;
 mod writing;
 
-pub use delivery::{deliver, tell, tell_in_pieces, tell_out_of_memory};
+pub use delivery::{deliver, tell, tell_in_pieces, tell_out_of_memory, tell_word};
 pub use device::{DeviceFault, Sink, Source};
 pub use kinds::same_kind;
 pub use line::{Line, LineFault, Verb};
@@ -21,4 +21,4 @@ pub use memory_sink::MemorySink;
 pub use memory_source::MemorySource;
 pub use places::{push_place, push_word};
 pub use std_streams::{SinkOver, SourceOver};
-pub use writing::{hand_on, hand_on_each, write_all};
+pub use writing::{hand_on, hand_on_each, hand_on_word, write_all};

@@ -1,8 +1,11 @@
 //! Writing whole texts to a sink that may take them in parts.
-ghost use Rattle.std.specs.Prelude.{flat_map, OnOk, OnErr};
+ghost use Rattle.std.specs.Prelude.{◌++◌, ◌∷◌, [], flat_map, OnOk, OnErr};
+ghost use Rattle.text_bytes.specs.Escapes.{escape_text};
+ghost use Rattle.text_bytes.specs.Names.{newline};
 ghost use Rattle.engine_ends.specs.Sinks.{BreaksOff, HandsOn, Takes};
 
 use crate::device::{DeviceFault, Sink};
+use text_bytes::escaped_byte;
 
 /// Writes a whole text, in as many writes as the sink needs, and flushes nothing.
 ///
@@ -53,4 +56,36 @@ pub fn hand_on_each<W: Sink>(sink: &mut W, texts: &[&[u8]]) -> Result<(), Device
 {
     write_each(sink, texts)?;
     sink.flush()
+}
+
+/// Writes a whole text escaped, as `escape` makes it, and flushes nothing.
+///
+/// It takes no memory: each run of bytes that stand for themselves is written as it is, and every
+/// other byte by its four. A `DeviceFault` says that a write failed or took nothing; a first part of
+/// what was to be written may then have been taken.
+fn write_escaped<W: Sink>(sink: &mut W, text: &[u8]) -> Result<(), DeviceFault>
+    ensures whole { OnOk result (Takes (W.shown sink.old) (escape_text text.now) (W.shown sink.new)) }
+    ensures part { OnErr result (BreaksOff (W.shown sink.old) (escape_text text.now) (W.shown sink.new)) }
+{
+    let mut done = 0;
+    for (at, byte) in text.iter().enumerate() {
+        if let Some(shown) = escaped_byte(*byte) {
+            write_all(sink, &text[done..at])?;
+            write_all(sink, &shown)?;
+            done = at + 1;
+        }
+    }
+    write_all(sink, &text[done..])
+}
+
+/// Writes a text, a word escaped and a newline, and flushes them, as `hand_on` does for one text.
+pub fn hand_on_word<W: Sink>(sink: &mut W, text: &[u8], word: &[u8]) -> Result<(), DeviceFault>
+    ensures whole { OnOk result (HandsOn (W.shown sink.old)
+        (text.now ++ escape_text word.now ++ newline ∷ []) (W.shown sink.new)) }
+    ensures part { OnErr result (BreaksOff (W.shown sink.old)
+        (text.now ++ escape_text word.now ++ newline ∷ []) (W.shown sink.new)) }
+{
+    write_all(sink, text)?;
+    write_escaped(sink, word)?;
+    hand_on(sink, b"\n")
 }

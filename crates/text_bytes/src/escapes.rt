@@ -2,6 +2,7 @@
 //!
 //! A name or a value may hold any byte, also a newline. Escaped it stays on its line, and what was
 //! written can be read back.
+ghost use Rattle.std.specs.Bool.{then_some};
 ghost use Rattle.std.specs.Prelude.{◌≡◌, ◌++◌, All, IfOk, OnOk, false};
 ghost use Rattle.text_bytes.specs.Escapes.{escape_byte, escape_text, is_control, is_escaped};
 
@@ -30,17 +31,28 @@ pub fn escape(alloc: Global, text: &[u8]) -> Result<Vec<u8>, AllocError>
 fn push_escaped(shown: &mut Vec<u8>, byte: u8) -> Result<(), AllocError>
     ensures { OnOk result (shown.new.items ≡ shown.old.items ++ escape_byte byte) }
 {
-    if needs_escape(byte) {
-        let digits = [
-            DIGITS[usize::from(byte / 16)],
-            DIGITS[usize::from(byte % 16)],
-        ];
-        shown.extend_from_slice(b"\\x")?;
-        shown.extend_from_slice(&digits)?;
-    } else {
-        shown.push(byte)?;
+    match escaped_byte(byte) {
+        Some(text) => shown.extend_from_slice(&text),
+        None => Ok(shown.push(byte)?),
     }
-    Ok(())
+}
+
+/// What a byte is written as that does not stand for itself, which a control byte and a backslash
+/// don't: `\x` and two upper case hexadecimal digits. `None` says that it stands for itself.
+///
+/// It takes no memory, so that a text can be escaped byte by byte where memory was refused.
+pub fn escaped_byte(byte: u8) -> Option<[u8; 4]>
+    ensures { result ≡ then_some (is_escaped byte) (escape_byte byte) }
+{
+    if !needs_escape(byte) {
+        return None;
+    }
+    Some([
+        b'\\',
+        b'x',
+        DIGITS[usize::from(byte / 16)],
+        DIGITS[usize::from(byte % 16)],
+    ])
 }
 
 /// Whether a byte does not stand for itself.

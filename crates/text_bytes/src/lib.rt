@@ -15,7 +15,7 @@ mod source_file;
 mod texts;
 
 pub use bytes::Bytes;
-pub use escapes::escape;
+pub use escapes::{escape, escaped_byte};
 pub use file_order::order_files;
 pub use lines::{Line, Lines, first_line};
 pub use message::{Message, MessageKind, capped, word_of};

@@ -13,7 +13,7 @@ mod places;
 mod std_streams;
 mod writing;
 
-pub use delivery::{deliver, tell, tell_in_pieces, tell_out_of_memory};
+pub use delivery::{deliver, deliver_in_pieces, tell, tell_in_pieces, tell_out_of_memory};
 pub use device::{DeviceFault, Sink, Source};
 pub use kinds::same_kind;
 pub use line::{Line, LineFault, Verb};

@@ -6,3 +6,4 @@ pub mod Sources
 pub mod Faults
 pub mod Delivery
 pub mod Places
+pub mod FaultTexts

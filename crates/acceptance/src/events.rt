@@ -120,20 +120,50 @@ fn rules_change_an_event(rt: HostRuntime) -> Result<(), Fail> {
         ("g.rules", "GOTO=\"y\", ENV{D}=\"1\"\n", DISK, "env D=1"),
         ("r.rules", "ENV{X}==\"\", ENV{A}=\"1\"\n", DISK, "env A=1"),
         ("r.rules", "ATTR{x}!=\"y\", ENV{A}=\"1\"\n", DISK, "env A=1"),
-        ("r.rules", "ATTR{model}==\"Disk\", ENV{A}=\"1\"\n", PADDED, "env A=1"),
+        (
+            "r.rules",
+            "ATTR{model}==\"Disk\", ENV{A}=\"1\"\n",
+            PADDED,
+            "env A=1",
+        ),
         (
             "r.rules",
             "RUN+=\"/bin/n $env{V}\"\nENV{V}=\"2\"\n",
             DISK,
             "run program /bin/n 2",
         ),
-        ("r.rules", "SYMLINK+=\"l$env{X}\", ENV{X}=\"1\"\n", DISK, "link l1"),
-        ("r.rules", "SYMLINK+=\"x/$env{L} y;z\"\n", SPACED, "link x/a_b"),
-        ("r.rules", "SYMLINK+=\"x/$env{L} y;z\"\n", SPACED, "link y_z"),
+        (
+            "r.rules",
+            "SYMLINK+=\"l$env{X}\", ENV{X}=\"1\"\n",
+            DISK,
+            "link l1",
+        ),
+        (
+            "r.rules",
+            "SYMLINK+=\"x/$env{L} y;z\"\n",
+            SPACED,
+            "link x/a_b",
+        ),
+        (
+            "r.rules",
+            "SYMLINK+=\"x/$env{L} y;z\"\n",
+            SPACED,
+            "link y_z",
+        ),
         ("r.rules", FINAL, DISK, "owner a"),
         ("r.rules", FINAL, DISK, "priority 5"),
-        ("r.rules", "KERNEL==i\"SDA\", ENV{HIT}=\"1\"\n", MIXED, "env HIT=1"),
-        ("r.rules", "KERNEL==i\"SDA\", ENV{HIT}=\"1\"\n", DISK, "env HIT=1"),
+        (
+            "r.rules",
+            "KERNEL==i\"SDA\", ENV{HIT}=\"1\"\n",
+            MIXED,
+            "env HIT=1",
+        ),
+        (
+            "r.rules",
+            "KERNEL==i\"SDA\", ENV{HIT}=\"1\"\n",
+            DISK,
+            "env HIT=1",
+        ),
     ] {
         assert!(rt; tells(rt.alloc(), name, rules, block, line)?);
     }

@@ -287,11 +287,7 @@ fn ten_thousand(alloc: Global) -> Result<String, Fail> {
 }
 
 /// How many nodes the trie of a database file has, and what it visits on the way to a modalias.
-fn trie_visits(
-    alloc: Global,
-    text: &str,
-    modalias: &[u8],
-) -> Result<(u32, Vec<u32>, u128), Fail> {
+fn trie_visits(alloc: Global, text: &str, modalias: &[u8]) -> Result<(u32, Vec<u32>, u128), Fail> {
     let files = files_of(alloc, &[(FileKind::Hwdb, 1, "t.hwdb", text)])?;
     let database = read_sources(alloc, &files).map_err(|_fault| "no database")?;
     let trie = Trie::build(alloc, database.entries).map_err(|_fault| "no trie")?;

@@ -137,11 +137,7 @@ fn takes(
 }
 
 /// Whether a session ends with this answer, or with none.
-fn ends(
-    alloc: Global,
-    session: &mut Session<'_, Tables<PlainDb>>,
-    answer: Option<&[u8]>,
-) -> bool {
+fn ends(alloc: Global, session: &mut Session<'_, Tables<PlainDb>>, answer: Option<&[u8]>) -> bool {
     match session.end(alloc) {
         Ok(last) => is_answer(&last, answer),
         Err(_fault) => false,
@@ -174,8 +170,8 @@ fn each_block_is_answered(alloc: Global, tables: &Tables<PlainDb>) -> Result<boo
 /// Whether a block without the empty line behind it is answered at the end, and not before.
 fn the_last_block_is_answered(alloc: Global, tables: &Tables<PlainDb>) -> Result<bool, Fail> {
     let mut session = Session::new(alloc, tables)?;
-    let answered =
-        takes(alloc, &mut session, DISK, 57, None) && ends(alloc, &mut session, Some(ANSWER));
+    let answered = takes(alloc, &mut session, DISK, 57, None)
+        && ends(alloc, &mut session, Some(ANSWER));
     drop(session);
     Ok(answered)
 }
@@ -199,16 +195,21 @@ fn a_faulty_block_is_the_last(alloc: Global, tables: &Tables<PlainDb>) -> Result
     Ok(ended)
 }
 
+/// Whether sessions answer a block where it is whole, and nothing behind a faulty one.
+fn sessions_answer(alloc: Global, tables: &Tables<PlainDb>) -> Result<bool, Fail> {
+    Ok(
+        each_block_is_answered(alloc, tables)?
+            && the_last_block_is_answered(alloc, tables)?
+            && a_faulty_block_is_the_last(alloc, tables)?,
+    )
+}
+
 #[test]
 fn sessions_answer_block_by_block(rt: HostRuntime) -> Result<(), Fail> {
     let tables = tables(rt.alloc())?;
-    let each = each_block_is_answered(rt.alloc(), &tables);
-    let last = the_last_block_is_answered(rt.alloc(), &tables);
-    let faulty = a_faulty_block_is_the_last(rt.alloc(), &tables);
+    let answered = sessions_answer(rt.alloc(), &tables);
     drop(tables);
-    assert!(rt; each?);
-    assert!(rt; last?);
-    assert!(rt; faulty?);
+    assert!(rt; answered?);
     Ok(())
 }
 
@@ -281,7 +282,14 @@ fn inputs_are_answered(rt: HostRuntime) -> Result<(), Fail> {
             "60-x.rules:1: V1 bad syntax: KERNEL==\"sd*\n",
             0,
         ),
-        ("r.rules", RULE, FAULTY, ANSWER, "block 2, line 3: path\n", 1),
+        (
+            "r.rules",
+            RULE,
+            FAULTY,
+            ANSWER,
+            "block 2, line 3: path\n",
+            1,
+        ),
     ] {
         let wanted = Expected {
             output,

@@ -1,5 +1,5 @@
 -- The first answer that is not empty, and the devices that are asked.
-use Rattle.std.proofs.Common.{◌≡◌, ◌↔◌, Bool, true, false, not, ◌||◌, cond, List, [], ◌∷◌, ◌++◌, map, filter, filter_map, find, flat_map, Option, Some, None, unwrap_or, if◌then◌else◌, refl, sym, ap, ◌∙◌, true≢false}
+use Rattle.std.proofs.Common.{◌≡◌, ◌↔◌, Bool, true, false, not, ◌||◌, cond, List, [], ◌∷◌, ◌++◌, map, filter, filter_map, find, flat_map, Some, None, unwrap_or, if◌then◌else◌, refl, sym, ap, ◌∙◌, true≢false}
 use Rattle.std.specs.List.{list_any}
 use Rattle.text_bytes.specs.Texts.{is_empty}
 use Rattle.text_tables.specs.Texts.{Text}
@@ -86,10 +86,11 @@ module _ (f : Text → List Pair) where
 pub first_is_found : (entries : List Entry) (hwdb : Hwdb) (state : State) (properties : List Pair) → is_empty properties ≡ false
     → (found entries hwdb state ≡ properties) ↔ IsFirstAnswer entries hwdb (texts hwdb state) properties
 unfolding found
-first_is_found entries hwdb state properties some =
-    (λ e. let h = first (answer entries hwdb) (texts hwdb state) properties some e in
-    record { before = h.before; text = h.text; behind = h.behind; whole = h.whole; nothing = h.nothing; gives = h.gives },
-    λ h. first_back (answer entries hwdb) (texts hwdb state) properties some (record { before = h.before; text = h.text; behind = h.behind; whole = h.whole; nothing = h.nothing; gives = h.gives }))
+first_is_found entries hwdb state properties some = (
+  λ e. let h = first (answer entries hwdb) (texts hwdb state) properties some e in
+      record { before = h.before; text = h.text; behind = h.behind; whole = h.whole; nothing = h.nothing; gives = h.gives },
+  λ h. first_back (answer entries hwdb) (texts hwdb state) properties some (record { before = h.before; text = h.text; behind = h.behind; whole = h.whole; nothing = h.nothing; gives = h.gives }),
+)
 
 pub none_is_found : (entries : List Entry) (hwdb : Hwdb) (state : State) → (found entries hwdb state ≡ []) ↔ (flat_map (answer entries hwdb) (texts hwdb state) ≡ [])
 unfolding found

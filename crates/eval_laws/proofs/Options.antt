@@ -1,5 +1,5 @@
 -- The last value that words give an option.
-use Rattle.std.proofs.Common.{◌≡◌, ◌↔◌, ◌⊎◌, inl, inr, ℕ, suc, ◌+◌, ◌<◌, ◌==◌, Bool, true, false, not, ◌||◌, cond, List, [], ◌∷◌, ◌++◌, drop, take, get_or, length, nat_lt, position, option_map, Option, Some, None, Ok, Err, Result, is_some, unwrap_or, if◌then◌else◌, refl, sym, ap, subst, ◌∙◌, true≢false, arith, length-append}
+use Rattle.std.proofs.Common.{◌≡◌, ◌↔◌, ℕ, suc, ◌+◌, ◌<◌, ◌==◌, Bool, true, false, not, ◌||◌, cond, List, [], ◌∷◌, ◌++◌, drop, take, get_or, length, nat_lt, position, option_map, Option, Some, None, Ok, Err, Result, is_some, unwrap_or, if◌then◌else◌, refl, sym, ap, ◌∙◌, true≢false, arith, length-append}
 use Rattle.std.specs.List.{list_any, position_or_len, prefix_len}
 use Rattle.std.specs.Option.{option_or}
 use Rattle.std.specs.Cmp.Lexicographic.{bytes_decides}

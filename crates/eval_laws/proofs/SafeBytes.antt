@@ -1,18 +1,18 @@
 -- The bytes that stay in a safe text are those that the law names.
-use Rattle.std.proofs.Common.{◌≡◌, ◌⊎◌, inl, inr, ⊎_elim, ℕ, zero, suc, ◌+◌, ◌-◌, ◌<◌, ◌≤◌, ◌==◌, ◌||◌, ◌&&◌, Bool, true, false, cond, nat_lt, nat_le, is_some, List, length, drop, slice_index, Option, Some, None, if◌then◌else◌, refl, sym, ◌∙◌, subst, ap, true≢false, arith}
+use Rattle.std.proofs.Common.{◌≡◌, ◌⊎◌, inl, inr, ⊎_elim, ℕ, zero, suc, ◌+◌, ◌-◌, ◌<◌, ◌≤◌, ◌==◌, ◌||◌, ◌&&◌, Bool, true, false, nat_lt, nat_le, is_some, List, length, drop, slice_index, Option, Some, None, if◌then◌else◌, refl, sym, ◌∙◌, subst, ap, true≢false, arith}
 use Rattle.std.specs.Char.{is_ascii_alphanumeric}
 use Rattle.std.specs.List.{list_any}
-use Rattle.std.proofs.lemmas.Bool.{ltb-true, lt-ltb, le-leb, leb-true, eqb-true, cases_lt, cases_Bool}
+use Rattle.std.proofs.lemmas.Bool.{ltb-true, lt-ltb, leb-true, eqb-true, cases_lt}
 use Rattle.std.proofs.lemmas.Bool.Decides.{nat_tests}
 use Rattle.std.proofs.lemmas.List.{get_or-drop}
 use Rattle.text_bytes.specs.Names.{backslash, space, underscore, is_whitespace}
-use Rattle.bstr.specs.Utf8.{Decoded, bad, good, continues, decoded, decoded_by, second, code_of_2, code_of_3, code_of_4}
+use Rattle.bstr.specs.Utf8.{Decoded, bad, continues, decoded, second}
 use Rattle.bstr.proofs.lemmas.PieceLemmas.{Shape, decoded_by-shape}
 use Rattle.eval_rendering.specs.Safe.{is_hex_escape, is_in_sequence, is_plain, is_reached, safe, safe_byte, sequence_len, stays}
 use Rattle.eval_rendering.proofs.Places.{safe-at}
 use Rattle.eval_laws.specs.SafeTexts.{IsInCharacter, IsMadeSafe, IsSafe, IsSafeByte, letter_or_digit, mark, blank, escape, character}
 use Rattle.eval_laws.proofs.Sequences.{several, sequence_len-four}
-use Rattle.eval_laws.proofs.Staying.{AreLeft, IsLeft, both, each_of, first_holds, in_is_reached, in_sequence-stays, left-at, one_of, plain-stays, safe-are_left, safe-same, second_holds}
+use Rattle.eval_laws.proofs.Staying.{IsLeft, both, each_of, in_is_reached, in_sequence-stays, left-at, one_of, plain-stays, safe-are_left, safe-same, second_holds}
 
 -- ---- the bytes of a character
 

@@ -1,5 +1,5 @@
 -- A text is cut into its words at whitespace.
-use Rattle.std.proofs.Common.{◌≡◌, ◌⊎◌, inl, inr, ℕ, zero, suc, ◌+◌, ◌<◌, ◌≤◌, ◌||◌, ◌&&◌, Bool, true, false, not, cond, if◌then◌else◌, List, [], ◌∷◌, ◌++◌, drop, take, filter, length, Option, Some, None, refl, sym, ap, subst, ◌∙◌, append_assoc, true≢false, arith}
+use Rattle.std.proofs.Common.{◌≡◌, ℕ, zero, suc, ◌+◌, ◌||◌, ◌&&◌, Bool, true, false, not, cond, List, [], ◌∷◌, ◌++◌, drop, take, refl, sym, ap, subst, ◌∙◌, append_assoc, true≢false, arith}
 use Rattle.std.proofs.lemmas.List.{append-nil, drop-drop, take-append-drop}
 use Rattle.std.proofs.lemmas.List.Folds.{list_any-append}
 use Rattle.std.specs.List.{join_with_byte, list_all, list_any, onto_first, prefix_len, slice_get, slice_split}
@@ -10,7 +10,7 @@ use Rattle.eval_state.specs.Texts.{or_empty}
 use Rattle.eval_rendering.specs.Underscores.{underscored, words}
 use Rattle.eval_rendering.specs.Words.{from_word, word_at, word_len}
 use Rattle.eval_rendering.proofs.JoinedWords.{front, kept, others, words_begin}
-use Rattle.eval_laws.specs.TextWords.{BeginsWithGap, BeginsWithWord, HasFirst, HasNoWhitespace, HasWords, IsEndFromWord, IsGap}
+use Rattle.eval_laws.specs.TextWords.{BeginsWithGap, BeginsWithWord, HasNoWhitespace, HasWords, IsEndFromWord, IsGap}
 
 -- ---- a byte more
 
@@ -64,14 +64,18 @@ words_at_word b t e = ap kept (split_at_word b t e) ∙ words_begin b t
 -- whitespace more before the first word
 gap_more : (b : ℕ) (t : Text) (found : List Text) → is_whitespace b ≡ true → HasWords t found → HasWords (b ∷ t) found
 gap_more b t [] e h = both (is_whitespace b) (list_all is_whitespace t) e h
-gap_more b t (word ∷ more) e (behind, h, rest) = (behind, record {
-  gap = b ∷ h.gap;
-  whole = ap (λ u. b ∷ u) h.whole;
-  before = both (is_whitespace b) (list_all is_whitespace h.gap) e h.before;
-  some = h.some;
-  unbroken = h.unbroken;
-  ends = h.ends;
-}, rest)
+gap_more b t (word ∷ more) e (behind, h, rest) = (
+  behind,
+  record {
+    gap = b ∷ h.gap;
+    whole = ap (λ u. b ∷ u) h.whole;
+    before = both (is_whitespace b) (list_all is_whitespace h.gap) e h.before;
+    some = h.some;
+    unbroken = h.unbroken;
+    ends = h.ends;
+  },
+  rest,
+)
 
 -- What goes on at the start of a text: a part without whitespace, perhaps none, and behind it the further words.
 record GoesOn (t : Text) : Type 0 where
@@ -88,29 +92,32 @@ cut_found (b ∷ t) = by (is_whitespace b) refl (cut_found t)
     by : (w : Bool) → is_whitespace b ≡ w → HasWords t (words t) × GoesOn t → HasWords (b ∷ t) (words (b ∷ t)) × GoesOn (b ∷ t)
     by true e (h, on) =
         let more : HasWords (b ∷ t) (words t) = gap_more b t (words t) e h in
-        let cut = split_at_gap b t e in
-        (subst (HasWords (b ∷ t)) (sym (words_at_gap b t e)) more, record {
-          behind = b ∷ t;
-          whole = ap (λ parts. front parts ++ (b ∷ t)) (sym cut);
-          unbroken = ap (λ parts. list_any is_whitespace (front parts)) cut;
-          ends = e;
-          rest = subst (λ parts. HasWords (b ∷ t) (kept (others parts))) (sym cut) more;
-        })
+        let cut = split_at_gap b t e in (
+          subst (HasWords (b ∷ t)) (sym (words_at_gap b t e)) more,
+          record {
+            behind = b ∷ t;
+            whole = ap (λ parts. front parts ++ (b ∷ t)) (sym cut);
+            unbroken = ap (λ parts. list_any is_whitespace (front parts)) cut;
+            ends = e;
+            rest = subst (λ parts. HasWords (b ∷ t) (kept (others parts))) (sym cut) more;
+          },
+        )
     by false e (h, on) =
         let parts = slice_split is_whitespace t in
         let cut = split_at_word b t e in
         let first : front (slice_split is_whitespace (b ∷ t)) ≡ b ∷ front parts = ap front cut ∙ front_onto b parts in
         let further : others (slice_split is_whitespace (b ∷ t)) ≡ others parts = ap others cut ∙ others_onto b parts in
         let whole : b ∷ t ≡ (b ∷ front parts) ++ on.behind = ap (λ u. b ∷ u) on.whole in
-        let unbroken : HasNoWhitespace (b ∷ front parts) = neither (is_whitespace b) (list_any is_whitespace (front parts)) e on.unbroken in
-        (subst (HasWords (b ∷ t)) (sym (words_at_word b t e)) (on.behind, record { gap = []; whole = whole; before = refl; some = refl; unbroken = unbroken; ends = on.ends }, on.rest),
-        record {
-          behind = on.behind;
-          whole = whole ∙ ap (λ part. part ++ on.behind) (sym first);
-          unbroken = ap (list_any is_whitespace) first ∙ unbroken;
-          ends = on.ends;
-          rest = subst (λ ps. HasWords on.behind (kept ps)) (sym further) on.rest;
-        })
+        let unbroken : HasNoWhitespace (b ∷ front parts) = neither (is_whitespace b) (list_any is_whitespace (front parts)) e on.unbroken in (
+          subst (HasWords (b ∷ t)) (sym (words_at_word b t e)) (on.behind, record { gap = []; whole = whole; before = refl; some = refl; unbroken = unbroken; ends = on.ends }, on.rest),
+          record {
+            behind = on.behind;
+            whole = whole ∙ ap (λ part. part ++ on.behind) (sym first);
+            unbroken = ap (list_any is_whitespace) first ∙ unbroken;
+            ends = on.ends;
+            rest = subst (λ ps. HasWords on.behind (kept ps)) (sym further) on.rest;
+          },
+        )
 
 -- ---- and no others
 

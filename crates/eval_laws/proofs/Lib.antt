@@ -1,5 +1,10 @@
 pub mod Sequences
 pub mod Staying
+pub mod SafeBytes
+pub mod TextWords
+pub mod Asking
+pub mod FirstFound
+pub mod Options
 pub mod CallLemmas
 pub mod CutLemmas
 pub mod LineLemmas

@@ -3,6 +3,10 @@ pub mod Cuts
 pub mod DeviceWeights
 pub mod DeviceLaws
 pub mod Grammar
+pub mod SafeTexts
+pub mod TextWords
+pub mod Answered
+pub mod LookUps
 pub mod Comparing
 pub mod AssignmentLaws
 pub mod Inner

@@ -140,11 +140,7 @@ fn set_open<'a>(
 }
 
 /// Makes the assignments of a rule, one behind another. How the rule treats bytes is looked for once.
-fn set_each<'a>(
-    alloc: Global,
-    rule: &'a Rule,
-    scene: &mut Scene<'a>,
-) -> Result<(), AllocError>
+fn set_each<'a>(alloc: Global, rule: &'a Rule, scene: &mut Scene<'a>) -> Result<(), AllocError>
     ensures scene { OnOk result (scene.new ≡ fold (set_step rule.now) scene.old rule.now.sets) }
     ensures refused { OnErr result (scene.new.state.event ≡ scene.old.state.event) }
 {
@@ -163,11 +159,7 @@ fn set_each<'a>(
 /// selected now. Behind a `:=` that was made, its key is final.
 ///
 /// The error comes where memory is refused; nothing is then left of the scene but its event.
-pub fn set_all<'a>(
-    alloc: Global,
-    rule: &'a Rule,
-    scene: &mut Scene<'a>,
-) -> Result<(), AllocError>
+pub fn set_all<'a>(alloc: Global, rule: &'a Rule, scene: &mut Scene<'a>) -> Result<(), AllocError>
     ensures scene { OnOk result (scene.new ≡ fold (set_step rule.now) scene.old rule.now.sets) }
     ensures refused { OnErr result (scene.new ≡ blank scene.old.state.event) }
 {

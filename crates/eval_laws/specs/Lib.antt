@@ -9,3 +9,4 @@ pub mod Inner
 pub mod Allowances
 pub mod Weights
 pub mod Counts
+pub mod Making

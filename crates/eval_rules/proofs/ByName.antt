@@ -295,8 +295,8 @@ module _ {K : Type 0} (text : K → Text) where
       let all_once : AreOnce (names (map entry_seen es)) = subst (IsDistinct same_text) (sym (names_seen es)) (once text (keys_of es) before) in
       one_list (map entry_seen fs) (by_name (map entry_seen es)) (subst (IsStrictlySortedBy text_order) (sym (names_seen fs)) (strict text (keys_of fs) sorted distinct)) (all_rise (map entry_seen es) [] rises_none)
       (λ n.
-          looked_up fs n ∙ lookup_permutation (on_texts_equal text) es fs moved distinct (λ k. same_text n (text k)) (one_key n) ∙ sym (looked_up es n)
-          ∙ sym (by_name_values (map entry_seen es) n all_once))
+      looked_up fs n ∙ lookup_permutation (on_texts_equal text) es fs moved distinct (λ k. same_text n (text k)) (one_key n) ∙ sym (looked_up es n)
+      ∙ sym (by_name_values (map entry_seen es) n all_once))
 
 -- the names of sorted properties rise
 pub by_name_rises : (pairs : List Pair) → NamesRise (by_name pairs)

@@ -41,3 +41,6 @@ pub mod Priorities
 pub mod Lines
 pub mod Answers
 pub mod Nodes
+pub mod Changing
+pub mod Making
+pub mod Following

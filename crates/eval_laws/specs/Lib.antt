@@ -13,3 +13,4 @@ pub mod Inner
 pub mod Allowances
 pub mod Weights
 pub mod Counts
+pub mod Making

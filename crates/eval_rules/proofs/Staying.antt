@@ -3,21 +3,12 @@ use Rattle.std.proofs.Common.{◌≡◌, Bool, true, false, cond, List, [], ◌�
 use Rattle.std.specs.List.{fold}
 use Rattle.text_tables.specs.Texts.{Text}
 use Rattle.text_tables.specs.Pairs.{value_of}
-use Rattle.text_core.specs.declared.item.Item.{Item}
 use Rattle.hwdb_lookup.specs.declared.entry.Entry.{Entry}
 use Rattle.device_core.specs.Values.{AnswerValue, DeviceValue}
-use Rattle.rule_types.specs.declared.roles.AssignOperator.{AssignOperator}
-use Rattle.rule_types.specs.declared.roles.AssignOperator.TheVariants.{Add, AssignFinal}
 use Rattle.rule_types.specs.declared.roles.PlainKey.{PlainKey}
 use Rattle.rule_types.specs.declared.roles.PlainKey.TheVariants as plain
-use Rattle.rule_types.specs.declared.roles.Target.{Target}
-use Rattle.rule_types.specs.declared.roles.Target.TheVariants as target
-use Rattle.rule_types.specs.declared.rule_option.RuleOption.{RuleOption}
-use Rattle.rule_types.specs.declared.rule_option.RuleOption.TheVariants as option
 use Rattle.rule_types.specs.declared.part.Act.{Act}
 use Rattle.rule_types.specs.declared.part.Assignment.{Assignment}
-use Rattle.rule_types.specs.declared.part.Change.{Change}
-use Rattle.rule_types.specs.declared.part.Change.TheVariants as change
 use Rattle.rule_types.specs.declared.part.Comparison.{Comparison}
 use Rattle.rule_types.specs.declared.part.Deed.{Deed}
 use Rattle.rule_types.specs.declared.part.Deed.TheVariants as deed
@@ -30,24 +21,14 @@ use Rattle.eval_rendering.specs.declared.rendered.Rendered.{Rendered}
 use Rattle.eval_rendering.specs.declared.rendered.Rendered.TheVariants as rendered
 use Rattle.eval_acts.specs.declared.builtin.Builtin.{Builtin}
 use Rattle.eval_acts.specs.declared.builtin.Builtin.TheVariants as builtin
-use Rattle.eval_state.specs.Scenes.{noted}
-use Rattle.eval_state.specs.declared.finals.FinalKey.{FinalKey}
-use Rattle.eval_state.specs.declared.note_kind.NoteKind.TheVariants.{NameIgnored}
 use Rattle.eval_state.specs.declared.scene.Scene.{Scene}
 use Rattle.eval_acts.specs.Acts.{act_step, imported, on_text, performed}
 use Rattle.eval_acts.specs.Imports.{builtin_run, from_parent, run_builtin}
 use Rattle.eval_acts.specs.Questions.{answered_or_noted, asked, tested, with_result}
 use Rattle.eval_acts.specs.Reaching.{reached}
-use Rattle.eval_assignments.specs.Assigning.{assigned, with_option}
-use Rattle.eval_assignments.specs.Escapes.{escape_of}
-use Rattle.eval_assignments.specs.Finality.{final_key, final_target, finally, is_settled}
-use Rattle.eval_assignments.specs.Properties.{property_added, property_changed, property_joined}
-use Rattle.eval_assignments.specs.Steps.{is_ignored, set_step, step_by, text_given, text_set}
+use Rattle.eval_assignments.specs.Steps.{set_step}
 use Rattle.eval_rules.specs.Steps.{Went, apply, onward, plain_step, result_step, search, set_all, walk}
-
--- two scenes are of one event
-abbrev pub Stays : Scene → Scene → Type 0
-Stays s t = t.state.event ≡ s.state.event
+use Rattle.eval_assignments.proofs.Staying.{Stays, set_stays}
 
 either : (s t u : Scene) (a b c : Bool) → Stays s t → Stays s u → Stays s (cond {A = Scene × Bool} c (t, a) (u, b)).0
 either s t u a b true h k = h
@@ -71,7 +52,7 @@ builtin_stays es r t (builtin.Hwdb h) s = refl
 builtin_stays es r t (builtin.Other name) s = refl
 builtin_stays es r t builtin.BadArguments s = refl
 
-parent_stays : (names : List (List Item)) (d : Option DeviceValue) (s : Scene) → Stays s (from_parent names d s).0
+parent_stays : (names : _) (d : Option DeviceValue) (s : Scene) → Stays s (from_parent names d s).0
 parent_stays names None s = refl
 parent_stays names (Some d) s = refl
 
@@ -88,13 +69,15 @@ performed_stays es r (deed.Test mask t) s = text_stays r (deed.Test mask t) (tes
 performed_stays es r (deed.Program t) s = text_stays r (deed.Program t) (asked r) (λ c u. answered_stays r c (value_of u.state.event.programs c) u) _ (with_result [] s)
 performed_stays es r (deed.Import i) s = imported_stays es r (deed.Import i) i s
 
-act_stays : (es : List Entry) (r : Rule) (act : Act) (s : Scene) → Stays s (act_step es r act s).0
+-- an act
+pub act_stays : (es : List Entry) (r : Rule) (act : Act) (s : Scene) → Stays s (act_step es r act s).0
 unfolding act_step
 act_stays es r act s = performed_stays es r act.deed s
 
 -- ---- matches
 
-reached_stays : (r : Rule) (k : PlainKey) (s : Scene) → Stays s (reached r k s)
+-- a match that is reached
+pub reached_stays : (r : Rule) (k : PlainKey) (s : Scene) → Stays s (reached r k s)
 reached_stays r (plain.Sysctl name) s = refl
 reached_stays r k s = refl
 
@@ -111,58 +94,6 @@ search_stays [] s = refl
 search_stays (part ∷ parts) s = refl
 
 -- ---- assignments
-
-finally_stays : (o : AssignOperator) (k : Option FinalKey) (s t : Scene) → Stays s t → Stays s (finally o k t)
-finally_stays AssignFinal (Some k) s t h = h
-finally_stays AssignFinal None s t h = h
-finally_stays o k s t h = h
-
-joined_stays : (r : Rule) (name : Text) (value : Option Text) (s : Scene) → Stays s (property_joined r name value s)
-joined_stays r name None s = refl
-joined_stays r name (Some value) s = refl
-
-added_stays : (r : Rule) (name t : Text) (s : Scene) → Stays s (property_added r name t s)
-added_stays r name [] s = refl
-added_stays r name (b ∷ t) s = joined_stays r name _ s
-
-changed_stays : (r : Rule) (o : AssignOperator) (name t : Text) (s : Scene) → Stays s (property_changed r o name t s)
-changed_stays r Add name t s = added_stays r name t s
-changed_stays r o name t s = refl
-
-assigned_stays : (r : Rule) (e : _) (o : AssignOperator) (about : Target) (t : Text) (s : Scene) → Stays s (assigned r e o about t s)
-assigned_stays r e o (target.Env name) t s = changed_stays r o name t s
-assigned_stays r e o about t s = refl
-
-given_stays : (r : Rule) (e : _) (o : AssignOperator) (about : Target) (t : Text) (s : Scene) → Stays s (text_given r e o about t s)
-given_stays r e o about t s = by (is_ignored about s)
-  where
-    by : (b : Bool) → Stays s (cond b (noted r NameIgnored t s) (finally o (final_target about) (assigned r e o about t s)))
-    by true = refl
-    by false = finally_stays o (final_target about) s (assigned r e o about t s) (assigned_stays r e o about t s)
-
-set_text_stays : (r : Rule) (e : _) (o : AssignOperator) (about : Target) (text : Rendered) (s : Scene) → Stays s (text_set r e o about text s)
-set_text_stays r e o about (rendered.Text t) s = given_stays r e o about t s
-set_text_stays r e o about rendered.TooLong s = refl
-
-option_stays : (known : RuleOption) (s : Scene) → Stays s (with_option known s)
-option_stays (option.LinkPriority n) s = refl
-option_stays option.Watch s = refl
-option_stays option.NoWatch s = refl
-option_stays option.DbPersist s = refl
-option_stays known s = refl
-
-by_stays : (r : Rule) (o : AssignOperator) (c : Change) (s : Scene) → Stays s (step_by r o c s)
-by_stays r o (change.Option known) s = finally_stays o _ s (with_option known s) (option_stays known s)
-by_stays r o (change.Text about template) s = set_text_stays r (escape_of r.sets) o about _ s
-by_stays r o (change.Run kind template) s = finally_stays o _ s _ refl
-
-set_stays : (r : Rule) (a : Assignment) (s : Scene) → Stays s (set_step r s a)
-unfolding set_step
-set_stays r a s = by (is_settled (final_key a.change) s.finals)
-  where
-    by : (b : Bool) → Stays s (cond b s (step_by r a.operator a.change s))
-    by true = refl
-    by false = by_stays r a.operator a.change s
 
 sets_stay : (r : Rule) (sets : List Assignment) (s : Scene) → Stays s (fold (set_step r) s sets)
 sets_stay r [] s = refl

@@ -29,7 +29,8 @@ pub fn deliver<W: Sink, E: Sink>(
 ) -> u8
     requires { status < 3 }
     ensures { Delivers (record { output = answer.now; messages = messages.now; status = status }) result
-        (W.shown output.old) (W.shown output.new) (E.shown error.old) (E.shown error.new) }
+        (record { out = W.shown output.old; err = E.shown error.old })
+        (record { out = W.shown output.new; err = E.shown error.new }) }
 {
     if hand_on(error, messages).is_err() {
         return 3;

@@ -29,7 +29,7 @@ impl Error for DeviceFault {}
 
 /// Where input comes from.
 pub trait Source {
-    // the pieces read and the bytes still to come, where they are told, and how many calls failed
+    // the pieces read and the bytes still to come, where they are told, how many calls were made, and how many of them failed
     ghost shown: { Self → SourceState };
 
     /// Reads some bytes into the front of a slice that is not empty, and says how many.

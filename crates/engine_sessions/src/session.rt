@@ -2,7 +2,7 @@
 //!
 //! The splitter keeps the only bytes that wait, in room that it took once; a block is read and
 //! answered where it is lent, and only the answer is handed out.
-ghost use Rattle.std.specs.Prelude.{◌≡◌, ◌≤◌, ◌+◌, true, false, IfOk, IfErr, length, Ok, Err, ◌++◌};
+ghost use Rattle.std.specs.Prelude.{◌≡◌, ◌≤◌, ◌+◌, true, false, [], IfOk, IfErr, length, Ok, Err, ◌++◌};
 ghost use Rattle.device_core.specs.RunBlocks.{most_bytes};
 ghost use Rattle.device_core.specs.Faults.{block_gives};
 ghost use Rattle.engine_sessions.specs.Known.{known_blocks};
@@ -147,6 +147,7 @@ impl<'a, A: Answering> Session<'a, A> {
     pub(crate) fn is_ended(&self) -> bool
         ensures value { result ≡ self.now.ended }
         ensures going { self.now.ended ≡ false → IsGoing self.now }
+        ensures gone { self.now.ended ≡ true → self.now.pending ≡ [] }
     {
         self.ended
     }

@@ -27,11 +27,11 @@ pub struct Step {
 /// Why nothing more is answered.
 #[derive(Clone, Copy, Debug, PartialEq, Eq)]
 pub enum SessionFault {
-    /// The block of this number, counted from 1, is faulty. The number stays at 2^64 - 1.
+    /// 1: the block of this number, counted from 1, is faulty. The number stays at 2^64 - 1.
     Block(u64, BlockFault),
-    /// Memory was refused.
+    /// 2: memory was refused.
     Memory,
-    /// The session had ended, by `end` or by a fault.
+    /// 3: the session had ended, by `end` or by a fault.
     Ended,
 }
 

@@ -21,11 +21,11 @@ const MOST_READ: usize = 4096;
 /// Why a turn failed. The session has then ended.
 #[derive(Clone, Copy, Debug, PartialEq, Eq)]
 pub enum TurnFault {
-    /// The reader failed.
+    /// 1: the reader failed.
     Read,
-    /// The writer failed.
+    /// 2: the writer failed.
     Write,
-    /// The session gave no answer, or had ended before.
+    /// 3: the session gave no answer, or had ended before.
     Session(SessionFault),
 }
 

@@ -92,6 +92,7 @@ ANSWERS = [
         ("cab", "1=\n4=\n6=\n"),
         ("ddd", "6=\n"),
     ),
+    *queries("the empty text is asked for", "*\n A=1\n\n?\n B=2\n\nx\n C=3\n", ("", "A=1\n")),
     query(
         "keys in the order of their bytes",
         "m\n b=1\n B=2\n a=3\n A1=4\n A=5\n \xe9=6\n",

@@ -16,6 +16,9 @@ def refused(name, line, text, *lines):
     )
 
 
+# more tags than fit into any small table
+MANY = [f"t{number}" for number in range(1000)]
+
 ROWS = [
     answered("links of a block stand in their order", [], (["S: b", "S: a"], ["link b", "link a"])),
     answered("tags of a block stand in their order", [], (["G: b", "G: a"], ["tag b", "tag a"])),
@@ -50,6 +53,15 @@ ROWS = [
     answered("tags are removed", ['TAG-="a"'], (["G: a", "G: b"], ["tag b"])),
     answered("tags are made anew", ['TAG="c"'], (["G: a", "G: b"], ["tag c"])),
     answered("a text is one tag", ['TAG+="a b"'], ([], ["tag a b"])),
+    answered(
+        "a device and its parent have many tags",
+        ['TAG=="t999", ENV{OWN}="1"', 'TAGS=="t999", KERNELS=="p", ENV{ABOVE}="1"', 'TAG=="t1000", ENV{NONE}="1"', 'TAG+="t1000"'],
+        (
+            [*(f"G: {tag}" for tag in MANY), "P: /p", *(f"G: {tag}" for tag in MANY)],
+            [*(f"tag {tag}" for tag in MANY), "tag t1000", "env ABOVE=1", "env OWN=1"],
+        ),
+        path="/p/d",
+    ),
     answered(
         "an attribute takes its last value in its first place",
         ['ATTR{b}="1", ATTR{a}="2", ATTR{b}="3"'],

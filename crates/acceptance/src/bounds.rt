@@ -1,6 +1,6 @@
 //! Blocks and chains as large as they may be, and one more.
 use crate::running::{line, run_by};
-use crate::sessions::{block_with, tables_of, take_all};
+use crate::sessions::{block_with, has_ended, tables_of, take_all};
 use device_core::BlockFaultKind;
 use engine_core::{Session, SessionFault, Tables, Verb};
 use hwdb_core::PlainDb;
@@ -85,12 +85,6 @@ fn is_too_long(fault: &SessionFault) -> bool {
         }
         _ => false,
     }
-}
-
-/// Whether a session has ended, so that it answers nothing more.
-fn has_ended(alloc: Global, session: &mut Session<'_, Tables<PlainDb>>) -> bool {
-    session.take(alloc, b"x").err() == Some(SessionFault::Ended)
-        && session.end(alloc).err() == Some(SessionFault::Ended)
 }
 
 /// Whether an input in pieces of so many bytes ends a session as too long, with no answer.

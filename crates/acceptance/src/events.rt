@@ -111,30 +111,61 @@ fn lines_told(alloc: Global, rules: &str, block: &str, first: &str) -> Result<us
 
 #[test]
 fn rules_change_an_event(rt: HostRuntime) -> Result<(), Fail> {
-    for (rules, block, line) in [
-        (USB_WITH_SERIAL, TOGETHER, "env HIT=d"),
-        (SELECTIONS, TOGETHER, "env P=d"),
-        (SELECTIONS, TOGETHER, "run program /bin/x d"),
-        (LABELS, DISK, "env A=1"),
-        (LABELS, DISK, "env C=1"),
-        ("GOTO=\"y\", ENV{D}=\"1\"\n", DISK, "env D=1"),
-        ("ENV{X}==\"\", ENV{A}=\"1\"\n", DISK, "env A=1"),
-        ("ATTR{x}!=\"y\", ENV{A}=\"1\"\n", DISK, "env A=1"),
-        ("ATTR{model}==\"Disk\", ENV{A}=\"1\"\n", PADDED, "env A=1"),
+    for (name, rules, block, line) in [
+        ("r.rules", USB_WITH_SERIAL, TOGETHER, "env HIT=d"),
+        ("r.rules", SELECTIONS, TOGETHER, "env P=d"),
+        ("r.rules", SELECTIONS, TOGETHER, "run program /bin/x d"),
+        ("f.rules", LABELS, DISK, "env A=1"),
+        ("f.rules", LABELS, DISK, "env C=1"),
+        ("g.rules", "GOTO=\"y\", ENV{D}=\"1\"\n", DISK, "env D=1"),
+        ("r.rules", "ENV{X}==\"\", ENV{A}=\"1\"\n", DISK, "env A=1"),
+        ("r.rules", "ATTR{x}!=\"y\", ENV{A}=\"1\"\n", DISK, "env A=1"),
         (
+            "r.rules",
+            "ATTR{model}==\"Disk\", ENV{A}=\"1\"\n",
+            PADDED,
+            "env A=1",
+        ),
+        (
+            "r.rules",
             "RUN+=\"/bin/n $env{V}\"\nENV{V}=\"2\"\n",
             DISK,
             "run program /bin/n 2",
         ),
-        ("SYMLINK+=\"l$env{X}\", ENV{X}=\"1\"\n", DISK, "link l1"),
-        ("SYMLINK+=\"x/$env{L} y;z\"\n", SPACED, "link x/a_b"),
-        ("SYMLINK+=\"x/$env{L} y;z\"\n", SPACED, "link y_z"),
-        (FINAL, DISK, "owner a"),
-        (FINAL, DISK, "priority 5"),
-        ("KERNEL==i\"SDA\", ENV{HIT}=\"1\"\n", MIXED, "env HIT=1"),
-        ("KERNEL==i\"SDA\", ENV{HIT}=\"1\"\n", DISK, "env HIT=1"),
+        (
+            "r.rules",
+            "SYMLINK+=\"l$env{X}\", ENV{X}=\"1\"\n",
+            DISK,
+            "link l1",
+        ),
+        (
+            "r.rules",
+            "SYMLINK+=\"x/$env{L} y;z\"\n",
+            SPACED,
+            "link x/a_b",
+        ),
+        (
+            "r.rules",
+            "SYMLINK+=\"x/$env{L} y;z\"\n",
+            SPACED,
+            "link y_z",
+        ),
+        ("r.rules", FINAL, DISK, "owner a"),
+        ("r.rules", FINAL, DISK, "priority 5"),
+        (
+            "r.rules",
+            "KERNEL==i\"SDA\", ENV{HIT}=\"1\"\n",
+            MIXED,
+            "env HIT=1",
+        ),
+        (
+            "r.rules",
+            "KERNEL==i\"SDA\", ENV{HIT}=\"1\"\n",
+            DISK,
+            "env HIT=1",
+        ),
     ] {
-        assert!(rt; tells(rt.alloc(), "r.rules", rules, block, line)?);
+        assert!(rt; tells(rt.alloc(), name, rules, block, line)?);
     }
     Ok(())
 }

@@ -1,11 +1,13 @@
 //! Indexes that `update` writes, and that `query` and `events` answer from.
 use crate::database::{OF_ONE_RANK, TRACKBALL, WITH_LESS_RANK};
-use crate::running::{Expected, Given, assert_outcome, line, run, run_by, wanted};
+use crate::running::{Expected, Given, assert_outcome, files_of, line, run, run_by, wanted};
 use engine_core::{Index, Line, Verb};
+use hwdb_core::read_sources;
 use std::alloc::Global;
 use std::process::Abort;
 use std::test::Fail;
 use text_bytes::FileKind;
+use trie_core::{Nodes, Trie};
 
 /// The index of no entries.
 pub(crate) const EMPTY_INDEX: &[u8] =
@@ -229,11 +231,16 @@ fn events_are_answered_from_an_index(rt: HostRuntime) -> Result<(), Fail> {
     )
 }
 
-/// How many nodes are active at the end of a modalias, and how many are in all.
-fn visits(alloc: Global, bytes: &[u8], modalias: &[u8]) -> Result<(usize, u128), Fail> {
+/// The nodes that are active at the end of a modalias, and how many are at each of its lengths.
+fn visits(alloc: Global, bytes: &[u8], modalias: &[u8]) -> Result<(Vec<u32>, u128), Fail> {
     let index = Index::open(bytes).map_err(|_fault| "no index")?;
-    let (active, all) = index.visits(alloc, modalias)?;
-    Ok((active.len(), all))
+    Ok(index.visits(alloc, modalias)?)
+}
+
+/// Asserts how many nodes an index has.
+fn assert_nodes(rt: &impl Abort, index: &[u8], count: u32) {
+    // The number of nodes stands behind the header's mark and version.
+    assert!(rt; index.get(12..16) == Some(count.to_le_bytes().as_slice()));
 }
 
 /// Forty times a star and an `a`, with a property.
@@ -257,10 +264,13 @@ fn stars_are_walked_without_going_back(rt: HostRuntime) -> Result<(), Fail> {
     modalias.push('b')?;
     let modalias = modalias.as_str();
     assert_query(&rt, &index, modalias, false, "")?;
-    assert_eq!(rt;
-        visits(rt.alloc(), &index, modalias.as_bytes())?,
-        (40, 14_521)
-    );
+    assert_nodes(&rt, &index, 81);
+    let (active, all) = visits(rt.alloc(), &index, modalias.as_bytes())?;
+    assert_eq!(rt; active.len(), 40);
+    for (place, node) in active.iter().enumerate() {
+        assert_eq!(rt; *node as usize, place.wrapping_mul(2).wrapping_add(1));
+    }
+    assert_eq!(rt; all, 14_521);
     Ok(())
 }
 
@@ -276,12 +286,23 @@ fn ten_thousand(alloc: Global) -> Result<String, Fail> {
     Ok(text)
 }
 
+/// How many nodes the trie of a database file has, and what it visits on the way to a modalias.
+fn trie_visits(alloc: Global, text: &str, modalias: &[u8]) -> Result<(u32, Vec<u32>, u128), Fail> {
+    let files = files_of(alloc, &[(FileKind::Hwdb, 1, "t.hwdb", text)])?;
+    let database = read_sources(alloc, &files).map_err(|_fault| "no database")?;
+    let trie = Trie::build(alloc, database.entries).map_err(|_fault| "no trie")?;
+    let (active, all) = trie.visits(alloc, modalias)?;
+    Ok((trie.len(), active, all))
+}
+
 #[test]
 fn many_records_are_found_by_few_steps(rt: HostRuntime) -> Result<(), Fail> {
     let text = ten_thousand(rt.alloc())?;
     let index = index_of(rt.alloc(), &[(FileKind::Hwdb, 1, "t.hwdb", text.as_str())])?;
-    // The number of nodes stands behind the header's mark and version.
-    assert!(rt; index.get(12..16) == Some(11_116_u32.to_le_bytes().as_slice()));
-    assert_eq!(rt; visits(rt.alloc(), &index, b"usb:v1234")?, (1, 10));
+    assert_nodes(&rt, &index, 11_116);
+    let (active, all) = visits(rt.alloc(), &index, b"usb:v1234")?;
+    assert!(rt; active.len() == 1 && all == 10);
+    let (nodes, active, all) = trie_visits(rt.alloc(), text.as_str(), b"usb:v1234")?;
+    assert!(rt; nodes == 11_116 && active.len() == 1 && all == 10);
     Ok(())
 }

@@ -3,13 +3,14 @@ use crate::running::{
     AMPLE, Expected, Outcome, Room, assert_outcome, files_of, input_of, line, output_of, room_for,
     run_by, run_in, wanted,
 };
-use crate::sessions::{block_with, tables_of, take_each};
-use engine_core::{MemorySink, MemorySource, Session, Tables, Verb, turn};
+use crate::sessions::{block_with, has_ended, tables_of};
+use device_core::{BlockFault, BlockFaultKind};
+use engine_core::{MemorySink, MemorySource, Session, SessionFault, Tables, Verb, turn};
 use hwdb_core::PlainDb;
 use std::alloc::Global;
 use std::process::Abort;
 use std::test::Fail;
-use text_bytes::FileKind;
+use text_bytes::{Bytes, FileKind};
 
 /// A rule for disks.
 const RULE: &str = "SUBSYSTEM==\"block\", KERNEL==\"sd[a-z]\", SYMLINK+=\"disk/%k\"\n";
@@ -34,6 +35,20 @@ const THREE_ANSWERS: &[u8] =
     b"event add /devices/pci0/block/sda\nlink disk/sda\nenv ACTION=add\nenv DEVNAME=/dev/sda\nenv DEVPATH=/devices/pci0/block/sda\nenv MAJOR=8\nenv MINOR=0\nenv SUBSYSTEM=block\n\n\
 event add /devices/pci0/block/sda\nlink disk/sda\nenv ACTION=add\nenv DEVNAME=/dev/sda\nenv DEVPATH=/devices/pci0/block/sda\nenv MAJOR=8\nenv MINOR=0\nenv SUBSYSTEM=block\n\n\
 event add /devices/pci0/block/sda\nlink disk/sda\nenv ACTION=add\nenv DEVNAME=/dev/sda\nenv DEVPATH=/devices/pci0/block/sda\nenv MAJOR=8\nenv MINOR=0\nenv SUBSYSTEM=block\n\n";
+
+/// Three blocks, of which the second has a wrong path in its third line.
+const FAULTY: &[u8] = b"C: add\nP: /devices/pci0/block/sda\nU: block\nN: sda\nD: 8:0\n\n\
+C: add\nP: /devices/a\nP: /devices/b\n\n\
+C: add\nP: /devices/pci0/block/sda\nU: block\nN: sda\nD: 8:0\n\n";
+
+/// What is wrong with the second of them.
+const WRONG_PATH: SessionFault = SessionFault::Block(
+    2,
+    BlockFault {
+        line: 3,
+        kind: BlockFaultKind::Path,
+    },
+);
 
 /// The answer to a device of which nothing is known but its path.
 const ABOUT_X: &[u8] = b"event add /devices/x\nenv ACTION=add\nenv DEVPATH=/devices/x\n\n";
@@ -86,32 +101,115 @@ fn assert_answer(
     Ok(())
 }
 
-/// Whether the block is answered where it is cut at a place.
-fn is_answered_cut_at(alloc: Global, tables: &Tables<PlainDb>, at: usize) -> Result<bool, Fail> {
-    let mut session = Session::new(alloc, tables)?;
-    let mut text = Vec::new(alloc);
-    let (start, rest) = BLOCK.split_at(at.min(BLOCK.len()));
-    let taken = take_each(alloc, &mut session, &[start, rest], &mut text);
-    drop(session);
-    Ok(taken.is_ok() && text.as_slice() == ANSWER)
-}
-
-/// Whether the block is answered wherever it is cut.
-fn is_answered_in_any_pieces(alloc: Global, tables: &Tables<PlainDb>) -> Result<bool, Fail> {
-    for at in 0..BLOCK.len() {
-        if !is_answered_cut_at(alloc, tables, at)? {
-            return Ok(false);
-        }
-    }
-    Ok(true)
+/// Asserts that the disk is answered where its input comes in pieces of so many bytes.
+fn assert_pieces(rt: &(impl Abort + AllocGlobal), each: usize) -> Result<(), Fail> {
+    let mut input = input_of(rt.alloc(), DISK, each)?;
+    let done = run_over(rt.alloc(), &mut input, AMPLE, AMPLE)?;
+    let wanted = Expected {
+        output: ANSWER,
+        messages: b"",
+        status: 0,
+    };
+    assert_outcome(rt, &done, wanted);
+    Ok(())
 }
 
 #[test]
 fn answers_do_not_depend_on_cuts(rt: HostRuntime) -> Result<(), Fail> {
+    for each in 1..=DISK.len() {
+        assert_pieces(&rt, each)?;
+    }
+    Ok(())
+}
+
+/// Whether a session uses so many bytes of a piece, for this answer or for none.
+fn takes(
+    alloc: Global,
+    session: &mut Session<'_, Tables<PlainDb>>,
+    piece: &[u8],
+    used: usize,
+    answer: Option<&[u8]>,
+) -> bool {
+    match session.take(alloc, piece) {
+        Ok(step) => step.used == used && is_answer(&step.answer, answer),
+        Err(_fault) => false,
+    }
+}
+
+/// Whether a session ends with this answer, or with none.
+fn ends(alloc: Global, session: &mut Session<'_, Tables<PlainDb>>, answer: Option<&[u8]>) -> bool {
+    match session.end(alloc) {
+        Ok(last) => is_answer(&last, answer),
+        Err(_fault) => false,
+    }
+}
+
+/// Whether there is this answer, or none where none is wanted.
+fn is_answer(answer: &Option<Bytes>, wanted: Option<&[u8]>) -> bool {
+    match (answer, wanted) {
+        (Some(answer), Some(wanted)) => answer.as_slice() == wanted,
+        (None, None) => true,
+        _ => false,
+    }
+}
+
+/// Whether three blocks in one piece are answered in three calls, and nothing is left for the end.
+fn each_block_is_answered(alloc: Global, tables: &Tables<PlainDb>) -> Result<bool, Fail> {
+    let mut session = Session::new(alloc, tables)?;
+    let (_, behind) = THREE_BLOCKS.split_at(58);
+    let (_, last) = THREE_BLOCKS.split_at(116);
+    let answered = takes(alloc, &mut session, THREE_BLOCKS, 58, Some(ANSWER))
+        && takes(alloc, &mut session, behind, 58, Some(ANSWER))
+        && takes(alloc, &mut session, last, 58, Some(ANSWER))
+        && ends(alloc, &mut session, None)
+        && has_ended(alloc, &mut session);
+    drop(session);
+    Ok(answered)
+}
+
+/// Whether a block without the empty line behind it is answered at the end, and not before.
+fn the_last_block_is_answered(alloc: Global, tables: &Tables<PlainDb>) -> Result<bool, Fail> {
+    let mut session = Session::new(alloc, tables)?;
+    let answered = takes(alloc, &mut session, DISK, 57, None)
+        && ends(alloc, &mut session, Some(ANSWER));
+    drop(session);
+    Ok(answered)
+}
+
+/// Whether a piece stops a session at the wrong path of its second block.
+fn is_stopped(alloc: Global, session: &mut Session<'_, Tables<PlainDb>>, piece: &[u8]) -> bool {
+    match session.take(alloc, piece) {
+        Ok(_step) => false,
+        Err(fault) => fault == WRONG_PATH,
+    }
+}
+
+/// Whether the block before a faulty one is answered, and the one behind it is not.
+fn a_faulty_block_is_the_last(alloc: Global, tables: &Tables<PlainDb>) -> Result<bool, Fail> {
+    let mut session = Session::new(alloc, tables)?;
+    let (_, behind) = FAULTY.split_at(58);
+    let ended = takes(alloc, &mut session, FAULTY, 58, Some(ANSWER))
+        && is_stopped(alloc, &mut session, behind)
+        && has_ended(alloc, &mut session);
+    drop(session);
+    Ok(ended)
+}
+
+/// Whether sessions answer a block where it is whole, and nothing behind a faulty one.
+fn sessions_answer(alloc: Global, tables: &Tables<PlainDb>) -> Result<bool, Fail> {
+    Ok(
+        each_block_is_answered(alloc, tables)?
+            && the_last_block_is_answered(alloc, tables)?
+            && a_faulty_block_is_the_last(alloc, tables)?,
+    )
+}
+
+#[test]
+fn sessions_answer_block_by_block(rt: HostRuntime) -> Result<(), Fail> {
     let tables = tables(rt.alloc())?;
-    let is_answered = is_answered_in_any_pieces(rt.alloc(), &tables);
+    let answered = sessions_answer(rt.alloc(), &tables);
     drop(tables);
-    assert!(rt; is_answered?);
+    assert!(rt; answered?);
     Ok(())
 }
 
@@ -171,10 +269,6 @@ fn an_answer_goes_out_in_the_turn_of_its_last_byte(rt: HostRuntime) -> Result<()
     Ok(())
 }
 
-/// Three blocks, of which the second has a wrong path in its third line.
-const FAULTY: &[u8] =
-    b"C: add\nP: /devices/x\n\nC: add\nP: /devices/a\nP: /devices/b\n\nC: add\nP: /devices/y\n";
-
 #[test]
 fn inputs_are_answered(rt: HostRuntime) -> Result<(), Fail> {
     for (name, rules, input, output, messages, status) in [
@@ -188,7 +282,14 @@ fn inputs_are_answered(rt: HostRuntime) -> Result<(), Fail> {
             "60-x.rules:1: V1 bad syntax: KERNEL==\"sd*\n",
             0,
         ),
-        ("r.rules", "", FAULTY, ABOUT_X, "block 2, line 3: path\n", 1),
+        (
+            "r.rules",
+            RULE,
+            FAULTY,
+            ANSWER,
+            "block 2, line 3: path\n",
+            1,
+        ),
     ] {
         let wanted = Expected {
             output,

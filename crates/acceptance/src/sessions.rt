@@ -41,17 +41,10 @@ pub(crate) fn take_all(
     Ok(())
 }
 
-/// Hands pieces to a session, one behind another, and puts the answers behind a text.
-pub(crate) fn take_each(
-    alloc: Global,
-    session: &mut Session<'_, Tables<PlainDb>>,
-    pieces: &[&[u8]],
-    text: &mut Vec<u8>,
-) -> Result<(), SessionFault> {
-    for piece in pieces {
-        take_all(alloc, session, piece, text)?;
-    }
-    Ok(())
+/// Whether a session has ended, so that it answers nothing more.
+pub(crate) fn has_ended(alloc: Global, session: &mut Session<'_, Tables<PlainDb>>) -> bool {
+    session.take(alloc, b"x").err() == Some(SessionFault::Ended)
+        && session.end(alloc).err() == Some(SessionFault::Ended)
 }
 
 /// A block of 27 bytes more, with a property `X` of so many times this byte.

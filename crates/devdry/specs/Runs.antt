@@ -4,8 +4,7 @@ use Rattle.clap.specs.Words.{fault_of, subcommand_of}
 use Rattle.text_bytes.specs.declared.source_file.SourceFile.{SourceFile}
 use Rattle.engine_ends.specs.declared.line.Line.{Line}
 use Rattle.engine_ends.specs.declared.line.LineFault.{LineFault}
-use Rattle.engine_ends.specs.Sources.{SourceState}
-use Rattle.engine_ends.specs.Sinks.{SinkState}
+use Rattle.engine_ends.specs.Streams.{Streams, outputs}
 use Rattle.engine_core.specs.Runs.{RunsOver}
 use Rattle.devdry_files.specs.Answers.{Answer}
 use Rattle.devdry_files.specs.Faults.{HasPath, IsFaultyIndex, IsFaultyWanted}
@@ -41,41 +40,41 @@ IsFaultOf may line fault = (fault ≡ Memory)
     ⊎ ((wanted : Wanted) × Wants line wanted × HasPath (IsFaultyRead may wanted) fault)
 
 -- What the line asks for was read, and the line is run over that and the input.
-pub record RunsOverFiles (may : Answer → Type 0) (line : Line) (status : ℕ) (input input_now : SourceState) (out out_now err err_now : SinkState) : Type 0 where
+pub record RunsOverFiles (may : Answer → Type 0) (line : Line) (status : ℕ) (before now : Streams) : Type 0 where
   pub files : List SourceFile
   pub index : Option (List ℕ)
   pub are_read : AreReadFor may line files index
-  pub over : RunsOver line files index status input input_now out out_now err err_now
+  pub over : RunsOver line files index status before now
 
 -- What the line asks for could not be read, and that is told; no input is read, and the output stays as it is.
-pub record FailsToRead (may : Answer → Type 0) (line : Line) (status : ℕ) (input input_now : SourceState) (out out_now err err_now : SinkState) : Type 0 where
+pub record FailsToRead (may : Answer → Type 0) (line : Line) (status : ℕ) (before now : Streams) : Type 0 where
   pub fault : ReadFault
   pub is_fault : IsFaultOf may line fault
-  pub tells : TellsReadFault fault status err err_now
-  pub unread : input_now ≡ input
-  pub untouched : out_now ≡ out
+  pub tells : TellsReadFault fault status before.err now.err
+  pub unread : now.input ≡ before.input
+  pub untouched : now.out ≡ before.out
 
 -- what a line does
-abbrev pub RunsLine : (Answer → Type 0) → Line → ℕ → SourceState → SourceState → SinkState → SinkState → SinkState → SinkState → Type 0
-RunsLine may line status input input_now out out_now err err_now =
-    RunsOverFiles may line status input input_now out out_now err err_now ⊎ FailsToRead may line status input input_now out out_now err err_now
+abbrev pub RunsLine : (Answer → Type 0) → Line → ℕ → Streams → Streams → Type 0
+RunsLine may line status before now =
+    RunsOverFiles may line status before now ⊎ FailsToRead may line status before now
 
 -- The words are a line, which is run.
-pub record RunsWords (may : Answer → Type 0) (words : List (List ℕ)) (status : ℕ) (input input_now : SourceState) (out out_now err err_now : SinkState) : Type 0 where
+pub record RunsWords (may : Answer → Type 0) (words : List (List ℕ)) (status : ℕ) (before now : Streams) : Type 0 where
   pub line : Line
   pub is_line : IsLineOf (subcommand_of devdry words) line
   pub faultless : fault_of devdry words ≡ []
   pub one_database : names_two line ≡ false
-  pub runs : RunsLine may line status input input_now out out_now err err_now
+  pub runs : RunsLine may line status before now
 
 -- The words are no line, and that is told; no input is read.
-pub record RefusesWords (words : List (List ℕ)) (status : ℕ) (input input_now : SourceState) (out out_now err err_now : SinkState) : Type 0 where
+pub record RefusesWords (words : List (List ℕ)) (status : ℕ) (before now : Streams) : Type 0 where
   pub fault : LineFault
   pub answers : AnswersWords (fault_of devdry words) (subcommand_of devdry words) fault
-  pub tells : TellsLineFault fault status out out_now err err_now
-  pub unread : input_now ≡ input
+  pub tells : TellsLineFault fault status (outputs before) (outputs now)
+  pub unread : now.input ≡ before.input
 
 -- what words do
-abbrev pub Runs : (Answer → Type 0) → List (List ℕ) → ℕ → SourceState → SourceState → SinkState → SinkState → SinkState → SinkState → Type 0
-Runs may words status input input_now out out_now err err_now =
-    RunsWords may words status input input_now out out_now err err_now ⊎ RefusesWords words status input input_now out out_now err err_now
+abbrev pub Runs : (Answer → Type 0) → List (List ℕ) → ℕ → Streams → Streams → Type 0
+Runs may words status before now =
+    RunsWords may words status before now ⊎ RefusesWords words status before now

@@ -5,6 +5,7 @@ use Rattle.text_bytes.specs.Names.{newline}
 use Rattle.engine_ends.specs.declared.line.LineFault.{LineFault}
 use Rattle.engine_ends.specs.declared.line.LineFault.TheVariants.{Help, Usage, Memory}
 use Rattle.engine_ends.specs.Sinks.{SinkState}
+use Rattle.engine_ends.specs.Streams.{Outputs}
 use Rattle.engine_ends.specs.Delivery.{Delivers, Tells, out_of_memory}
 use Rattle.devdry_files.specs.declared.fault.ReadFault.{ReadFault}
 use Rattle.devdry_files.specs.declared.fault.ReadFault.TheVariants as read
@@ -19,13 +20,13 @@ not_text = codes "error: an argument is not UTF-8\n\nFor more information, try '
 
 -- Words are no line: help goes to the output with status 0; what is wrong, to the error output, with status 2, and the output
 -- stays as it is.
-abbrev pub TellsLineFault : LineFault → ℕ → SinkState → SinkState → SinkState → SinkState → Type 0
-TellsLineFault (Help text) status out out_now err err_now =
-    Delivers (record { output = string_bytes text; messages = []; status = 0 }) status out out_now err err_now
-TellsLineFault (Usage text) status out out_now err err_now =
-    (out_now ≡ out) × Tells (string_bytes text) 2 status err err_now
-TellsLineFault Memory status out out_now err err_now =
-    (out_now ≡ out) × Tells out_of_memory 4 status err err_now
+abbrev pub TellsLineFault : LineFault → ℕ → Outputs → Outputs → Type 0
+TellsLineFault (Help text) status before now =
+    Delivers (record { output = string_bytes text; messages = []; status = 0 }) status before now
+TellsLineFault (Usage text) status before now =
+    (now.out ≡ before.out) × Tells (string_bytes text) 2 status before.err now.err
+TellsLineFault Memory status before now =
+    (now.out ≡ before.out) × Tells out_of_memory 4 status before.err now.err
 
 -- files could not be read: the path is told with status 3
 abbrev pub TellsReadFault : ReadFault → ℕ → SinkState → SinkState → Type 0

@@ -31,8 +31,9 @@ pub(crate) fn run_words<D: Disk, I: Source, W: Sink, E: Sink>(
     output: &mut W,
     error: &mut E,
 ) -> u8
-    ensures { Runs (D.may_answer disk.now) (map string_bytes words.now) result (I.shown input.old) (I.shown input.new)
-        (W.shown output.old) (W.shown output.new) (E.shown error.old) (E.shown error.new) }
+    ensures { Runs (D.may_answer disk.now) (map string_bytes words.now) result
+        (record { input = I.shown input.old; out = W.shown output.old; err = E.shown error.old })
+        (record { input = I.shown input.new; out = W.shown output.new; err = E.shown error.new }) }
 {
     match parse_line(alloc, words) {
         Ok(line) => run_line(alloc, disk, &line, input, output, error),
@@ -50,8 +51,9 @@ fn run_line<D: Disk, I: Source, W: Sink, E: Sink>(
     output: &mut W,
     error: &mut E,
 ) -> u8
-    ensures { RunsLine (D.may_answer disk.now) line.now result (I.shown input.old) (I.shown input.new)
-        (W.shown output.old) (W.shown output.new) (E.shown error.old) (E.shown error.new) }
+    ensures { RunsLine (D.may_answer disk.now) line.now result
+        (record { input = I.shown input.old; out = W.shown output.old; err = E.shown error.old })
+        (record { input = I.shown input.new; out = W.shown output.new; err = E.shown error.new }) }
 {
     match read_wanted(alloc, disk, line) {
         Ok(Inputs { files, index }) => {

@@ -43,7 +43,8 @@ pub(crate) fn tell_line_fault<W: Sink, E: Sink>(
     error: &mut E,
 ) -> u8
     ensures { TellsLineFault fault.now result
-        (W.shown output.old) (W.shown output.new) (E.shown error.old) (E.shown error.new) }
+        (record { out = W.shown output.old; err = E.shown error.old })
+        (record { out = W.shown output.new; err = E.shown error.new }) }
 {
     match fault {
         LineFault::Help(text) => deliver(b"", text.as_bytes(), WELL, output, error),

@@ -4,3 +4,4 @@ pub mod Places
 pub mod Answers
 pub mod Memory
 pub mod Faults
+pub mod FaultTexts

@@ -5,6 +5,8 @@ ghost use Rattle.devdry_files.specs.declared.fault.ReadFault.TheVariants.{Memory
 
 use crate::disk::DiskFault;
 use std::alloc::{AllocError, AllocFailed};
+use std::error::Error;
+use std::fmt;
 
 /// Why files could not be read.
 #[derive(Debug, Drop)]
@@ -14,6 +16,39 @@ pub enum ReadFault {
     /// 2: memory was refused.
     Memory,
 }
+
+impl fmt::Display for ReadFault {
+    ghost use Rattle.std.specs.Prelude.{Some};
+    ghost use Rattle.devdry_files.specs.FaultTexts.{read_text};
+
+    ghost output = { λ fault. Some (read_text fault) };
+
+    fn fmt<W: fmt::Write>(&self, f: &mut fmt::Formatter<W>) -> fmt::Result {
+        match self {
+            ReadFault::Path(path) => write!(f, "cannot read {path}"),
+            ReadFault::Memory => f.write_str("out of memory"),
+        }
+    }
+}
+
+impl Error for ReadFault {}
+
+impl fmt::Display for DiskFault {
+    ghost use Rattle.std.specs.Prelude.{Some};
+    ghost use Rattle.devdry_files.specs.FaultTexts.{disk_text};
+
+    ghost output = { λ fault. Some (disk_text fault) };
+
+    fn fmt<W: fmt::Write>(&self, f: &mut fmt::Formatter<W>) -> fmt::Result {
+        f.write_str(match self {
+            DiskFault::Absent => "not found",
+            DiskFault::Unreadable => "cannot be read",
+            DiskFault::OutOfMemory => "out of memory",
+        })
+    }
+}
+
+impl Error for DiskFault {}
 
 impl From<AllocError> for ReadFault {
     ghost from_gives = { λ _ fault. fault ≡ Memory };

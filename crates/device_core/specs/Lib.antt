@@ -9,3 +9,4 @@ pub mod Steps
 pub mod Lines
 pub mod Values
 pub mod Faults
+pub mod FaultTexts

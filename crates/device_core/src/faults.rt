@@ -1,6 +1,8 @@
 //! What can be wrong with an event block, and in which line.
 
 use std::alloc::{AllocError, AllocFailed};
+use std::error::Error;
+use std::fmt;
 
 /// A fault and its line, counted from 1.
 #[derive(Clone, Copy, Debug, PartialEq, Eq)]
@@ -14,29 +16,77 @@ pub struct BlockFault {
 /// What is wrong with a line of an event block.
 #[derive(Clone, Copy, Debug, PartialEq, Eq)]
 pub enum BlockFaultKind {
-    /// The first line is no `C:`, or its action is empty.
+    /// 1: the first line is no `C:`, or its action is empty.
     NoAction,
-    /// A line about a device stands before the first `P:`, or the block has no `P:`.
+    /// 2: a line about a device stands before the first `P:`, or the block has no `P:`.
     NoDevice,
-    /// The line is not a known letter, `:`, one space and a rest.
+    /// 3: the line is not a known letter, `:`, one space and a rest.
     Letter,
-    /// What may be given once is given again.
+    /// 4: what may be given once is given again.
     Twice,
-    /// The path is not that of a device, or of no parent of the device before.
+    /// 5: the path is not that of a device, or of no parent of the device before.
     Path,
-    /// A device number or an exit status is none.
+    /// 6: a device number or an exit status is none.
     Number,
-    /// A name, a text or the line that belongs to this one is missing.
+    /// 7: a name, a text or the line that belongs to this one is missing.
     Pair,
-    /// The line has a NUL byte.
+    /// 8: the line has a NUL byte.
     Nul,
-    /// The block has more than 65,536 bytes; the line is that of the first byte too many.
+    /// 9: the block has more than 65,536 bytes; the line is that of the first byte too many.
     TooLong,
-    /// The line begins the 65th device.
+    /// 10: the line begins the 65th device.
     TooDeep,
-    /// There was no memory.
+    /// 11: memory was refused.
     Memory,
 }
+
+impl BlockFaultKind {
+    ghost use Rattle.std.specs.Prelude.{◌≡◌};
+    ghost use Rattle.device_core.specs.FaultTexts.{kind_text};
+
+    /// The kind in words, as the line on a faulty block tells it.
+    pub fn text(self) -> &'static str
+        ensures { result.now ≡ kind_text self }
+    {
+        match self {
+            BlockFaultKind::NoAction => "no action",
+            BlockFaultKind::NoDevice => "no device",
+            BlockFaultKind::Letter => "unknown line",
+            BlockFaultKind::Twice => "given twice",
+            BlockFaultKind::Path => "path",
+            BlockFaultKind::Number => "number",
+            BlockFaultKind::Pair => "pair",
+            BlockFaultKind::Nul => "nul byte",
+            BlockFaultKind::TooLong => "too long",
+            BlockFaultKind::TooDeep => "too deep",
+            BlockFaultKind::Memory => "out of memory",
+        }
+    }
+}
+
+impl fmt::Display for BlockFaultKind {
+    ghost use Rattle.std.specs.Prelude.{Some};
+    ghost use Rattle.device_core.specs.FaultTexts.{kind_text};
+
+    ghost output = { λ kind. Some (kind_text kind) };
+
+    fn fmt<W: fmt::Write>(&self, f: &mut fmt::Formatter<W>) -> fmt::Result {
+        f.write_str(self.text())
+    }
+}
+
+impl fmt::Display for BlockFault {
+    ghost use Rattle.std.specs.Prelude.{Some};
+    ghost use Rattle.device_core.specs.FaultTexts.{fault_text};
+
+    ghost output = { λ fault. Some (fault_text fault) };
+
+    fn fmt<W: fmt::Write>(&self, f: &mut fmt::Formatter<W>) -> fmt::Result {
+        write!(f, "line {}: {}", self.line, self.kind)
+    }
+}
+
+impl Error for BlockFault {}
 
 impl From<AllocError> for BlockFaultKind {
     ghost use Rattle.device_core.specs.declared.faults.BlockFaultKind.TheVariants.{Memory};

@@ -8,6 +8,8 @@ ghost use Rattle.device_core.specs.Splits.{opened, Takes, Ends, FailsBy, HadEnde
 use crate::filling::{Stop, fill};
 use std::alloc::{AllocError, Global};
 use std::boxed::BoxedSlice;
+use std::error::Error;
+use std::fmt;
 use std::marker::Model;
 
 /// The most bytes of a block.
@@ -25,15 +27,31 @@ pub struct Taken {
 /// Why nothing more is taken.
 #[derive(Clone, Copy, Debug, PartialEq, Eq)]
 pub enum SplitFault {
-    /// A block has more than 65,536 bytes, its newlines counted: byte 65,537 stands in this of its
+    /// 1: a block has more than 65,536 bytes, its newlines counted: byte 65,537 stands in this of its
     /// lines, counted from 1.
     TooLong {
         /// The line.
         line: usize,
     },
-    /// The input has ended, or a block was too long before.
+    /// 2: the input has ended, or a block was too long before.
     Ended,
 }
+
+impl fmt::Display for SplitFault {
+    ghost use Rattle.std.specs.Prelude.{Some};
+    ghost use Rattle.device_core.specs.FaultTexts.{split_text};
+
+    ghost output = { λ fault. Some (split_text fault) };
+
+    fn fmt<W: fmt::Write>(&self, f: &mut fmt::Formatter<W>) -> fmt::Result {
+        match self {
+            SplitFault::TooLong { line } => write!(f, "line {line}: too long"),
+            SplitFault::Ended => f.write_str("input has ended"),
+        }
+    }
+}
+
+impl Error for SplitFault {}
 
 /// Cuts an input into its blocks, the longest runs of lines that are not empty: so does
 /// `udevadm info --export-db` of udevadm(8) part the devices that it lists.

@@ -20,19 +20,20 @@ use Rattle.engine_sessions.specs.Outcomes.{input_outcome}
 abbrev pub answer_with : OpeningValue → EventValue → Text
 answer_with opening = answer_by (record { rules = opening.rules; entries = opening.entries })
 
--- what `events` says of an input, by what comes of its files: the messages about them, and the answers to the blocks of the input
-abbrev pub events_outcome : Result OpeningValue Outcome → Text → Outcome
-events_outcome (Ok opening) input = input_outcome opening.messages (answer_with opening) input
-events_outcome (Err refused) input = refused
+-- What a command comes to before it looks at its input: `events` to what comes before its first answer, or to what is said in place
+-- of that; any other command to what it says. At an index `query` and `events` alone look.
+abbrev pub before_input : Verb → Line → List SourceFile → Option (Result Contents IndexFault) → Result OpeningValue Outcome
+before_input Query line files opened = Err (query_over line files opened)
+before_input Update line files opened = Err (database_outcome (update_outcome line) (files_read Hwdb line files))
+before_input Verify line files opened = Err (verify_outcome line files)
+before_input Events line files opened = opening line files opened
 
--- the outcome of a command over the files handed in, what comes of an index and an input: at an index `query` and `events` alone
--- look, at the input `events`
-abbrev pub outcome_by : Verb → Line → List SourceFile → Option (Result Contents IndexFault) → Text → Outcome
-outcome_by Query line files opened input = query_over line files opened
-outcome_by Update line files opened input = database_outcome (update_outcome line) (files_read Hwdb line files)
-outcome_by Verify line files opened input = verify_outcome line files
-outcome_by Events line files opened input = events_outcome (opening line files opened) input
+-- the outcome of a run over an input: the messages of its opening and the answers to the blocks of the input, or what is said without
+-- a look at the input
+abbrev pub outcome_by : Result OpeningValue Outcome → Text → Outcome
+outcome_by (Ok opening) input = input_outcome opening.messages (answer_with opening) input
+outcome_by (Err said) input = said
 
--- the outcome of a run
+-- the outcome of a run over the files handed in, what comes of an index and an input
 abbrev pub outcome : Line → List SourceFile → Option (Result Contents IndexFault) → Text → Outcome
-outcome line files opened input = outcome_by line.verb line files opened input
+outcome line files opened input = outcome_by (before_input line.verb line files opened) input

@@ -1,7 +1,7 @@
 //! `events`: the messages, and then the answers to the blocks of the input.
 ghost use Rattle.std.specs.Prelude.{◌≡◌, Ok, IfOk, IfErr, None, Some, Result};
 ghost use Rattle.engine_ends.specs.Delivery.{Outcome};
-ghost use Rattle.engine_core.specs.Runs.{RunsEvents};
+ghost use Rattle.engine_core.specs.Runs.{RunsBy};
 ghost use Rattle.engine_reports.specs.Openings.{OpeningValue, opening};
 ghost use Rattle.engine_reports.specs.Reports.{IsRefused};
 
@@ -26,8 +26,9 @@ pub(crate) fn serve_events<R: Source, W: Sink, E: Sink>(
     output: &mut W,
     error: &mut E,
 ) -> u8
-    ensures { RunsEvents (opening line.now files.items opened.entry) result (R.shown input.old) (R.shown input.new)
-        (W.shown output.old) (W.shown output.new) (E.shown error.old) (E.shown error.new) }
+    ensures { RunsBy (opening line.now files.items opened.entry) result
+        (record { input = R.shown input.old; out = W.shown output.old; err = E.shown error.old })
+        (record { input = R.shown input.new; out = W.shown output.new; err = E.shown error.new }) }
 {
     match opened {
         None => {
@@ -52,8 +53,9 @@ fn answer_over<L: Lookup + Drop, R: Source, W: Sink, E: Sink>(
     error: &mut E,
 ) -> u8
     ensures { (opened : Result OpeningValue Outcome) → IfOk tables (λ t. opened ≡ Ok (record { messages = t.0.items; rules = t.1.rules; entries = t.1.entries }))
-        → IfErr tables (λ e. IsRefused e opened) → RunsEvents opened result (R.shown input.old) (R.shown input.new)
-        (W.shown output.old) (W.shown output.new) (E.shown error.old) (E.shown error.new) }
+        → IfErr tables (λ e. IsRefused e opened) → RunsBy opened result
+        (record { input = R.shown input.old; out = W.shown output.old; err = E.shown error.old })
+        (record { input = R.shown input.new; out = W.shown output.new; err = E.shown error.new }) }
 {
     match tables {
         Ok((messages, tables)) => answer_behind(alloc, &messages, &tables, input, output, error),

@@ -1,8 +1,7 @@
 //! The whole run.
 ghost use Rattle.std.specs.Prelude.{◌≡◌, option_map};
-ghost use Rattle.engine_core.specs.Outcomes.{outcome};
+ghost use Rattle.engine_core.specs.Outcomes.{before_input};
 ghost use Rattle.engine_core.specs.Runs.{RunsBy, RunsOver};
-ghost use Rattle.engine_sessions.specs.Serves.{Serves};
 
 use crate::events::serve_events;
 use engine_ends::{Line, Sink, Source, Verb};
@@ -39,8 +38,9 @@ pub fn serve<R: Source, W: Sink, E: Sink>(
     error: &mut E,
 ) -> u8
     // What is written and answered is one function of the line, the files, the index and the input; and the same step by step.
-    ensures runs { RunsOver line.now files.items (option_map (λ bytes. bytes.now) index.entry) result (R.shown input.old) (R.shown input.new)
-        (W.shown output.old) (W.shown output.new) (E.shown error.old) (E.shown error.new) }
+    ensures runs { RunsOver line.now files.items (option_map (λ bytes. bytes.now) index.entry) result
+        (record { input = R.shown input.old; out = W.shown output.old; err = E.shown error.old })
+        (record { input = R.shown input.new; out = W.shown output.new; err = E.shown error.new }) }
     ensures untouched { (line.now.verb ≡ Verb.Events → ⊥) → input.new ≡ input.old }
 {
     serve_opened(alloc, line, files, open_index(index), input, output, error)
@@ -56,10 +56,9 @@ fn serve_opened<R: Source, W: Sink, E: Sink>(
     output: &mut W,
     error: &mut E,
 ) -> u8
-    ensures serves { Serves (outcome line.now files.items opened.entry) result (R.shown input.old) (R.shown input.new)
-        (W.shown output.old) (W.shown output.new) (E.shown error.old) (E.shown error.new) }
-    ensures runs { RunsBy line.now.verb line.now files.items opened.entry result (R.shown input.old) (R.shown input.new)
-        (W.shown output.old) (W.shown output.new) (E.shown error.old) (E.shown error.new) }
+    ensures runs { RunsBy (before_input line.now.verb line.now files.items opened.entry) result
+        (record { input = R.shown input.old; out = W.shown output.old; err = E.shown error.old })
+        (record { input = R.shown input.new; out = W.shown output.new; err = E.shown error.new }) }
     ensures untouched { (line.now.verb ≡ Verb.Events → ⊥) → input.new ≡ input.old }
 {
     match line.verb {

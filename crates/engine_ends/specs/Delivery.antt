@@ -1,7 +1,8 @@
 -- What two sinks hold after a run, by the status that it answers.
 use Rattle.std.specs.Prelude.{◌≡◌, ℕ, ◌<◌, ◌≤◌, ◌⊎◌, List, codes}
-use Rattle.engine_ends.specs.Faults.{HasFailed}
+use Rattle.engine_ends.specs.Counts.{Counts}
 use Rattle.engine_ends.specs.Sinks.{BreaksOff, HandsOn, SinkState}
+use Rattle.engine_ends.specs.Streams.{Outputs}
 
 -- what a run writes to the output and to the error output, and the status that it answers, where nothing fails
 pub record Outcome : Type 0 where
@@ -22,36 +23,36 @@ abbrev pub Tells : List ℕ → ℕ → ℕ → SinkState → SinkState → Type
 Tells line wanted status before now = ((status ≡ wanted) × HandsOn before line now) ⊎ ((status ≡ 3) × BreaksOff before line now)
 
 -- Nothing failed: all of the outcome is written, flushed and answered.
-pub record IsWhole (outcome : Outcome) (status : ℕ) (out out_now err err_now : SinkState) : Type 0 where
-  pub messages : HandsOn err outcome.messages err_now
-  pub output : HandsOn out outcome.output out_now
+pub record IsWhole (outcome : Outcome) (status : ℕ) (before now : Outputs) : Type 0 where
+  pub messages : HandsOn before.err outcome.messages now.err
+  pub output : HandsOn before.out outcome.output now.out
   pub status_is : status ≡ outcome.status
 
 -- The error output failed at the messages: nothing was written to the output.
-pub record FailsAtMessages (outcome : Outcome) (out out_now err err_now : SinkState) : Type 0 where
-  pub messages : BreaksOff err outcome.messages err_now
-  pub untouched : out_now ≡ out
+pub record FailsAtMessages (outcome : Outcome) (before now : Outputs) : Type 0 where
+  pub messages : BreaksOff before.err outcome.messages now.err
+  pub untouched : now.out ≡ before.out
 
 -- The output failed after all messages were written: its line follows them, as far as the error output takes it.
-pub record FailsAtOutput (outcome : Outcome) (status : ℕ) (out out_now err err_now : SinkState) : Type 0 where
+pub record FailsAtOutput (outcome : Outcome) (status : ℕ) (before now : Outputs) : Type 0 where
   pub told : SinkState
-  pub messages : HandsOn err outcome.messages told
-  pub output : BreaksOff out outcome.output out_now
-  pub line : Tells write_failed 3 status told err_now
+  pub messages : HandsOn before.err outcome.messages told
+  pub output : BreaksOff before.out outcome.output now.out
+  pub line : Tells write_failed 3 status told now.err
 
 -- Memory was refused: no part of the outcome is written, and the line that says so is, as far as the error output takes it.
-pub record IsRefused (status : ℕ) (out out_now err err_now : SinkState) : Type 0 where
-  pub line : Tells out_of_memory 4 status err err_now
-  pub untouched : out_now ≡ out
+pub record IsRefused (status : ℕ) (before now : Outputs) : Type 0 where
+  pub line : Tells out_of_memory 4 status before.err now.err
+  pub untouched : now.out ≡ before.out
 
 -- What was written, by the status: all of the outcome under 3, as far as the devices went at 3, and no part of it at 4.
-pub record Delivers (outcome : Outcome) (status : ℕ) (out out_now err err_now : SinkState) : Type 0 where
-  pub whole : status < 3 → IsWhole outcome status out out_now err err_now
-  pub failed : status ≡ 3 → FailsAtMessages outcome out out_now err err_now ⊎ FailsAtOutput outcome status out out_now err err_now ⊎ IsRefused status out out_now err err_now
-  pub refused : status ≡ 4 → IsRefused status out out_now err err_now
+pub record Delivers (outcome : Outcome) (status : ℕ) (before now : Outputs) : Type 0 where
+  pub whole : status < 3 → IsWhole outcome status before now
+  pub failed : status ≡ 3 → FailsAtMessages outcome before now ⊎ FailsAtOutput outcome status before now ⊎ IsRefused status before now
+  pub refused : status ≡ 4 → IsRefused status before now
   pub statuses : status ≤ 4
 
--- Status 3 is answered where a call of one of the sinks failed, and only there.
-pub record TellsFaults (status : ℕ) (out out_now err err_now : SinkState) : Type 0 where
-  pub failed : status ≡ 3 → HasFailed out.faults out_now.faults ⊎ HasFailed err.faults err_now.faults
-  pub well : (status ≡ 3 → ⊥) → (out_now.faults ≡ out.faults) × (err_now.faults ≡ err.faults)
+-- Status 3 is answered where one call of one of the sinks failed, and only there.
+pub record TellsFaults (status : ℕ) (before now : Outputs) : Type 0 where
+  pub failed : status ≡ 3 → Counts 1 before.out.faults now.out.faults ⊎ Counts 1 before.err.faults now.err.faults
+  pub well : (status ≡ 3 → ⊥) → (now.out.faults ≡ before.out.faults) × (now.err.faults ≡ before.err.faults)

@@ -3,6 +3,8 @@ pub mod Told
 pub mod Cuts
 pub mod Sinks
 pub mod Sources
-pub mod Faults
+pub mod Counts
+pub mod Streams
 pub mod Delivery
 pub mod Places
+pub mod FaultTexts

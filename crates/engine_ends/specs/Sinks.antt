@@ -1,7 +1,7 @@
 -- What a sink shows, and what its calls change of it.
 use Rattle.std.specs.Prelude.{◌≡◌, ℕ, ◌≤◌, Option, None, List, length, take}
 use Rattle.engine_ends.specs.Told.{followed_by}
-use Rattle.engine_ends.specs.Faults.{CountsOne}
+use Rattle.engine_ends.specs.Counts.{Counts}
 
 -- the bytes that a sink took and those that it flushed, where it tells them, and how many of its calls failed
 pub record SinkState : Type 0 where
@@ -29,7 +29,7 @@ pub record Flushes (before now : SinkState) : Type 0 where
 pub record SinkFails (before now : SinkState) : Type 0 where
   pub taken : now.taken ≡ before.taken
   pub flushed : now.flushed ≡ before.flushed
-  pub failed : CountsOne before.faults now.faults
+  pub failed : Counts 1 before.faults now.faults
 
 -- The sink took a whole text and flushed all that it took, and no call failed.
 pub record HandsOn (before : SinkState) (text : List ℕ) (now : SinkState) : Type 0 where
@@ -41,4 +41,4 @@ pub record HandsOn (before : SinkState) (text : List ℕ) (now : SinkState) : Ty
 pub record BreaksOff (before : SinkState) (text : List ℕ) (now : SinkState) : Type 0 where
   pub taken : (n : ℕ) × (n ≤ length text) × (now.taken ≡ followed_by before.taken (take n text))
   pub flushed : now.flushed ≡ before.flushed
-  pub failed : CountsOne before.faults now.faults
+  pub failed : Counts 1 before.faults now.faults

@@ -1,26 +1,29 @@
 -- What a source shows, and what a read changes of it.
 use Rattle.std.specs.Prelude.{◌≡◌, ℕ, Option, None, List, [], ◌∷◌}
 use Rattle.engine_ends.specs.Told.{followed_by, led_by}
-use Rattle.engine_ends.specs.Faults.{CountsOne}
+use Rattle.engine_ends.specs.Counts.{Counts}
 
--- the pieces read and the bytes still to come, where a source tells them, and how many of its calls failed
+-- the pieces read and the bytes still to come, where a source tells them, how many reads were made of it, and how many of these failed
 pub record SourceState : Type 0 where
   pub pieces : Option (List (List ℕ))
   pub left : Option (List ℕ)
+  pub reads : ℕ
   pub faults : ℕ
 
 -- what a source shows that tells nothing of its bytes
-abbrev pub untold_source : ℕ → SourceState
-untold_source faults = record { pieces = None; left = None; faults = faults }
+abbrev pub untold_source : ℕ → ℕ → SourceState
+untold_source reads faults = record { pieces = None; left = None; reads = reads; faults = faults }
 
--- The source gave a piece, the first of the bytes still to come, and no call failed.
+-- One read was made, and it gave a piece, the first of the bytes still to come.
 pub record Gives (before : SourceState) (piece : List ℕ) (now : SourceState) : Type 0 where
   pub pieces : now.pieces ≡ followed_by before.pieces (piece ∷ [])
   pub left : before.left ≡ led_by piece now.left
+  pub reads : Counts 1 before.reads now.reads
   pub well : now.faults ≡ before.faults
 
--- A read failed: it gave no piece and took no byte away.
+-- One read was made, and it failed: it gave no piece and took no byte away.
 pub record SourceFails (before now : SourceState) : Type 0 where
   pub pieces : now.pieces ≡ before.pieces
   pub left : now.left ≡ before.left
-  pub failed : CountsOne before.faults now.faults
+  pub reads : Counts 1 before.reads now.reads
+  pub failed : Counts 1 before.faults now.faults

@@ -29,7 +29,8 @@ pub fn deliver<W: Sink, E: Sink>(
 ) -> u8
     requires { status < 3 }
     ensures { Delivers (record { output = answer.now; messages = messages.now; status = status }) result
-        (W.shown output.old) (W.shown output.new) (E.shown error.old) (E.shown error.new) }
+        (record { out = W.shown output.old; err = E.shown error.old })
+        (record { out = W.shown output.new; err = E.shown error.new }) }
 {
     if hand_on(error, messages).is_err() {
         return 3;
@@ -38,6 +39,29 @@ pub fn deliver<W: Sink, E: Sink>(
         return tell(error, WRITE_FAILED, 3);
     }
     status
+}
+
+/// Writes messages that are made of several texts, and the answer, as `deliver` does with one text.
+///
+/// The status asked for is under 3.
+pub fn deliver_in_pieces<W: Sink, E: Sink>(
+    messages: &[&[u8]],
+    answer: &[u8],
+    status: u8,
+    output: &mut W,
+    error: &mut E,
+) -> u8
+    requires { status < 3 }
+    ensures { Delivers (record { output = answer.now; messages = flat_map (λ t. t.now) messages.now; status = status }) result
+        (W.shown output.old) (W.shown output.new) (E.shown error.old) (E.shown error.new) }
+{
+    match hand_on_each(error, messages) {
+        Ok(()) => match hand_on(output, answer) {
+            Ok(()) => status,
+            Err(DeviceFault) => tell(error, WRITE_FAILED, 3),
+        },
+        Err(DeviceFault) => 3,
+    }
 }
 
 /// Says that memory was refused, and gives the status for it, 4, or 3 where the error output failed.

@@ -7,13 +7,29 @@ ghost use Rattle.engine_ends.specs.Told.{NoneLeft};
 ghost use Rattle.engine_ends.specs.Sinks.{SinkState, Flushes, SinkFails, Takes};
 ghost use Rattle.engine_ends.specs.Sources.{SourceState, Gives, SourceFails};
 
+use std::error::Error;
+use std::fmt;
+
 /// A call of a device failed.
 #[derive(Clone, Copy, Debug, PartialEq, Eq)]
 pub struct DeviceFault;
 
+impl fmt::Display for DeviceFault {
+    ghost use Rattle.std.specs.Prelude.{Some};
+    ghost use Rattle.engine_ends.specs.FaultTexts.{device_text};
+
+    ghost output = { λ _. Some device_text };
+
+    fn fmt<W: fmt::Write>(&self, f: &mut fmt::Formatter<W>) -> fmt::Result {
+        f.write_str("device failed")
+    }
+}
+
+impl Error for DeviceFault {}
+
 /// Where input comes from.
 pub trait Source {
-    // the pieces read and the bytes still to come, where they are told, and how many calls failed
+    // the pieces read and the bytes still to come, where they are told, how many calls were made, and how many of them failed
     ghost shown: { Self → SourceState };
 
     /// Reads some bytes into the front of a slice that is not empty, and says how many.

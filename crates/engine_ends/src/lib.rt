@@ -13,7 +13,9 @@ mod places;
 mod std_streams;
 mod writing;
 
-pub use delivery::{deliver, tell, tell_in_pieces, tell_out_of_memory, tell_word};
+pub use delivery::{
+    deliver, deliver_in_pieces, tell, tell_in_pieces, tell_out_of_memory, tell_word,
+};
 pub use device::{DeviceFault, Sink, Source};
 pub use kinds::same_kind;
 pub use line::{Line, LineFault, Verb};

@@ -4,6 +4,9 @@
 //! none of them needs another. Which files a line speaks of is said here too, so that the crate that
 //! reads files and the one that answers from them can't differ.
 
+use std::error::Error;
+use std::fmt;
+
 /// The subcommand.
 #[derive(Clone, Copy, Debug, PartialEq, Eq)]
 pub enum Verb {
@@ -48,6 +51,22 @@ pub enum LineFault {
     Help(String),
     /// 2: the words are not understood: what to tell the user.
     Usage(String),
-    /// 3: want of memory.
+    /// 3: memory was refused.
     Memory,
 }
+
+impl fmt::Display for LineFault {
+    ghost use Rattle.std.specs.Prelude.{Some};
+    ghost use Rattle.engine_ends.specs.FaultTexts.{line_text};
+
+    ghost output = { λ fault. Some (line_text fault) };
+
+    fn fmt<W: fmt::Write>(&self, f: &mut fmt::Formatter<W>) -> fmt::Result {
+        match self {
+            LineFault::Help(text) | LineFault::Usage(text) => f.write_str(text),
+            LineFault::Memory => f.write_str("out of memory"),
+        }
+    }
+}
+
+impl Error for LineFault {}

@@ -17,6 +17,8 @@ pub struct MemorySource {
     at: usize,
     fails_at: usize,
     each: usize,
+    /// How many reads were made.
+    made: u64,
     faults: u64,
     ghost at_is: { at ≡ sum sizes.items },
     ghost within: { at ≤ vec_len bytes },
@@ -37,7 +39,7 @@ impl MemorySource {
         fails_at: usize,
     ) -> Result<MemorySource, AllocError>
         ensures shown { IfOk result (λ s. ⟦<MemorySource as Source>⟧.shown s
-            ≡ record { pieces = Some []; left = Some bytes.items; faults = 0 }) }
+            ≡ record { pieces = Some []; left = Some bytes.items; reads = 0; faults = 0 }) }
         ensures each { IfOk result (λ s. s.each ≡ each) }
         ensures fails_at { IfOk result (λ s. s.fails_at ≡ fails_at) }
         ensures reads { IfOk result (λ s. reads ≤ vec_capacity s.sizes) }
@@ -49,6 +51,7 @@ impl MemorySource {
             at: 0,
             fails_at,
             each,
+            made: 0,
             faults: 0,
         })
     }
@@ -58,10 +61,12 @@ impl Source for MemorySource {
     ghost shown = { λ s. record {
       pieces = Some (cuts s.bytes.items s.sizes.items);
       left = Some (drop s.at s.bytes.items);
+      reads = s.made;
       faults = s.faults;
     } };
 
     fn read(&mut self, into: &mut [u8]) -> Result<usize, DeviceFault> {
+        self.made = self.made.saturating_add(1);
         let left = self.bytes.len() - self.at;
         let wanted = into.len().min(self.each);
         let n = wanted.min(left).min(self.fails_at - self.at);

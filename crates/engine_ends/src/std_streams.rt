@@ -1,8 +1,9 @@
 //! Devices over std's readers and writers.
 //!
 //! No contract can say which bytes a file, a pipe or a terminal holds, so these tell none. What
-//! they keep is the count of failed calls, by which a status can be shown to rest on a failure. Where
-//! a reader or writer of std does say what a call gave or took, so does the call here.
+//! they keep is how many calls failed, and of a source how many reads were made: by these a status
+//! can be shown to rest on a failure or on the bound of reads. Where a reader or writer of std does
+//! say what a call gave or took, so does the call here.
 ghost use Rattle.std.specs.Prelude.{◌≡◌, ◌<◌, ◌≤◌, length, take, IfOk, OnOk, OnErr};
 ghost use Rattle.std.specs.Io.KnownBytes.{Keeps, ReadConsumes, WriteAppends};
 ghost use Rattle.engine_ends.specs.Told.{NoneLeft};
@@ -16,28 +17,35 @@ use std::io::{Read, Write};
 #[derive(Drop)]
 pub struct SourceOver<R> {
     reader: R,
+    /// How many reads were made.
+    made: u64,
     faults: u64,
 }
 
 impl<R: Read> SourceOver<R> {
-    /// A source over a reader, none of whose calls has failed.
+    /// A source over a reader, of which no read was made.
     pub fn new(reader: R) -> SourceOver<R>
-        ensures { ⟦<SourceOver<R> as Source>⟧.shown result ≡ untold_source 0 }
+        ensures { ⟦<SourceOver<R> as Source>⟧.shown result ≡ untold_source 0 0 }
     {
-        SourceOver { reader, faults: 0 }
+        SourceOver {
+            reader,
+            made: 0,
+            faults: 0,
+        }
     }
 }
 
 impl<R: Read> Source for SourceOver<R> {
-    ghost shown = { λ s. untold_source s.faults };
+    ghost shown = { λ s. untold_source s.made s.faults };
 
     fn read(&mut self, into: &mut [u8]) -> Result<usize, DeviceFault>
         ensures within { IfOk result (λ n. n ≤ length into.old) }
-        ensures gives { IfOk result (λ n. Gives (untold_source self.old.faults) (take n into.new) (untold_source self.new.faults)) }
-        ensures end { IfOk result (λ n. n ≡ 0 → NoneLeft (untold_source self.old.faults).left) }
-        ensures fails { OnErr result (SourceFails (untold_source self.old.faults) (untold_source self.new.faults)) }
+        ensures gives { IfOk result (λ n. Gives (untold_source self.old.made self.old.faults) (take n into.new) (untold_source self.new.made self.new.faults)) }
+        ensures end { IfOk result (λ n. n ≡ 0 → NoneLeft (untold_source self.old.made self.old.faults).left) }
+        ensures fails { OnErr result (SourceFails (untold_source self.old.made self.old.faults) (untold_source self.new.made self.new.faults)) }
         ensures bytes { ReadConsumes (R.remaining self.old.reader) (R.remaining self.new.reader) result into.new }
     {
+        self.made = self.made.saturating_add(1);
         match self.reader.read(into) {
             Ok(n) => Ok(n),
             Err(_) => {

@@ -79,13 +79,13 @@ fn write_escaped<W: Sink>(sink: &mut W, text: &[u8]) -> Result<(), DeviceFault>
 }
 
 /// Writes a text, a word escaped and a newline, and flushes them, as `hand_on` does for one text.
-pub fn hand_on_word<W: Sink>(sink: &mut W, text: &[u8], word: &[u8]) -> Result<(), DeviceFault>
+pub fn hand_on_word<W: Sink>(sink: &mut W, start: &[u8], word: &[u8]) -> Result<(), DeviceFault>
     ensures whole { OnOk result (HandsOn (W.shown sink.old)
-        (text.now ++ escape_text word.now ++ newline ∷ []) (W.shown sink.new)) }
+        (start.now ++ escape_text word.now ++ newline ∷ []) (W.shown sink.new)) }
     ensures part { OnErr result (BreaksOff (W.shown sink.old)
-        (text.now ++ escape_text word.now ++ newline ∷ []) (W.shown sink.new)) }
+        (start.now ++ escape_text word.now ++ newline ∷ []) (W.shown sink.new)) }
 {
-    write_all(sink, text)?;
+    write_all(sink, start)?;
     write_escaped(sink, word)?;
     hand_on(sink, b"\n")
 }

@@ -23,9 +23,12 @@ pub fn deliver_report<W: Sink, E: Sink>(
 ) -> u8
     requires { IfOk report (λ r. r.status < 3) }
     ensures delivers { (outcome : Outcome) → IsReport outcome report
-        → Delivers outcome result (W.shown output.old) (W.shown output.new) (E.shown error.old) (E.shown error.new) }
+        → Delivers outcome result
+        (record { out = W.shown output.old; err = E.shown error.old })
+        (record { out = W.shown output.new; err = E.shown error.new }) }
     ensures faults { TellsFaults result
-        (W.shown output.old) (W.shown output.new) (E.shown error.old) (E.shown error.new) }
+        (record { out = W.shown output.old; err = E.shown error.old })
+        (record { out = W.shown output.new; err = E.shown error.new }) }
 {
     match report {
         Ok(
@@ -43,11 +46,14 @@ pub fn deliver_report<W: Sink, E: Sink>(
 /// they may or where the index is none, 4 where memory was refused, or 3 where the error output failed.
 pub fn deliver_refusal<W: Sink, E: Sink>(refusal: Refusal, output: &mut W, error: &mut E) -> u8
     ensures delivers { (outcome : Outcome) → IsSaid refusal outcome
-        → Delivers outcome result (W.shown output.old) (W.shown output.new) (E.shown error.old) (E.shown error.new) }
+        → Delivers outcome result
+        (record { out = W.shown output.old; err = E.shown error.old })
+        (record { out = W.shown output.new; err = E.shown error.new }) }
     ensures memory { refusal ≡ Refusal.Memory
         → Tells out_of_memory 4 result (E.shown error.old) (E.shown error.new) × (W.shown output.new ≡ W.shown output.old) }
     ensures faults { TellsFaults result
-        (W.shown output.old) (W.shown output.new) (E.shown error.old) (E.shown error.new) }
+        (record { out = W.shown output.old; err = E.shown error.old })
+        (record { out = W.shown output.new; err = E.shown error.new }) }
 {
     match refusal {
         Refusal::TooManyEntries => deliver(TOO_MANY_ENTRIES, b"", 1, output, error),

@@ -1,27 +1,35 @@
 -- Answers sent one behind another.
-use Rattle.std.proofs.Common.{List, [], ◌∷◌, ◌++◌, refl, ap, sym, ◌∙◌}
+use Rattle.std.proofs.Common.{◌≡◌, List, [], ◌∷◌, ◌++◌, refl, ap, sym, ◌∙◌}
 use Rattle.std.proofs.lemmas.List.{append-nil}
 use Rattle.std.proofs.lemmas.Grind.{flat_map-append}
 use Rattle.text_tables.specs.Texts.{Text}
 use Rattle.engine_ends.specs.Told.{followed_by}
 use Rattle.engine_ends.specs.Sinks.{SinkState, HandsOn}
 use Rattle.engine_ends.proofs.Told.{followed_by-append, followed_by-nil}
-use Rattle.engine_sessions.specs.Turns.{Sends, joined}
+use Rattle.engine_sessions.specs.Turns.{Sends, flushed_behind, joined}
 
 pub sends-none : (sink : SinkState) → Sends sink [] sink
-sends-none sink = record { taken = sym (followed_by-nil sink.taken); flushed = λ h. h; well = refl }
+sends-none sink = record { taken = sym (followed_by-nil sink.taken); flushed = refl; well = refl }
 
 pub sends-one : (before now : SinkState) (text : Text) → HandsOn before text now → Sends before (text ∷ []) now
 sends-one before now text h = record {
   taken = h.taken ∙ ap (followed_by before.taken) (sym (append-nil text));
-  flushed = λ _. h.flushed;
+  flushed = h.flushed;
   well = h.well;
 }
+
+-- what is flushed behind all answers
+flushed_more : (before between now : SinkState) (first second : List Text) → between.flushed ≡ flushed_behind before first between → now.taken ≡ followed_by between.taken (joined second) → now.flushed ≡ flushed_behind between second now
+    → now.flushed ≡ flushed_behind before (first ++ second) now
+flushed_more before between now [] [] e t f = f ∙ e
+flushed_more before between now [] (text ∷ second) e t f = f
+flushed_more before between now (text ∷ first) [] e t f = f ∙ e ∙ sym (t ∙ followed_by-nil between.taken)
+flushed_more before between now (text ∷ first) (next ∷ second) e t f = f
 
 pub sends-more : (before between now : SinkState) (first second : List Text) → Sends before first between → Sends between second now → Sends before (first ++ second) now
 sends-more before between now first second h k = record {
   taken = k.taken ∙ ap (λ told. followed_by told (joined second)) h.taken ∙ followed_by-append before.taken (joined first) (joined second)
       ∙ ap (followed_by before.taken) (sym (flat_map-append (λ text. text) first second));
-  flushed = λ e. k.flushed (h.flushed e);
+  flushed = flushed_more before between now first second h.flushed k.taken k.flushed;
   well = k.well ∙ h.well;
 }

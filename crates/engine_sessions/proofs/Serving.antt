@@ -9,12 +9,12 @@ use Rattle.device_core.specs.Runs.{complete_runs, rest_of, not_empty}
 use Rattle.device_core.specs.Values.{EventValue}
 use Rattle.device_core.specs.declared.faults.BlockFault.{BlockFault}
 use Rattle.engine_ends.specs.Told.{followed_by, led_by, NoneLeft}
-use Rattle.engine_ends.specs.Faults.{CountsOne, HasFailed}
-use Rattle.engine_ends.specs.Sources.{SourceState}
+use Rattle.engine_ends.specs.Counts.{Counts}
 use Rattle.engine_ends.specs.Sinks.{BreaksOff, HandsOn, SinkState}
+use Rattle.engine_ends.specs.Streams.{Streams, outputs}
 use Rattle.engine_ends.proofs.Told.{followed_by-append, followed_by-nil}
 use Rattle.engine_sessions.specs.Answers.{answers_to, answers_of, well, number_behind}
-use Rattle.engine_sessions.specs.Turns.{Sends, joined}
+use Rattle.engine_sessions.specs.Turns.{Sends, flushed_behind, joined}
 use Rattle.engine_sessions.specs.declared.session.SessionFault.TheVariants.{Block, Memory, Ended}
 use Rattle.engine_sessions.specs.declared.turning.TurnFault.{TurnFault}
 use Rattle.engine_sessions.specs.declared.turning.TurnFault.TheVariants.{Read, Write, Session}
@@ -26,10 +26,6 @@ use Rattle.engine_sessions.specs.Inputs.{AnswersInput}
 use Rattle.engine_sessions.specs.Outcomes.{answered, answered_until, input_outcome}
 use Rattle.engine_sessions.specs.Serves.{read_failed, WritesOut, HasBegun, IsWhole, IsStatusLine, IsCutShort, TellsFailures, Serves, Concludes, StopsBefore, AnswersAll, Reports}
 
-counts_failed : (before now : ℕ) → CountsOne before now → HasFailed before now
-counts_failed before now (inl e) = inl (omega (arith, e))
-counts_failed before now (inr p) = inr p.0
-
 not_four : (status : ℕ) {P : Type 0} → status ≡ 3 → status ≡ 4 → P
 not_four status e f = absurd (omega (arith, e, f))
 
@@ -38,6 +34,9 @@ not_under status h k = absurd (omega (arith, h, k))
 
 begun-none : (sink : SinkState) (text : Text) → HasBegun sink text sink
 begun-none sink text = (0, omega arith, sym (followed_by-nil sink.taken))
+
+begun-same : (before now : SinkState) (text : Text) → now ≡ before → HasBegun before text now
+begun-same before now text e = rw e (begun-none before text)
 
 begun-taken : (before now : SinkState) (text : Text) → now.taken ≡ followed_by before.taken text → HasBegun before text now
 begun-taken before now text e = (length text, omega arith, e ∙ ap (followed_by before.taken) (sym (take-length text)))
@@ -57,9 +56,9 @@ tells_begun line wanted status told now (inl p) = begun-taken told now line p.1.
 tells_begun line wanted status told now (inr p) = p.1.taken
 
 -- a run that is cut short, by the line that tells of it
-cut_by : (outcome : Outcome) (status : ℕ) (out out_now err told err_now : SinkState) (line : Text) → IsStatusLine line → HasBegun out outcome.output out_now → HasBegun err outcome.messages told → HasBegun told line err_now
-    → (status ≡ 4 → HandsOn told out_of_memory err_now) → IsCutShort outcome status out out_now err err_now
-cut_by outcome status out out_now err told err_now line is output messages begun memory = record { output = output; told = told; messages = messages; line = line; line_is = is; begun = begun; memory = memory }
+cut_by : (outcome : Outcome) (status : ℕ) (before now : Streams) (told : SinkState) (line : Text) → IsStatusLine line → HasBegun before.out outcome.output now.out → HasBegun before.err outcome.messages told → HasBegun told line now.err
+    → (status ≡ 4 → HandsOn told out_of_memory now.err) → IsCutShort outcome status before now
+cut_by outcome status before now told line is output messages begun memory = record { output = output; told = told; messages = messages; line = line; line_is = is; begun = begun; memory = memory }
 
 at_memory : (status : ℕ) (told now : SinkState) → Tells out_of_memory 4 status told now → status ≡ 4 → HandsOn told out_of_memory now
 at_memory status told now (inl p) e = p.1
@@ -74,24 +73,24 @@ memory_most status told now (inl p) = omega (arith, p.0)
 memory_most status told now (inr p) = omega (arith, p.0)
 
 -- what was refused
-refused_cut : (outcome : Outcome) (status : ℕ) (out err err_now : SinkState) → Tells out_of_memory 4 status err err_now → IsCutShort outcome status out out err err_now
-refused_cut outcome status out err err_now tells =
-    cut_by outcome status out out err err err_now out_of_memory (inr (inr (inr refl))) (begun-none out outcome.output) (begun-none err outcome.messages) (tells_begun out_of_memory 4 status err err_now tells) (at_memory status err err_now tells)
+refused_cut : (outcome : Outcome) (status : ℕ) (before now : Streams) → now.out ≡ before.out → Tells out_of_memory 4 status before.err now.err → IsCutShort outcome status before now
+refused_cut outcome status before now untouched tells =
+    cut_by outcome status before now before.err out_of_memory (inr (inr (inr refl))) (begun-same before.out now.out outcome.output untouched) (begun-none before.err outcome.messages) (tells_begun out_of_memory 4 status before.err now.err tells) (at_memory status before.err now.err tells)
 
 -- what the error output broke off in
-messages_cut : (outcome : Outcome) (status : ℕ) (out err err_now : SinkState) → status ≡ 3 → HasBegun err outcome.messages err_now → IsCutShort outcome status out out err err_now
-messages_cut outcome status out err err_now e begun =
-    cut_by outcome status out out err err_now err_now [] (inl refl) (begun-none out outcome.output) begun (begun-none err_now []) (not_four status e)
+messages_cut : (outcome : Outcome) (status : ℕ) (before now : Streams) → now.out ≡ before.out → status ≡ 3 → HasBegun before.err outcome.messages now.err → IsCutShort outcome status before now
+messages_cut outcome status before now untouched e begun =
+    cut_by outcome status before now now.err [] (inl refl) (begun-same before.out now.out outcome.output untouched) begun (begun-none now.err []) (not_four status e)
 
-report_cut : (outcome : Outcome) (status : ℕ) (out out_now err err_now : SinkState) → Delivers outcome status out out_now err err_now → (status ≡ 3) ⊎ (status ≡ 4) → IsCutShort outcome status out out_now err err_now
-report_cut outcome status out out_now err err_now d (inl e) = elim (d.failed e) [
-  | inl f ↦ rw f.untouched (messages_cut outcome status out err err_now e f.messages.taken)
+report_cut : (outcome : Outcome) (status : ℕ) (before now : Streams) → Delivers outcome status (outputs before) (outputs now) → (status ≡ 3) ⊎ (status ≡ 4) → IsCutShort outcome status before now
+report_cut outcome status before now d (inl e) = elim (d.failed e) [
+  | inl f ↦ messages_cut outcome status before now f.untouched e f.messages.taken
   | inr rest ↦ elim rest [
-    | inl f ↦ cut_by outcome status out out_now err f.told err_now write_failed (inr (inr (inl refl))) f.output.taken (begun-taken err f.told outcome.messages f.messages.taken) (tells_begun write_failed 3 status f.told err_now f.line) (not_four status e)
-    | inr f ↦ rw f.untouched (refused_cut outcome status out err err_now f.line)
+    | inl f ↦ cut_by outcome status before now f.told write_failed (inr (inr (inl refl))) f.output.taken (begun-taken before.err f.told outcome.messages f.messages.taken) (tells_begun write_failed 3 status f.told now.err f.line) (not_four status e)
+    | inr f ↦ refused_cut outcome status before now f.untouched f.line
   ]
 ]
-report_cut outcome status out out_now err err_now d (inr e) = let f = d.refused e in rw f.untouched (refused_cut outcome status out err err_now f.line)
+report_cut outcome status before now d (inr e) = let f = d.refused e in refused_cut outcome status before now f.untouched f.line
 
 three_or_four : (status : ℕ) → 3 ≤ status → status ≤ 4 → (status ≡ 3) ⊎ (status ≡ 4)
 three_or_four status h k = by_case (cases_lt status 4)
@@ -101,15 +100,14 @@ three_or_four status h k = by_case (cases_lt status 4)
     by_case (inr l) = inr (omega (arith, k, l))
 
 -- what is said of files is served, whatever the input
-pub reports_serve : (outcome : Text → Outcome) (said : Outcome) (status : ℕ) (input input_now : SourceState) (out out_now err err_now : SinkState) → ((text : Text) → outcome text ≡ said)
-    → Reports said status input input_now out out_now err err_now → Serves outcome status input input_now out out_now err err_now
-reports_serve outcome said status input input_now out out_now err err_now same r = record {
+pub reports_serve : (outcome : Text → Outcome) (said : Outcome) (status : ℕ) (before now : Streams) → ((text : Text) → outcome text ≡ said) → Reports said status before now → Serves outcome status before now
+reports_serve outcome said status before now same r = record {
   read = [];
-  pieces = ap (λ s. s.pieces) r.unread ∙ sym (followed_by-nil input.pieces);
-  whole = λ h. let w = r.delivers.whole h in subst (λ o. IsWhole o status out out_now err err_now) (sym (same []))
-      (record { output = record { taken = w.output.taken; flushed = λ e. w.output.flushed; well = w.output.well }; messages = w.messages; status_is = w.status_is });
+  pieces = ap (λ s. s.pieces) r.unread ∙ sym (followed_by-nil before.input.pieces);
+  whole = λ h. let w = r.delivers.whole h in subst (λ o. IsWhole o status before now) (sym (same []))
+      (record { output = record { taken = w.output.taken; flushed = inl w.output.flushed; well = w.output.well }; messages = w.messages; status_is = w.status_is });
   all = λ h text e. same text ∙ sym (same []);
-  cut = λ h. subst (λ o. IsCutShort o status out out_now err err_now) (sym (same [])) (report_cut said status out out_now err err_now r.delivers (three_or_four status h r.delivers.statuses));
+  cut = λ h. subst (λ o. IsCutShort o status before now) (sym (same [])) (report_cut said status before now r.delivers (three_or_four status h r.delivers.statuses));
   failures = record {
     failed = λ e. elim (r.faults.failed e) [ inl f ↦ inr (inl f) | inr f ↦ inr (inr (inl f)) ];
     well = λ h. (ap (λ s. s.faults) r.unread, (r.faults.well h).0, (r.faults.well h).1);
@@ -145,8 +143,13 @@ none_is (Some other) rest h e = let same : other ≡ rest = some_is other rest e
     some_is : (a b : Text) → Some a ≡ Some b → a ≡ b
     some_is a b e = cc
 
+-- what is flushed behind answers, by their text
+sent_flushed : (out told : SinkState) (sent : List Text) → told.flushed ≡ flushed_behind out sent told → (told.flushed ≡ told.taken) ⊎ ((joined sent ≡ []) × (told.flushed ≡ out.flushed))
+sent_flushed out told [] e = inr (refl, e)
+sent_flushed out told (text ∷ sent) e = inl e
+
 sends_output : (out told out_now : SinkState) (sent : List Text) → Sends out sent told → out_now ≡ told → WritesOut out (joined sent) out_now
-sends_output out told out_now sent s e = rw e (record { taken = s.taken; flushed = s.flushed; well = s.well })
+sends_output out told out_now sent s e = rw e (record { taken = s.taken; flushed = sent_flushed out told sent s.flushed; well = s.well })
 
 hands_behind : (err told err_now : SinkState) (first second : Text) → HandsOn err first told → HandsOn told second err_now → HandsOn err (first ++ second) err_now
 hands_behind err told err_now first second h k = record {
@@ -168,94 +171,94 @@ sent_begun out told out_now sent unsent texts e s b =
 read_first : (answer : EventValue → Text) (text : Text) (sent : List Text) → answers_to answer (complete_runs text) ≡ well sent → (answers_of answer text).texts ≡ sent ++ (answers_to answer (not_empty (rest_of text ∷ []))).texts
 read_first answer text sent e = ap (λ a. a.texts) (answers_to-append answer (complete_runs text) (not_empty (rest_of text ∷ [])) sent e)
 
-module _ (messages : Text) (answer : EventValue → Text) (status : ℕ) (input input_now : SourceState) (out out_now err told err_now : SinkState) (says : HandsOn err messages told) where
-  first_told : (text : Text) → HasBegun err (input_outcome messages answer text).messages told
-  first_told text = opening_first messages (joined (answers_of answer text).texts) (length (answers_of answer text).texts) (answers_of answer text).fault err told says.taken
+module _ (messages : Text) (answer : EventValue → Text) (status : ℕ) (before now : Streams) (told : SinkState) (says : HandsOn before.err messages told) where
+  first_told : (text : Text) → HasBegun before.err (input_outcome messages answer text).messages told
+  first_told text = opening_first messages (joined (answers_of answer text).texts) (length (answers_of answer text).texts) (answers_of answer text).fault before.err told says.taken
 
-  output_begun : (text : Text) → HasBegun out (joined (answers_of answer text).texts) out_now → HasBegun out (input_outcome messages answer text).output out_now
-  output_begun text b = subst (λ o. HasBegun out o out_now) (sym (output_is messages (joined (answers_of answer text).texts) (length (answers_of answer text).texts) (answers_of answer text).fault)) b
+  output_begun : (text : Text) → HasBegun before.out (joined (answers_of answer text).texts) now.out → HasBegun before.out (input_outcome messages answer text).output now.out
+  output_begun text b = subst (λ o. HasBegun before.out o now.out) (sym (output_is messages (joined (answers_of answer text).texts) (length (answers_of answer text).texts) (answers_of answer text).fault)) b
 
-  served_well : (t : AnswersInput answer (Ok tt) input input_now out out_now) → Concludes (Ok tt) status told err_now → Serves (input_outcome messages answer) status input input_now out out_now err err_now
+  served_well : (t : AnswersInput answer (Ok tt) before.input now.input before.out now.out) → Concludes (Ok tt) status told now.err → Serves (input_outcome messages answer) status before now
   served_well t c =
       let is = outcome_well messages answer (joined t.read) t.sent t.ends.answers in
       record {
         read = t.read;
         pieces = t.pieces;
-        whole = λ h. subst (λ o. IsWhole o status out out_now err err_now) (sym is)
-            (record { output = sends_output out t.told out_now t.sent t.sends t.ends.untouched; messages = rw c.1 says; status_is = c.0 });
-        all = λ h text e. let r = rest_told text (joined t.read) input_now.left (sym e ∙ t.left) in
-            ap (input_outcome messages answer) (r.2 ∙ ap (λ rest. joined t.read ++ rest) (none_is input_now.left r.0 t.ends.none_left r.1) ∙ append-nil (joined t.read));
+        whole = λ h. subst (λ o. IsWhole o status before now) (sym is)
+            (record { output = sends_output before.out t.told now.out t.sent t.sends t.ends.untouched; messages = rw c.1 says; status_is = c.0 });
+        all = λ h text e. let r = rest_told text (joined t.read) now.input.left (sym e ∙ t.left) in
+            ap (input_outcome messages answer) (r.2 ∙ ap (λ rest. joined t.read ++ rest) (none_is now.input.left r.0 t.ends.none_left r.1) ∙ append-nil (joined t.read));
         cut = λ h. absurd (omega (arith, h, c.0));
         failures = record {
           failed = λ e. absurd (omega (arith, e, c.0));
-          well = λ h. (t.faults, ap (λ s. s.faults) t.ends.untouched ∙ t.sends.well, ap (λ s. s.faults) c.1 ∙ says.well);
+          well = λ h. (t.counts.well, ap (λ s. s.faults) t.ends.untouched ∙ t.sends.well, ap (λ s. s.faults) c.1 ∙ says.well);
         };
         statuses = omega (arith, c.0);
       }
 
-  served_read : (t : AnswersInput answer (Err Read) input input_now out out_now) → Concludes (Err Read) status told err_now → status ≡ 3 → Serves (input_outcome messages answer) status input input_now out out_now err err_now
+  served_read : (t : AnswersInput answer (Err Read) before.input now.input before.out now.out) → Concludes (Err Read) status told now.err → status ≡ 3 → Serves (input_outcome messages answer) status before now
   served_read t c e = record {
     read = t.read;
     pieces = t.pieces;
     whole = not_under status (omega (arith, e));
     all = not_under status (omega (arith, e));
-    cut = λ h. cut_by (input_outcome messages answer (joined t.read)) status out out_now err told err_now read_failed (inr (inl refl))
-        (output_begun (joined t.read) (sent_begun out t.told out_now t.sent _ (answers_of answer (joined t.read)).texts (read_first answer (joined t.read) t.sent t.ends.0) t.sends (rw t.ends.1 (begun-none t.told _))))
-        (first_told (joined t.read)) (tells_begun read_failed 3 status told err_now c) (not_four status e);
+    cut = λ h. cut_by (input_outcome messages answer (joined t.read)) status before now told read_failed (inr (inl refl))
+        (output_begun (joined t.read) (sent_begun before.out t.told now.out t.sent _ (answers_of answer (joined t.read)).texts (read_first answer (joined t.read) t.sent t.ends.0) t.sends (rw t.ends.1 (begun-none t.told _))))
+        (first_told (joined t.read)) (tells_begun read_failed 3 status told now.err c) (not_four status e);
     failures = record {
-      failed = λ f. elim t.faults [ inl f ↦ inl (counts_failed input.faults input_now.faults f) | inr f ↦ inr (inr (inr f.0)) ];
+      failed = λ f. elim t.counts [ inl c ↦ inl c.failed | inr c ↦ inr (inr (inr c.0)) ];
       well = λ h. absurd (h e);
     };
     statuses = omega (arith, e);
   }
 
-  served_write : (t : AnswersInput answer (Err Write) input input_now out out_now) → Concludes (Err Write) status told err_now → status ≡ 3 → Serves (input_outcome messages answer) status input input_now out out_now err err_now
+  served_write : (t : AnswersInput answer (Err Write) before.input now.input before.out now.out) → Concludes (Err Write) status told now.err → status ≡ 3 → Serves (input_outcome messages answer) status before now
   served_write t c e = record {
     read = t.read;
     pieces = t.pieces;
     whole = not_under status (omega (arith, e));
     all = not_under status (omega (arith, e));
-    cut = λ h. cut_by (input_outcome messages answer (joined t.read)) status out out_now err told err_now write_failed (inr (inr (inl refl)))
-        (output_begun (joined t.read) (sent_begun out t.told out_now t.sent (t.ends.next ∷ t.ends.unsent) (answers_of answer (joined t.read)).texts t.ends.answers t.sends (begun-first t.told out_now t.ends.next (joined t.ends.unsent) t.ends.breaks.taken)))
-        (first_told (joined t.read)) (tells_begun write_failed 3 status told err_now c) (not_four status e);
+    cut = λ h. cut_by (input_outcome messages answer (joined t.read)) status before now told write_failed (inr (inr (inl refl)))
+        (output_begun (joined t.read) (sent_begun before.out t.told now.out t.sent (t.ends.next ∷ t.ends.unsent) (answers_of answer (joined t.read)).texts t.ends.answers t.sends (begun-first t.told now.out t.ends.next (joined t.ends.unsent) t.ends.breaks.taken)))
+        (first_told (joined t.read)) (tells_begun write_failed 3 status told now.err c) (not_four status e);
     failures = record {
-      failed = λ f. inr (inl (counts_failed out.faults out_now.faults (subst (λ n. CountsOne n out_now.faults) t.sends.well t.ends.breaks.failed)));
+      failed = λ f. inr (inl (subst (λ n. Counts 1 n now.out.faults) t.sends.well t.ends.breaks.failed));
       well = λ h. absurd (h e);
     };
     statuses = omega (arith, e);
   }
 
-  served_memory : (t : AnswersInput answer (Err (Session Memory)) input input_now out out_now) → Concludes (Err (Session Memory)) status told err_now → Serves (input_outcome messages answer) status input input_now out out_now err err_now
+  served_memory : (t : AnswersInput answer (Err (Session Memory)) before.input now.input before.out now.out) → Concludes (Err (Session Memory)) status told now.err → Serves (input_outcome messages answer) status before now
   served_memory t c = record {
     read = t.read;
     pieces = t.pieces;
-    whole = not_under status (memory_status status told err_now c);
-    all = not_under status (memory_status status told err_now c);
-    cut = λ h. cut_by (input_outcome messages answer (joined t.read)) status out out_now err told err_now out_of_memory (inr (inr (inr refl)))
-        (output_begun (joined t.read) (sent_begun out t.told out_now t.sent t.ends.unsent (answers_of answer (joined t.read)).texts t.ends.answers t.sends (rw t.ends.untouched (begun-none t.told (joined t.ends.unsent)))))
-        (first_told (joined t.read)) (tells_begun out_of_memory 4 status told err_now c) (at_memory status told err_now c);
-    failures = told_failures c t.faults (ap (λ s. s.faults) t.ends.untouched ∙ t.sends.well);
-    statuses = memory_most status told err_now c;
+    whole = not_under status (memory_status status told now.err c);
+    all = not_under status (memory_status status told now.err c);
+    cut = λ h. cut_by (input_outcome messages answer (joined t.read)) status before now told out_of_memory (inr (inr (inr refl)))
+        (output_begun (joined t.read) (sent_begun before.out t.told now.out t.sent t.ends.unsent (answers_of answer (joined t.read)).texts t.ends.answers t.sends (rw t.ends.untouched (begun-none t.told (joined t.ends.unsent)))))
+        (first_told (joined t.read)) (tells_begun out_of_memory 4 status told now.err c) (at_memory status told now.err c);
+    failures = told_failures c t.counts.well (ap (λ s. s.faults) t.ends.untouched ∙ t.sends.well);
+    statuses = memory_most status told now.err c;
   }
     where
-      told_failures : Tells out_of_memory 4 status told err_now → input_now.faults ≡ input.faults → out_now.faults ≡ out.faults → TellsFailures status (length t.read) input input_now out out_now err err_now
+      told_failures : Tells out_of_memory 4 status told now.err → now.input.faults ≡ before.input.faults → now.out.faults ≡ before.out.faults → TellsFailures status (length t.read) before now
       told_failures (inl p) e f = record { failed = λ g. not_four status g p.0; well = λ h. (e, f, p.1.well ∙ says.well) }
-      told_failures (inr p) e f = record { failed = λ g. inr (inr (inl (counts_failed err.faults err_now.faults (subst (λ n. CountsOne n err_now.faults) says.well p.1.failed)))); well = λ h. absurd (h p.0) }
+      told_failures (inr p) e f = record { failed = λ g. inr (inr (inl (subst (λ n. Counts 1 n now.err.faults) says.well p.1.failed))); well = λ h. absurd (h p.0) }
 
-  served_block : (number : ℕ) (fault : BlockFault) (t : AnswersInput answer (Err (Session (Block number fault))) input input_now out out_now) → Concludes (Err (Session (Block number fault))) status told err_now → Serves (input_outcome messages answer) status input input_now out out_now err err_now
+  served_block : (number : ℕ) (fault : BlockFault) (t : AnswersInput answer (Err (Session (Block number fault))) before.input now.input before.out now.out) → Concludes (Err (Session (Block number fault))) status told now.err → Serves (input_outcome messages answer) status before now
   served_block number fault t (inl p) =
       let is = outcome_faulty messages answer (joined t.read) t.sent number fault t.ends.0.answers t.ends.0.numbered in
       record {
         read = t.read;
         pieces = t.pieces;
-        whole = λ h. subst (λ o. IsWhole o status out out_now err err_now) (sym is)
-            (record { output = sends_output out t.told out_now t.sent t.sends t.ends.1; messages = hands_behind err told err_now messages (block_line number fault) says p.1; status_is = p.0 });
-        all = λ h text e. let r = rest_told text (joined t.read) input_now.left (sym e ∙ t.left) in
+        whole = λ h. subst (λ o. IsWhole o status before now) (sym is)
+            (record { output = sends_output before.out t.told now.out t.sent t.sends t.ends.1; messages = hands_behind before.err told now.err messages (block_line number fault) says p.1; status_is = p.0 });
+        all = λ h text e. let r = rest_told text (joined t.read) now.input.left (sym e ∙ t.left) in
             ap (input_outcome messages answer) r.2 ∙ outcome_faulty messages answer (joined t.read ++ r.0) t.sent number fault (t.ends.0.stays r.0 r.1) t.ends.0.numbered ∙ sym is;
         cut = λ h. absurd (omega (arith, h, p.0));
         failures = record {
           failed = λ e. absurd (omega (arith, e, p.0));
-          well = λ h. (t.faults, ap (λ s. s.faults) t.ends.1 ∙ t.sends.well, p.1.well ∙ says.well);
+          well = λ h. (t.counts.well, ap (λ s. s.faults) t.ends.1 ∙ t.sends.well, p.1.well ∙ says.well);
         };
         statuses = omega (arith, p.0);
       }
@@ -266,21 +269,21 @@ module _ (messages : Text) (answer : EventValue → Text) (status : ℕ) (input 
         pieces = t.pieces;
         whole = not_under status (omega (arith, p.0));
         all = not_under status (omega (arith, p.0));
-        cut = λ h. subst (λ o. IsCutShort o status out out_now err err_now) (sym is)
-            (cut_by (record { output = joined t.sent; messages = messages ++ block_line number fault; status = 1 }) status out out_now err err_now err_now [] (inl refl)
-            (begun-taken out out_now (joined t.sent) (ap (λ s. s.taken) t.ends.1 ∙ t.sends.taken)) (begun-behind err told err_now messages (block_line number fault) says.taken p.1.taken) (begun-none err_now []) (not_four status p.0));
+        cut = λ h. subst (λ o. IsCutShort o status before now) (sym is)
+            (cut_by (record { output = joined t.sent; messages = messages ++ block_line number fault; status = 1 }) status before now now.err [] (inl refl)
+            (begun-taken before.out now.out (joined t.sent) (ap (λ s. s.taken) t.ends.1 ∙ t.sends.taken)) (begun-behind before.err told now.err messages (block_line number fault) says.taken p.1.taken) (begun-none now.err []) (not_four status p.0));
         failures = record {
-          failed = λ g. inr (inr (inl (counts_failed err.faults err_now.faults (subst (λ n. CountsOne n err_now.faults) says.well p.1.failed))));
+          failed = λ g. inr (inr (inl (subst (λ n. Counts 1 n now.err.faults) says.well p.1.failed)));
           well = λ h. absurd (h p.0);
         };
         statuses = omega (arith, p.0);
       }
 
-  three : (line : Text) → Tells line 3 status told err_now → status ≡ 3
+  three : (line : Text) → Tells line 3 status told now.err → status ≡ 3
   three line (inl p) = p.0
   three line (inr p) = p.0
 
-  served_behind : (end : Result (Unit {0}) TurnFault) → AnswersInput answer end input input_now out out_now → Concludes end status told err_now → Serves (input_outcome messages answer) status input input_now out out_now err err_now
+  served_behind : (end : Result (Unit {0}) TurnFault) → AnswersInput answer end before.input now.input before.out now.out → Concludes end status told now.err → Serves (input_outcome messages answer) status before now
   served_behind (Ok done) t c = served_well t c
   served_behind (Err Read) t c = served_read t c (three read_failed c)
   served_behind (Err Write) t c = served_write t c (three write_failed c)
@@ -289,37 +292,37 @@ module _ (messages : Text) (answer : EventValue → Text) (status : ℕ) (input 
   served_behind (Err (Session Ended)) t c = absurd c
 
 -- nothing was read or answered
-served_before : (messages : Text) (answer : EventValue → Text) (status : ℕ) (input input_now : SourceState) (out out_now err err_now : SinkState) → StopsBefore messages status input input_now out out_now err err_now
-    → Serves (input_outcome messages answer) status input input_now out out_now err err_now
-served_before messages answer status input input_now out out_now err err_now s = record {
+served_before : (messages : Text) (answer : EventValue → Text) (status : ℕ) (before now : Streams) → StopsBefore messages status before now
+    → Serves (input_outcome messages answer) status before now
+served_before messages answer status before now s = record {
   read = [];
-  pieces = ap (λ x. x.pieces) s.unread ∙ sym (followed_by-nil input.pieces);
+  pieces = ap (λ x. x.pieces) s.unread ∙ sym (followed_by-nil before.input.pieces);
   whole = not_under status (least s.tells);
   all = not_under status (least s.tells);
-  cut = λ h. rw s.unanswered (cuts s.tells);
+  cut = λ h. cuts s.tells;
   failures = fails s.tells;
   statuses = most s.tells;
 }
   where
-    least : ((status ≡ 3) × BreaksOff err messages err_now) ⊎ Tells out_of_memory 4 status err err_now → 3 ≤ status
+    least : ((status ≡ 3) × BreaksOff before.err messages now.err) ⊎ Tells out_of_memory 4 status before.err now.err → 3 ≤ status
     least (inl p) = omega (arith, p.0)
-    least (inr p) = memory_status status err err_now p
+    least (inr p) = memory_status status before.err now.err p
 
-    most : ((status ≡ 3) × BreaksOff err messages err_now) ⊎ Tells out_of_memory 4 status err err_now → status ≤ 4
+    most : ((status ≡ 3) × BreaksOff before.err messages now.err) ⊎ Tells out_of_memory 4 status before.err now.err → status ≤ 4
     most (inl p) = omega (arith, p.0)
-    most (inr p) = memory_most status err err_now p
+    most (inr p) = memory_most status before.err now.err p
 
-    cuts : ((status ≡ 3) × BreaksOff err messages err_now) ⊎ Tells out_of_memory 4 status err err_now → IsCutShort (input_outcome messages answer []) status out out err err_now
-    cuts (inl p) = messages_cut (input_outcome messages answer []) status out err err_now p.0 p.1.taken
-    cuts (inr p) = refused_cut (input_outcome messages answer []) status out err err_now p
+    cuts : ((status ≡ 3) × BreaksOff before.err messages now.err) ⊎ Tells out_of_memory 4 status before.err now.err → IsCutShort (input_outcome messages answer []) status before now
+    cuts (inl p) = messages_cut (input_outcome messages answer []) status before now s.unanswered p.0 p.1.taken
+    cuts (inr p) = refused_cut (input_outcome messages answer []) status before now s.unanswered p
 
-    fails : ((status ≡ 3) × BreaksOff err messages err_now) ⊎ Tells out_of_memory 4 status err err_now → TellsFailures status 0 input input_now out out_now err err_now
-    fails (inl p) = record { failed = λ e. inr (inr (inl (counts_failed err.faults err_now.faults p.1.failed))); well = λ h. absurd (h p.0) }
+    fails : ((status ≡ 3) × BreaksOff before.err messages now.err) ⊎ Tells out_of_memory 4 status before.err now.err → TellsFailures status 0 before now
+    fails (inl p) = record { failed = λ e. inr (inr (inl p.1.failed)); well = λ h. absurd (h p.0) }
     fails (inr (inl p)) = record { failed = λ e. not_four status e p.0; well = λ h. (ap (λ x. x.faults) s.unread, ap (λ x. x.faults) s.unanswered, p.1.well) }
-    fails (inr (inr p)) = record { failed = λ e. inr (inr (inl (counts_failed err.faults err_now.faults p.1.failed))); well = λ h. absurd (h p.0) }
+    fails (inr (inr p)) = record { failed = λ e. inr (inr (inl p.1.failed)); well = λ h. absurd (h p.0) }
 
 -- from the steps of `events` to what it serves
-pub answers_serve : (messages : Text) (answer : EventValue → Text) (status : ℕ) (input input_now : SourceState) (out out_now err err_now : SinkState) → AnswersAll messages answer status input input_now out out_now err err_now
-    → Serves (input_outcome messages answer) status input input_now out out_now err err_now
-answers_serve messages answer status input input_now out out_now err err_now (inl s) = served_before messages answer status input input_now out out_now err err_now s
-answers_serve messages answer status input input_now out out_now err err_now (inr b) = served_behind messages answer status input input_now out out_now err b.told err_now b.says b.end b.answers b.concludes
+pub answers_serve : (messages : Text) (answer : EventValue → Text) (status : ℕ) (before now : Streams) → AnswersAll messages answer status before now
+    → Serves (input_outcome messages answer) status before now
+answers_serve messages answer status before now (inl s) = served_before messages answer status before now s
+answers_serve messages answer status before now (inr b) = served_behind messages answer status before now b.told b.says b.end b.answers b.concludes

@@ -14,8 +14,8 @@ use Rattle.engine_ends.specs.Sinks.{SinkState}
 use Rattle.engine_ends.specs.Sources.{SourceState}
 use Rattle.engine_sessions.specs.Answers.{answers_to, well, counted, number_behind}
 use Rattle.engine_sessions.specs.Known.{known_blocks}
-use Rattle.engine_sessions.specs.Sessions.{Held, Takes, Ends, FailsBy}
-use Rattle.engine_sessions.specs.Turns.{Sends, SendsDue, SendsUntil, due, Reads, FailsBy as TurnFailsBy}
+use Rattle.engine_sessions.specs.Sessions.{Held, closed, Takes, Ends, FailsBy}
+use Rattle.engine_sessions.specs.Turns.{HasEnded, Sends, SendsDue, SendsUntil, due, Reads, FailsBy as TurnFailsBy}
 use Rattle.engine_sessions.specs.Holding.{IsGoing, IsOpen, held, BreaksOffAt}
 use Rattle.engine_sessions.specs.declared.session.Step.{Step}
 use Rattle.engine_sessions.specs.declared.session.SessionFault.{SessionFault}
@@ -178,9 +178,26 @@ part_more piece done used = sym (take-add done used piece)
 pub answering_is : {A : Type 0} (answer : EventValue → Text) (old now : Held A) (part : Text) (before sink : SinkState) → Sent answer old part now before sink → now.answering ≡ old.answering
 answering_is answer old now part before sink s = ap (λ h. h.answering) s.leaves
 
+pub going_on : {A : Type 0} (answer : EventValue → Text) (old now : Held A) (part : Text) (before sink : SinkState) → Sent answer old part now before sink → now.ended ≡ false
+going_on answer old now part before sink s = ap (λ h. h.ended) s.leaves
+
 pub going_is : {A : Type 0} (answering : A) (split : Split) (answered : ℕ) (ended : Bool) → ended ≡ false → IsOpen split answered → IsGoing (held answering split.pending answered ended)
 going_is answering split answered true e h = absurd cc
 going_is answering split answered false e h = record { goes_on = refl; pending = h.pending; counts = h.counts }
+
+pub gone_is : {A : Type 0} (answering : A) (pending : Text) (answered : ℕ) (ended : Bool) → ended ≡ true → (held answering pending answered ended).pending ≡ []
+gone_is answering pending answered true e = refl
+gone_is answering pending answered false e = absurd cc
+
+-- a session that is closed behind some calls has ended
+ended_behind : {A : Type 0} (old now : Held A) → now.answering ≡ old.answering → HasEnded old (closed now)
+ended_behind old now e = rw e refl
+
+-- a call of the session fails behind others
+pub ended_by : {A : Type 0} (fault : SessionFault) (old now next : Held A) (blocks : List Text) → now.answering ≡ old.answering → now.ended ≡ false → FailsBy fault now blocks next → HasEnded old next
+ended_by (Block number fault) old now next blocks e going f = rw f.2 (ended_behind old now e)
+ended_by Memory old now next blocks e going f = rw f.1 (ended_behind old now e)
+ended_by Ended old now next blocks e going f = let both : true ≡ false = sym f.0 ∙ going in absurd cc
 
 -- a turn that fails behind its read
 pub turn_fails : {A : Type 0} (answer : EventValue → Text) (fault : TurnFault) (old : Held A) (input input_now : SourceState) (output output_now : SinkState) (more : Bool) (piece : Text)

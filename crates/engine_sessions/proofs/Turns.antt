@@ -1,16 +1,20 @@
 -- Turn after turn.
-use Rattle.std.proofs.Common.{◌≡◌, ℕ, ◌+◌, inl, inr, length, Bool, true, false, Option, None, Some, List, [], ◌∷◌, ◌++◌, refl, Ok, Err, append_assoc, length-append, ap, sym, ◌∙◌, subst, arith}
-use Rattle.std.proofs.lemmas.List.{append-nil}
+use Rattle.std.proofs.Common.{◌≡◌, ℕ, ◌+◌, ◌<◌, ◌≤◌, ◌⊎◌, inl, inr, length, take, Bool, true, false, Option, None, Some, List, [], ◌∷◌, ◌++◌, refl, Ok, Err, append_assoc, length-append, ap, sym, ◌∙◌, subst, arith}
+use Rattle.std.proofs.lemmas.Bool.{cases_lt}
+use Rattle.std.proofs.lemmas.List.{append-nil, take-append-le}
 use Rattle.std.proofs.lemmas.Grind.{common_steps, flat_map-append}
+use Rattle.std.proofs.Math.Seq.{take-length}
 use Rattle.text_tables.specs.Texts.{Text}
 use Rattle.device_core.specs.Runs.{complete_runs, rest_of}
+use Rattle.device_core.specs.RunBlocks.{most_bytes}
 use Rattle.device_core.proofs.Law.{complete_runs-append, rest_of-append}
 use Rattle.device_core.specs.Values.{EventValue}
 use Rattle.device_core.specs.declared.faults.BlockFault.{BlockFault}
 use Rattle.engine_ends.specs.Told.{followed_by, led_by, NoneLeft}
-use Rattle.engine_ends.specs.Faults.{CountsOne}
-use Rattle.engine_ends.specs.Sources.{SourceState}
+use Rattle.engine_ends.specs.Counts.{Counts}
+use Rattle.engine_ends.specs.Sources.{Gives, SourceFails, SourceState}
 use Rattle.engine_ends.specs.Sinks.{SinkState}
+use Rattle.engine_ends.proofs.Counting.{counts-none, counts-more}
 use Rattle.engine_ends.proofs.Told.{followed_by-append, followed_by-nil}
 use Rattle.engine_sessions.specs.Answers.{Answers, answers_to, answers_of, well, counted, number_behind}
 use Rattle.engine_sessions.specs.Sessions.{Held, opened}
@@ -21,15 +25,20 @@ use Rattle.engine_sessions.specs.declared.turning.TurnFault.TheVariants.{Read, W
 use Rattle.engine_sessions.proofs.AnswerLemmas.{with_texts, answers_to-append, counted-add}
 use Rattle.engine_sessions.proofs.SendLemmas.{sends-none, sends-more}
 use Rattle.engine_sessions.proofs.LawLemmas.{Given, until, complete_well, behind_well, first_answers, stays_faulty}
-use Rattle.engine_sessions.specs.Inputs.{most_turns, all_but_last, HasSentDue, StopsAtBlock, AnswersInput}
+use Rattle.engine_sessions.specs.Inputs.{most_turns, all_but_last, HasSentDue, HoldsFew, StopsAtBlock, ReadsWell, ReadsToFault, AnswersInput}
+
+-- no more is held, neither before one of these pieces nor behind them, than a block may have
+abbrev pub HoldsUpTo : List Text → Type 0
+HoldsUpTo read = (n : ℕ) → n ≤ length read → length (rest_of (joined (take n read))) ≤ most_bytes
 
 -- All that is due behind some turns is sent.
 pub record Served {A : Type 0} (answer : EventValue → Text) (first : Held A) (input now : SourceState) (output sink : SinkState) (session : Held A) (turns : ℕ) : Type 0 where
   pub read : List Text
   pub pieces : now.pieces ≡ followed_by input.pieces read
   pub left : input.left ≡ led_by (joined read) now.left
-  pub well_read : now.faults ≡ input.faults
+  pub counts : ReadsWell turns input now
   pub turned : length read ≡ turns
+  pub fits : HoldsUpTo read
   pub sent : List Text
   pub sends : Sends output sent sink
   pub due : HasSentDue answer read sent
@@ -66,13 +75,53 @@ one_more input now later read piece p q = q ∙ ap (λ told. followed_by told (p
 left_behind : (input now later : SourceState) (read : List Text) (piece : Text) → input.left ≡ led_by (joined read) now.left → now.left ≡ led_by piece later.left → input.left ≡ led_by (joined (read ++ piece ∷ [])) later.left
 left_behind input now later read piece p q = p ∙ ap (led_by (joined read)) q ∙ led_by-append (joined read) piece later.left ∙ ap (λ text. led_by text later.left) (sym (joined-push read piece))
 
+-- what was held before each piece, with one more piece behind them
+few_behind : (read : List Text) (piece : Text) → HoldsUpTo read → HoldsFew (read ++ piece ∷ [])
+few_behind read piece fits n h =
+    let within : n ≤ length read = omega (arith, h, length-append read (piece ∷ [])) in
+    subst (λ pieces. length (rest_of (joined pieces)) ≤ most_bytes) (sym (take-append-le n read (piece ∷ []) within)) (fits n within)
+
+few_of : (read : List Text) → HoldsUpTo read → HoldsFew read
+few_of read fits n h = fits n (omega (arith, h))
+
+-- and behind it
+up_to_behind : (read : List Text) (piece : Text) → HoldsUpTo read → length (rest_of (joined (read ++ piece ∷ []))) ≤ most_bytes → HoldsUpTo (read ++ piece ∷ [])
+up_to_behind read piece fits last n h = by_case (cases_lt n (length (read ++ piece ∷ [])))
+  where
+    by_case : (n < length (read ++ piece ∷ [])) ⊎ (length (read ++ piece ∷ []) ≤ n) → length (rest_of (joined (take n (read ++ piece ∷ [])))) ≤ most_bytes
+    by_case (inl l) = few_behind read piece fits n l
+    by_case (inr l) =
+        let all : n ≡ length (read ++ piece ∷ []) = omega (arith, h, l) in
+        subst (λ pieces. length (rest_of (joined pieces)) ≤ most_bytes) (sym (ap (λ k. take k (read ++ piece ∷ [])) all ∙ take-length (read ++ piece ∷ []))) last
+
+none_at_start : HoldsUpTo []
+none_at_start n h = let none : n ≡ 0 = omega (arith, h) in rw none (omega arith)
+
+-- one read more was made
+reads_more : (turns : ℕ) (input now later : SourceState) → ReadsWell turns input now → Counts 1 now.reads later.reads → later.faults ≡ now.faults → ReadsWell (turns + 1) input later
+reads_more turns input now later w r e = record { reads = counts-more turns 1 input.reads now.reads later.reads w.reads r; well = e ∙ w.well }
+
+-- one piece more was read
+reads_behind : (turns : ℕ) (input now later : SourceState) (read : List Text) (piece : Text) → length read ≡ turns → ReadsWell turns input now → Gives now piece later → ReadsWell (length (read ++ piece ∷ [])) input later
+reads_behind turns input now later read piece e w g =
+    let size : turns + 1 ≡ length (read ++ piece ∷ []) = omega (arith, e, length-append read (piece ∷ [])) in
+    subst (λ n. ReadsWell n input later) size (reads_more turns input now later w g.reads g.well)
+
+-- one read more failed
+to_fault : (turns made : ℕ) (input now later : SourceState) → made ≡ turns → ReadsWell turns input now → SourceFails now later → ReadsToFault made input later
+to_fault turns made input now later e w f = record {
+  reads = rw e (counts-more turns 1 input.reads now.reads later.reads w.reads f.reads);
+  failed = subst (λ n. Counts 1 n later.faults) w.well f.failed;
+}
+
 pub served_at_start : {A : Type 0} (answer : EventValue → Text) (session : Held A) (input : SourceState) (output : SinkState) → session ≡ opened session.answering → Served answer session input input output output session 0
 served_at_start answer session input output e = record {
   read = [];
   pieces = sym (followed_by-nil input.pieces);
   left = sym (led_by-nil input.left);
-  well_read = refl;
+  counts = record { reads = counts-none input.reads; well = refl };
   turned = refl;
+  fits = none_at_start;
   sent = [];
   sends = sends-none output;
   due = due_at_start answer;
@@ -92,20 +141,24 @@ given_more answer session next text piece sent sink later g s = record {
 }
 
 pub served_more : {A : Type 0} (answer : EventValue → Text) (first session next : Held A) (input now later : SourceState) (output sink sink_later : SinkState) (turns : ℕ)
-    → Served answer first input now output sink session turns → Turns answer true session next now later sink sink_later → Served answer first input later output sink_later next (turns + 1)
-served_more answer first session next input now later output sink sink_later turns s t = record {
-  read = s.read ++ t.piece ∷ [];
-  pieces = one_more input now later s.read t.piece s.pieces t.reads.gives.pieces;
-  left = left_behind input now later s.read t.piece s.left t.reads.gives.left;
-  well_read = t.reads.gives.well ∙ s.well_read;
-  turned = length-append s.read (t.piece ∷ []) ∙ ap (λ n. n + 1) s.turned;
-  sent = s.sent ++ t.sends.texts;
-  sends = sends-more output sink sink_later s.sent t.sends.texts s.sends t.sends.sends;
-  due = due_behind answer s.read t.piece s.sent t.sends.texts s.given.answers;
-  given = rw joined-push (given_more answer session next (joined s.read) t.piece s.sent sink sink_later s.given t.sends);
-  goes_on = ap (λ h. h.ended) t.sends.leaves;
-  answering = ap (λ h. h.answering) t.sends.leaves ∙ s.answering;
-}
+    → Served answer first input now output sink session turns → Turns answer true session next now later sink sink_later → length next.pending ≤ most_bytes → Served answer first input later output sink_later next (turns + 1)
+served_more answer first session next input now later output sink sink_later turns s t fits =
+    let given : Given answer (joined (s.read ++ t.piece ∷ [])) (s.sent ++ t.sends.texts) next = rw joined-push (given_more answer session next (joined s.read) t.piece s.sent sink sink_later s.given t.sends) in
+    let held : length (rest_of (joined (s.read ++ t.piece ∷ []))) ≤ most_bytes = subst (λ text. length text ≤ most_bytes) (sym given.pending) fits in
+    record {
+      read = s.read ++ t.piece ∷ [];
+      pieces = one_more input now later s.read t.piece s.pieces t.reads.gives.pieces;
+      left = left_behind input now later s.read t.piece s.left t.reads.gives.left;
+      counts = reads_more turns input now later s.counts t.reads.gives.reads t.reads.gives.well;
+      fits = up_to_behind s.read t.piece s.fits held;
+      turned = length-append s.read (t.piece ∷ []) ∙ ap (λ n. n + 1) s.turned;
+      sent = s.sent ++ t.sends.texts;
+      sends = sends-more output sink sink_later s.sent t.sends.texts s.sends t.sends.sends;
+      due = due_behind answer s.read t.piece s.sent t.sends.texts s.given.answers;
+      given = given;
+      goes_on = ap (λ h. h.ended) t.sends.leaves;
+      answering = ap (λ h. h.answering) t.sends.leaves ∙ s.answering;
+    }
 
 -- all answers to the text with one more piece and what follows it
 all_answers : {A : Type 0} (answer : EventValue → Text) (session : Held A) (read : List Text) (piece later : Text) (sent : List Text) → Given answer (joined read) sent session
@@ -129,7 +182,8 @@ finished answer first session next input now later output sink sink_later turns 
   read = s.read ++ t.piece ∷ [];
   pieces = one_more input now later s.read t.piece s.pieces t.reads.gives.pieces;
   left = left_behind input now later s.read t.piece s.left t.reads.gives.left;
-  faults = t.reads.gives.well ∙ s.well_read;
+  counts = reads_behind turns input now later s.read t.piece s.turned s.counts t.reads.gives;
+  fits = few_behind s.read t.piece s.fits;
   sent = s.sent ++ t.sends.texts;
   told = sink_later;
   sends = sends-more output sink sink_later s.sent t.sends.texts s.sends t.sends.sends;
@@ -150,14 +204,16 @@ due_first answer false pending piece = ([], sym (append-nil (answers_of answer (
 record ReadOn (input later : SourceState) (read : List Text) : Type 0 where
   pub pieces : later.pieces ≡ followed_by input.pieces read
   pub left : input.left ≡ led_by (joined read) later.left
-  pub faults : later.faults ≡ input.faults
+  pub counts : ReadsWell (length read) input later
+  pub fits : HoldsFew read
 
 read_on : {A : Type 0} (answer : EventValue → Text) (first session : Held A) (input now later : SourceState) (output sink : SinkState) (turns : ℕ) (more : Bool) (piece : Text) (s : Served answer first input now output sink session turns) → Reads more now piece later
     → ReadOn input later (s.read ++ piece ∷ [])
 read_on answer first session input now later output sink turns more piece s r = record {
   pieces = one_more input now later s.read piece s.pieces r.gives.pieces;
   left = left_behind input now later s.read piece s.left r.gives.left;
-  faults = r.gives.well ∙ s.well_read;
+  counts = reads_behind turns input now later s.read piece s.turned s.counts r.gives;
+  fits = few_behind s.read piece s.fits;
 }
 
 -- the answers sent, and those behind them
@@ -207,7 +263,8 @@ failed answer Read first session input now later output sink sink_later turns s 
   read = s.read;
   pieces = f.1.pieces ∙ s.pieces;
   left = s.left ∙ ap (led_by (joined s.read)) (sym f.1.left);
-  faults = inl (subst (λ n. CountsOne n later.faults) s.well_read f.1.failed);
+  counts = inl (to_fault turns (length s.read) input now later s.turned s.counts f.1);
+  fits = few_of s.read s.fits;
   sent = s.sent;
   told = sink;
   sends = s.sends;
@@ -221,7 +278,8 @@ failed answer Write first session input now later output sink sink_later turns s
       read = s.read ++ f.piece ∷ [];
       pieces = on.pieces;
       left = on.left;
-      faults = on.faults;
+      counts = on.counts;
+      fits = on.fits;
       sent = s.sent ++ f.sends.sent;
       told = f.sends.told;
       sends = sends-more output sink f.sends.told s.sent f.sends.sent s.sends f.sends.sends;
@@ -235,7 +293,8 @@ failed answer (Session (Block number fault)) first session input now later outpu
       read = s.read ++ f.piece ∷ [];
       pieces = on.pieces;
       left = on.left;
-      faults = on.faults;
+      counts = on.counts;
+      fits = on.fits;
       sent = s.sent ++ texts;
       told = sink_later;
       sends = sends-more output sink sink_later s.sent texts s.sends f.sends.sends;
@@ -249,7 +308,8 @@ failed answer (Session Memory) first session input now later output sink sink_la
       read = s.read ++ f.piece ∷ [];
       pieces = on.pieces;
       left = on.left;
-      faults = on.faults;
+      counts = on.counts;
+      fits = on.fits;
       sent = s.sent ++ f.sends.sent;
       told = sink_later;
       sends = sends-more output sink sink_later s.sent f.sends.sent s.sends f.sends.sends;
@@ -265,7 +325,8 @@ used_up answer first session input now output sink s = record {
   read = s.read;
   pieces = s.pieces;
   left = s.left;
-  faults = inr (s.turned, s.well_read);
+  counts = inr (record { all = s.turned; reads = s.counts.reads }, s.counts.well);
+  fits = few_of s.read s.fits;
   sent = s.sent;
   told = sink;
   sends = s.sends;
@@ -279,7 +340,8 @@ unstarted answer input output = record {
   read = [];
   pieces = sym (followed_by-nil input.pieces);
   left = sym (led_by-nil input.left);
-  faults = refl;
+  counts = record { reads = counts-none input.reads; well = refl };
+  fits = λ n h. absurd (omega (arith, h));
   sent = [];
   told = output;
   sends = sends-none output;

@@ -1,11 +1,12 @@
 -- What is read of an input, what is sent of its answers, and how that ends.
-use Rattle.std.specs.Prelude.{◌≡◌, ℕ, ◌-◌, ◌^◌, ◌⊎◌, List, ◌∷◌, ◌++◌, Option, Some, Result, Ok, Err, length, take}
+use Rattle.std.specs.Prelude.{◌≡◌, ℕ, ◌+◌, ◌-◌, ◌^◌, ◌<◌, ◌≤◌, ◌⊎◌, List, ◌∷◌, ◌++◌, Option, Some, Result, Ok, Err, length, take}
 use Rattle.text_tables.specs.Texts.{Text}
-use Rattle.device_core.specs.Runs.{complete_runs}
+use Rattle.device_core.specs.Runs.{complete_runs, rest_of}
+use Rattle.device_core.specs.RunBlocks.{most_bytes}
 use Rattle.device_core.specs.Values.{EventValue}
 use Rattle.device_core.specs.declared.faults.BlockFault.{BlockFault}
 use Rattle.engine_ends.specs.Told.{followed_by, led_by, NoneLeft}
-use Rattle.engine_ends.specs.Faults.{CountsOne}
+use Rattle.engine_ends.specs.Counts.{Counts}
 use Rattle.engine_ends.specs.Sources.{SourceState}
 use Rattle.engine_ends.specs.Sinks.{SinkState, BreaksOff}
 use Rattle.engine_sessions.specs.Answers.{answers_to, answers_of, well, number_behind}
@@ -25,6 +26,10 @@ all_but_last pieces = take (length pieces - 1) pieces
 -- The answers to the complete runs of all pieces read but the last are sent, in front of any others.
 abbrev pub HasSentDue : (EventValue → Text) → List Text → List Text → Type 0
 HasSentDue answer read sent = (behind : List Text) × (sent ≡ (answers_to answer (complete_runs (joined (all_but_last read)))).texts ++ behind)
+
+-- Before each of these pieces was read, no more bytes of a block that was not complete were held than a block may have.
+abbrev pub HoldsFew : List Text → Type 0
+HoldsFew read = (n : ℕ) → n < length read → length (rest_of (joined (take n read))) ≤ most_bytes
 
 -- The answers sent are all those before a faulty block of this number, and what is left of the input changes nothing of that.
 pub record StopsAtBlock (answer : EventValue → Text) (text : Text) (left : Option Text) (sent : List Text) (number : ℕ) (fault : BlockFault) : Type 0 where
@@ -61,10 +66,26 @@ EndsBy answer (Err (Session (Block number fault))) text left sent told now = Sto
 EndsBy answer (Err (Session Memory)) text left sent told now = StopsBetween answer text sent told now
 EndsBy answer (Err (Session Ended)) text left sent told now = ⊥
 
--- The count of the input's failed calls: one more where no more could be read, but for an input that did not end within its turns.
-abbrev pub CountsBy : Result (Unit {0}) TurnFault → ℕ → ℕ → ℕ → Type 0
-CountsBy (Err Read) turns before now = CountsOne before now ⊎ ((turns ≡ most_turns) × (now ≡ before))
-CountsBy _ turns before now = now ≡ before
+-- So many reads were made of the input, and none failed.
+pub record ReadsWell (turns : ℕ) (before now : SourceState) : Type 0 where
+  pub reads : Counts turns before.reads now.reads
+  pub well : now.faults ≡ before.faults
+
+-- So many reads were made of the input, and then one more, which failed.
+pub record ReadsToFault (turns : ℕ) (before now : SourceState) : Type 0 where
+  pub reads : Counts (turns + 1) before.reads now.reads
+  pub failed : Counts 1 before.faults now.faults
+
+-- All turns over the input were used up: that many pieces were read, by that many reads.
+pub record UsesUp (turns : ℕ) (before now : SourceState) : Type 0 where
+  pub all : turns ≡ most_turns
+  pub reads : Counts most_turns before.reads now.reads
+
+-- How many reads were made of the input, and how many failed: each piece is one read; where no more could be read, one more was made
+-- and failed, or all turns were used up.
+abbrev pub CountsBy : Result (Unit {0}) TurnFault → ℕ → SourceState → SourceState → Type 0
+CountsBy (Err Read) turns before now = ReadsToFault turns before now ⊎ (UsesUp turns before now × (now.faults ≡ before.faults))
+CountsBy _ turns before now = ReadsWell turns before now
 
 -- What is read of an input in pieces, which of its answers are sent (written and flushed, none of their calls having failed), and
 -- how it ends.
@@ -72,7 +93,8 @@ pub record AnswersInput (answer : EventValue → Text) (end : Result (Unit {0}) 
   pub read : List Text
   pub pieces : input_now.pieces ≡ followed_by input.pieces read
   pub left : input.left ≡ led_by (joined read) input_now.left
-  pub faults : CountsBy end (length read) input.faults input_now.faults
+  pub counts : CountsBy end (length read) input input_now
+  pub fits : HoldsFew read
   pub sent : List Text
   pub told : SinkState
   pub sends : Sends output sent told

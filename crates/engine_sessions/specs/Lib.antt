@@ -8,3 +8,4 @@ pub mod Outcomes
 pub mod Inputs
 pub mod Serves
 pub mod BlockFaults
+pub mod FaultTexts

@@ -3,25 +3,25 @@ use Rattle.std.specs.Prelude.{◌≡◌, ℕ, ◌<◌, ◌≤◌, ◌⊎◌, Lis
 use Rattle.text_tables.specs.Texts.{Text}
 use Rattle.device_core.specs.Values.{EventValue}
 use Rattle.engine_ends.specs.Told.{followed_by}
-use Rattle.engine_ends.specs.Faults.{HasFailed}
-use Rattle.engine_ends.specs.Sources.{SourceState}
+use Rattle.engine_ends.specs.Counts.{Counts}
 use Rattle.engine_ends.specs.Sinks.{BreaksOff, HandsOn, SinkState}
+use Rattle.engine_ends.specs.Streams.{Streams, outputs}
 use Rattle.engine_sessions.specs.Turns.{joined}
 use Rattle.engine_sessions.specs.declared.session.SessionFault.TheVariants.{Block, Memory, Ended}
 use Rattle.engine_sessions.specs.declared.turning.TurnFault.{TurnFault}
 use Rattle.engine_sessions.specs.declared.turning.TurnFault.TheVariants.{Read, Write, Session}
 use Rattle.engine_ends.specs.Delivery.{Delivers, Outcome, Tells, TellsFaults, out_of_memory, write_failed}
 use Rattle.engine_sessions.specs.BlockFaults.{block_line}
-use Rattle.engine_sessions.specs.Inputs.{AnswersInput, most_turns}
+use Rattle.engine_sessions.specs.Inputs.{AnswersInput, UsesUp}
 
 -- the line on an input that failed
 abbrev pub read_failed : Text
 read_failed = codes "devdry: read failed\n"
 
--- The sink took a whole text. If it had flushed all before, it has flushed all now. No call failed.
+-- The sink took a whole text and flushed all that it took, or the text is empty and no more is flushed than before. No call failed.
 pub record WritesOut (before : SinkState) (text : Text) (now : SinkState) : Type 0 where
   pub taken : now.taken ≡ followed_by before.taken text
-  pub flushed : before.flushed ≡ before.taken → now.flushed ≡ now.taken
+  pub flushed : (now.flushed ≡ now.taken) ⊎ ((text ≡ []) × (now.flushed ≡ before.flushed))
   pub well : now.faults ≡ before.faults
 
 -- The sink took a first part of a text, perhaps all of it or nothing.
@@ -29,9 +29,9 @@ abbrev pub HasBegun : SinkState → Text → SinkState → Type 0
 HasBegun before text now = (n : ℕ) × (n ≤ length text) × (now.taken ≡ followed_by before.taken (take n text))
 
 -- All of the outcome is written and answered.
-pub record IsWhole (outcome : Outcome) (status : ℕ) (out out_now err err_now : SinkState) : Type 0 where
-  pub output : WritesOut out outcome.output out_now
-  pub messages : HandsOn err outcome.messages err_now
+pub record IsWhole (outcome : Outcome) (status : ℕ) (before now : Streams) : Type 0 where
+  pub output : WritesOut before.out outcome.output now.out
+  pub messages : HandsOn before.err outcome.messages now.err
   pub status_is : status ≡ outcome.status
 
 -- nothing, or one of the lines on a failure
@@ -40,29 +40,29 @@ IsStatusLine line = (line ≡ []) ⊎ (line ≡ read_failed) ⊎ (line ≡ write
 
 -- A first part of the outcome is written: of the output, and of the messages with a first part of one status line behind them. At
 -- status 4 that line is the one on memory, and it is whole.
-pub record IsCutShort (outcome : Outcome) (status : ℕ) (out out_now err err_now : SinkState) : Type 0 where
-  pub output : HasBegun out outcome.output out_now
+pub record IsCutShort (outcome : Outcome) (status : ℕ) (before now : Streams) : Type 0 where
+  pub output : HasBegun before.out outcome.output now.out
   pub told : SinkState
-  pub messages : HasBegun err outcome.messages told
+  pub messages : HasBegun before.err outcome.messages told
   pub line : Text
   pub line_is : IsStatusLine line
-  pub begun : HasBegun told line err_now
-  pub memory : status ≡ 4 → HandsOn told out_of_memory err_now
+  pub begun : HasBegun told line now.err
+  pub memory : status ≡ 4 → HandsOn told out_of_memory now.err
 
--- Which devices failed: at status 3 one of them in this call, or the input did not end within its turns; at any other status none.
-pub record TellsFailures (status turns : ℕ) (input input_now : SourceState) (out out_now err err_now : SinkState) : Type 0 where
-  pub failed : status ≡ 3 → HasFailed input.faults input_now.faults ⊎ HasFailed out.faults out_now.faults ⊎ HasFailed err.faults err_now.faults ⊎ (turns ≡ most_turns)
-  pub well : (status ≡ 3 → ⊥) → (input_now.faults ≡ input.faults) × (out_now.faults ≡ out.faults) × (err_now.faults ≡ err.faults)
+-- Which devices failed: at status 3 one call of one of them, or the input did not end within its turns; at any other status none.
+pub record TellsFailures (status turns : ℕ) (before now : Streams) : Type 0 where
+  pub failed : status ≡ 3 → Counts 1 before.input.faults now.input.faults ⊎ Counts 1 before.out.faults now.out.faults ⊎ Counts 1 before.err.faults now.err.faults ⊎ UsesUp turns before.input now.input
+  pub well : (status ≡ 3 → ⊥) → (now.input.faults ≡ before.input.faults) × (now.out.faults ≡ before.out.faults) × (now.err.faults ≡ before.err.faults)
 
 -- Some pieces of the input were read. Under 3 all of the outcome of their bytes is written, flushed and answered, and it is the
 -- outcome of the whole input; else a first part of it is written.
-pub record Serves (outcome : Text → Outcome) (status : ℕ) (input input_now : SourceState) (out out_now err err_now : SinkState) : Type 0 where
+pub record Serves (outcome : Text → Outcome) (status : ℕ) (before now : Streams) : Type 0 where
   pub read : List Text
-  pub pieces : input_now.pieces ≡ followed_by input.pieces read
-  pub whole : status < 3 → IsWhole (outcome (joined read)) status out out_now err err_now
-  pub all : status < 3 → (text : Text) → input.left ≡ Some text → outcome text ≡ outcome (joined read)
-  pub cut : 3 ≤ status → IsCutShort (outcome (joined read)) status out out_now err err_now
-  pub failures : TellsFailures status (length read) input input_now out out_now err err_now
+  pub pieces : now.input.pieces ≡ followed_by before.input.pieces read
+  pub whole : status < 3 → IsWhole (outcome (joined read)) status before now
+  pub all : status < 3 → (text : Text) → before.input.left ≡ Some text → outcome text ≡ outcome (joined read)
+  pub cut : 3 ≤ status → IsCutShort (outcome (joined read)) status before now
+  pub failures : TellsFailures status (length read) before now
   pub statuses : status ≤ 4
 
 -- How the answering of an input is told of: by nothing, or by one line and its status.
@@ -75,26 +75,26 @@ Concludes (Err (Session Memory)) status err err_now = Tells out_of_memory 4 stat
 Concludes (Err (Session Ended)) status err err_now = ⊥
 
 -- The messages are written, then the input is answered, and then its end is told of.
-pub record AnswersBehind (messages : Text) (answer : EventValue → Text) (status : ℕ) (input input_now : SourceState) (out out_now err err_now : SinkState) : Type 0 where
+pub record AnswersBehind (messages : Text) (answer : EventValue → Text) (status : ℕ) (before now : Streams) : Type 0 where
   pub told : SinkState
-  pub says : HandsOn err messages told
+  pub says : HandsOn before.err messages told
   pub end : Result (Unit {0}) TurnFault
-  pub answers : AnswersInput answer end input input_now out out_now
-  pub concludes : Concludes end status told err_now
+  pub answers : AnswersInput answer end before.input now.input before.out now.out
+  pub concludes : Concludes end status told now.err
 
 -- Nothing is read or answered: the error output failed at the messages, or memory was refused before them, which its line tells.
-pub record StopsBefore (messages : Text) (status : ℕ) (input input_now : SourceState) (out out_now err err_now : SinkState) : Type 0 where
-  pub unread : input_now ≡ input
-  pub unanswered : out_now ≡ out
-  pub tells : ((status ≡ 3) × BreaksOff err messages err_now) ⊎ Tells out_of_memory 4 status err err_now
+pub record StopsBefore (messages : Text) (status : ℕ) (before now : Streams) : Type 0 where
+  pub unread : now.input ≡ before.input
+  pub unanswered : now.out ≡ before.out
+  pub tells : ((status ≡ 3) × BreaksOff before.err messages now.err) ⊎ Tells out_of_memory 4 status before.err now.err
 
 -- Messages, and the answers to an input behind them, step by step.
-abbrev pub AnswersAll : Text → (EventValue → Text) → ℕ → SourceState → SourceState → SinkState → SinkState → SinkState → SinkState → Type 0
-AnswersAll messages answer status input input_now out out_now err err_now =
-    StopsBefore messages status input input_now out out_now err err_now ⊎ AnswersBehind messages answer status input input_now out out_now err err_now
+abbrev pub AnswersAll : Text → (EventValue → Text) → ℕ → Streams → Streams → Type 0
+AnswersAll messages answer status before now =
+    StopsBefore messages status before now ⊎ AnswersBehind messages answer status before now
 
 -- What is said of files is delivered, and no input is read.
-pub record Reports (outcome : Outcome) (status : ℕ) (input input_now : SourceState) (out out_now err err_now : SinkState) : Type 0 where
-  pub delivers : Delivers outcome status out out_now err err_now
-  pub faults : TellsFaults status out out_now err err_now
-  pub unread : input_now ≡ input
+pub record Reports (outcome : Outcome) (status : ℕ) (before now : Streams) : Type 0 where
+  pub delivers : Delivers outcome status (outputs before) (outputs now)
+  pub faults : TellsFaults status (outputs before) (outputs now)
+  pub unread : now.input ≡ before.input

@@ -1,5 +1,5 @@
 -- What a turn reads and sends.
-use Rattle.std.specs.Prelude.{◌≡◌, ◌↔◌, ℕ, ◌+◌, ◌≤◌, Bool, true, false, not, List, [], ◌∷◌, ◌++◌, Some, length, flat_map, if◌then◌else◌}
+use Rattle.std.specs.Prelude.{◌≡◌, ◌↔◌, ℕ, ◌+◌, ◌≤◌, Bool, true, false, not, List, [], ◌∷◌, ◌++◌, Option, Some, length, flat_map, if◌then◌else◌}
 use Rattle.text_tables.specs.Texts.{Text}
 use Rattle.device_core.specs.Runs.{rest_of}
 use Rattle.device_core.specs.Values.{EventValue}
@@ -9,7 +9,7 @@ use Rattle.engine_ends.specs.Sources.{SourceState, Gives, SourceFails}
 use Rattle.engine_ends.specs.Sinks.{SinkState, BreaksOff}
 use Rattle.engine_sessions.specs.Answers.{Answers, answers_to, well, counted, number_behind}
 use Rattle.engine_sessions.specs.Known.{known_blocks}
-use Rattle.engine_sessions.specs.Sessions.{Held}
+use Rattle.engine_sessions.specs.Sessions.{Held, closed}
 use Rattle.engine_sessions.specs.declared.session.SessionFault.TheVariants.{Block, Memory, Ended}
 use Rattle.engine_sessions.specs.declared.turning.TurnFault.{TurnFault}
 use Rattle.engine_sessions.specs.declared.turning.TurnFault.TheVariants.{Read, Write, Session}
@@ -18,10 +18,15 @@ use Rattle.engine_sessions.specs.declared.turning.TurnFault.TheVariants.{Read, W
 abbrev pub joined : List Text → Text
 joined texts = flat_map (λ text. text) texts
 
--- The sink took these answers. If it had flushed all before, it has flushed all now. No call failed.
+-- what a sink has flushed that took these answers: all that it took, or what it had flushed before where there is no answer
+abbrev pub flushed_behind : SinkState → List Text → SinkState → Option Text
+flushed_behind before [] now = before.flushed
+flushed_behind before (text ∷ texts) now = now.taken
+
+-- The sink took these answers and flushed them, and no call failed.
 pub record Sends (before : SinkState) (texts : List Text) (now : SinkState) : Type 0 where
   pub taken : now.taken ≡ followed_by before.taken (joined texts)
-  pub flushed : before.flushed ≡ before.taken → now.flushed ≡ now.taken
+  pub flushed : now.flushed ≡ flushed_behind before texts now
   pub well : now.faults ≡ before.faults
 
 -- The sink took and flushed some of these answers, the first of them, and then broke off in the next one.
@@ -71,6 +76,10 @@ behind more old piece answers = record {
   ended = not more;
 }
 
+-- The session has ended and holds nothing. What answers the events is the same; more blocks may have been answered.
+abbrev pub HasEnded : {A : Type 0} → Held A → Held A → Type 0
+HasEnded old new = new ≡ record (closed old) { answered = new.answered }
+
 -- Every answer that is due when a piece was read is sent, and no block known is faulty.
 pub record SendsDue {A : Type 0} (answer : EventValue → Text) (more : Bool) (old : Held A) (piece : Text) (new : Held A) (before now : SinkState) : Type 0 where
   pub texts : List Text
@@ -102,11 +111,9 @@ pub record FailsBehindRead {A : Type 0} (answer : EventValue → Text) (fault : 
   pub reads : Reads more input piece input_now
   pub sends : SendsUntil fault (due answer more old.pending piece) old.answered output output_now
 
--- What a turn does where it fails: its read failed and nothing is sent, or it failed behind the read, or the session had ended and
--- nothing is read or sent.
+-- What a turn does where it fails: its read failed and nothing is sent, or the session had ended and nothing is read or sent, or it
+-- failed behind the read.
 abbrev pub FailsBy : {A : Type 0} → (EventValue → Text) → TurnFault → Held A → SourceState → SourceState → SinkState → SinkState → Type 0
 FailsBy answer Read old input input_now output output_now = (old.ended ≡ false) × SourceFails input input_now × (output_now ≡ output)
-FailsBy answer Write old input input_now output output_now = FailsBehindRead answer Write old input input_now output output_now
-FailsBy answer (Session (Block number fault)) old input input_now output output_now = FailsBehindRead answer (Session (Block number fault)) old input input_now output output_now
-FailsBy answer (Session Memory) old input input_now output output_now = FailsBehindRead answer (Session Memory) old input input_now output output_now
 FailsBy answer (Session Ended) old input input_now output output_now = (old.ended ≡ true) × (input_now ≡ input) × (output_now ≡ output)
+FailsBy answer fault old input input_now output output_now = FailsBehindRead answer fault old input input_now output output_now

@@ -29,10 +29,12 @@ pub fn answer_behind<A: Answering, R: Source, W: Sink, E: Sink>(
     output: &mut W,
     error: &mut E,
 ) -> u8
-    ensures serves { Serves (input_outcome messages.now (A.answers answering.now)) result (R.shown input.old) (R.shown input.new)
-        (W.shown output.old) (W.shown output.new) (E.shown error.old) (E.shown error.new) }
-    ensures steps { AnswersAll messages.now (A.answers answering.now) result (R.shown input.old) (R.shown input.new)
-        (W.shown output.old) (W.shown output.new) (E.shown error.old) (E.shown error.new) }
+    ensures serves { Serves (input_outcome messages.now (A.answers answering.now)) result
+        (record { input = R.shown input.old; out = W.shown output.old; err = E.shown error.old })
+        (record { input = R.shown input.new; out = W.shown output.new; err = E.shown error.new }) }
+    ensures steps { AnswersAll messages.now (A.answers answering.now) result
+        (record { input = R.shown input.old; out = W.shown output.old; err = E.shown error.old })
+        (record { input = R.shown input.new; out = W.shown output.new; err = E.shown error.new }) }
 {
     answer_in_steps(alloc, messages, answering, input, output, error)
 }
@@ -46,8 +48,9 @@ fn answer_in_steps<A: Answering, R: Source, W: Sink, E: Sink>(
     output: &mut W,
     error: &mut E,
 ) -> u8
-    ensures { AnswersAll messages.now (A.answers answering.now) result (R.shown input.old) (R.shown input.new)
-        (W.shown output.old) (W.shown output.new) (E.shown error.old) (E.shown error.new) }
+    ensures { AnswersAll messages.now (A.answers answering.now) result
+        (record { input = R.shown input.old; out = W.shown output.old; err = E.shown error.old })
+        (record { input = R.shown input.new; out = W.shown output.new; err = E.shown error.new }) }
 {
     if hand_on(error, messages).is_err() {
         return 3;

@@ -1,9 +1,8 @@
 //! The line on a faulty block.
-ghost use Rattle.std.specs.Prelude.{◌≡◌};
-ghost use Rattle.engine_sessions.specs.BlockFaults.{block_line, fault_text};
+ghost use Rattle.engine_sessions.specs.BlockFaults.{block_line};
 ghost use Rattle.engine_ends.specs.Delivery.{Tells};
 
-use device_core::{BlockFault, BlockFaultKind};
+use device_core::BlockFault;
 use engine_ends::{Sink, tell_in_pieces};
 use itoa::Buffer;
 
@@ -23,28 +22,9 @@ pub(crate) fn tell_block_fault<E: Sink>(error: &mut E, number: u64, fault: Block
             b", line ",
             line_buffer.format(fault.line).as_bytes(),
             b": ",
-            fault_text(fault.kind),
+            fault.kind.text().as_bytes(),
             b"\n",
         ],
         1,
     )
-}
-
-/// What is wrong with a block, in words.
-fn fault_text(kind: BlockFaultKind) -> &'static [u8]
-    ensures { result.now ≡ fault_text kind }
-{
-    match kind {
-        BlockFaultKind::NoAction => b"no action",
-        BlockFaultKind::NoDevice => b"no device",
-        BlockFaultKind::Letter => b"unknown line",
-        BlockFaultKind::Twice => b"given twice",
-        BlockFaultKind::Path => b"path",
-        BlockFaultKind::Number => b"number",
-        BlockFaultKind::Pair => b"pair",
-        BlockFaultKind::Nul => b"nul byte",
-        BlockFaultKind::TooLong => b"too long",
-        BlockFaultKind::TooDeep => b"too deep",
-        BlockFaultKind::Memory => b"out of memory",
-    }
 }

@@ -4,6 +4,7 @@
 mod answering;
 mod behind;
 mod block_faults;
+mod faults;
 mod inputs;
 mod laws;
 mod session;

@@ -2,7 +2,7 @@
 //!
 //! The splitter keeps the only bytes that wait, in room that it took once; a block is read and
 //! answered where it is lent, and only the answer is handed out.
-ghost use Rattle.std.specs.Prelude.{◌≡◌, ◌≤◌, ◌+◌, true, false, IfOk, IfErr, length, Ok, Err, ◌++◌};
+ghost use Rattle.std.specs.Prelude.{◌≡◌, ◌≤◌, ◌+◌, true, false, [], IfOk, IfErr, length, Ok, Err, ◌++◌};
 ghost use Rattle.device_core.specs.RunBlocks.{most_bytes};
 ghost use Rattle.device_core.specs.Faults.{block_gives};
 ghost use Rattle.engine_sessions.specs.Known.{known_blocks};
@@ -27,11 +27,11 @@ pub struct Step {
 /// Why nothing more is answered.
 #[derive(Clone, Copy, Debug, PartialEq, Eq)]
 pub enum SessionFault {
-    /// The block of this number, counted from 1, is faulty. The number stays at 2^64 - 1.
+    /// 1: the block of this number, counted from 1, is faulty. The number stays at 2^64 - 1.
     Block(u64, BlockFault),
-    /// Memory was refused.
+    /// 2: memory was refused.
     Memory,
-    /// The session had ended, by `end` or by a fault.
+    /// 3: the session had ended, by `end` or by a fault.
     Ended,
 }
 
@@ -147,6 +147,7 @@ impl<'a, A: Answering> Session<'a, A> {
     pub(crate) fn is_ended(&self) -> bool
         ensures value { result ≡ self.now.ended }
         ensures going { self.now.ended ≡ false → IsGoing self.now }
+        ensures gone { self.now.ended ≡ true → self.now.pending ≡ [] }
     {
         self.ended
     }

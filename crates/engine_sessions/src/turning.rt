@@ -2,10 +2,11 @@
 //!
 //! Each answer is written and flushed as it comes, before the next block is looked at, so that
 //! whoever feeds one event and waits gets its answer, and a fault takes none of those before it away.
-ghost use Rattle.std.specs.Prelude.{◌≡◌, true, false, [], IfOk, IfErr, OnOk, OnErr};
+ghost use Rattle.std.specs.Prelude.{◌≡◌, ◌≤◌, true, false, [], length, IfOk, IfErr, OnOk, OnErr};
 ghost use Rattle.std.specs.Option.{option_to_list};
+ghost use Rattle.device_core.specs.RunBlocks.{most_bytes};
 ghost use Rattle.engine_ends.specs.Sinks.{SinkState};
-ghost use Rattle.engine_sessions.specs.Turns.{due, Sends, SendsDue, SendsUntil, Turns, FailsBy};
+ghost use Rattle.engine_sessions.specs.Turns.{due, HasEnded, Sends, SendsDue, SendsUntil, Turns, FailsBy};
 ghost use Rattle.engine_sessions.specs.Holding.{IsGoing, BreaksOffAt};
 
 use crate::answering::Answering;
@@ -20,11 +21,11 @@ const MOST_READ: usize = 4096;
 /// Why a turn failed. The session has then ended.
 #[derive(Clone, Copy, Debug, PartialEq, Eq)]
 pub enum TurnFault {
-    /// The reader failed.
+    /// 1: the reader failed.
     Read,
-    /// The writer failed.
+    /// 2: the writer failed.
     Write,
-    /// The session gave no answer, or had ended before.
+    /// 3: the session gave no answer, or had ended before.
     Session(SessionFault),
 }
 
@@ -34,7 +35,8 @@ pub enum TurnFault {
 ///
 /// `Read` and `Write` come only where that device failed. `Session` has the session's fault: the
 /// answers before a faulty block are written and flushed. After any fault and after false the session
-/// has ended, and `turn` then answers `Session(Ended)`, reads nothing and writes nothing.
+/// has ended, and `turn` then answers `Session(Ended)`, reads nothing and writes nothing. What the
+/// session holds behind a turn is at most 65,536 bytes, and nothing once it has ended.
 pub fn turn<A: Answering, R: Source, W: Sink>(
     alloc: Global,
     session: &mut Session<'_, A>,
@@ -45,7 +47,8 @@ pub fn turn<A: Answering, R: Source, W: Sink>(
         (R.shown input.old) (R.shown input.new) (W.shown output.old) (W.shown output.new)) }
     ensures err { IfErr result (λ fault. FailsBy (A.answers session.old.answering) fault session.old
         (R.shown input.old) (R.shown input.new) (W.shown output.old) (W.shown output.new)) }
-    ensures ended { OnErr result (session.new.ended ≡ true) }
+    ensures ended { OnErr result (HasEnded session.old session.new) }
+    ensures fits { length session.new.pending ≤ most_bytes }
     ensures untouched { session.old.ended ≡ true → (session.new ≡ session.old) × (input.new ≡ input.old) × (output.new ≡ output.old) }
 {
     if session.is_ended() {
@@ -78,7 +81,8 @@ fn answer_piece<A: Answering, W: Sink>(
     requires { IsGoing session.old }
     ensures ok { OnOk result (SendsDue (A.answers session.old.answering) true session.old piece.now session.new (W.shown output.old) (W.shown output.new)) }
     ensures err { IfErr result (λ fault. SendsUntil fault (due (A.answers session.old.answering) true session.old.pending piece.now) session.old.answered (W.shown output.old) (W.shown output.new)) }
-    ensures ended { OnErr result (session.new.ended ≡ true) }
+    ensures ended { OnErr result (HasEnded session.old session.new) }
+    ensures fits { length session.new.pending ≤ most_bytes }
 {
     let mut used = 0;
     while used < piece.len() {
@@ -106,7 +110,7 @@ fn answer_last<A: Answering, W: Sink>(
     requires { IsGoing session.old }
     ensures ok { OnOk result (SendsDue (A.answers session.old.answering) false session.old [] session.new (W.shown output.old) (W.shown output.new)) }
     ensures err { IfErr result (λ fault. SendsUntil fault (due (A.answers session.old.answering) false session.old.pending []) session.old.answered (W.shown output.old) (W.shown output.new)) }
-    ensures ended { session.new.ended ≡ true }
+    ensures ended { HasEnded session.old session.new }
 {
     match session.end(alloc) {
         Ok(last) => match send(output, &last) {

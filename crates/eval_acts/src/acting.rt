@@ -1,6 +1,6 @@
 //! An act of a rule, by what it does.
 ghost use Rattle.std.specs.Prelude.{◌≡◌, [], IfOk, OnErr, option_copied};
-ghost use Rattle.eval_state.specs.Scenes.{IsBlank};
+ghost use Rattle.eval_state.specs.Scenes.{blank};
 ghost use Rattle.eval_rendering.specs.Rendering.{render};
 ghost use Rattle.eval_rendering.specs.declared.rendered.Mode.TheVariants.{Plain};
 ghost use Rattle.eval_acts.specs.Acts.{act_step, imported, on_text, performed, too_long};
@@ -25,7 +25,8 @@ fn too_long(
     deed: &Deed,
     scene: &mut Scene<'_>,
 ) -> Result<bool, AllocError>
-    ensures { IfOk result (λ done. (scene.new, done) ≡ too_long rule.now deed.now scene.old) }
+    ensures scene { IfOk result (λ done. (scene.new, done) ≡ too_long rule.now deed.now scene.old) }
+    ensures refused { OnErr result (scene.new.state.event ≡ scene.old.state.event) }
 {
     scene.note_too_long(alloc, rule, deed.key(), deed.attribute())?;
     Ok(false)
@@ -40,7 +41,8 @@ fn test(
     template: &Template,
     scene: &mut Scene<'_>,
 ) -> Result<bool, AllocError>
-    ensures { IfOk result (λ done. (scene.new, done) ≡ on_text rule.now deed.now (tested rule.now (option_copied mask.entry)) (render template.now scene.old.state Plain) scene.old) }
+    ensures scene { IfOk result (λ done. (scene.new, done) ≡ on_text rule.now deed.now (tested rule.now (option_copied mask.entry)) (render template.now scene.old.state Plain) scene.old) }
+    ensures refused { OnErr result (scene.new.state.event ≡ scene.old.state.event) }
 {
     match render(alloc, template, &scene.state, Mode::Plain)? {
         Rendered::Text(path) => look_for(alloc, rule, mask.is_some(), path.as_slice(), scene),
@@ -56,7 +58,8 @@ fn program(
     template: &Template,
     scene: &mut Scene<'_>,
 ) -> Result<bool, AllocError>
-    ensures { IfOk result (λ done. (scene.new, done) ≡ on_text rule.now deed.now (asked rule.now) (render template.now scene.old.state Plain) (with_result [] scene.old)) }
+    ensures scene { IfOk result (λ done. (scene.new, done) ≡ on_text rule.now deed.now (asked rule.now) (render template.now scene.old.state Plain) (with_result [] scene.old)) }
+    ensures refused { OnErr result (scene.new.state.event ≡ scene.old.state.event) }
 {
     let rendered = render(alloc, template, &scene.state, Mode::Plain)?;
     clear_result(alloc, scene);
@@ -75,7 +78,8 @@ fn builtin<L: Lookup>(
     database: &L,
     scene: &mut Scene<'_>,
 ) -> Result<bool, AllocError>
-    ensures { IfOk result (λ done. (scene.new, done) ≡ on_text rule.now deed.now (run_builtin (L.entries database.now) rule.now) (render template.now scene.old.state Plain) scene.old) }
+    ensures scene { IfOk result (λ done. (scene.new, done) ≡ on_text rule.now deed.now (run_builtin (L.entries database.now) rule.now) (render template.now scene.old.state Plain) scene.old) }
+    ensures refused { OnErr result (scene.new.state.event ≡ scene.old.state.event) }
 {
     match render(alloc, template, &scene.state, Mode::Plain)? {
         Rendered::Text(command) => run_builtin(alloc, rule, command.as_slice(), database, scene),
@@ -92,7 +96,8 @@ fn import<L: Lookup>(
     database: &L,
     scene: &mut Scene<'_>,
 ) -> Result<bool, AllocError>
-    ensures { IfOk result (λ done. (scene.new, done) ≡ imported (L.entries database.now) rule.now deed.now from.now scene.old) }
+    ensures scene { IfOk result (λ done. (scene.new, done) ≡ imported (L.entries database.now) rule.now deed.now from.now scene.old) }
+    ensures refused { OnErr result (scene.new.state.event ≡ scene.old.state.event) }
 {
     match from {
         Import::Builtin(template) => builtin(alloc, rule, deed, template, database, scene),
@@ -112,7 +117,8 @@ fn perform<L: Lookup>(
     database: &L,
     scene: &mut Scene<'_>,
 ) -> Result<bool, AllocError>
-    ensures { IfOk result (λ done. (scene.new, done) ≡ performed (L.entries database.now) rule.now deed.now scene.old) }
+    ensures scene { IfOk result (λ done. (scene.new, done) ≡ performed (L.entries database.now) rule.now deed.now scene.old) }
+    ensures refused { OnErr result (scene.new.state.event ≡ scene.old.state.event) }
 {
     match deed {
         Deed::Test(mask, template) => test(alloc, rule, deed, mask.as_ref(), template, scene),
@@ -134,7 +140,7 @@ fn perform<L: Lookup>(
 /// note `import not run` and are not done. A text over 16,384 bytes is the note `text too long`, and its
 /// act is not done.
 ///
-/// The error comes where memory is refused; the scene is then cleared.
+/// The error comes where memory is refused; nothing is then left of the scene but its event.
 #[tactic(auto, unfolding(crate::specs::Acts::act_step))]
 pub fn act_step<L: Lookup>(
     alloc: Global,
@@ -144,7 +150,7 @@ pub fn act_step<L: Lookup>(
     scene: &mut Scene<'_>,
 ) -> Result<bool, AllocError>
     ensures scene { IfOk result (λ on. (scene.new, on) ≡ act_step (L.entries database.now) rule.now act.now scene.old) }
-    ensures refused { OnErr result (IsBlank scene.new) }
+    ensures refused { OnErr result (scene.new ≡ blank scene.old.state.event) }
 {
     match perform(alloc, rule, &act.deed, database, scene) {
         Ok(done) => Ok(agrees(act.operator, done)),

@@ -1,5 +1,5 @@
 //! Properties that IMPORT takes from elsewhere.
-ghost use Rattle.std.specs.Prelude.{◌≡◌, IfOk, OnOk};
+ghost use Rattle.std.specs.Prelude.{◌≡◌, IfOk, OnErr, OnOk};
 ghost use Rattle.text_tables.specs.Pairs.{with_values};
 ghost use Rattle.hwdb_lookup.specs.Query.{shown};
 ghost use Rattle.eval_state.specs.Chains.{device_at};
@@ -26,7 +26,8 @@ fn set_each(alloc: Global, env: &mut OwnedPairs, found: &[(&[u8], &[u8])]) -> Re
 
 /// Takes the properties that were found, and answers whether there are any.
 fn take(alloc: Global, found: &[(&[u8], &[u8])], scene: &mut Scene<'_>) -> Result<bool, AllocError>
-    ensures { IfOk result (λ done. (scene.new, done) ≡ taken (shown found.now) scene.old) }
+    ensures scene { IfOk result (λ done. (scene.new, done) ≡ taken (shown found.now) scene.old) }
+    ensures refused { OnErr result (scene.new.state.event ≡ scene.old.state.event) }
 {
     set_each(alloc, &mut scene.state.env, found)?;
     Ok(!found.is_empty())
@@ -40,7 +41,8 @@ pub(crate) fn run_builtin<L: Lookup>(
     database: &L,
     scene: &mut Scene<'_>,
 ) -> Result<bool, AllocError>
-    ensures { IfOk result (λ done. (scene.new, done) ≡ run_builtin (L.entries database.now) rule.now command.now scene.old) }
+    ensures scene { IfOk result (λ done. (scene.new, done) ≡ run_builtin (L.entries database.now) rule.now command.now scene.old) }
+    ensures refused { OnErr result (scene.new.state.event ≡ scene.old.state.event) }
 {
     match Builtin::read(alloc, command)? {
         Builtin::Hwdb(hwdb) => {
@@ -81,7 +83,8 @@ pub(crate) fn import_parent(
     names: &Choice,
     scene: &mut Scene<'_>,
 ) -> Result<bool, AllocError>
-    ensures { IfOk result (λ done. (scene.new, done) ≡ from_parent names.now (device_at scene.old.state.event 1) scene.old) }
+    ensures scene { IfOk result (λ done. (scene.new, done) ≡ from_parent names.now (device_at scene.old.state.event 1) scene.old) }
+    ensures refused { OnErr result (scene.new.state.event ≡ scene.old.state.event) }
 {
     match scene.state.event.device_at(1) {
         Some(parent) => {
@@ -99,7 +102,8 @@ pub(crate) fn not_run(
     import: &Import,
     scene: &mut Scene<'_>,
 ) -> Result<bool, AllocError>
-    ensures { IfOk result (λ done. (scene.new, done) ≡ not_run rule.now import.now scene.old) }
+    ensures scene { IfOk result (λ done. (scene.new, done) ≡ not_run rule.now import.now scene.old) }
+    ensures refused { OnErr result (scene.new.state.event ≡ scene.old.state.event) }
 {
     scene.note(
         alloc,

@@ -1,5 +1,5 @@
 //! TEST and PROGRAM: what the event answers.
-ghost use Rattle.std.specs.Prelude.{◌≡◌, [], IfOk};
+ghost use Rattle.std.specs.Prelude.{◌≡◌, [], IfOk, OnErr};
 ghost use Rattle.eval_acts.specs.Questions.{answered, asked, tested_unless, with_result};
 
 use device_core::ProgramAnswer;
@@ -16,7 +16,8 @@ pub(crate) fn look_for(
     path: &[u8],
     scene: &mut Scene<'_>,
 ) -> Result<bool, AllocError>
-    ensures { IfOk result (λ done. (scene.new, done) ≡ tested_unless rule.now has_mask path.now scene.old) }
+    ensures scene { IfOk result (λ done. (scene.new, done) ≡ tested_unless rule.now has_mask path.now scene.old) }
+    ensures refused { OnErr result (scene.new.state.event ≡ scene.old.state.event) }
 {
     if has_mask || begins_with(b'/', path) {
         scene.note(alloc, rule, NoteKind::TestNotMade, path)?;
@@ -38,7 +39,8 @@ fn take_answer(
     answer: &ProgramAnswer<'_>,
     scene: &mut Scene<'_>,
 ) -> Result<bool, AllocError>
-    ensures { IfOk result (λ done. (scene.new, done) ≡ answered answer.now scene.old) }
+    ensures scene { IfOk result (λ done. (scene.new, done) ≡ answered answer.now scene.old) }
+    ensures refused { OnErr result (scene.new.state.event ≡ scene.old.state.event) }
 {
     if answer.status() != 0 {
         return Ok(false);
@@ -54,7 +56,8 @@ pub(crate) fn ask(
     command: &[u8],
     scene: &mut Scene<'_>,
 ) -> Result<bool, AllocError>
-    ensures { IfOk result (λ done. (scene.new, done) ≡ asked rule.now command.now scene.old) }
+    ensures scene { IfOk result (λ done. (scene.new, done) ≡ asked rule.now command.now scene.old) }
+    ensures refused { OnErr result (scene.new.state.event ≡ scene.old.state.event) }
 {
     match scene.state.event.event().programs().get(command) {
         Some(answer) => take_answer(alloc, answer, scene),

@@ -1,5 +1,5 @@
 //! What each key makes of the text that is assigned to it.
-ghost use Rattle.std.specs.Prelude.{◌≡◌, OnOk, IfOk};
+ghost use Rattle.std.specs.Prelude.{◌≡◌, OnOk, OnErr, IfOk};
 ghost use Rattle.text_tables.specs.Pairs.{with_value};
 ghost use Rattle.eval_assignments.specs.Assigning.{assigned, given, labels_before, link_text, name_text};
 
@@ -70,7 +70,8 @@ pub(crate) fn assign(
     text: Bytes,
     scene: &mut Scene<'_>,
 ) -> Result<(), AllocError>
-    ensures { OnOk result (scene.new ≡ assigned rule.now escape operator target.now text scene.old) }
+    ensures scene { OnOk result (scene.new ≡ assigned rule.now escape operator target.now text scene.old) }
+    ensures refused { OnErr result (scene.new.state.event ≡ scene.old.state.event) }
 {
     match target {
         Target::Owner => scene.owner = given(text),

@@ -14,4 +14,4 @@ mod properties;
 mod step;
 
 pub use escapes::Escape;
-pub use step::set_step;
+pub use step::set_all;

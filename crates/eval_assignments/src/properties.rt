@@ -1,5 +1,5 @@
 //! Properties, as ENV changes them.
-ghost use Rattle.std.specs.Prelude.{◌≡◌, OnOk, IfOk, option_map};
+ghost use Rattle.std.specs.Prelude.{◌≡◌, OnOk, OnErr, IfOk, option_map};
 ghost use Rattle.eval_assignments.specs.Properties.{appended, property_added, property_changed, property_joined, property_set};
 
 use eval_state::Scene;
@@ -53,7 +53,8 @@ fn set_joined(
     joined: Option<Bytes>,
     scene: &mut Scene<'_>,
 ) -> Result<(), AllocError>
-    ensures { OnOk result (scene.new ≡ property_joined rule.now name.now joined scene.old) }
+    ensures scene { OnOk result (scene.new ≡ property_joined rule.now name.now joined scene.old) }
+    ensures refused { OnErr result (scene.new.state.event ≡ scene.old.state.event) }
 {
     match joined {
         Some(value) => scene.state.env.put(alloc, name, value),
@@ -69,7 +70,8 @@ fn add_to_property(
     text: &[u8],
     scene: &mut Scene<'_>,
 ) -> Result<(), AllocError>
-    ensures { OnOk result (scene.new ≡ property_added rule.now name.now text.now scene.old) }
+    ensures scene { OnOk result (scene.new ≡ property_added rule.now name.now text.now scene.old) }
+    ensures refused { OnErr result (scene.new.state.event ≡ scene.old.state.event) }
 {
     if text.is_empty() {
         return Ok(());
@@ -87,7 +89,8 @@ pub(crate) fn change_property(
     text: &[u8],
     scene: &mut Scene<'_>,
 ) -> Result<(), AllocError>
-    ensures { OnOk result (scene.new ≡ property_changed rule.now operator name.now text.now scene.old) }
+    ensures scene { OnOk result (scene.new ≡ property_changed rule.now operator name.now text.now scene.old) }
+    ensures refused { OnErr result (scene.new.state.event ≡ scene.old.state.event) }
 {
     match operator {
         AssignOperator::Add => add_to_property(alloc, rule, name, text, scene),

@@ -1,8 +1,8 @@
-//! One assignment of a rule.
-ghost use Rattle.std.specs.Prelude.{◌≡◌, OnOk, OnErr, option_map};
-ghost use Rattle.eval_state.specs.Scenes.{IsBlank};
-ghost use Rattle.eval_assignments.specs.Steps.{is_ignored, is_net, run_kept, set_step, step_by, text_set};
-ghost use Rattle.eval_assignments.specs.Steps.{text_given};
+//! The assignments of a rule, one by one.
+ghost use Rattle.std.specs.Prelude.{◌≡◌, OnOk, OnErr, option_map, fold};
+ghost use Rattle.eval_state.specs.Scenes.{blank};
+ghost use Rattle.eval_assignments.specs.Escapes.{escape_of};
+ghost use Rattle.eval_assignments.specs.Steps.{is_ignored, is_net, run_kept, set_step, step_by, text_given, text_set};
 
 use crate::assigning::assign;
 use crate::escapes::{Escape, escape_of, mode_of};
@@ -45,7 +45,8 @@ fn set_given(
     text: Bytes,
     scene: &mut Scene<'_>,
 ) -> Result<(), AllocError>
-    ensures { OnOk result (scene.new ≡ text_given rule.now escape operator target.now text scene.old) }
+    ensures scene { OnOk result (scene.new ≡ text_given rule.now escape operator target.now text scene.old) }
+    ensures refused { OnErr result (scene.new.state.event ≡ scene.old.state.event) }
 {
     if is_ignored(target, scene) {
         return scene.note(alloc, rule, NoteKind::NameIgnored, text.as_slice());
@@ -65,7 +66,8 @@ fn set_text(
     rendered: Rendered,
     scene: &mut Scene<'_>,
 ) -> Result<(), AllocError>
-    ensures { OnOk result (scene.new ≡ text_set rule.now escape operator target.now rendered scene.old) }
+    ensures scene { OnOk result (scene.new ≡ text_set rule.now escape operator target.now rendered scene.old) }
+    ensures refused { OnErr result (scene.new.state.event ≡ scene.old.state.event) }
 {
     match rendered {
         Rendered::Text(text) => set_given(alloc, rule, escape, operator, target, text, scene),
@@ -82,7 +84,8 @@ fn keep_run<'a>(
     template: &'a Template,
     scene: &mut Scene<'a>,
 ) -> Result<(), AllocError>
-    ensures { OnOk result (scene.new ≡ run_kept rule.now operator braces template.now scene.old) }
+    ensures scene { OnOk result (scene.new ≡ run_kept rule.now operator braces template.now scene.old) }
+    ensures refused { OnErr result (scene.new.state.event ≡ scene.old.state.event) }
 {
     let run = Run::new(rule, braces, template, scene.state.selected);
     scene.runs.change(alloc, operator, run)?;
@@ -90,14 +93,17 @@ fn keep_run<'a>(
     Ok(())
 }
 
-/// Makes an assignment, by what it changes.
+/// Makes an assignment, by what it changes, where it is known how its rule treats bytes.
 fn step_by<'a>(
     alloc: Global,
     rule: &'a Rule,
+    escape: Escape,
     assignment: &'a Assignment,
     scene: &mut Scene<'a>,
 ) -> Result<(), AllocError>
-    ensures { OnOk result (scene.new ≡ step_by rule.now assignment.now.operator assignment.now.change scene.old) }
+    requires { escape ≡ escape_of rule.now.sets }
+    ensures scene { OnOk result (scene.new ≡ step_by rule.now assignment.now.operator assignment.now.change scene.old) }
+    ensures refused { OnErr result (scene.new.state.event ≡ scene.old.state.event) }
 {
     let operator = assignment.operator;
     match &assignment.change {
@@ -107,7 +113,6 @@ fn step_by<'a>(
             Ok(())
         }
         Change::Text(target, template) => {
-            let escape = escape_of(rule.sets());
             let rendered = render(alloc, template, &scene.state, mode_of(target, escape))?;
             set_text(alloc, rule, escape, operator, target, rendered, scene)
         }
@@ -120,34 +125,45 @@ fn step_by<'a>(
 fn set_open<'a>(
     alloc: Global,
     rule: &'a Rule,
+    escape: Escape,
     assignment: &'a Assignment,
     scene: &mut Scene<'a>,
 ) -> Result<(), AllocError>
-    ensures { OnOk result (scene.new ≡ set_step rule.now scene.old assignment.now) }
+    requires { escape ≡ escape_of rule.now.sets }
+    ensures scene { OnOk result (scene.new ≡ set_step rule.now scene.old assignment.now) }
+    ensures refused { OnErr result (scene.new.state.event ≡ scene.old.state.event) }
 {
     if is_settled(final_key(&assignment.change), scene.finals) {
         return Ok(());
     }
-    step_by(alloc, rule, assignment, scene)
+    step_by(alloc, rule, escape, assignment, scene)
 }
 
-/// Makes an assignment of a rule, unless its key is final: udev(7), "assign keys".
+/// Makes the assignments of a rule, one behind another. How the rule treats bytes is looked for once.
+fn set_each<'a>(alloc: Global, rule: &'a Rule, scene: &mut Scene<'a>) -> Result<(), AllocError>
+    ensures scene { OnOk result (scene.new ≡ fold (set_step rule.now) scene.old rule.now.sets) }
+    ensures refused { OnErr result (scene.new.state.event ≡ scene.old.state.event) }
+{
+    let escape = escape_of(rule.sets());
+    for assignment in rule.sets() {
+        set_open(alloc, rule, escape, assignment, scene)?;
+    }
+    Ok(())
+}
+
+/// Makes the assignments of a rule, one behind another, each unless its key is final: udev(7), "assign
+/// keys".
 ///
 /// A text is rendered first. One of more than 16,384 bytes leaves a note and changes nothing, and so
 /// does a NAME for what is no network device. A RUN is kept as it is written, with the device that is
 /// selected now. Behind a `:=` that was made, its key is final.
 ///
-/// The error comes where memory is refused; the scene is then cleared.
-pub fn set_step<'a>(
-    alloc: Global,
-    rule: &'a Rule,
-    assignment: &'a Assignment,
-    scene: &mut Scene<'a>,
-) -> Result<(), AllocError>
-    ensures scene { OnOk result (scene.new ≡ set_step rule.now scene.old assignment.now) }
-    ensures refused { OnErr result (IsBlank scene.new) }
+/// The error comes where memory is refused; nothing is then left of the scene but its event.
+pub fn set_all<'a>(alloc: Global, rule: &'a Rule, scene: &mut Scene<'a>) -> Result<(), AllocError>
+    ensures scene { OnOk result (scene.new ≡ fold (set_step rule.now) scene.old rule.now.sets) }
+    ensures refused { OnErr result (scene.new ≡ blank scene.old.state.event) }
 {
-    let made = set_open(alloc, rule, assignment, scene);
+    let made = set_each(alloc, rule, scene);
     if made.is_err() {
         scene.clear(alloc);
     }

@@ -4,5 +4,4 @@ pub mod Heading
 mod Coursing
 mod Skipping
 mod Ruling
-mod Staying
 mod Marking

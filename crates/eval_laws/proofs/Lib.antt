@@ -1,5 +1,10 @@
 pub mod Sequences
 pub mod Staying
+pub mod SafeBytes
+pub mod TextWords
+pub mod Asking
+pub mod FirstFound
+pub mod Options
 pub mod CallLemmas
 pub mod CutLemmas
 pub mod LineLemmas
@@ -36,3 +41,6 @@ pub mod Priorities
 pub mod Lines
 pub mod Answers
 pub mod Nodes
+pub mod Changing
+pub mod Making
+pub mod Following

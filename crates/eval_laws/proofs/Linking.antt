@@ -1,7 +1,6 @@
 -- A text that is rendered for a link was made safe.
 use Rattle.std.proofs.Common.{◌≡◌, Option, Some, None, ap, subst, flat_map}
 use Rattle.text_tables.specs.Texts.{Text}
-use Rattle.eval_rendering.specs.Laws.{IsSafe}
 use Rattle.eval_rendering.specs.Safe.{link_marks, safe}
 use Rattle.rule_templates.specs.Template.{Parts as Template}
 use Rattle.eval_state.specs.declared.state.State.{State}
@@ -10,6 +9,7 @@ use Rattle.eval_rendering.specs.Rendering.{answer, render, text_in}
 use Rattle.eval_rendering.specs.declared.rendered.Mode.TheVariants.{Link}
 use Rattle.eval_rendering.specs.declared.rendered.Rendered.{Rendered}
 use Rattle.eval_rendering.specs.declared.rendered.Rendered.TheVariants as rendered
+use Rattle.eval_laws.specs.SafeTexts.{IsSafe}
 
 -- the text of an answer, or another where there is none
 abbrev text_of : Text → Rendered → Text

@@ -2,34 +2,42 @@
 use Rattle.std.proofs.Common.{◌≡◌, ◌⊎◌, inl, inr, ℕ, zero, suc, ◌+◌, ◌-◌, ◌<◌, ◌≤◌, ◌==◌, ◌||◌, ◌&&◌, Bool, true, false, nat_lt, nat_le, List, length, drop, slice_index, if◌then◌else◌, refl, sym, ◌∙◌, subst, ap, arith}
 use Rattle.std.proofs.lemmas.Bool.{ltb-true, lt-ltb, le-leb, eqb-true, cases_lt}
 use Rattle.std.proofs.lemmas.List.{get_or-drop, get_or_past, length-drop}
+use Rattle.std.proofs.lemmas.Grind.{same_number_lists}
 use Rattle.text_bytes.specs.Names.{backslash, space, underscore, is_whitespace}
-use Rattle.eval_rendering.specs.Laws.{IsSafe}
 use Rattle.eval_rendering.specs.Safe.{is_plain, is_hex_escape, is_in_sequence, is_reached, safe, safe_byte, sequence_len, stays}
 use Rattle.eval_rendering.proofs.Places.{length-safe, safe-at}
 use Rattle.eval_laws.proofs.Sequences.{sequence_len-four, sequence_len-same, sequence_len-within}
 
-both : (a b : Bool) → a ≡ true → b ≡ true → (a && b) ≡ true
+-- a byte is a space, or one that stays where it stands
+abbrev pub IsLeft : List ℕ → List ℕ → ℕ → Type 0
+IsLeft marks text place = (slice_index text place ≡ space) ⊎ (stays marks text place ≡ true)
+
+-- each byte of a text is
+abbrev pub AreLeft : List ℕ → List ℕ → Type 0
+AreLeft marks text = (place : ℕ) → place < length text → IsLeft marks text place
+
+pub both : (a b : Bool) → a ≡ true → b ≡ true → (a && b) ≡ true
 both true true e f = refl
 both true false e f = f
 both false b e f = e
 
-each_of : (a b : Bool) → (a && b) ≡ true → (a ≡ true) × (b ≡ true)
+pub each_of : (a b : Bool) → (a && b) ≡ true → (a ≡ true) × (b ≡ true)
 each_of true true e = (refl, refl)
 each_of true false e = absurd (cc)
 each_of false b e = absurd (cc)
 
 -- one of three conditions holds
-one_of : (a b c : Bool) → (a || (b || c)) ≡ true → (a ≡ true) ⊎ ((b ≡ true) ⊎ (c ≡ true))
+pub one_of : (a b c : Bool) → (a || (b || c)) ≡ true → (a ≡ true) ⊎ ((b ≡ true) ⊎ (c ≡ true))
 one_of true b c e = inl refl
 one_of false true c e = inr (inl refl)
 one_of false false true e = inr (inr refl)
 one_of false false false e = absurd (cc)
 
-first_holds : (a b c : Bool) → a ≡ true → (a || (b || c)) ≡ true
+pub first_holds : (a b c : Bool) → a ≡ true → (a || (b || c)) ≡ true
 first_holds true b c e = refl
 first_holds false b c e = absurd (cc)
 
-second_holds : (a b c : Bool) → b ≡ true → (a || (b || c)) ≡ true
+pub second_holds : (a b c : Bool) → b ≡ true → (a || (b || c)) ≡ true
 second_holds true b c e = refl
 second_holds false true c e = refl
 second_holds false false c e = absurd (cc)
@@ -62,7 +70,7 @@ reached_is_in t k back l e = go (is_reached t k 0) (is_reached t k 1) (is_reache
     which (suc (suc (suc (suc n)))) l e = absurd (omega (arith, l))
 
 -- and a place that is part of one is reached from some place
-in_is_reached : (t : List ℕ) (k : ℕ) → is_in_sequence t k ≡ true → ((is_reached t k 0 ≡ true) ⊎ (is_reached t k 1 ≡ true)) ⊎ ((is_reached t k 2 ≡ true) ⊎ (is_reached t k 3 ≡ true))
+pub in_is_reached : (t : List ℕ) (k : ℕ) → is_in_sequence t k ≡ true → ((is_reached t k 0 ≡ true) ⊎ (is_reached t k 1 ≡ true)) ⊎ ((is_reached t k 2 ≡ true) ⊎ (is_reached t k 3 ≡ true))
 in_is_reached t k e = go (is_reached t k 0) (is_reached t k 1) (is_reached t k 2) (is_reached t k 3) e
   where
     go : (a b c d : Bool) → (a || b || c || d) ≡ true → ((a ≡ true) ⊎ (b ≡ true)) ⊎ ((c ≡ true) ⊎ (d ≡ true))
@@ -80,24 +88,33 @@ reached t s j l =
     both (nat_le j (s + j)) (nat_lt j (sequence_len (drop (s + j - j) t))) (le-leb j (s + j) (omega arith))
     (subst (λ x. nat_lt j (sequence_len (drop x t)) ≡ true) (sym back) (lt-ltb j (sequence_len (drop s t)) l))
 
-in_sequence-stays : (marks t : List ℕ) (s j : ℕ) → j < sequence_len (drop s t) → stays marks t (s + j) ≡ true
+pub in_sequence-stays : (marks t : List ℕ) (s j : ℕ) → j < sequence_len (drop s t) → stays marks t (s + j) ≡ true
 unfolding stays
 in_sequence-stays marks t s j l =
     let four = sequence_len-four (drop s t) in
     third_holds (is_plain marks (slice_index t (s + j))) (is_hex_escape t (s + j)) (is_in_sequence t (s + j))
     (reached_is_in t (s + j) j (omega (arith, l, four)) (reached t s j l))
 
-plain-stays : (marks t : List ℕ) (k : ℕ) → is_plain marks (slice_index t k) ≡ true → stays marks t k ≡ true
+pub plain-stays : (marks t : List ℕ) (k : ℕ) → is_plain marks (slice_index t k) ≡ true → stays marks t k ≡ true
 unfolding stays
 plain-stays marks t k e = first_holds (is_plain marks (slice_index t k)) (is_hex_escape t k) (is_in_sequence t k) e
 
-byte_stays : (b : ℕ) (s : Bool) → s ≡ true → (if s then b else if is_whitespace b then space else underscore) ≡ b
-byte_stays b true e = refl
-byte_stays b false e = absurd (cc)
+-- a byte that stays, or a space, is left as it is
+byte_same : (b : ℕ) (s : Bool) → (b ≡ space) ⊎ (s ≡ true) → (if s then b else if is_whitespace b then space else underscore) ≡ b
+byte_same b true h = refl
+byte_same b false (inl e) = subst (λ x. (if is_whitespace x then space else underscore) ≡ x) (sym e) refl
+byte_same b false (inr e) = absurd (cc)
+
+pub left-at : (marks t : List ℕ) (k : ℕ) → k < length t → IsLeft marks t k → slice_index (safe marks t) k ≡ slice_index t k
+unfolding safe_byte
+left-at marks t k within h = safe-at marks t k within ∙ byte_same (slice_index t k) (stays marks t k) h
+
+pub safe-same : (marks text : List ℕ) → AreLeft marks text → safe marks text ≡ text
+safe-same marks text h = same_number_lists (safe marks text) text (length-safe marks text)
+    (λ k within. let inside : k < length text = subst (λ n. k < n) (length-safe marks text) within in left-at marks text k inside (h k inside))
 
 stays-at : (marks t : List ℕ) (k : ℕ) → k < length t → stays marks t k ≡ true → slice_index (safe marks t) k ≡ slice_index t k
-unfolding safe_byte
-stays-at marks t k within e = safe-at marks t k within ∙ byte_stays (slice_index t k) (stays marks t k) e
+stays-at marks t k within e = left-at marks t k within (inr e)
 
 -- a sequence is there still
 sequence-stays : (marks t : List ℕ) (s : ℕ) → 0 < sequence_len (drop s t) → sequence_len (drop s (safe marks t)) ≡ sequence_len (drop s t)
@@ -154,9 +171,9 @@ stays-again marks t k within e = go (one_of (is_plain marks (slice_index t k)) (
         (in_sequence-again marks t k q)
 
 -- a text made safe has spaces and bytes that stay, where `_` stays
-pub safe-is_safe : (marks t : List ℕ) → is_plain marks underscore ≡ true → IsSafe marks (safe marks t)
+pub safe-are_left : (marks t : List ℕ) → is_plain marks underscore ≡ true → AreLeft marks (safe marks t)
 unfolding safe_byte
-safe-is_safe marks t plain k inside =
+safe-are_left marks t plain k inside =
     let within : k < length t = subst (λ n. k < n) (length-safe marks t) inside in
     go within (stays marks t k) refl (safe-at marks t k within)
   where

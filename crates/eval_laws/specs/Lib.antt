@@ -3,9 +3,14 @@ pub mod Cuts
 pub mod DeviceWeights
 pub mod DeviceLaws
 pub mod Grammar
+pub mod SafeTexts
+pub mod TextWords
+pub mod Answered
+pub mod LookUps
 pub mod Comparing
 pub mod AssignmentLaws
 pub mod Inner
 pub mod Allowances
 pub mod Weights
 pub mod Counts
+pub mod Making

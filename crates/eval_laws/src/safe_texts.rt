@@ -1,19 +1,27 @@
-//! What making a text safe comes to.
-ghost use Rattle.std.specs.Prelude.{◌≡◌, List, ℕ};
-ghost use Rattle.eval_rendering.specs.Laws.{IsSafe};
+//! What making a text safe comes to, said of bytes. Each function here is empty: its contract is the law.
+ghost use Rattle.std.specs.Prelude.{◌≡◌, ◌↔◌, ◌<◌, List, ℕ, length};
 ghost use Rattle.eval_rendering.specs.Safe.{attribute_marks, link_marks, safe};
+ghost use Rattle.eval_laws.specs.SafeTexts.{IsMadeSafe, IsSafe};
 
-/// A text that was made safe has only spaces and bytes that stay, by what stands around them in that
-/// very text; it does nothing when it is called.
+/// A text that was made safe has only ASCII letters and digits, marks, spaces, backslashes with an `x`
+/// behind them, and bytes over 127 that are part of a UTF-8 sequence.
 pub fn safe_texts_are_safe()
     ensures link { (text : List ℕ) → IsSafe link_marks (safe link_marks text) }
     ensures attribute { (text : List ℕ) → IsSafe attribute_marks (safe attribute_marks text) }
 {}
 
-/// A text of spaces and bytes that stay is left as it is, so that making safe twice is making safe
-/// once; it does nothing when it is called.
+/// Exactly the texts of such bytes are left as they are, so that making safe twice is making safe once.
 pub fn safe_bytes_stay()
     ensures same { (marks text : List ℕ) → IsSafe marks text → safe marks text ≡ text }
-    ensures link { (text : List ℕ) → safe link_marks (safe link_marks text) ≡ safe link_marks text }
-    ensures attribute { (text : List ℕ) → safe attribute_marks (safe attribute_marks text) ≡ safe attribute_marks text }
+    ensures link { (text : List ℕ) → (safe link_marks text ≡ text) ↔ IsSafe link_marks text }
+    ensures attribute { (text : List ℕ) → (safe attribute_marks text ≡ text) ↔ IsSafe attribute_marks text }
+    ensures link_twice { (text : List ℕ) → safe link_marks (safe link_marks text) ≡ safe link_marks text }
+    ensures attribute_twice { (text : List ℕ) → safe attribute_marks (safe attribute_marks text) ≡ safe attribute_marks text }
+{}
+
+/// A text made safe keeps its length. Byte by byte, what is safe where it stands is left, other
+/// whitespace becomes a space, and any other byte `_`.
+pub fn other_bytes_are_replaced()
+    ensures as_long { (marks text : List ℕ) → length (safe marks text) ≡ length text }
+    ensures bytes { (marks text : List ℕ) (place : ℕ) → place < length text → IsMadeSafe marks text (safe marks text) place }
 {}

@@ -1,5 +1,5 @@
 -- The words of a text, byte by byte.
-use Rattle.std.proofs.Common.{◌≡◌, ◌+◌, ℕ, Bool, true, false, not, ◌&&◌, cond, if◌then◌else◌, List, [], ◌∷◌, ◌++◌, filter, refl, sym, ap, ◌∙◌, append_assoc}
+use Rattle.std.proofs.Common.{◌≡◌, ℕ, Bool, true, false, not, ◌&&◌, cond, if◌then◌else◌, List, [], ◌∷◌, ◌++◌, filter, refl, sym, ap, ◌∙◌, append_assoc}
 use Rattle.std.proofs.lemmas.List.{append-nil}
 use Rattle.std.specs.List.{join_with_byte, onto_first, slice_split}
 use Rattle.text_bytes.specs.Names.{underscore, is_whitespace}
@@ -13,15 +13,15 @@ joined_further word [] = sym (append-nil word)
 joined_further word (next ∷ ws) = ap (λ t. word ++ (underscore ∷ t)) (joined_further next ws)
 
 -- the cut of a text, as its first part and the others
-abbrev front : List (List ℕ) → List ℕ
+abbrev pub front : List (List ℕ) → List ℕ
 front [] = []
 front (p ∷ ps) = p
 
-abbrev others : List (List ℕ) → List (List ℕ)
+abbrev pub others : List (List ℕ) → List (List ℕ)
 others [] = []
 others (p ∷ ps) = ps
 
-abbrev kept : List (List ℕ) → List (List ℕ)
+abbrev pub kept : List (List ℕ) → List (List ℕ)
 kept ps = filter (λ word. not (is_empty word)) ps
 
 -- a word that goes on takes the first part, and the others follow it
@@ -36,7 +36,7 @@ within_is (b ∷ t) = go (is_whitespace b) (slice_split is_whitespace t) (within
     go false (p ∷ ps) e = ap (λ u. b ∷ u) e
 
 -- a byte that is no whitespace begins a word
-words_begin : (b : ℕ) (t : List ℕ) → kept (onto_first b (slice_split is_whitespace t)) ≡ (b ∷ front (slice_split is_whitespace t)) ∷ kept (others (slice_split is_whitespace t))
+pub words_begin : (b : ℕ) (t : List ℕ) → kept (onto_first b (slice_split is_whitespace t)) ≡ (b ∷ front (slice_split is_whitespace t)) ∷ kept (others (slice_split is_whitespace t))
 words_begin b t = go (slice_split is_whitespace t)
   where
     go : (ps : List (List ℕ)) → kept (onto_first b ps) ≡ (b ∷ front ps) ∷ kept (others ps)

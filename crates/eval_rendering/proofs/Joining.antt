@@ -1,5 +1,5 @@
 -- Texts that are built part by part under a bound.
-use Rattle.std.proofs.Common.{◌≡◌, ◌<◌, Bool, true, false, List, [], ◌∷◌, ℕ, ◌++◌, map, flat_map, ap, sym, ◌∙◌, sym, ◌∙◌, length, cond, nat_lt, Some, None, refl, arith, length-append}
+use Rattle.std.proofs.Common.{◌≡◌, Bool, true, false, List, [], ◌∷◌, ℕ, ◌++◌, map, flat_map, ap, sym, ◌∙◌, sym, ◌∙◌, length, cond, nat_lt, Some, None, refl, arith, length-append}
 use Rattle.std.proofs.lemmas.Bool.Decides.{nat_tests}
 use Rattle.text_bytes.specs.Names.{space}
 use Rattle.eval_rendering.specs.Words.{spaced}

@@ -1,3 +1,4 @@
 pub mod JoinedWords
 pub mod Places
 pub mod Joining
+pub mod Passing

@@ -1,6 +1,5 @@
 pub mod Safe
 pub mod Underscores
-pub mod Laws
 pub mod Steps
 pub mod Pieces
 pub mod Rendering

@@ -41,12 +41,16 @@ fn from_next_word(text: &[u8]) -> &[u8]
     from_first_word(text.split_at(word_len(text)).1)
 }
 
-/// A text from its word with a number on; the first word has the number 0.
+/// A text from its word with a number on; the first word has the number 0. No more words are passed
+/// over than the text has.
 pub(crate) fn from_word(number: u16, text: &[u8]) -> &[u8]
     ensures { result.now ≡ from_word number text.now }
 {
     let mut rest = from_first_word(text);
-    for _passed in 0..number {
+    for passed in 0..number {
+        if rest.is_empty() {
+            return rest;
+        }
         rest = from_next_word(rest);
     }
     rest

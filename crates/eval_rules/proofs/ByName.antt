@@ -1,24 +1,24 @@
 -- Properties in the order of their names: what is put in its place, and that no other list is sorted and has the same values.
-use Rattle.std.proofs.Common.{◌≡◌, suc, ◌+◌, Bool, true, false, cond, ◌||◌, List, [], ◌∷◌, ◌++◌, get_or, map, fold, Option, Some, None, is_some, refl, ap, sym, subst, ◌∙◌, arith, append_assoc, true≢false}
+use Rattle.std.proofs.Common.{◌≡◌, suc, ◌+◌, Bool, true, false, cond, ◌||◌, List, [], ◌∷◌, ◌++◌, get_or, map, fold, Option, Some, None, refl, ap, sym, subst, ◌∙◌, arith, append_assoc, true≢false}
 use Rattle.std.specs.List.{AllByRecursion, IsDistinct}
 use Rattle.std.specs.List.Sorted.{IsPermutation, IsSorted, IsStrictlySortedBy}
+use Rattle.std.specs.Map.{IsKeyTest, keys_of, lookup}
 use Rattle.std.specs.Ordering.{is_lt, ordering_reverse}
 use Rattle.std.specs.declared.cmp.Ordering.{Ordering}
 use Rattle.std.specs.declared.cmp.Ordering.TheVariants.{Less, Equal, Greater}
-use Rattle.std.specs.Cmp.Lexicographic.{bytes_decides}
+use Rattle.std.specs.Cmp.Lexicographic.{bytes_decides, on_texts_equal}
 use Rattle.std.proofs.lemmas.Cmp.{nat_list_cmp_total}
 use Rattle.std.proofs.lemmas.List.{append-nil}
-use Rattle.std.proofs.lemmas.List.Sorted.{list_any-IsPermutation}
+use Rattle.std.proofs.lemmas.List.Sorted.{IsPermutation-map, IsPermutation-sym}
 use Rattle.std.proofs.lemmas.Option.{same_Some}
 use Rattle.std.proofs.lemmas.Map.Keys.{IsDistinct-IsPermutation}
 use Rattle.std.proofs.lemmas.Map.Lookups.{exact_bytes}
+use Rattle.indexmap.proofs.MapLemmas.{lookup_permutation}
 use Rattle.text_bytes.specs.Insertion.{by_order, text_order}
-use Rattle.text_tables.specs.Texts.{Text, same_text, is_among, AreOnce}
+use Rattle.text_tables.specs.Texts.{Text, same_text, AreOnce}
 use Rattle.text_tables.specs.Pairs.{Pair, named, names, value_of, with_value, with_values}
-use Rattle.text_tables.proofs.Found.{named_is, set_behind, value_set}
-use Rattle.text_tables.proofs.Held.{among}
-use Rattle.eval_state.specs.Texts.{or_empty}
-use Rattle.eval_rules.specs.Inner.{AreSortedNames}
+use Rattle.text_tables.proofs.Found.{set_behind, value_set}
+use Rattle.text_tables.proofs.Held.{once}
 use Rattle.eval_rules.specs.Laws.{NamesRise}
 use Rattle.eval_rules.specs.Outcomes.{by_name, put}
 
@@ -236,15 +236,6 @@ module _ {K : Type 0} (text value : K → Text) where
   names_shown (k ∷ ks) = ap (λ ns. text k ∷ ns) (names_shown ks)
 
 module _ {K : Type 0} (text : K → Text) where
-  distinct_seen : (ks : List K) → IsDistinct same_text (map text ks) → IsDistinct (λ a b. same_text (text a) (text b)) ks
-  unfolding IsDistinct
-  distinct_seen [] d = tt
-  distinct_seen (k ∷ ks) d = (all ks d.0, distinct_seen ks d.1)
-    where
-      all : (js : List K) → AllByRecursion (λ n. same_text (text k) n ≡ false) (map text js) → AllByRecursion (λ j. same_text (text k) (text j) ≡ false) js
-      all [] a = tt
-      all (j ∷ js) a = (a.0, all js a.1)
-
   behind : (k : K) (ks : List K) → IsSorted (λ a b. text_order (text a) (text b)) (k ∷ ks) → IsSorted (λ a b. text_order (text a) (text b)) ks
   behind k ks s n e low h =
       let next : suc n + 1 ≡ suc (n + 1) = omega arith in
@@ -265,66 +256,47 @@ module _ {K : Type 0} (text : K → Text) where
       by Equal e = absurd (true≢false (sym (are_same (text k) (text j) (exact_bytes (text k) (text j) e)) ∙ d.0.0))
       by Greater e = absurd (true≢false (sym (ap is_lt (turned (text k) (text j) e)) ∙ s 0 k (omega arith) (omega arith)))
 
-  -- the names that a sort leaves
-  pub are_sorted : (pairs : List Pair) (before after : List K) → AreOnce (names pairs) → map text before ≡ names pairs → IsPermutation before after
-      → IsSorted (λ a b. text_order (text a) (text b)) after → AreSortedNames pairs (map text after)
-  are_sorted pairs before after once seen moved sorted =
-      let here : IsDistinct (λ a b. same_text (text a) (text b)) before = distinct_seen before (subst (IsDistinct same_text) (sym seen) once) in
-      let there : IsDistinct (λ a b. same_text (text a) (text b)) after = IsDistinct-IsPermutation (λ a b. same_text (text a) (text b)) (λ a b. flips (text a) (text b)) before after moved here in
-      record {
-        once = once;
-        rises = strict after sorted there;
-        same = λ name.
-            sym (among text after name)
-            ∙ sym (list_any-IsPermutation (λ k. same_text name (text k)) before after moved)
-            ∙ among text before name
-            ∙ ap (λ ns. is_among ns name) seen
-            ∙ sym (among (λ (p : Pair). p.0) pairs name);
-      }
-
-once_where_rising : (ts : List Text) → IsStrictlySortedBy text_order ts → IsDistinct same_text ts
-unfolding IsDistinct
-once_where_rising [] h = tt
-once_where_rising (t ∷ ts) h = (all ts (parted t ts h).0, once_where_rising ts (parted t ts h).1)
-  where
-    all : (us : List Text) → AboveAll t us → AllByRecursion (λ u. same_text t u ≡ false) us
-    all [] a = tt
-    all (u ∷ us) a = (apart t u a.0, all us a.1)
-
-given : (o : Option Text) → cond (is_some o) (Some (or_empty o)) None ≡ o
-given None = refl
-given (Some t) = refl
-
 same_pairs : (pairs : List Pair) → shown (λ (p : Pair). p.0) (λ (p : Pair). p.1) pairs ≡ pairs
 same_pairs [] = refl
 same_pairs (p ∷ ps) = ap (λ qs. p ∷ qs) (same_pairs ps)
 
-by_name_values : (pairs : List Pair) (name : Text) → AreOnce (names pairs) → value_of (by_name pairs) name ≡ value_of pairs name
+-- properties whose names are once have the same values when they are sorted
+pub by_name_values : (pairs : List Pair) (name : Text) → AreOnce (names pairs) → value_of (by_name pairs) name ≡ value_of pairs name
 by_name_values pairs name once =
     all_values pairs [] [] name (λ n. refl)
     ∙ ap (λ ps. value_of ps name) (set_in_order (λ (p : Pair). p.0) (λ (p : Pair). p.1) pairs once ∙ same_pairs pairs)
 
-module _ {K : Type 0} (text : K → Text) (pairs : List Pair) where
-  abbrev valued : K → Text
-  valued k = or_empty (value_of pairs (text k))
+-- ---- entries of a map, seen as properties
 
-  value_shown : (ks : List K) (name : Text) → value_of (shown text valued ks) name ≡ cond (is_among (map text ks) name) (Some (or_empty (value_of pairs name))) None
-  value_shown [] name = refl
-  value_shown (k ∷ ks) name = by (same_text name (text k)) refl (value_shown ks name)
-    where
-      by : (b : Bool) → same_text name (text k) ≡ b → value_of (shown text valued ks) name ≡ cond (is_among (map text ks) name) (Some (or_empty (value_of pairs name))) None
-          → cond b (Some (valued k)) (value_of (shown text valued ks) name) ≡ cond (b || is_among (map text ks) name) (Some (or_empty (value_of pairs name))) None
-      by true e more = ap (λ n. Some (or_empty (value_of pairs n))) (sym (is_same name (text k) e))
-      by false e more = more
+module _ {K : Type 0} (text : K → Text) where
+  abbrev pub entry_seen : K × Text → Pair
+  entry_seen e = (text e.0, e.1)
 
-  -- the values of sorted names, set one behind another
-  pub sorted_is : (ks : List K) → AreSortedNames pairs (map text ks) → set_each text valued [] ks ≡ by_name pairs
-  sorted_is ks sorted =
-      set_in_order text valued ks (once_where_rising (map text ks) sorted.rises)
-      ∙ one_list (shown text valued ks) (by_name pairs)
-      (subst (IsStrictlySortedBy text_order) (sym (names_shown text valued ks)) sorted.rises)
-      (all_rise pairs [] rises_none)
-      (λ n. value_shown ks n ∙ ap (λ b. cond b (Some (or_empty (value_of pairs n))) None) (sorted.same n ∙ named_is pairs n) ∙ given (value_of pairs n) ∙ sym (by_name_values pairs n sorted.once))
+  abbrev same_key : K → K → Bool
+  same_key j k = same_text (text j) (text k)
+
+  looked_up : (es : List (K × Text)) (name : Text) → value_of (map entry_seen es) name ≡ lookup (λ k. same_text name (text k)) es
+  looked_up [] name = refl
+  looked_up (e ∷ es) name = ap (λ o. cond (same_text name (text e.0)) (Some e.1) o) (looked_up es name)
+
+  names_seen : (es : List (K × Text)) → names (map entry_seen es) ≡ map text (keys_of es)
+  names_seen [] = refl
+  names_seen (e ∷ es) = ap (λ ns. text e.0 ∷ ns) (names_seen es)
+
+  one_key : (name : Text) → IsKeyTest same_key (λ k. same_text name (text k))
+  one_key name j k h = ap (λ n. same_text n (text k)) (is_same name (text j) h)
+
+  -- entries that a sort by their keys leaves
+  pub sorted_is : (es fs : List (K × Text)) → IsPermutation es fs → IsDistinct same_key (keys_of fs) → IsSorted (λ j k. text_order (text j) (text k)) (keys_of fs)
+      → map entry_seen fs ≡ by_name (map entry_seen es)
+  sorted_is es fs moved distinct sorted =
+      let before : IsDistinct same_key (keys_of es) =
+      IsDistinct-IsPermutation same_key (λ j k. flips (text j) (text k)) (keys_of fs) (keys_of es) (IsPermutation-sym (keys_of es) (keys_of fs) (IsPermutation-map (λ (e : K × Text). e.0) es fs moved)) distinct in
+      let all_once : AreOnce (names (map entry_seen es)) = subst (IsDistinct same_text) (sym (names_seen es)) (once text (keys_of es) before) in
+      one_list (map entry_seen fs) (by_name (map entry_seen es)) (subst (IsStrictlySortedBy text_order) (sym (names_seen fs)) (strict text (keys_of fs) sorted distinct)) (all_rise (map entry_seen es) [] rises_none)
+      (λ n.
+      looked_up fs n ∙ lookup_permutation (on_texts_equal text) es fs moved distinct (λ k. same_text n (text k)) (one_key n) ∙ sym (looked_up es n)
+      ∙ sym (by_name_values (map entry_seen es) n all_once))
 
 -- the names of sorted properties rise
 pub by_name_rises : (pairs : List Pair) → NamesRise (by_name pairs)

@@ -39,11 +39,11 @@ pub noted_only : (s t : Scene) (notes : List Note) → bare s ≡ bare t → s.n
 noted_only s t notes same more = ap (λ (b : Scene). record b { notes = s.notes }) same ∙ ap (λ ns. record (bare t) { notes = ns }) more
 
 -- the outcome, once all is rendered and sorted
-pub finished : (s t : Scene) (runs left : List RunValue) (env : List Pair) (done : List Command) → runs ≡ s.runs → left ≡ []
-    → unselected t ≡ with_notes (late_notes s.state runs) (unselected (record s { runs = left })) → env ≡ by_name t.state.env → done ≡ commands s.state runs → made_of t env done ≡ outcome_of s
+pub finished : (s t : Scene) (runs left : List RunValue) (env sorted : List Pair) (done : List Command) → runs ≡ s.runs → left ≡ []
+    → unselected t ≡ with_notes (late_notes s.state runs) (unselected (record s { runs = left })) → env ≡ t.state.env → sorted ≡ by_name env → done ≡ commands s.state runs → made_of t sorted done ≡ outcome_of s
 unfolding outcome_of
-finished s t runs left env done all none same sorted rendered =
-    ap (λ e. made_of t e done) sorted
+finished s t runs left env sorted done all none same taken is rendered =
+    ap (λ e. made_of t e done) (is ∙ ap by_name taken)
     ∙ ap (λ (u : Scene). made_of u (by_name u.state.env) done) same
     ∙ ap (λ d. made_of (with_notes (late_notes s.state runs) s) (by_name s.state.env) d) rendered
     ∙ ap (λ rs. made_of (with_notes (late_notes s.state rs) s) (by_name s.state.env) (commands s.state rs)) all

@@ -1,10 +1,8 @@
 -- Serves inner proofs only: what functions below the public ones leave.
-use Rattle.std.specs.Prelude.{◌≡◌, ℕ, ◌+◌, List, ◌++◌, Option, None, drop}
+use Rattle.std.specs.Prelude.{ℕ, ◌+◌, List, ◌++◌, Option, None, drop}
 use Rattle.std.specs.List.{prefix_len}
-use Rattle.std.specs.List.Sorted.{IsStrictlySortedBy}
-use Rattle.text_bytes.specs.Insertion.{text_order}
-use Rattle.text_tables.specs.Texts.{Text, AreOnce, is_among}
-use Rattle.text_tables.specs.Pairs.{Pair, named, names}
+use Rattle.text_tables.specs.Texts.{Text}
+use Rattle.text_tables.specs.Pairs.{Pair}
 use Rattle.eval_state.specs.declared.notes.Note.{Note}
 use Rattle.eval_state.specs.declared.scene.Scene.{Scene}
 use Rattle.rule_types.specs.Rules.{Rule}
@@ -44,9 +42,3 @@ made_of s env runs = record {
 -- the place of the next rule that is not passed over while a label is sought, or none is, from a place on
 abbrev pub landing : Option Text → List Rule → ℕ → ℕ
 landing sought rules from = from + prefix_len (is_passed sought) (drop from rules)
-
--- the names of properties, which have each once, in rising order
-pub record AreSortedNames (pairs : List Pair) (found : List Text) : Type 0 where
-  pub once : AreOnce (names pairs)
-  pub rises : IsStrictlySortedBy text_order found
-  pub same : (name : Text) → is_among found name ≡ named pairs name

@@ -77,8 +77,8 @@ fn rendered(alloc: Global, scene: &mut Scene<'_>) -> Result<(Commands, OwnedPair
 {
     let runs = mem::replace(&mut scene.runs, Runs::new(alloc));
     let commands = render_runs(alloc, runs.as_slice(), scene)?;
-    let env = by_name(alloc, &scene.state.env)?;
-    Ok((commands, env))
+    let env = mem::replace(&mut scene.state.env, OwnedPairs::new(alloc));
+    Ok((commands, by_name(env)?))
 }
 
 /// The outcome that is made of a scene, of commands and of properties.

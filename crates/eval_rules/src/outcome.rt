@@ -42,6 +42,21 @@ impl Commands {
         }
     }
 
+    /// The commands of a vector, without a copy.
+    pub fn from_vec(held: Vec<Command>) -> Commands
+        ensures { result ≡ held.items }
+    {
+        Commands { held }
+    }
+
+    /// Gives the vector back.
+    pub fn into_vec(self) -> Vec<Command>
+        ensures { result.items ≡ self }
+    {
+        let Commands { held } = self;
+        held
+    }
+
     /// Adds a command at the end. Where memory is refused, the commands stay as they are.
     pub(crate) fn push(&mut self, command: Command) -> Result<(), AllocError>
         ensures commands { OnOk result (self.new ≡ self.old ++ command ∷ []) }

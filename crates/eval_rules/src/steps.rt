@@ -1,20 +1,19 @@
 //! One rule, step by step.
 //!
 //! Most rules fail at their first match: until one holds that takes memory, nothing is taken.
-ghost use Rattle.std.specs.Prelude.{◌≡◌, OnOk, OnErr, IfOk, fold};
+ghost use Rattle.std.specs.Prelude.{◌≡◌, OnErr, IfOk};
 ghost use Rattle.std.specs.List.{list_all};
 ghost use Rattle.eval_matching.specs.Holding.{holds, one};
-ghost use Rattle.eval_state.specs.Scenes.{IsBlank};
+ghost use Rattle.eval_state.specs.Scenes.{blank};
 ghost use Rattle.eval_acts.specs.Acts.{act_step};
-ghost use Rattle.eval_assignments.specs.Steps.{set_step};
 ghost use Rattle.eval_rules.specs.Steps.{apply, plain_step, result_step, search, walk};
 
 use eval_acts::{act_step, reached};
-use eval_assignments::set_step;
+use eval_assignments::set_all;
 use eval_matching::{found_place, plain_holds, result_holds};
 use eval_state::{Scene, State};
 use hwdb_lookup::Lookup;
-use rule_types::{Act, Assignment, Comparison, PlainMatch, Rule, UpMatch};
+use rule_types::{Act, Comparison, PlainMatch, Rule, UpMatch};
 use std::alloc::{AllocError, Global};
 
 /// Reaches a match of the event, and answers whether it holds.
@@ -25,7 +24,8 @@ fn plain_step(
     part: &PlainMatch,
     scene: &mut Scene<'_>,
 ) -> Result<bool, AllocError>
-    ensures { IfOk result (λ on. (scene.new, on) ≡ plain_step rule.now part.now scene.old) }
+    ensures scene { IfOk result (λ on. (scene.new, on) ≡ plain_step rule.now part.now scene.old) }
+    ensures event { scene.new.state.event ≡ scene.old.state.event }
 {
     let holds = plain_holds(part, &scene.state);
     reached(alloc, rule, part, scene)?;
@@ -39,7 +39,8 @@ fn match_event(
     parts: &[PlainMatch],
     scene: &mut Scene<'_>,
 ) -> Result<bool, AllocError>
-    ensures { IfOk result (λ on. (scene.new, on) ≡ walk (plain_step rule.now) parts.now scene.old) }
+    ensures scene { IfOk result (λ on. (scene.new, on) ≡ walk (plain_step rule.now) parts.now scene.old) }
+    ensures event { scene.new.state.event ≡ scene.old.state.event }
 {
     for part in parts {
         if !plain_step(alloc, rule, part, scene)? {
@@ -52,7 +53,8 @@ fn match_event(
 /// Selects the nearest device that meets all of the matches, or none, and answers whether one does.
 /// Without a match nothing is searched.
 fn search(parts: &[UpMatch], scene: &mut Scene<'_>) -> bool
-    ensures { (scene.new, result) ≡ search parts.now scene.old }
+    ensures scene { (scene.new, result) ≡ search parts.now scene.old }
+    ensures event { scene.new.state.event ≡ scene.old.state.event }
 {
     if parts.is_empty() {
         return true;
@@ -70,7 +72,8 @@ fn act_all<L: Lookup>(
     lookup: &L,
     scene: &mut Scene<'_>,
 ) -> Result<bool, AllocError>
-    ensures { IfOk result (λ on. (scene.new, on) ≡ walk (act_step (L.entries lookup.now) rule.now) parts.now scene.old) }
+    ensures scene { IfOk result (λ on. (scene.new, on) ≡ walk (act_step (L.entries lookup.now) rule.now) parts.now scene.old) }
+    ensures event { scene.new.state.event ≡ scene.old.state.event }
 {
     for part in parts {
         if !act_step(alloc, rule, part, lookup, scene)? {
@@ -95,21 +98,6 @@ fn match_results(parts: &[Comparison], scene: &Scene<'_>) -> bool
     results_hold(parts, &scene.state)
 }
 
-/// Makes assignments, one behind another.
-fn set_all<'a>(
-    alloc: Global,
-    rule: &'a Rule,
-    parts: &'a [Assignment],
-    scene: &mut Scene<'a>,
-) -> Result<(), AllocError>
-    ensures { OnOk result (scene.new ≡ fold (set_step rule.now) scene.old parts.now) }
-{
-    for part in parts {
-        set_step(alloc, rule, part, scene)?;
-    }
-    Ok(())
-}
-
 /// Goes through a rule's five steps, up to the first that stops it, and answers whether its end was
 /// reached.
 #[tactic(auto, unfolding(crate::specs::Steps::apply))]
@@ -119,7 +107,8 @@ fn take_steps<'a, L: Lookup>(
     lookup: &L,
     scene: &mut Scene<'a>,
 ) -> Result<bool, AllocError>
-    ensures { IfOk result (λ on. (scene.new, on) ≡ apply (L.entries lookup.now) rule.now scene.old) }
+    ensures scene { IfOk result (λ on. (scene.new, on) ≡ apply (L.entries lookup.now) rule.now scene.old) }
+    ensures refused { OnErr result (scene.new.state.event ≡ scene.old.state.event) }
 {
     if !match_event(alloc, rule, rule.plain(), scene)? {
         return Ok(false);
@@ -133,14 +122,15 @@ fn take_steps<'a, L: Lookup>(
     if !match_results(rule.results(), scene) {
         return Ok(false);
     }
-    set_all(alloc, rule, rule.sets(), scene)?;
+    set_all(alloc, rule, scene)?;
     Ok(true)
 }
 
 /// Evaluates a rule, and answers whether its end was reached: the matches of the event, the search for
 /// one device, what acts, the matches of the result, the assignments. Where one of them stops the rule,
-/// what was changed until then stays. The error comes where memory is refused; the scene is then
-/// cleared.
+/// what was changed until then stays.
+///
+/// The error comes where memory is refused; nothing is then left of the scene but its event.
 pub fn apply<'a, L: Lookup>(
     alloc: Global,
     rule: &'a Rule,
@@ -148,7 +138,7 @@ pub fn apply<'a, L: Lookup>(
     scene: &mut Scene<'a>,
 ) -> Result<bool, AllocError>
     ensures scene { IfOk result (λ on. (scene.new, on) ≡ apply (L.entries lookup.now) rule.now scene.old) }
-    ensures refused { OnErr result (IsBlank scene.new) }
+    ensures refused { OnErr result (scene.new ≡ blank scene.old.state.event) }
 {
     let went = take_steps(alloc, rule, lookup, scene);
     if went.is_err() {

@@ -5,3 +5,4 @@ pub mod Notes
 pub mod Runs
 pub mod Finals
 pub mod Scenes
+pub mod Sameness

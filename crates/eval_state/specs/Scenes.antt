@@ -1,5 +1,5 @@
 -- What an event has come to: where nothing is left, before any rule has run, with a note more, and with other properties.
-use Rattle.std.specs.Prelude.{◌≡◌, false, List, [], ◌∷◌, ◌++◌, None}
+use Rattle.std.specs.Prelude.{false, List, [], ◌∷◌, ◌++◌, None}
 use Rattle.text_tables.specs.Texts.{Text}
 use Rattle.text_tables.specs.Pairs.{Pair}
 use Rattle.device_core.specs.Values.{EventValue}
@@ -27,10 +27,6 @@ blank event = record {
   notes = [];
   finals = no_finals;
 }
-
--- nothing is left of a scene but its event
-abbrev pub IsBlank : Scene → Type 0
-IsBlank s = s ≡ blank s.state.event
 
 -- what an event has come to before any rule has run: its state as it begins, and nothing collected
 abbrev pub start : EventValue → Scene

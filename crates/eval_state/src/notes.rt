@@ -68,6 +68,21 @@ impl Notes {
         }
     }
 
+    /// The notes of a vector, without a copy.
+    pub fn from_vec(held: Vec<Note>) -> Notes
+        ensures { result ≡ held.items }
+    {
+        Notes { held }
+    }
+
+    /// Gives the vector back.
+    pub fn into_vec(self) -> Vec<Note>
+        ensures { result.items ≡ self }
+    {
+        let Notes { held } = self;
+        held
+    }
+
     /// Lends the notes, in their order.
     pub fn as_slice(&self) -> &[Note]
         ensures { result.now ≡ self.now }

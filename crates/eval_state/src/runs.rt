@@ -2,14 +2,21 @@
 //!
 //! A command is rendered in the end, with what is then known of the event, but with the device that
 //! was selected when its rule was reached: so a run holds its template, and the place of that device.
-ghost use Rattle.std.specs.Prelude.{◌≡◌, [], OnOk, OnErr};
-ghost use Rattle.std.specs.List.{list_any};
+//!
+//! A RUN is added once for its type and its written text. So runs are a set, in which one is found by
+//! its bytes and not by a search through all.
+ghost use Rattle.std.specs.Prelude.{◌≡◌, [], OnOk, OnErr, IfOk};
+ghost use Rattle.std.specs.Hash as fed;
 ghost use Rattle.eval_state.specs.Runs.{run_kind, runs_after, same_kind, same_run, with_run};
+ghost use Rattle.eval_state.specs.Sameness.{runs_equal, runs_equal_in_part, same_runs_fed};
 
+use indexmap::IndexSet;
 use rule_templates::Template;
 use rule_types::{AssignOperator, Rule, RunType};
 use std::alloc::{AllocError, Global};
+use std::hash::{Hash, Hasher};
 use std::marker::Model;
+use std::mem;
 
 /// A RUN as it is written.
 #[derive(Drop)]
@@ -89,12 +96,30 @@ impl<'a> Run<'a> {
     {
         self.selected
     }
+}
 
-    /// Whether another RUN is of the same type and has the same written text.
-    fn is_same(&self, other: &Run<'_>) -> bool
-        ensures { result ≡ same_run self.now other.now }
-    {
+/// Two RUNs are the same where they have one type and one written text.
+impl<'a> PartialEq for Run<'a> {
+    ghost eq = { same_run };
+
+    ghost laws = { runs_equal_in_part };
+
+    fn eq(&self, other: &Run<'a>) -> bool {
         same_kind(self.kind(), other.kind()) && self.template.written() == other.template.written()
+    }
+}
+
+impl<'a> Eq for Run<'a> {
+    ghost laws = { runs_equal };
+}
+
+impl<'a> Hash for Run<'a> {
+    ghost hash_input = { λ r. fed.slice fed.u8 r.template.written };
+
+    ghost respects_eq = { same_runs_fed };
+
+    fn hash<H: Hasher>(&self, state: &mut H) {
+        self.template.written().hash(state);
     }
 }
 
@@ -108,7 +133,7 @@ fn same_kind(one: RunType, other: RunType) -> bool
 /// What is to be run, in order.
 #[derive(Drop)]
 pub struct Runs<'a> {
-    held: Vec<Run<'a>>,
+    held: IndexSet<Run<'a>>,
 }
 
 impl<'a> Model for Runs<'a> {
@@ -117,7 +142,7 @@ impl<'a> Model for Runs<'a> {
 
     ghost Value = { List RunValue };
 
-    ghost view = { λ r. r.held.items };
+    ghost view = { λ r. r.held.keys };
 }
 
 impl<'a> Runs<'a> {
@@ -126,7 +151,7 @@ impl<'a> Runs<'a> {
         ensures { result ≡ [] }
     {
         Runs {
-            held: Vec::new(alloc),
+            held: IndexSet::new(alloc),
         }
     }
 
@@ -134,7 +159,7 @@ impl<'a> Runs<'a> {
     pub fn as_slice(&self) -> &[Run<'a>]
         ensures { result.now ≡ self.now }
     {
-        &self.held
+        self.held.as_slice()
     }
 
     /// Takes all away.
@@ -144,24 +169,26 @@ impl<'a> Runs<'a> {
         self.held.clear();
     }
 
-    /// Whether the same RUN is there.
-    fn contains(&self, run: &Run<'_>) -> bool
-        ensures { result ≡ list_any (same_run run.now) self.now }
-    {
-        self.held.iter().any(|other| run.is_same(other))
-    }
-
     /// Adds a RUN at the end, unless it is there or its written text is empty. Where memory is
     /// refused, the runs stay as they are.
     fn add(&mut self, run: Run<'a>) -> Result<(), AllocError>
         ensures runs { OnOk result (self.new ≡ with_run self.old run.entry) }
         ensures refused { OnErr result (self.new ≡ self.old) }
     {
-        if run.template.written().is_empty() || self.contains(&run) {
+        if run.template.written().is_empty() {
             return Ok(());
         }
-        self.held.push(run)?;
+        self.held.insert(run)?;
         Ok(())
+    }
+
+    /// One RUN alone, or nothing where its written text is empty. The error comes where memory is refused.
+    fn alone(alloc: Global, run: Run<'a>) -> Result<Runs<'a>, AllocError>
+        ensures { IfOk result (λ runs. runs ≡ with_run [] run.entry) }
+    {
+        let mut runs = Runs::new(alloc);
+        runs.add(run)?;
+        Ok(runs)
     }
 
     /// Takes a RUN in by its operator: `+=` adds it unless the same one is there, any other operator
@@ -180,9 +207,7 @@ impl<'a> Runs<'a> {
         match operator {
             AssignOperator::Add => self.add(run),
             _ => {
-                let mut begun = Runs::new(alloc);
-                begun.add(run)?;
-                self.held = begun.held;
+                drop(mem::replace(self, Runs::alone(alloc, run)?));
                 Ok(())
             }
         }

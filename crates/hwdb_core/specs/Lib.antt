@@ -6,3 +6,4 @@ pub mod Sources
 pub mod Properties
 pub mod Messages
 pub mod Lines
+pub mod FaultTexts

@@ -1,5 +1,5 @@
 -- An index answers as its entries do.
-use Rattle.std.proofs.Common.{◌≡◌, ℕ, List, map, sym, ◌∙◌, ap, subst}
+use Rattle.std.proofs.Common.{◌≡◌, ℕ, List, map, sym, ap, subst}
 use Rattle.hwdb_lookup.specs.Orders.{Rising}
 use Rattle.hwdb_lookup.specs.Query.{origin, property, query, sourced, winners}
 use Rattle.hwdb_lookup.specs.declared.entry.Entry.{Entry}

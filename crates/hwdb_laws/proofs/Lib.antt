@@ -8,3 +8,10 @@ pub mod Cuts
 pub mod Indexing
 pub mod Typing
 pub mod Spelling
+pub mod Rooting
+pub mod Lists
+pub mod Reading1
+pub mod Listing1
+pub mod InBytes
+pub mod Holding
+pub mod Row1

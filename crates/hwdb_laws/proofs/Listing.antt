@@ -3,6 +3,7 @@ use Rattle.std.proofs.Common.{◌≡◌, ℕ, zero, suc, ◌+◌, ◌-◌, ◌<�
 use Rattle.std.proofs.lemmas.List.{append-nil, get_or-map, length-map, take_all, take_more}
 use Rattle.std.proofs.lemmas.List.Concat.{flat_map-append, get_or-flat_map, length-flat_map}
 use Rattle.std.proofs.lemmas.List.Folds.{length-flat_map-take}
+use Rattle.std.proofs.lemmas.List.FromFn.{fill_by_all}
 use Rattle.std.proofs.lemmas.List.Sums.{length-filter, sum_by_more}
 use Rattle.std.specs.List.{range_with_len, sum_by}
 use Rattle.std.specs.List.Sorted.{IsPermutation}
@@ -12,7 +13,7 @@ use Rattle.text_core.specs.declared.item.Item.TheVariants.{Byte, One, Many, Amon
 use Rattle.hwdb_lookup.specs.Orders.{Rising}
 use Rattle.hwdb_lookup.specs.declared.entry.Entry.{Entry}
 use Rattle.trie_nodes.proofs.Shaped.{IsChild, path_is}
-use Rattle.trie_nodes.specs.Tree.{Shape, node_at, nowhere, path}
+use Rattle.trie_nodes.specs.Tree.{Shape, node_at, nowhere, numbers, path}
 use Rattle.trie_nodes.specs.Values.{Value, entry, listed, no_value, value_at, values_of}
 use Rattle.trie_nodes.specs.declared.node.Node.{Node}
 use Rattle.trie_build.specs.Distinct.{IsIn, number_in}
@@ -34,12 +35,12 @@ use Rattle.trie_core.proofs.Imaging.{no_entry, node_is, nodes_len, value_is, val
 use Rattle.trie_core.proofs.Members.{number_found, number_within, pattern_is}
 use Rattle.trie_core.proofs.Permuting.{nodes_permute}
 use Rattle.hwdb_laws.proofs.Saying.{written_contents}
-use Rattle.trie_core.proofs.Sounding.{no_node, no_value as no_record}
+use Rattle.index_reading.proofs.Standing.{no_node, no_value as no_record}
 use Rattle.trie_core.proofs.Spelling.{root_path, set_there}
 use Rattle.trie_core.proofs.Texting.{key_read, name_read, told, told_in, value_read}
 
 -- the same by number and in a list
-map_numbered : {A B : Type 0} (f : ℕ → B) (g : A → B) (xs : List A) (d : A) (a : ℕ) → ((k : ℕ) → k < length xs → f (a + k) ≡ g (get_or xs k d)) → map f (range_with_len a (length xs)) ≡ map g xs
+pub map_numbered : {A B : Type 0} (f : ℕ → B) (g : A → B) (xs : List A) (d : A) (a : ℕ) → ((k : ℕ) → k < length xs → f (a + k) ≡ g (get_or xs k d)) → map f (range_with_len a (length xs)) ≡ map g xs
 map_numbered f g [] d a same = refl
 map_numbered f g (x ∷ xs) d a same =
     let first : f a ≡ g x = ap f (add_none a) ∙ same 0 (omega arith) in
@@ -209,6 +210,12 @@ module _ (es : List Entry) (rising : Rising es) (bounds : KeepsBounds es) (typed
 
   pub image_lists : listed (contents (image es)).nodes (contents (image es)).values ≡ by_nodes es
   image_lists = ap (λ (c : Contents). listed c.nodes c.values) says ∙ all_told es shaped
+
+  -- its nodes have the paths of the entries
+  pub image_paths : map (path (contents (image es)).nodes) (numbers (contents (image es)).nodes) ≡ paths_of es
+  image_paths =
+      ap (λ (c : Contents). map (path c.nodes) (numbers c.nodes)) says
+      ∙ sym (fill_by_all (path (nodes es)) (paths_of es) (length (nodes es)) [] (sym (counted es)) (λ i h. sym (path_told es shaped i h)))
 
   pub image_permutes : IsPermutation es (listed (contents (image es)).nodes (contents (image es)).values)
   image_permutes = subst (IsPermutation es) (sym image_lists) (nodes_permute es)

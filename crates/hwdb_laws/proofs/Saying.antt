@@ -1,5 +1,5 @@
 -- What is written of a sound draft lists what the draft says.
-use Rattle.std.proofs.Common.{◌≡◌, ℕ, ◌<◌, cond, eqb, List, [], length, map, get_or, refl, sym, ◌∙◌, ap, arith, inl, inr}
+use Rattle.std.proofs.Common.{◌≡◌, ℕ, ◌<◌, cond, eqb, List, length, map, get_or, refl, sym, ◌∙◌, ap, arith, inl, inr}
 use Rattle.std.specs.List.{range_with_len}
 use Rattle.std.proofs.lemmas.Bool.Decides.{eqb_tells}
 use Rattle.std.proofs.lemmas.List.{length-map, get_or-map}
@@ -15,8 +15,7 @@ use Rattle.index_reading.specs.Written.{Draft, IsWritable, SaysDraft, written}
 use Rattle.index_reading.specs.declared.header.Header.{Header}
 use Rattle.index_reading.specs.declared.records.NodeRecord.{NodeRecord}
 use Rattle.index_reading.specs.declared.records.ValueRecord.{ValueRecord}
-use Rattle.trie_core.proofs.Sounding.{no_node, no_value}
-use Rattle.index_reading.proofs.Standing.{written_says}
+use Rattle.index_reading.proofs.Standing.{no_node, no_set, no_value, node_of_draft, set_of_draft, value_of_draft, written_says}
 
 module _ (bytes : List ℕ) (d : Draft) (says : SaysDraft bytes d) (s : IsSound d) where
   node_count : (header_of bytes).nodes ≡ length d.nodes
@@ -28,7 +27,7 @@ module _ (bytes : List ℕ) (d : Draft) (says : SaysDraft bytes d) (s : IsSound 
   -- a label of the draft, which names a set only where there is one
   label_said : (n : NodeRecord) → (n.kind ≡ 4 → n.set < length d.sets) → label_of bytes n ≡ said_label d.sets n
   label_said n within = elim (eqb_tells n.kind 4) [
-    | inl e ↦ ap (λ x. cond (eqb n.kind 1) (Byte n.byte) (cond (eqb n.kind 3) Many (cond (eqb n.kind 4) (Among x) One))) (says.set n.set (record { bits = [] }) (within e.1))
+    | inl e ↦ ap (λ x. cond (eqb n.kind 1) (Byte n.byte) (cond (eqb n.kind 3) Many (cond (eqb n.kind 4) (Among x) One))) (set_of_draft bytes d says n.set no_set (within e.1))
     | inr e ↦ rw e.0 refl
   ]
 
@@ -36,7 +35,7 @@ module _ (bytes : List ℕ) (d : Draft) (says : SaysDraft bytes d) (s : IsSound 
   node_said i h =
       let inside : i < length d.nodes = omega (arith, node_count) in
       let own : NodeRecord = get_or d.nodes i no_node in
-      let read : node bytes i ≡ own = says.node i no_node inside in
+      let read : node bytes i ≡ own = node_of_draft bytes d says i no_node inside in
       let label : label_of bytes own ≡ said_label d.sets own = label_said own (s.labels i no_node inside).a_set in
       get_or-map (said_node d.sets) d.nodes i no_node nowhere inside
       ∙ ap (λ x. record { label = x; first = own.first; count = own.count; first_value = own.first_value; values = own.values }) (sym label)
@@ -46,7 +45,7 @@ module _ (bytes : List ℕ) (d : Draft) (says : SaysDraft bytes d) (s : IsSound 
   value_said j h =
       let inside : j < length d.values = omega (arith, value_count) in
       let own : ValueRecord = get_or d.values j no_value in
-      let read : value bytes j ≡ own = says.value j no_value inside in
+      let read : value bytes j ≡ own = value_of_draft bytes d says j no_value inside in
       get_or-map (said_value d.text) d.values j no_value no_listed inside ∙ rw (read, says.text own.key, says.text own.value, says.text own.file) refl
 
   nodes_len : length (map (said_node d.sets) d.nodes) ≡ (header_of bytes).nodes

@@ -1,4 +1,4 @@
--- Two indexes, byte by byte.
+-- Three indexes, byte by byte.
 use Rattle.std.specs.Prelude.{ℕ, List, ◌∷◌, [], ◌++◌, codes}
 use Rattle.text_core.specs.declared.item.Item.TheVariants.{Byte, Many}
 use Rattle.hwdb_lookup.specs.declared.entry.Entry.{Entry}
@@ -27,3 +27,16 @@ one_entry_index =
     ++ (3 ∷ 0 ∷ 0 ∷ 0 ∷ []) ++ numbers_bytes (0 ∷ 3 ∷ 0 ∷ 0 ∷ 1 ∷ [])
     ++ numbers_bytes (0 ∷ 1 ∷ 1 ∷ 1 ∷ 0 ∷ 2 ∷ 6 ∷ 2 ∷ [])
     ++ codes "KVt.hwdb"
+
+-- ` KEY=V` for `a*`, as an index of version 1 has it: with no file and no line
+abbrev pub bare_entry : Entry
+bare_entry = record { pattern = Byte 97 ∷ Many ∷ []; key = codes "KEY"; value = codes "V"; order = 7; file = []; line = 0 }
+
+abbrev pub bare_entry_index : List ℕ
+bare_entry_index =
+    codes "devdryhw" ++ numbers_bytes (1 ∷ 3 ∷ 1 ∷ 0 ∷ 4 ∷ 0 ∷ [])
+    ++ numbers_bytes (0 ∷ 0 ∷ 1 ∷ 1 ∷ 0 ∷ 0 ∷ [])
+    ++ (1 ∷ 97 ∷ 0 ∷ 0 ∷ []) ++ numbers_bytes (0 ∷ 2 ∷ 1 ∷ 0 ∷ 0 ∷ [])
+    ++ (3 ∷ 0 ∷ 0 ∷ 0 ∷ []) ++ numbers_bytes (0 ∷ 3 ∷ 0 ∷ 0 ∷ 1 ∷ [])
+    ++ numbers_bytes (0 ∷ 3 ∷ 3 ∷ 1 ∷ 7 ∷ [])
+    ++ codes "KEYV"

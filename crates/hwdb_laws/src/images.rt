@@ -1,16 +1,18 @@
 //! What makes the definition of an image believable.
 //!
 //! Each function here has no body, and its contract is a fact about the definitions.
-ghost use Rattle.std.specs.Prelude.{◌≡◌, ◌∷◌, [], List, length};
+ghost use Rattle.std.specs.Prelude.{◌≡◌, ◌∷◌, [], List, length, map};
 ghost use Rattle.std.specs.List.Sorted.{IsPermutation};
 ghost use Rattle.hwdb_lookup.specs.Orders.{Rising};
 ghost use Rattle.hwdb_lookup.specs.declared.entry.Entry.{Entry};
+ghost use Rattle.trie_nodes.specs.Tree.{numbers, path};
 ghost use Rattle.trie_nodes.specs.Values.{listed};
+ghost use Rattle.trie_build.specs.Paths.{paths_of};
 ghost use Rattle.trie_build.specs.Sizes.{KeepsBounds, index_len};
 ghost use Rattle.index_reading.specs.Accepted.{Accepted};
 ghost use Rattle.index_reading.specs.Contents.{contents};
 ghost use Rattle.trie_core.specs.Entries.{AreTyped};
-ghost use Rattle.trie_core.specs.Image.{image};
+ghost use Rattle.trie_core.specs.Image.{by_nodes, image};
 ghost use Rattle.hwdb_laws.specs.Rows.{empty_index, one_entry, one_entry_index};
 
 /// The index of no entry, and that of one, byte by byte.
@@ -22,9 +24,13 @@ pub fn two_images()
 /// The law of images; it does nothing when it is called.
 ///
 /// Of entries whose orders rise and whose keys are not empty, and that keep the bounds of a trie, the
-/// image is an index of the length that the bounds speak of, and what it lists are the entries, each once, with its file and line.
+/// image is an index of the length that the bounds speak of, and what it lists are the entries, each
+/// once, with its file and line. Its nodes have the paths of the entries, in their order; and node by
+/// node it lists the entries that end there, in theirs: so each text stands where its value says.
 pub fn images_are_indexes()
     ensures accepted { (es : List Entry) → Rising es → KeepsBounds es → AreTyped es → Accepted (image es) }
     ensures length { (es : List Entry) → Rising es → KeepsBounds es → AreTyped es → length (image es) ≡ index_len es }
     ensures listed { (es : List Entry) → Rising es → KeepsBounds es → AreTyped es → IsPermutation es (listed (contents (image es)).nodes (contents (image es)).values) }
+    ensures paths { (es : List Entry) → Rising es → KeepsBounds es → AreTyped es → map (path (contents (image es)).nodes) (numbers (contents (image es)).nodes) ≡ paths_of es }
+    ensures in_order { (es : List Entry) → Rising es → KeepsBounds es → AreTyped es → listed (contents (image es)).nodes (contents (image es)).values ≡ by_nodes es }
 {}

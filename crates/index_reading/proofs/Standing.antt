@@ -1,13 +1,14 @@
 -- Where the records of a written index stand.
-use Rattle.std.proofs.Common.{◌≡◌, ℕ, zero, suc, ◌+◌, ◌*◌, ◌<◌, List, [], ◌∷◌, ◌++◌, length, take, drop, get_or, refl, sym, ◌∙◌, ap, arith, flat_map, append_assoc, All, mul-suc, add-zero, length-append}
+use Rattle.std.proofs.Common.{◌≡◌, ℕ, zero, suc, ◌+◌, ◌*◌, ◌<◌, List, [], ◌∷◌, ◌++◌, length, take, drop, get_or, refl, sym, ◌∙◌, ap, arith, flat_map, append_assoc, All, mul-suc, add-zero, zero-add, length-append}
 use Rattle.std.proofs.Math.Seq.{drop-append-add}
 use Rattle.std.proofs.lemmas.List.{drop-drop, get_or-drop, take_at}
+use Rattle.std.proofs.lemmas.List.FromFn.{fill_by_all, get_or-map-range_with_len}
 use Rattle.byteorder.specs.Numbers.{little_number-reads_back}
 use Rattle.text_core.specs.declared.byte_set.ByteSet.{ByteSet}
 use Rattle.index_reading.specs.Numbers.{number_at, number_bytes}
 use Rattle.hwdb_lookup.specs.Bounds.{value_len}
 use Rattle.index_reading.specs.Header.{header_bytes, header_of, text_start, whole_len}
-use Rattle.index_reading.specs.Records.{node_at, node_bytes, span_at, value_at, value_bytes, node, value, set, set_bytes, text_of, value_start, set_start}
+use Rattle.index_reading.specs.Records.{no_span, node_at, node_bytes, span_at, value_at, value_bytes, node, value, set, set_bytes, text_of, value_start, set_start}
 use Rattle.index_reading.specs.Written.{Draft, SaysDraft, IsWritable, draft_header, written, written_nodes, written_values, written_sets}
 use Rattle.index_reading.specs.declared.header.Header.{Header}
 use Rattle.index_reading.specs.declared.records.NodeRecord.{NodeRecord}
@@ -220,12 +221,33 @@ module _ (d : Draft) (w : IsWritable d) where
         text_written,
       )
 
+-- records, for numbers that none has
+abbrev pub no_node : NodeRecord
+no_node = record { kind = 0; byte = 0; first_zero = 0; second_zero = 0; set = 0; first = 0; count = 0; first_value = 0; values = 0 }
+
+abbrev pub no_value : ValueRecord
+no_value = record { key = no_span; value = no_span; order = 0; file = no_span; line = 0 }
+
+abbrev pub no_set : ByteSet
+no_set = record { bits = [] }
+
 pub written_says : (d : Draft) → IsWritable d → SaysDraft (written d) d
 written_says d w = record {
   header = header_written d w;
   whole = whole_written d w;
-  node = node_written d w;
-  value = value_written d w;
-  set = set_written d w;
+  nodes = sym (fill_by_all (node (written d)) d.nodes (length d.nodes) no_node refl (λ i h. sym (node_written d w i no_node h)));
+  values = sym (fill_by_all (value (written d)) d.values (length d.values) no_value refl (λ j h. sym (value_written d w j no_value h)));
+  sets = sym (fill_by_all (set (written d)) d.sets (length d.sets) no_set refl (λ s h. sym (set_written d w s no_set h)));
   text = text_part d w;
 }
+
+-- what the bytes say, record by record
+module _ (bytes : List ℕ) (d : Draft) (says : SaysDraft bytes d) where
+  pub node_of_draft : (i : ℕ) (n : NodeRecord) → i < length d.nodes → node bytes i ≡ get_or d.nodes i n
+  node_of_draft i n h = sym (get_or-map-range_with_len (node bytes) 0 (length d.nodes) i i n h (zero-add i)) ∙ ap (λ (l : List NodeRecord). get_or l i n) says.nodes
+
+  pub value_of_draft : (j : ℕ) (v : ValueRecord) → j < length d.values → value bytes j ≡ get_or d.values j v
+  value_of_draft j v h = sym (get_or-map-range_with_len (value bytes) 0 (length d.values) j j v h (zero-add j)) ∙ ap (λ (l : List ValueRecord). get_or l j v) says.values
+
+  pub set_of_draft : (s : ℕ) (e : ByteSet) → s < length d.sets → set bytes s ≡ get_or d.sets s e
+  set_of_draft s e h = sym (get_or-map-range_with_len (set bytes) 0 (length d.sets) s s e h (zero-add s)) ∙ ap (λ (l : List ByteSet). get_or l s e) says.sets

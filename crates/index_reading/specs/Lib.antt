@@ -6,3 +6,4 @@ pub mod Header
 pub mod Accepted
 pub mod Framed
 pub mod Contents
+pub mod FaultTexts

@@ -1,5 +1,6 @@
 -- An index as it is written: version 2.
-use Rattle.std.specs.Prelude.{ℕ, ◌<◌, ◌≡◌, List, ◌++◌, length, take, drop, slice_index_or, flat_map, All}
+use Rattle.std.specs.Prelude.{ℕ, ◌≡◌, List, ◌++◌, length, map, take, drop, flat_map, All}
+use Rattle.std.specs.List.{range_with_len}
 use Rattle.text_core.specs.declared.byte_set.ByteSet.{ByteSet}
 use Rattle.hwdb_lookup.specs.Bounds.{second_version, set_len}
 use Rattle.index_reading.specs.Header.{header_bytes, header_of, whole_len}
@@ -71,11 +72,11 @@ pub record IsWritable (d : Draft) : Type 0 where
   pub few_sets : IsSmall (length d.sets)
   pub short : IsSmall (length d.text)
 
--- The bytes of an index say what a draft says: its records, by number, and the parts of its text.
+-- The bytes of an index say what a draft says: its records, one behind another, and the parts of its text.
 pub record SaysDraft (bytes : List ℕ) (d : Draft) : Type 0 where
   pub header : header_of bytes ≡ draft_header d
   pub whole : length bytes ≡ whole_len (header_of bytes)
-  pub node : (i : ℕ) (n : NodeRecord) → i < length d.nodes → node bytes i ≡ slice_index_or d.nodes i n
-  pub value : (j : ℕ) (v : ValueRecord) → j < length d.values → value bytes j ≡ slice_index_or d.values j v
-  pub set : (s : ℕ) (e : ByteSet) → s < length d.sets → set bytes s ≡ slice_index_or d.sets s e
+  pub nodes : map (node bytes) (range_with_len 0 (length d.nodes)) ≡ d.nodes
+  pub values : map (value bytes) (range_with_len 0 (length d.values)) ≡ d.values
+  pub sets : map (set bytes) (range_with_len 0 (length d.sets)) ≡ d.sets
   pub text : (s : Span) → text_of bytes s ≡ take s.len (drop s.place d.text)

@@ -9,3 +9,4 @@ pub mod Places
 pub mod Style
 pub mod Gathering
 pub mod Rules
+pub mod FaultTexts

@@ -5,3 +5,4 @@ pub mod Braces
 pub mod Number
 pub mod Grammar
 pub mod Faults
+pub mod FaultTexts

@@ -1,6 +1,8 @@
 //! Why a text is no template.
 
 use std::alloc::{AllocError, AllocFailed};
+use std::error::Error;
+use std::fmt;
 
 /// Why a text is no template: the first fault from the left.
 #[derive(Clone, Copy, Debug, PartialEq, Eq, Drop)]
@@ -11,9 +13,27 @@ pub enum TemplateFault {
     Brace,
     /// 3: the braces after `$result` or `%c` hold neither N nor N+, with N from 1 to 65535.
     Number,
-    /// 4: want of memory.
+    /// 4: memory was refused.
     Memory,
 }
+
+impl fmt::Display for TemplateFault {
+    ghost use Rattle.std.specs.Prelude.{Some};
+    ghost use Rattle.rule_templates.specs.FaultTexts.{fault_text};
+
+    ghost output = { λ fault. Some (fault_text fault) };
+
+    fn fmt<W: fmt::Write>(&self, f: &mut fmt::Formatter<W>) -> fmt::Result {
+        f.write_str(match self {
+            TemplateFault::Unknown => "unknown substitution",
+            TemplateFault::Brace => "name in braces expected",
+            TemplateFault::Number => "word number expected",
+            TemplateFault::Memory => "out of memory",
+        })
+    }
+}
+
+impl Error for TemplateFault {}
 
 impl From<AllocError> for TemplateFault {
     ghost use Rattle.std.specs.Prelude.{◌≡◌};

@@ -5,3 +5,4 @@ pub mod Lines
 pub mod Prefixes
 pub mod Grammar
 pub mod Values
+pub mod FaultTexts

@@ -1,6 +1,9 @@
 //! The small types of a token: its operator, how its value is quoted, where it lies, and why a part
 //! of a line is none.
 
+use std::error::Error;
+use std::fmt;
+
 /// What is done with a key.
 #[derive(Clone, Copy, Debug, PartialEq, Eq)]
 pub enum Operator {
@@ -58,11 +61,25 @@ pub struct Span {
 /// Why a part of a line is no token.
 #[derive(Clone, Copy, Debug, PartialEq, Eq)]
 pub enum TokenFaultKind {
-    /// It doesn't follow the syntax of a token.
+    /// 1: it doesn't follow the syntax of a token.
     Syntax,
-    /// It is right up to its value, but the letters before the `"` are no prefix, or none that may
+    /// 2: it is right up to its value, but the letters before the `"` are no prefix, or none that may
     /// stand behind this operator.
     Prefix,
+}
+
+impl fmt::Display for TokenFaultKind {
+    ghost use Rattle.std.specs.Prelude.{Some};
+    ghost use Rattle.rule_tokens.specs.FaultTexts.{kind_text};
+
+    ghost output = { λ kind. Some (kind_text kind) };
+
+    fn fmt<W: fmt::Write>(&self, f: &mut fmt::Formatter<W>) -> fmt::Result {
+        f.write_str(match self {
+            TokenFaultKind::Syntax => "bad syntax",
+            TokenFaultKind::Prefix => "bad quote prefix",
+        })
+    }
 }
 
 /// The first part of a line that is no token.
@@ -73,3 +90,16 @@ pub struct TokenFault {
     /// What is wrong with it.
     pub kind: TokenFaultKind,
 }
+
+impl fmt::Display for TokenFault {
+    ghost use Rattle.std.specs.Prelude.{Some};
+    ghost use Rattle.rule_tokens.specs.FaultTexts.{fault_text};
+
+    ghost output = { λ fault. Some (fault_text fault) };
+
+    fn fmt<W: fmt::Write>(&self, f: &mut fmt::Formatter<W>) -> fmt::Result {
+        write!(f, "{} at byte {}", self.kind, self.at)
+    }
+}
+
+impl Error for TokenFault {}

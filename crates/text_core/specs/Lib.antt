@@ -4,3 +4,4 @@ pub mod Sets
 pub mod Choices
 pub mod Spell
 pub mod Items
+pub mod FaultTexts

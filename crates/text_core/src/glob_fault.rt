@@ -1,21 +1,40 @@
 //! Why a text is no pattern.
 
 use std::alloc::{AllocError, AllocFailed};
+use std::error::Error;
+use std::fmt;
 
 /// Why a text is no pattern, or no choice.
 #[derive(Clone, Copy, Debug, PartialEq, Eq, Drop)]
 pub enum GlobFault {
-    /// A class, as in `[[:digit:]]`, which is not supported: among the members of a set a `[` stands
+    /// 1: a class, as in `[[:digit:]]`, which is not supported: among the members of a set a `[` stands
     /// directly before `:`, `.` or `=`.
     Class {
         /// The place of that inner `[` in the text that was handed in, counted from 0.
         at: usize,
     },
-    /// The text has more than 16,384 bytes. It comes before all else.
+    /// 2: the text has more than 16,384 bytes. It comes before all else.
     TooLong,
-    /// A growth was refused.
+    /// 3: memory was refused.
     Memory,
 }
+
+impl fmt::Display for GlobFault {
+    ghost use Rattle.std.specs.Prelude.{Some};
+    ghost use Rattle.text_core.specs.FaultTexts.{fault_text};
+
+    ghost output = { λ fault. Some (fault_text fault) };
+
+    fn fmt<W: fmt::Write>(&self, f: &mut fmt::Formatter<W>) -> fmt::Result {
+        match self {
+            GlobFault::Class { at } => write!(f, "class not supported at byte {at}"),
+            GlobFault::TooLong => f.write_str("pattern too long"),
+            GlobFault::Memory => f.write_str("out of memory"),
+        }
+    }
+}
+
+impl Error for GlobFault {}
 
 impl From<AllocError> for GlobFault {
     ghost use Rattle.std.specs.Prelude.{◌≡◌};

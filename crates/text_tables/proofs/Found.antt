@@ -2,7 +2,7 @@
 use Rattle.std.proofs.Common.{◌≡◌, Bool, true, false, List, [], ◌∷◌, ◌++◌, ◌||◌, ◌&&◌, not, Option, Some, None, is_some, cond, refl, ap, sym, ◌∙◌, true≢false}
 use Rattle.std.specs.Cmp.Lexicographic.{bytes_decides}
 use Rattle.text_tables.specs.Texts.{Text, same_text, is_among, with_text, without_text}
-use Rattle.text_tables.specs.Pairs.{named, value_of, with_value, without_name}
+use Rattle.text_tables.specs.Pairs.{names, named, value_of, with_value, without_name}
 
 is_same : (a b : Text) → same_text a b ≡ true → a ≡ b
 is_same a b h = (bytes_decides a b).0 h
@@ -34,6 +34,14 @@ among_added texts text other = by (is_among texts text) refl
     by : (b : Bool) → is_among texts text ≡ b → is_among (cond b texts (texts ++ text ∷ [])) other ≡ (is_among texts other || same_text other text)
     by true h = or_there (same_text other text) (is_among texts other) (λ e. ap (is_among texts) (is_same other text e) ∙ h)
     by false h = among_behind texts text other
+
+-- a text that is new stands behind the others
+pub text_behind : (texts : List Text) (text : Text) → is_among texts text ≡ false → with_text texts text ≡ texts ++ text ∷ []
+text_behind texts text new = ap (λ b. cond b texts (texts ++ text ∷ [])) new
+
+-- a text that is there changes nothing
+pub text_there : (texts : List Text) (text : Text) → is_among texts text ≡ true → with_text texts text ≡ texts
+text_there texts text there = ap (λ b. cond b texts (texts ++ text ∷ [])) there
 
 gone : (texts : List Text) (text : Text) → is_among (without_text texts text) text ≡ false
 gone [] text = refl
@@ -112,6 +120,15 @@ module _ {V : Type 0} where
       by : (b : Bool) → (b || named ps name) ≡ false → (named ps name ≡ false → with_value ps name value ≡ ps ++ (name, value) ∷ []) → cond b ((p.0, value) ∷ ps) (p ∷ with_value ps name value) ≡ p ∷ (ps ++ (name, value) ∷ [])
       by true new more = cc
       by false new more = ap (λ qs. p ∷ qs) (more new)
+
+  -- a name that is there takes another value in its place
+  pub set_in_place : (pairs : List (Text × V)) (name : Text) (value : V) → named pairs name ≡ true → names (with_value pairs name value) ≡ names pairs
+  set_in_place [] name value there = cc
+  set_in_place (p ∷ ps) name value there = by (same_text name p.0) there (set_in_place ps name value)
+    where
+      by : (b : Bool) → (b || named ps name) ≡ true → (named ps name ≡ true → names (with_value ps name value) ≡ names ps) → names (cond b ((p.0, value) ∷ ps) (p ∷ with_value ps name value)) ≡ p.0 ∷ names ps
+      by true there more = refl
+      by false there more = ap (λ ns. p.0 ∷ ns) (more there)
 
   -- a name is there where it has a value
   pub named_is : (pairs : List (Text × V)) (name : Text) → named pairs name ≡ is_some (value_of pairs name)

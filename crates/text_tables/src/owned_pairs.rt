@@ -33,6 +33,21 @@ impl OwnedPairs {
         }
     }
 
+    /// The names and values of a map, without a copy.
+    pub fn from_map(held: IndexMap<Vec<u8>, Bytes>) -> OwnedPairs
+        ensures { result ≡ map (λ e. (e.0.items, e.1)) held.entries }
+    {
+        OwnedPairs { held }
+    }
+
+    /// Gives the map back.
+    pub fn into_map(self) -> IndexMap<Vec<u8>, Bytes>
+        ensures { map (λ e. (e.0.items, e.1)) result.entries ≡ self }
+    {
+        let OwnedPairs { held } = self;
+        held
+    }
+
     /// How many names there are; none is there twice.
     pub fn len(&self) -> usize
         ensures count { result ≡ length self.now }

@@ -31,6 +31,28 @@ impl OwnedTexts {
         }
     }
 
+    /// The texts of a set, without a copy.
+    pub fn from_set(held: IndexSet<Vec<u8>>) -> OwnedTexts
+        ensures { result ≡ map (λ k. k.items) held.keys }
+    {
+        OwnedTexts { held }
+    }
+
+    /// Gives the set back.
+    pub fn into_set(self) -> IndexSet<Vec<u8>>
+        ensures { map (λ k. k.items) result.keys ≡ self }
+    {
+        let OwnedTexts { held } = self;
+        held
+    }
+
+    /// Lends the set, whose order is that of the texts.
+    pub fn as_set(&self) -> &IndexSet<Vec<u8>>
+        ensures { map (λ k. k.items) result.now.keys ≡ self.now }
+    {
+        &self.held
+    }
+
     /// Lends the texts, in their order; none is there twice.
     pub fn as_slice(&self) -> &[Vec<u8>]
         ensures texts { map (λ k. k.items) result.now ≡ self.now }

@@ -9,3 +9,4 @@ pub mod Building
 pub mod Shown
 pub mod Fronts
 pub mod Rows
+pub mod FaultTexts

@@ -23,7 +23,7 @@ use Rattle.index_reading.specs.Written.{draft_header, written}
 use Rattle.index_reading.specs.declared.records.NodeRecord.{NodeRecord}
 use Rattle.trie_core.specs.Image.{all_names, all_texts, as_set, by_nodes, child_count, draft_of, image, image_node, image_text, label_byte, label_kind, label_set, path_kind, value_count}
 use Rattle.trie_core.proofs.Imaging.{node_is, nodes_len, value_is, values_len}
-use Rattle.trie_core.proofs.Sounding.{no_node, no_value}
+use Rattle.index_reading.proofs.Standing.{no_node, no_value}
 use Rattle.trie_core.proofs.Spelling.{behind_root, root_path, set_there}
 use Rattle.trie_core.specs.Writing.{node_record, node_records, value_record, value_records}
 use Rattle.trie_core.proofs.Counting.{child_count_is}

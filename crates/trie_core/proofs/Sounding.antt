@@ -9,20 +9,8 @@ use Rattle.index_reading.specs.Written.{Draft, IsWritable, SaysDraft, written}
 use Rattle.index_reading.specs.declared.fault.IndexFault.TheVariants.{Short, Magic, Version, Size, Shape, Label, Text, Order}
 use Rattle.index_reading.specs.declared.header.Header.{Header}
 use Rattle.index_reading.specs.declared.records.NodeRecord.{NodeRecord}
-use Rattle.index_reading.specs.declared.records.ValueRecord.{ValueRecord}
-use Rattle.index_reading.specs.declared.records.Span.{Span}
-use Rattle.index_reading.proofs.Standing.{written_says}
+use Rattle.index_reading.proofs.Standing.{no_node, no_value, node_of_draft, value_of_draft, written_says}
 use Rattle.index_reading.proofs.CheckSums.{children_more, values_more, values_within}
-
--- for numbers that no record has
-abbrev pub no_node : NodeRecord
-no_node = record { kind = 0; byte = 0; first_zero = 0; second_zero = 0; set = 0; first = 0; count = 0; first_value = 0; values = 0 }
-
-abbrev no_span : Span
-no_span = record { place = 0; len = 0 }
-
-abbrev pub no_value : ValueRecord
-no_value = record { key = no_span; value = no_span; order = 0; file = no_span; line = 0 }
 
 -- where some bytes say what a draft says
 module _ (bytes : List ℕ) (d : Draft) (says : SaysDraft bytes d) where
@@ -39,7 +27,7 @@ module _ (bytes : List ℕ) (d : Draft) (says : SaysDraft bytes d) where
   text_len = ap (λ (h : Header). h.text) says.header
 
   own : (i : ℕ) → i < length d.nodes → node bytes i ≡ get_or d.nodes i no_node
-  own i h = says.node i no_node h
+  own i h = node_of_draft bytes d says i no_node h
 
   children_are : (i : ℕ) → i ≤ length d.nodes → children_before bytes i ≡ first_children d i
   children_are zero h = refl
@@ -79,7 +67,7 @@ module _ (bytes : List ℕ) (d : Draft) (says : SaysDraft bytes d) where
     with_texts : (j : ℕ) → j < (header_of bytes).values → HasTexts ((header_of bytes).text) (value bytes j)
     with_texts j h =
         let inside : j < length d.values = omega (arith, value_count) in
-        rw (text_len, says.value j no_value inside) (s.texts j no_value inside)
+        rw (text_len, value_of_draft bytes d says j no_value inside) (s.texts j no_value inside)
 
     shaped : HasShape bytes
     shaped = record {
@@ -96,7 +84,7 @@ module _ (bytes : List ℕ) (d : Draft) (says : SaysDraft bytes d) where
         let next : j + 1 < length d.values = omega (arith, value_count) in
         let from : (get_or d.nodes i no_node).first_value ≤ j = rw (own i inside) at low in
         let to : j + 1 < (get_or d.nodes i no_node).first_value + (get_or d.nodes i no_node).values = rw (own i inside) at high in
-        rw (says.value j no_value here, says.value (j + 1) no_value next) (s.orders i j no_node no_value inside from to)
+        rw (value_of_draft bytes d says j no_value here, value_of_draft bytes d says (j + 1) no_value next) (s.orders i j no_node no_value inside from to)
 
     pub accepted : Accepted bytes
     accepted Short = short

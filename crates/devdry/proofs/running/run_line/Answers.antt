@@ -11,8 +11,9 @@ returns-in-Ok g c =
       files = inputs.files.items;
       index = inputs.index;
       are_read = c.in-Ok.ensures.inputs;
-      over = subst (λ index. RunsOver c.args.line.now inputs.files.items index c.serve.result (g.I.Source.shown c.args.input.now) (g.I.Source.shown c.serve.new.input)
-          (g.W.Sink.shown c.args.output.now) (g.W.Sink.shown c.serve.new.output) (g.E.Sink.shown c.args.error.now) (g.E.Sink.shown c.serve.new.error)) lent c.serve.ensures.runs;
+      over = subst (λ index. RunsOver c.args.line.now inputs.files.items index c.serve.result
+          (record { input = g.I.Source.shown c.args.input.now; out = g.W.Sink.shown c.args.output.now; err = g.E.Sink.shown c.args.error.now })
+          (record { input = g.I.Source.shown c.serve.new.input; out = g.W.Sink.shown c.serve.new.output; err = g.E.Sink.shown c.serve.new.error })) lent c.serve.ensures.runs;
     })
 
 pub returns-in-Err : goal.returns-in-Err

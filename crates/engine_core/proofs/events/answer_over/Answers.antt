@@ -1,4 +1,4 @@
-use Rattle.std.proofs.Common.{IfErr, subst}
+use Rattle.std.proofs.Common.{IfErr, refl, subst}
 use Rattle.engine_reports.specs.Reports.{IsRefused}
 use Rattle.engine_core.proofs.Running.{refused_runs}
 use Rattle.engine_core.proofs.events.answer_over.Goals as goal
@@ -6,4 +6,4 @@ use Rattle.engine_core.proofs.events.answer_over.Goals as goal
 pub returns-in-Err : goal.returns-in-Err
 returns-in-Err g c opened is_opened is_refused =
     let refused = subst (λ t. IfErr t (λ e. IsRefused e opened)) c.in-Err.is is_refused in
-    refused_runs c.in-Err.refusal opened _ _ _ _ _ _ refused c.deliver_refusal.ensures.delivers c.deliver_refusal.ensures.faults c.deliver_refusal.ensures.memory
+    refused_runs c.in-Err.refusal opened _ _ _ refused c.deliver_refusal.ensures.delivers c.deliver_refusal.ensures.faults c.deliver_refusal.ensures.memory refl

@@ -3,4 +3,4 @@ use Rattle.engine_sessions.proofs.behind.answer_behind.Goals as goal
 
 pub returns-clause-serves : goal.returns-clause-serves
 returns-clause-serves g c =
-    answers_serve c.args.messages.now (g.A.Answering.answers c.args.answering.now) _ _ _ _ _ _ _ c.answer_in_steps.ensures
+    answers_serve c.args.messages.now (g.A.Answering.answers c.args.answering.now) _ _ _ c.answer_in_steps.ensures

@@ -23,7 +23,7 @@ pub loop-made-preserved : goal.loop-made-preserved
 loop-made-preserved g c =
     let s = c.loop-made.invariant in
     let turn = subst (λ a. Turns (g.A.Answering.answers a) true c.loop-made.session c.turn.new.session (g.R.Source.shown c.loop-made.input) (g.R.Source.shown c.turn.new.input) (g.W.Sink.shown c.loop-made.output) (g.W.Sink.shown c.turn.new.output)) s.answering (rw c.in-Ok-true.field-0-test at c.in-Ok-true.ensures.ok) in
-    served_more (g.A.Answering.answers c.args.session.now.answering) c.args.session.now c.loop-made.session c.turn.new.session _ _ _ _ _ _ c.loop-made._made s turn
+    served_more (g.A.Answering.answers c.args.session.now.answering) c.args.session.now c.loop-made.session c.turn.new.session _ _ _ _ _ _ c.loop-made._made s turn c.turn.ensures.fits
 
 pub returns : goal.returns
 returns g c =

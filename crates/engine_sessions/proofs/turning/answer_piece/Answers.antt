@@ -2,7 +2,7 @@ use Rattle.std.proofs.Common.{arith, subst, take, drop, true}
 use Rattle.std.proofs.lemmas.Grind.{common_steps}
 use Rattle.std.proofs.lemmas.List.{take-append-drop}
 use Rattle.engine_sessions.specs.Sessions.{Takes}
-use Rattle.engine_sessions.proofs.TurnLemmas.{sent-more, sent-fails, sent-breaks, answering_is, rest_of_slice, part_more}
+use Rattle.engine_sessions.proofs.TurnLemmas.{ended_by, going_on, sent-more, sent-fails, sent-breaks, answering_is, rest_of_slice, part_more}
 use Rattle.engine_sessions.proofs.turning.answer_piece.Goals as goal
 
 pub returns-in-Err-clause-err : goal.returns-in-Err-clause-err
@@ -33,3 +33,8 @@ loop-used-preserved g c =
       within = grind (arith, common_steps);
       sent = rw part_more at (sent-more (g.A.Answering.answers c.args.session.now.answering) c.args.session.now c.loop-used.session c.take.new.self (take c.loop-used.used c.args.piece.now) (drop c.loop-used.used c.args.piece.now) c.in-Ok.step _ _ _ sent takes c.in-Ok-send.ensures.ok);
     }
+
+pub returns-in-Err-clause-ended : goal.returns-in-Err-clause-ended
+returns-in-Err-clause-ended g c =
+    let sent = c.loop-used.invariant.sent in
+    ended_by c.in-Err.fault c.args.session.now c.loop-used.session c.take.new.self _ (answering_is _ _ _ _ _ _ sent) (going_on _ _ _ _ _ _ sent) c.in-Err.ensures.err

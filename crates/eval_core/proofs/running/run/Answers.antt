@@ -7,7 +7,7 @@ use Rattle.eval_rules.specs.Steps.{Went, apply}
 use Rattle.eval_core.specs.Marks.{marks}
 use Rattle.eval_core.proofs.Coursing.{foretold_so}
 use Rattle.eval_core.proofs.Skipping.{run_behind, run_end}
-use Rattle.eval_core.proofs.Staying.{event_stays}
+use Rattle.eval_rules.proofs.Staying.{event_stays}
 use Rattle.eval_core.proofs.running.run.Goals as goal
 
 pub loop-place-init : goal.loop-place-init

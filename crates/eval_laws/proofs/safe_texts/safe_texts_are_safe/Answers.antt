@@ -1,6 +1,6 @@
 use Rattle.std.proofs.Common.{refl}
 use Rattle.eval_rendering.specs.Safe.{attribute_marks, link_marks}
-use Rattle.eval_laws.proofs.Staying.{safe-is_safe}
+use Rattle.eval_laws.proofs.SafeBytes.{safe-is_safe}
 use Rattle.eval_laws.proofs.safe_texts.safe_texts_are_safe.Goals as goal
 
 pub returns-clause-link : goal.returns-clause-link

@@ -4,4 +4,7 @@ use Rattle.eval_rules.specs.Steps.{walk}
 use Rattle.eval_rules.proofs.steps.act_all.Given as goal
 
 abbrev pub invariant-loop-part : goal.invariant-loop-part
-invariant-loop-part g l = walk (act_step (g.L.Lookup.entries l.lookup) l.rule) (drop l.part-index l.parts) l.scene ≡ walk (act_step (g.L.Lookup.entries l.fn.lookup) l.fn.rule) l.fn.parts l.fn.scene
+invariant-loop-part g l = record {
+  walks : walk (act_step (g.L.Lookup.entries l.lookup) l.rule) (drop l.part-index l.parts) l.scene ≡ walk (act_step (g.L.Lookup.entries l.fn.lookup) l.fn.rule) l.fn.parts l.fn.scene;
+  event : l.scene.state.event ≡ l.fn.scene.state.event;
+}

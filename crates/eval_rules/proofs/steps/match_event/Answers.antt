@@ -3,17 +3,20 @@ use Rattle.eval_rules.specs.Steps.{plain_step}
 use Rattle.eval_rules.proofs.Walks.{walk_on, walk_stop, walk_end}
 use Rattle.eval_rules.proofs.steps.match_event.Goals as goal
 
-pub returns-then-not-branch : goal.returns-then-not-branch
-returns-then-not-branch c =
+pub returns-then-not-branch-clause-scene : goal.returns-then-not-branch-clause-scene
+returns-then-not-branch-clause-scene c =
     walk_stop (plain_step c.args.rule.now) c.args.parts.now c.loop-part.part-index c.part-item.result c.loop-part.scene c.plain_step.new.scene c.in_ok-plain_step.field-0
-    c.loop-part-test.true c.part-item.is c.in_ok-plain_step.ensures c.if-not-branch.true
-    ∙ c.loop-part.invariant
+    c.loop-part-test.true c.part-item.is c.in_ok-plain_step.ensures.scene c.if-not-branch.true
+    ∙ c.loop-part.invariant.walks
 
 pub loop-part-preserved : goal.loop-part-preserved
-loop-part-preserved c =
-    walk_on (plain_step c.args.rule.now) c.args.parts.now c.loop-part.part-index c.part-item.result c.loop-part.scene c.plain_step.new.scene c.in_ok-plain_step.field-0
-    c.loop-part-test.true c.part-item.is c.in_ok-plain_step.ensures c.if-not-branch.false
-    ∙ c.loop-part.invariant
+loop-part-preserved c = record {
+  walks =
+      walk_on (plain_step c.args.rule.now) c.args.parts.now c.loop-part.part-index c.part-item.result c.loop-part.scene c.plain_step.new.scene c.in_ok-plain_step.field-0
+      c.loop-part-test.true c.part-item.is c.in_ok-plain_step.ensures.scene c.if-not-branch.false
+      ∙ c.loop-part.invariant.walks;
+  event = c.plain_step.ensures.event ∙ c.loop-part.invariant.event;
+}
 
-pub returns : goal.returns
-returns c = walk_end (plain_step c.args.rule.now) c.args.parts.now c.loop-part.part-index c.loop-part.scene c.loop-part-test.false ∙ c.loop-part.invariant
+pub returns-clause-scene : goal.returns-clause-scene
+returns-clause-scene c = walk_end (plain_step c.args.rule.now) c.args.parts.now c.loop-part.part-index c.loop-part.scene c.loop-part-test.false ∙ c.loop-part.invariant.walks

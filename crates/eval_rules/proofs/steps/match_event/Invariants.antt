@@ -3,4 +3,7 @@ use Rattle.eval_rules.specs.Steps.{plain_step, walk}
 use Rattle.eval_rules.proofs.steps.match_event.Given as goal
 
 abbrev pub invariant-loop-part : goal.invariant-loop-part
-invariant-loop-part l = walk (plain_step l.rule) (drop l.part-index l.parts) l.scene ≡ walk (plain_step l.fn.rule) l.fn.parts l.fn.scene
+invariant-loop-part l = record {
+  walks : walk (plain_step l.rule) (drop l.part-index l.parts) l.scene ≡ walk (plain_step l.fn.rule) l.fn.parts l.fn.scene;
+  event : l.scene.state.event ≡ l.fn.scene.state.event;
+}

@@ -2,4 +2,4 @@ use Rattle.text_tables.proofs.Found.{set_behind}
 use Rattle.text_tables.proofs.laws.new_names_stand_last.Goals as goal
 
 pub returns : goal.returns
-returns c = set_behind
+returns g c = set_behind

@@ -7,5 +7,6 @@ pub returns-clause-gives : goal.returns-clause-gives
 returns-clause-gives c = record {
   pieces = grind (arith, common_steps, cuts-append);
   left = grind (arith, common_steps, given-is);
+  reads = search rules;
   well = search rules;
 }

@@ -1,0 +1,174 @@
+"""The most expensive inputs of each kind that were found: what each takes, and what ten times as much of one thing in it
+takes. That has to be ten times as much, more or less: a case that takes more than fifteen times as much goes wrong. Where
+the definition itself compares all with all, its square is let through, and the case says so.
+
+usage: worst_inputs.py PROGRAM [WORD]    WORD: only the cases whose names have it
+"""
+import os
+import struct
+import sys
+import tempfile
+from collections import namedtuple
+
+from timing import Run, take
+
+# What a case is: its name, how much of a thing it has, who makes a run of so much, and how many times as much ten times
+# as much may take. A run is the words of a command, its files by name, and its input.
+Case = namedtuple("Case", "name count make most", defaults=(15,))
+
+# Below so many seconds a run is all start and end.
+SHORT = 0.2
+
+DEVICE = "C: add\nP: /a\n"
+LONG = "a" * 60_000
+
+
+def events(rules, block=DEVICE, **files):
+    """Rules over blocks; the files of a folder `none` are the database."""
+    return ["events", "-r", "none", "r.rules"], {"r.rules": rules, **files}, block
+
+
+def verify(rules):
+    return ["verify", "r.rules"], {"r.rules": rules}, ""
+
+
+def query(text, modalias="m"):
+    return ["query", modalias, "t.hwdb"], {"t.hwdb": text}, ""
+
+
+def line(token):
+    """A rule of as many of a token as a line holds."""
+    return ", ".join([token] * (16_384 // (len(token) + 2))) + "\n"
+
+
+def text_of(piece):
+    """A property that is set to as many of a substitution as a line holds."""
+    return 'ENV{X}="' + piece * (16_300 // len(piece)) + '"\n'
+
+
+def each(template, count):
+    """A text for each number."""
+    return "".join(template.replace("#", str(number)) for number in range(count))
+
+
+def chain(lines, first=""):
+    """The 64 devices of a chain, each with these lines."""
+    return "C: add\n" + "".join(f"P: {'/a' * (64 - above)}\n{lines}{first if above == 0 else ''}" for above in range(64))
+
+
+def full(template):
+    """A block of 65,000 bytes of lines with a number each."""
+    return DEVICE + each(template, 65_000 // (len(template) + 4)) + "\n"
+
+
+def falling(count):
+    """An index of one node with properties whose keys fall."""
+    keys = b"".join(b"%07d" % number for number in range(count, 0, -1))
+    node = struct.pack("<BBHIIIII", 0, 0, 0, 0, 1, 1, 0, 0) + struct.pack("<BBHIIIII", 3, 0, 0, 0, 2, 0, 0, count)
+    values = b"".join(struct.pack("<IIIII", 7 * number, 7, 0, 0, number) for number in range(count))
+    return b"devdryhw" + struct.pack("<IIIIII", 1, 2, count, 0, len(keys), 0) + node + values + keys
+
+
+STARS = "".join(f"{'*' * count}b\n A=1\n\n" for count in range(1, 50))
+
+RENDERING = [
+    Case("lines of words behind the end of a result", 3,
+         lambda n: events('PROGRAM="p"\n' + text_of("%c{65535}") * n, DEVICE + "Q: p\nR: 0 " + "a " * 100 + "\n")),
+    Case("lines of a long attribute", 2, lambda n: events(text_of("$attr{x}") * n, f"{DEVICE}A: x={LONG}\n")),
+    Case("lines of a long property, in a link", 2,
+         lambda n: events(text_of("$env{x}").replace("ENV{X}", "SYMLINK+") * n, f"{DEVICE}E: x={LONG}\n")),
+    Case("lines of a link of bytes that begin UTF-8", 300,
+         lambda n: events('SYMLINK+="%E{x}"\n' * n, DEVICE.encode() + b"E: x=" + b"\xf0" * 16_384 + b"\n")),
+    Case("lines of short substitutions", 30, lambda n: events(text_of("%k") * n)),
+    Case("links, each asked for all before it", 1_000, lambda n: events(each('SYMLINK+="l#", ENV{X}="$links"\n', n))),
+    Case("commands of different texts", 2_000, lambda n: events(each('RUN+="c#"\n', n))),
+]
+
+RULES = [
+    Case("jumps to labels behind them all", 10_000, lambda n: verify(each('GOTO="l#"\n', n) + each('LABEL="l#"\n', n))),
+    Case("labels of no jump, and jumps to none", 10_000, lambda n: verify(each('LABEL="a#"\nGOTO="b#"\n', n))),
+    Case("lines of assignments", 20, lambda n: events(line('TAG="a"') * n)),
+    Case("lines of one long set", 20, lambda n: verify(f'KERNEL=="[{LONG[:16_360]}]"\n' * n)),
+    Case("lines of brackets that are not closed", 3, lambda n: verify(f'KERNEL=="{"[" * 16_370}"\n' * n)),
+    Case("lines of tokens without a comma", 20, lambda n: verify(('TAG="a"' * 2_300 + "\n") * n)),
+    Case("lines that continue one", 100_000, lambda n: verify("a\\\n" * n)),
+    Case("bytes of a line", 1_000_000, lambda n: verify('"' * n)),
+    Case("messages", 10_000, lambda n: verify("x\n" * n)),
+    Case("notes", 10_000, lambda n: events('TEST=="/x"\n' * n)),
+    Case("tests of 8,000 tags", 300, lambda n: events('TAGS=="x"\n' * n, full("G: #\n"))),
+    Case("choices among 4,000 properties", 30, lambda n: events('IMPORT{parent}="*x|*y|*z"\n' * n, full("E: #=\n").replace(
+        "P: /a\n", "P: /a/b\nP: /a\n"))),
+    Case("searches along 64 devices", 1_000, lambda n: events('ATTRS{5}=="1", ATTRS{6}=="*2"\n' * n, chain(each("A: #=1\n", 100)))),
+    Case("bytes of a pattern that nearly fits", 800, lambda n: events(f'ATTR{{x}}=="*{"a" * n}b"\n', f"{DEVICE}A: x={LONG}\n")),
+    Case("stars in a pattern", 800, lambda n: events(f'ATTR{{x}}=="{"*a" * n}*b"\n' * 10, f"{DEVICE}A: x={LONG}\n")),
+    Case("parts of a choice", 800, lambda n: events(f'ATTR{{x}}=="{"|" * n}b"\n' * 100, f"{DEVICE}A: x=a\n")),
+    # all that stand behind a link that goes are moved up
+    Case("links that are added and removed again", 2_000,
+         lambda n: events(each('SYMLINK+="l#"\n', n) + each('SYMLINK-="l#"\n', n)), 150),
+]
+
+BLOCKS = [
+    *(Case(f"blocks full of {template[0]} lines", 10, lambda n, template=template: events("", full(template) * n))
+      for template in ["E: #=1\n", "A: #=1\n", "G: #\n", "S: #\n", "K: #=1\n", "Q: #\nR: 0\n"]),
+    Case("blocks of 64 devices", 100, lambda n: events("", (chain(each("A: #=1\n", 100)) + "\n") * n)),
+    Case("small blocks", 10_000, lambda n: events("", "C: a\nP: /a\n\n" * n)),
+    Case("empty lines", 1_000_000, lambda n: events("", "\n" * n)),
+]
+
+DATABASE = [
+    Case("properties whose keys fall", 5_000, lambda n: query("m\n" + "".join(f" k{key:07}=\n" for key in range(n, 0, -1)))),
+    Case("properties of an index whose keys fall", 5_000, lambda n: (["query", "--index", "i", "m"], {"i": falling(n)}, "")),
+    Case("properties of one long match", 50, lambda n: query("m" * 16_384 + "\n" + " a=\n" * n)),
+    Case("properties of 300 matches", 300, lambda n: query("m\n" * 300 + " a=\n" * n)),
+    Case("matches of brackets that are not closed", 3, lambda n: query(("[" * 16_384 + "\n") * n + " a=\n")),
+    Case("bytes of a modalias through 16,384 stars", 20, lambda n: query("*" * 16_384 + "\n a=\n", "a" * n)),
+    Case("records", 10_000, lambda n: (["update", "t.hwdb"], {"t.hwdb": each("m#*\n A=#\n\n", n)}, "")),
+    Case("look-ups along 64 devices", 3, lambda n: events(
+        'IMPORT{builtin}="hwdb"\n' * n, chain(f"U: u\nE: MODALIAS={'a' * 800}\n"), **{"none/etc/udev/hwdb.d/a.hwdb": STARS})),
+    Case("look-ups with a long prefix", 1, lambda n: events(
+        'IMPORT{builtin}="hwdb --lookup-prefix=%E{p}"\n' * n, chain("U: u\nE: MODALIAS=x\n", f"E: p={'a' * 16_000}\n"),
+        **{"none/etc/udev/hwdb.d/a.hwdb": STARS})),
+    Case("files of two folders", 1_000, lambda n: (["verify", "-r", "."], {
+        **{f"etc/udev/rules.d/b{number:05}.rules": "" for number in range(n)},
+        **{f"run/udev/rules.d/a{number:05}.rules": "" for number in range(n)}}, "")),
+    Case("files that are named", 2_000, lambda n: (["verify", *["r"] * n], {"r": ""}, "")),
+]
+
+
+def as_bytes(text):
+    return text if isinstance(text, bytes) else text.encode()
+
+
+def taken(program, case, count):
+    """What a run of so much takes, in a folder of its own."""
+    words, files, block = case.make(count)
+    with tempfile.TemporaryDirectory() as folder:
+        os.chdir(folder)
+        for name, text in {"input": block, **files}.items():
+            os.makedirs(os.path.dirname(os.path.join(folder, name)), exist_ok=True)
+            with open(name, "wb") as file:
+                file.write(as_bytes(text))
+        both = [take(Run([program, *words], "input", "output", (0, 1))) for _ in range(2)]
+        os.chdir("/")
+    return min(both)
+
+
+def is_right(program, case):
+    """Tells what a case takes, and answers whether ten times as much takes no more than it may."""
+    once, tenfold = taken(program, case, case.count), taken(program, case, 10 * case.count)
+    times = tenfold.seconds / max(once.seconds, 0.001)
+    right = tenfold.seconds < SHORT or times <= case.most
+    print(f"{case.count} {case.name}: {once.seconds:.2f} s, ten times as many {tenfold.seconds:.2f} s and {tenfold.peak:.0f} MB, "
+          f"{times:.0f} times as much{'' if right else ', which is too much'}", flush=True)
+    return right
+
+
+def main(program, word):
+    cases = [case for case in [*RENDERING, *RULES, *BLOCKS, *DATABASE] if word in case.name]
+    wrong = [case.name for case in cases if not is_right(program, case)]
+    print(f"{len(cases) - len(wrong)} of {len(cases)} expensive inputs take ten times as much where there is ten times as much")
+    return bool(wrong)
+
+
+if __name__ == "__main__":
+    sys.exit(main(os.path.realpath(sys.argv[1]), " ".join(sys.argv[2:])))

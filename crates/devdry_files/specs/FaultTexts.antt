@@ -1,0 +1,17 @@
+-- What is said of a disk that did not answer, and of files that could not be read.
+use Rattle.std.specs.Prelude.{ℕ, List, ◌++◌, codes, string_bytes}
+use Rattle.devdry_files.specs.declared.disk.DiskFault.{DiskFault}
+use Rattle.devdry_files.specs.declared.disk.DiskFault.TheVariants.{Absent, Unreadable, OutOfMemory}
+use Rattle.devdry_files.specs.declared.fault.ReadFault.{ReadFault}
+use Rattle.devdry_files.specs.declared.fault.ReadFault.TheVariants.{Path, Memory}
+
+-- why a disk did not answer, in words
+abbrev pub disk_text : DiskFault → List ℕ
+disk_text Absent = codes "not found"
+disk_text Unreadable = codes "cannot be read"
+disk_text OutOfMemory = codes "out of memory"
+
+-- why files could not be read, in words
+abbrev pub read_text : ReadFault → List ℕ
+read_text (Path path) = codes "cannot read " ++ string_bytes path
+read_text Memory = codes "out of memory"

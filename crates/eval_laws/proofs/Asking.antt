@@ -1,0 +1,74 @@
+-- PROGRAM is answered, or fails and leaves no result.
+use Rattle.std.proofs.Common.{◌≡◌, ◌⊎◌, inl, inr, ℕ, ◌==◌, Bool, true, false, List, [], Option, Some, None, if◌then◌else◌, refl, sym, ap, ◌∙◌, true≢false}
+use Rattle.std.proofs.lemmas.Bool.{eqb-true}
+use Rattle.text_tables.specs.Texts.{Text}
+use Rattle.text_tables.specs.Pairs.{value_of}
+use Rattle.device_core.specs.Values.{AnswerValue}
+use Rattle.hwdb_lookup.specs.declared.entry.Entry.{Entry}
+use Rattle.rule_templates.specs.Template.{Parts as Template}
+use Rattle.rule_types.specs.declared.part.Deed.TheVariants as deed
+use Rattle.rule_types.specs.Rules.{Rule}
+use Rattle.eval_state.specs.declared.scene.Scene.{Scene}
+use Rattle.eval_rendering.specs.Rendering.{render}
+use Rattle.eval_rendering.specs.declared.rendered.Mode.TheVariants.{Plain}
+use Rattle.eval_rendering.specs.declared.rendered.Rendered.{Rendered}
+use Rattle.eval_rendering.specs.declared.rendered.Rendered.TheVariants as outcome
+use Rattle.eval_acts.specs.Acts.{act_step, on_text}
+use Rattle.eval_acts.specs.Questions.{answered_or_noted, asked, with_result}
+use Rattle.eval_laws.specs.Answered.{IsAnswered, program}
+
+-- an answer with a status and a text
+abbrev answer_with : ℕ → Text → Option AnswerValue
+answer_with n t = Some (record { status = n; text = t })
+
+module _ (r : Rule) (template : Template) (s : Scene) where
+  -- what PROGRAM comes to, by how its command is rendered
+  came : Rendered → Scene × Bool
+  came given = on_text r (deed.Program template) (asked r) given (with_result [] s)
+
+  -- The act stops the rule and leaves no result.
+  record Fails (went : Scene × Bool) : Type 0 where
+    stops : went.1 ≡ false
+    empty : went.0.state.result ≡ []
+
+  by_status : (command : Text) (answer : AnswerValue) → render template s.state Plain ≡ outcome.Text command → value_of s.state.event.programs command ≡ Some answer
+      → (b : Bool) → (answer.status == 0) ≡ b
+      → ((text : Text) × IsAnswered template s text) ⊎ Fails (if◌then◌else◌ {A = Scene × Bool} b (with_result answer.text (with_result [] s), true) (with_result [] s, false))
+  by_status command answer e there true zero =
+      inl (answer.text, record { command = command; rendered = e; answered = there ∙ ap (λ (n : ℕ). answer_with n answer.text) (eqb-true answer.status 0 zero) })
+  by_status command answer e there false other = inr (record { stops = refl; empty = refl })
+
+  by_answer : (command : Text) → render template s.state Plain ≡ outcome.Text command → (answer : Option AnswerValue) → value_of s.state.event.programs command ≡ answer
+      → ((text : Text) × IsAnswered template s text) ⊎ Fails (answered_or_noted r command answer (with_result [] s))
+  by_answer command e None there = inr (record { stops = refl; empty = refl })
+  by_answer command e (Some answer) there = by_status command answer e there (answer.status == 0) refl
+
+  by_command : (given : Rendered) → render template s.state Plain ≡ given → ((text : Text) × IsAnswered template s text) ⊎ Fails (came given)
+  unfolding came
+  by_command (outcome.Text command) e = by_answer command e (value_of s.state.event.programs command) refl
+  by_command outcome.TooLong e = inr (record { stops = refl; empty = refl })
+
+  module _ (entries : List Entry) where
+    pub answered : (text : Text) → IsAnswered template s text → act_step entries r (program template) s ≡ (with_result text s, true)
+    unfolding act_step
+    answered text h =
+        ap (λ given. on_text r (deed.Program template) (asked r) given (with_result [] s)) h.rendered
+        ∙ ap (λ answer. answered_or_noted r h.command answer (with_result [] s)) h.answered
+
+    is_answered : ((text : Text) × IsAnswered template s text) ⊎ Fails (act_step entries r (program template) s)
+    unfolding act_step came
+    is_answered = by_command (render template s.state Plain) refl
+
+    pub holds : (act_step entries r (program template) s).1 ≡ true → (text : Text) × IsAnswered template s text
+    holds e = by is_answered
+      where
+        by : ((text : Text) × IsAnswered template s text) ⊎ Fails (act_step entries r (program template) s) → (text : Text) × IsAnswered template s text
+        by (inl h) = h
+        by (inr f) = absurd (true≢false (sym e ∙ f.stops))
+
+    pub failed : (act_step entries r (program template) s).1 ≡ false → (act_step entries r (program template) s).0.state.result ≡ []
+    failed e = by is_answered
+      where
+        by : ((text : Text) × IsAnswered template s text) ⊎ Fails (act_step entries r (program template) s) → (act_step entries r (program template) s).0.state.result ≡ []
+        by (inl h) = absurd (true≢false (sym (ap (λ went. went.1) (answered h.0 h.1)) ∙ e))
+        by (inr f) = f.empty

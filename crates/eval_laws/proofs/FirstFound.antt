@@ -1,0 +1,132 @@
+-- The first answer that is not empty, and the devices that are asked.
+use Rattle.std.proofs.Common.{◌≡◌, ◌↔◌, Bool, true, false, not, ◌||◌, cond, List, [], ◌∷◌, ◌++◌, map, filter, filter_map, find, flat_map, Some, None, unwrap_or, if◌then◌else◌, refl, sym, ap, ◌∙◌, true≢false}
+use Rattle.std.specs.List.{list_any}
+use Rattle.text_bytes.specs.Texts.{is_empty}
+use Rattle.text_tables.specs.Texts.{Text}
+use Rattle.text_tables.specs.Pairs.{Pair}
+use Rattle.hwdb_lookup.specs.declared.entry.Entry.{Entry}
+use Rattle.eval_state.specs.declared.state.State.{State}
+use Rattle.eval_acts.specs.LookUps.{Candidate, answer, candidates, first_found, found, is_last, is_wanted, modaliases, texts, through}
+use Rattle.eval_acts.specs.declared.hwdb.Hwdb.{Hwdb}
+use Rattle.eval_laws.specs.LookUps.{IsFirstAnswer, texts_of}
+
+-- ---- answers
+
+nothing_in : (properties : List Pair) → is_empty properties ≡ true → properties ≡ []
+nothing_in [] e = refl
+nothing_in (p ∷ properties) e = absurd (true≢false (sym e))
+
+empty_is : (properties : List Pair) → properties ≡ [] → is_empty properties ≡ true
+empty_is properties e = ap is_empty e
+
+front_empty : (a b : List Pair) → a ++ b ≡ [] → a ≡ []
+front_empty [] b e = refl
+front_empty (p ∷ a) b e = absurd (cc)
+
+back_empty : (a b : List Pair) → a ++ b ≡ [] → b ≡ []
+back_empty [] b e = e
+back_empty (p ∷ a) b e = absurd (cc)
+
+module _ (f : Text → List Pair) where
+  -- an answer that is empty is passed over, and one that is not is found
+  passed_over : (t : Text) (ts : List Text) → is_empty (f t) ≡ true → first_found (map f (t ∷ ts)) ≡ first_found (map f ts)
+  passed_over t ts e = ap (λ b. unwrap_or (cond (not b) (Some (f t)) (find (λ properties. not (is_empty properties)) (map f ts))) []) e
+
+  taken : (t : Text) (ts : List Text) → is_empty (f t) ≡ false → first_found (map f (t ∷ ts)) ≡ f t
+  taken t ts e = ap (λ b. unwrap_or (cond (not b) (Some (f t)) (find (λ properties. not (is_empty properties)) (map f ts))) []) e
+
+  -- The first of the texts that gives something gives these properties.
+  pub record IsFirst (ts : List Text) (properties : List Pair) : Type 0 where
+    pub before : List Text
+    pub text : Text
+    pub behind : List Text
+    pub whole : ts ≡ before ++ text ∷ behind
+    pub nothing : flat_map f before ≡ []
+    pub gives : f text ≡ properties
+
+  pub first : (ts : List Text) (properties : List Pair) → is_empty properties ≡ false → first_found (map f ts) ≡ properties → IsFirst ts properties
+  first [] properties some e = absurd (true≢false (ap is_empty e ∙ some))
+  first (t ∷ ts) properties some e = by (is_empty (f t)) refl (first ts properties some)
+    where
+      by : (b : Bool) → is_empty (f t) ≡ b → (first_found (map f ts) ≡ properties → IsFirst ts properties) → IsFirst (t ∷ ts) properties
+      by false is more = record { before = []; text = t; behind = ts; whole = refl; nothing = refl; gives = sym (taken t ts is) ∙ e }
+      by true is more =
+          let h = more (sym (passed_over t ts is) ∙ e) in
+          record {
+            before = t ∷ h.before;
+            text = h.text;
+            behind = h.behind;
+            whole = ap (λ us. t ∷ us) h.whole;
+            nothing = ap (λ p. p ++ flat_map f h.before) (nothing_in (f t) is) ∙ h.nothing;
+            gives = h.gives;
+          }
+
+  first_behind : (before : List Text) (t : Text) (behind : List Text) → flat_map f before ≡ [] → is_empty (f t) ≡ false → first_found (map f (before ++ t ∷ behind)) ≡ f t
+  first_behind [] t behind nothing some = taken t behind some
+  first_behind (b ∷ before) t behind nothing some =
+      passed_over b (before ++ t ∷ behind) (empty_is (f b) (front_empty (f b) (flat_map f before) nothing))
+      ∙ first_behind before t behind (back_empty (f b) (flat_map f before) nothing) some
+
+  pub first_back : (ts : List Text) (properties : List Pair) → is_empty properties ≡ false → IsFirst ts properties → first_found (map f ts) ≡ properties
+  first_back ts properties some h =
+      ap (λ us. first_found (map f us)) h.whole ∙ first_behind h.before h.text h.behind h.nothing (ap is_empty h.gives ∙ some) ∙ h.gives
+
+  pub none_given : (ts : List Text) → first_found (map f ts) ≡ [] → flat_map f ts ≡ []
+  none_given [] e = refl
+  none_given (t ∷ ts) e = by (is_empty (f t)) refl (none_given ts)
+    where
+      by : (b : Bool) → is_empty (f t) ≡ b → (first_found (map f ts) ≡ [] → flat_map f ts ≡ []) → f t ++ flat_map f ts ≡ []
+      by false is more = absurd (true≢false (sym (empty_is (f t) (sym (taken t ts is) ∙ e)) ∙ is))
+      by true is more = ap (λ p. p ++ flat_map f ts) (nothing_in (f t) is) ∙ more (sym (passed_over t ts is) ∙ e)
+
+  pub none_found : (ts : List Text) → flat_map f ts ≡ [] → first_found (map f ts) ≡ []
+  none_found [] e = refl
+  none_found (t ∷ ts) e = passed_over t ts (empty_is (f t) (front_empty (f t) (flat_map f ts) e)) ∙ none_found ts (back_empty (f t) (flat_map f ts) e)
+
+pub first_is_found : (entries : List Entry) (hwdb : Hwdb) (state : State) (properties : List Pair) → is_empty properties ≡ false
+    → (found entries hwdb state ≡ properties) ↔ IsFirstAnswer entries hwdb (texts hwdb state) properties
+unfolding found
+first_is_found entries hwdb state properties some = (
+  λ e. let h = first (answer entries hwdb) (texts hwdb state) properties some e in
+      record { before = h.before; text = h.text; behind = h.behind; whole = h.whole; nothing = h.nothing; gives = h.gives },
+  λ h. first_back (answer entries hwdb) (texts hwdb state) properties some (record { before = h.before; text = h.text; behind = h.behind; whole = h.whole; nothing = h.nothing; gives = h.gives }),
+)
+
+pub none_is_found : (entries : List Entry) (hwdb : Hwdb) (state : State) → (found entries hwdb state ≡ []) ↔ (flat_map (answer entries hwdb) (texts hwdb state) ≡ [])
+unfolding found
+none_is_found entries hwdb state = (none_given (answer entries hwdb) (texts hwdb state), none_found (answer entries hwdb) (texts hwdb state))
+
+-- ---- devices
+
+module _ {X : Type 0} (test : X → Bool) where
+  through_all : (xs : List X) → list_any test xs ≡ false → through test xs ≡ xs
+  through_all [] e = refl
+  through_all (x ∷ xs) e = by (test x) e (through_all xs)
+    where
+      by : (b : Bool) → (b || list_any test xs) ≡ false → (list_any test xs ≡ false → through test xs ≡ xs) → (if b then x ∷ [] else x ∷ through test xs) ≡ x ∷ xs
+      by true e more = absurd (true≢false e)
+      by false e more = ap (λ ys. x ∷ ys) (more e)
+
+  through_last : (before : List X) (x : X) (behind : List X) → list_any test before ≡ false → test x ≡ true → through test (before ++ x ∷ behind) ≡ before ++ x ∷ []
+  through_last [] x behind e is = ap (λ b. if b then x ∷ [] else x ∷ through test behind) is
+  through_last (y ∷ before) x behind e is = by (test y) e (λ h. through_last before x behind h is)
+    where
+      by : (b : Bool) → (b || list_any test before) ≡ false → (list_any test before ≡ false → through test (before ++ x ∷ behind) ≡ before ++ x ∷ [])
+          → (if b then y ∷ [] else y ∷ through test (before ++ x ∷ behind)) ≡ y ∷ (before ++ x ∷ [])
+      by true e more = absurd (true≢false e)
+      by false e more = ap (λ ys. y ∷ ys) (more e)
+
+pub text_given : (hwdb : Hwdb) (state : State) (modalias : Text) → hwdb.modalias ≡ Some modalias → texts hwdb state ≡ (hwdb.prefix ++ modalias) ∷ []
+text_given hwdb state modalias e = ap (λ given. map (λ m. hwdb.prefix ++ m) (modaliases hwdb given state)) e
+
+pub texts_up_to : (hwdb : Hwdb) (state : State) (before behind : List Candidate) (last : Candidate) → hwdb.modalias ≡ None → candidates state ≡ before ++ last ∷ behind
+    → list_any (is_last hwdb.subsystem) before ≡ false → is_last hwdb.subsystem last ≡ true → texts hwdb state ≡ texts_of hwdb (before ++ last ∷ [])
+texts_up_to hwdb state before behind last none are others is =
+    ap (λ given. map (λ m. hwdb.prefix ++ m) (modaliases hwdb given state)) none
+    ∙ ap (λ ds. map (λ m. hwdb.prefix ++ m) (filter_map (λ device. device.modalias) (filter (is_wanted hwdb.subsystem) (through (is_last hwdb.subsystem) ds)))) are
+    ∙ ap (texts_of hwdb) (through_last (is_last hwdb.subsystem) before last behind others is)
+
+pub texts_of_all : (hwdb : Hwdb) (state : State) → hwdb.modalias ≡ None → list_any (is_last hwdb.subsystem) (candidates state) ≡ false → texts hwdb state ≡ texts_of hwdb (candidates state)
+texts_of_all hwdb state none others =
+    ap (λ given. map (λ m. hwdb.prefix ++ m) (modaliases hwdb given state)) none
+    ∙ ap (texts_of hwdb) (through_all (is_last hwdb.subsystem) (candidates state) others)

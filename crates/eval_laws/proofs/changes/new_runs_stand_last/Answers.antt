@@ -1,0 +1,14 @@
+use Rattle.eval_laws.proofs.Making.{run_added, run_alone, run_empty, run_taken}
+use Rattle.eval_laws.proofs.changes.new_runs_stand_last.Goals as goal
+
+pub returns-clause-added : goal.returns-clause-added
+returns-clause-added c = run_added
+
+pub returns-clause-alone : goal.returns-clause-alone
+returns-clause-alone c = run_alone
+
+pub returns-clause-empty : goal.returns-clause-empty
+returns-clause-empty c = run_empty
+
+pub returns-clause-kept : goal.returns-clause-kept
+returns-clause-kept c = run_taken

@@ -1,0 +1,37 @@
+-- What `hwdb` is asked, which texts it looks up, and what it finds first.
+use Rattle.std.specs.Prelude.{◌≡◌, [], ◌∷◌, ◌++◌, List, map, filter, filter_map}
+use Rattle.std.specs.List.{flat_map}
+use Rattle.text_bytes.specs.Names.{equals}
+use Rattle.text_tables.specs.Texts.{Text}
+use Rattle.text_tables.specs.Pairs.{Pair}
+use Rattle.hwdb_lookup.specs.declared.entry.Entry.{Entry}
+use Rattle.eval_acts.specs.LookUps.{Candidate, answer, is_wanted}
+use Rattle.eval_acts.specs.declared.hwdb.Hwdb.{Hwdb}
+
+-- One of the texts is answered with these properties, and those before it give none.
+pub record IsFirstAnswer (entries : List Entry) (hwdb : Hwdb) (texts : List Text) (properties : List Pair) : Type 0 where
+  pub before : List Text
+  pub text : Text
+  pub behind : List Text
+  pub whole : texts ≡ before ++ text ∷ behind
+  pub nothing : flat_map (answer entries hwdb) before ≡ []
+  pub gives : answer entries hwdb text ≡ properties
+
+-- the texts of devices, nearest first: the modalias of each that is wanted and has one, behind the prefix
+abbrev pub texts_of : Hwdb → List Candidate → List Text
+texts_of hwdb devices = map (λ modalias. hwdb.prefix ++ modalias) (filter_map (λ device. device.modalias) (filter (is_wanted hwdb.subsystem) devices))
+
+-- the word that gives an option a value
+abbrev pub option_word : Text → Text → Text
+option_word name value = name ++ equals ∷ value
+
+-- none of the words gives an option a value
+abbrev pub HasNoValue : Text → List Text → Type 0
+HasNoValue name words = (before : List Text) (value : Text) (behind : List Text) → ¬ (words ≡ before ++ option_word name value ∷ behind)
+
+-- The last of the words that give an option a value gives it this one.
+pub record IsLastValue (name : Text) (words : List Text) (value : Text) : Type 0 where
+  pub before : List Text
+  pub behind : List Text
+  pub whole : words ≡ before ++ option_word name value ∷ behind
+  pub last : HasNoValue name behind

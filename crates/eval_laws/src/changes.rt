@@ -1,0 +1,72 @@
+//! What an assignment changes, whatever the rule is.
+//!
+//! Each function here is empty: its contract is the law.
+ghost use Rattle.std.specs.Prelude.{◌≡◌, ◌≢◌, ◌∷◌, ◌++◌, [], ◌||◌, not, true, false, filter, fold, if◌then◌else◌, List, Option, Some, None};
+ghost use Rattle.std.specs.List.{list_any};
+ghost use Rattle.text_bytes.specs.Texts.{is_empty};
+ghost use Rattle.text_tables.specs.Texts.{Text, is_among, without_text};
+ghost use Rattle.rule_templates.specs.Template as templates;
+ghost use Rattle.rule_types.specs.declared.part.Assignment.{Assignment};
+ghost use Rattle.rule_types.specs.declared.part.Change.TheVariants as change;
+ghost use Rattle.rule_types.specs.declared.roles.AssignOperator.{AssignOperator};
+ghost use Rattle.rule_types.specs.declared.roles.AssignOperator.TheVariants.{Assign, Add, Remove, AssignFinal};
+ghost use Rattle.rule_types.specs.declared.roles.Target.TheVariants as target;
+ghost use Rattle.rule_types.specs.declared.types.RunType.{RunType};
+ghost use Rattle.rule_types.specs.Rules.{Rule};
+ghost use Rattle.eval_state.specs.Finals.{is_final};
+ghost use Rattle.eval_state.specs.Runs.{RunValue, runs_after, same_run};
+ghost use Rattle.eval_state.specs.declared.finals.FinalKey.{FinalKey};
+ghost use Rattle.eval_state.specs.declared.finals.FinalKey.TheVariants as key;
+ghost use Rattle.eval_state.specs.declared.scene.Scene.{Scene};
+ghost use Rattle.eval_rendering.specs.Rendering.{render};
+ghost use Rattle.eval_rendering.specs.declared.rendered.Mode.TheVariants.{Plain};
+ghost use Rattle.eval_rendering.specs.declared.rendered.Rendered.TheVariants as rendered;
+ghost use Rattle.eval_assignments.specs.Finality.{final_key};
+ghost use Rattle.eval_assignments.specs.Lists.{changed};
+ghost use Rattle.eval_assignments.specs.Steps.{set_step};
+ghost use Rattle.eval_laws.specs.AssignmentLaws.{Keeps};
+ghost use Rattle.eval_laws.specs.Making.{is_made};
+
+/// `=` and `:=` leave just the tags or links that are given, each once: the first, and behind it what
+/// they leave of the others without that one.
+pub fn assigned_texts_are_alone()
+    ensures none { (texts : List Text) → changed Assign [] texts ≡ [] }
+    ensures first { (text : Text) (others texts : List Text) → changed Assign (text ∷ others) texts ≡ text ∷ without_text (changed Assign others texts) text }
+    ensures last { (given texts : List Text) → changed AssignFinal given texts ≡ changed Assign given texts }
+{}
+
+/// `+=` leaves tags and links as they are, in their order, and puts behind them those that are given
+/// and not there, as `=` leaves these.
+pub fn added_texts_stand_behind()
+    ensures order { (more texts : List Text) → changed Add more texts ≡ texts ++ filter (λ t. not (is_among texts t)) (changed Assign more []) }
+    ensures members { (more texts : List Text) (t : Text) → is_among (changed Add more texts) t ≡ (is_among texts t || is_among more t) }
+{}
+
+/// `-=` takes away just the tags or links that are given; the others stay, in their order.
+pub fn only_the_given_texts_are_removed()
+    ensures { (gone texts : List Text) → changed Remove gone texts ≡ filter (λ t. not (is_among gone t)) texts }
+{}
+
+/// `:=` makes its key final where it is made, so that no later assignment changes the key. No other
+/// operator makes a key final.
+pub fn a_final_assignment_makes_its_key_final()
+    ensures made { (r : Rule) (a : Assignment) (s : Scene) (k : FinalKey) → a.operator ≡ AssignFinal → final_key a.change ≡ Some k → is_final s.finals k ≡ false → is_final (set_step r s a).finals k ≡ is_made r a.change s }
+    ensures later { (r : Rule) (a : Assignment) (s : Scene) (k : FinalKey) → a.operator ≡ AssignFinal → final_key a.change ≡ Some k → is_made r a.change s ≡ true → (other : Rule) (sets : List Assignment) → Keeps k (set_step r s a) (fold (set_step other) (set_step r s a) sets) }
+    ensures others { (r : Rule) (a : Assignment) (s : Scene) → a.operator ≢ AssignFinal → (set_step r s a).finals ≡ s.finals }
+{}
+
+/// An assignment of OWNER, GROUP or MODE that is made leaves its text, and with the empty text none.
+pub fn assigned_texts_stand()
+    ensures owner { (r : Rule) (o : AssignOperator) (template : templates.Parts) (s : Scene) (t : Text) → is_final s.finals key.Owner ≡ false → render template s.state Plain ≡ rendered.Text t → (set_step r s (record { operator = o; change = change.Text target.Owner template })).owner ≡ (if is_empty t then None else Some t) }
+    ensures group { (r : Rule) (o : AssignOperator) (template : templates.Parts) (s : Scene) (t : Text) → is_final s.finals key.Group ≡ false → render template s.state Plain ≡ rendered.Text t → (set_step r s (record { operator = o; change = change.Text target.Group template })).group ≡ (if is_empty t then None else Some t) }
+    ensures mode { (r : Rule) (o : AssignOperator) (template : templates.Parts) (s : Scene) (t : Text) → is_final s.finals key.Mode ≡ false → render template s.state Plain ≡ rendered.Text t → (set_step r s (record { operator = o; change = change.Text target.Mode template })).mode ≡ (if is_empty t then None else Some t) }
+{}
+
+/// A RUN that is not there, and whose written text is not empty, is the last of the runs behind `+=`,
+/// and the only one behind any other operator. One whose written text is empty is not taken in.
+pub fn new_runs_stand_last()
+    ensures added { (runs : List RunValue) (run : RunValue) → is_empty run.template.written ≡ false → list_any (same_run run) runs ≡ false → runs_after Add runs run ≡ runs ++ run ∷ [] }
+    ensures alone { (o : AssignOperator) (runs : List RunValue) (run : RunValue) → o ≢ Add → is_empty run.template.written ≡ false → runs_after o runs run ≡ run ∷ [] }
+    ensures empty { (runs : List RunValue) (run : RunValue) → is_empty run.template.written ≡ true → runs_after Add runs run ≡ runs }
+    ensures kept { (r : Rule) (o : AssignOperator) (braces : Option RunType) (template : templates.Parts) (s : Scene) → is_final s.finals key.Run ≡ false → (set_step r s (record { operator = o; change = change.Run braces template })).runs ≡ runs_after o s.runs (record { rule = r; braces = braces; template = template; selected = s.state.selected }) }
+{}

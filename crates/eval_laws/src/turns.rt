@@ -1,0 +1,40 @@
+//! What becomes of rules one behind another, and of what they leave, whatever the rules, the event and
+//! the database are.
+//!
+//! Each function here is empty: its contract is the law.
+ghost use Rattle.std.specs.Prelude.{◌≡◌, ◌∷◌, ◌++◌, [], true, false, fold, List, None};
+ghost use Rattle.text_tables.specs.Texts.{Text, AreOnce};
+ghost use Rattle.text_tables.specs.Pairs.{Pair, names, value_of};
+ghost use Rattle.hwdb_lookup.specs.declared.entry.Entry.{Entry};
+ghost use Rattle.rule_types.specs.Rules.{Rule};
+ghost use Rattle.eval_state.specs.Runs.{RunValue, run_kind};
+ghost use Rattle.eval_state.specs.declared.scene.Scene.{Scene};
+ghost use Rattle.eval_rendering.specs.Rendering.{render};
+ghost use Rattle.eval_rendering.specs.declared.rendered.Mode.TheVariants.{Plain};
+ghost use Rattle.eval_rendering.specs.declared.rendered.Rendered.TheVariants as rendered;
+ghost use Rattle.eval_assignments.specs.Steps.{set_step};
+ghost use Rattle.eval_rules.specs.Jumps.{run};
+ghost use Rattle.eval_rules.specs.Outcomes.{by_name, commands, outcome_of};
+ghost use Rattle.eval_rules.specs.Steps.{apply};
+
+/// A rule of assignments alone makes them, one behind another, and its end is reached.
+pub fn a_rule_of_assignments_makes_them()
+    ensures { (entries : List Entry) (r : Rule) (s : Scene) → r.plain ≡ [] → r.up ≡ [] → r.acts ≡ [] → r.results ≡ [] → apply entries r s ≡ (fold (set_step r) s r.sets, true) }
+{}
+
+/// A rule whose end is not reached, and one without a jump, is followed by the next one.
+pub fn the_next_rule_follows()
+    ensures stopped { (entries : List Entry) (r : Rule) (rules : List Rule) (s : Scene) → (apply entries r s).1 ≡ false → run entries None (r ∷ rules) s ≡ run entries None rules (apply entries r s).0 }
+    ensures plain { (entries : List Entry) (r : Rule) (rules : List Rule) (s : Scene) → r.goto ≡ None → run entries None (r ∷ rules) s ≡ run entries None rules (apply entries r s).0 }
+{}
+
+/// Properties have the same values when they are sorted.
+pub fn sorted_properties_have_their_values()
+    ensures { (env : List Pair) (name : Text) → AreOnce (names env) → value_of (by_name env) name ≡ value_of env name }
+{}
+
+/// A RUN that is kept when no rule is left is a command at its place among the others, rendered by what
+/// is then known of the event, with the device that was selected when its rule was reached.
+pub fn commands_are_rendered_in_the_end()
+    ensures { (s : Scene) (before behind : List RunValue) (kept : RunValue) (text : Text) → s.runs ≡ before ++ kept ∷ behind → render kept.template (record s.state { selected = kept.selected }) Plain ≡ rendered.Text text → (outcome_of s).runs ≡ commands s.state before ++ record { kind = run_kind kept.braces; text = text } ∷ commands s.state behind }
+{}

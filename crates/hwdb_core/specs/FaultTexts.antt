@@ -1,0 +1,9 @@
+-- What is said of database files that are not read.
+use Rattle.std.specs.Prelude.{ℕ, List, codes}
+use Rattle.hwdb_core.specs.declared.fault.HwdbFault.{HwdbFault}
+use Rattle.hwdb_core.specs.declared.fault.HwdbFault.TheVariants.{TooMany, Memory}
+
+-- why database files are not read, in words
+abbrev pub fault_text : HwdbFault → List ℕ
+fault_text TooMany = codes "too many entries"
+fault_text Memory = codes "out of memory"

@@ -1,0 +1,15 @@
+-- Texts that stand in the bytes of a file.
+use Rattle.std.specs.Prelude.{◌≡◌, ℕ, List, ◌++◌}
+use Rattle.hwdb_lookup.specs.Query.{Origin}
+
+-- a text is a part of others' bytes: these are what stands before it, the text, and what stands behind it
+pub record IsPartOf (bytes text : List ℕ) : Type 0 where
+  pub before : List ℕ
+  pub behind : List ℕ
+  pub whole : bytes ≡ before ++ text ++ behind
+
+-- the texts of an answer are parts of some bytes
+pub record StandsIn (bytes : List ℕ) (answer : Origin) : Type 0 where
+  pub key : IsPartOf bytes answer.key
+  pub value : IsPartOf bytes answer.value
+  pub file : IsPartOf bytes answer.file

@@ -1,0 +1,15 @@
+-- What is said of a file that is no index.
+use Rattle.std.specs.Prelude.{ℕ, List, codes}
+use Rattle.index_reading.specs.declared.fault.IndexFault.{IndexFault}
+use Rattle.index_reading.specs.declared.fault.IndexFault.TheVariants.{Short, Magic, Version, Size, Shape, Label, Text, Order}
+
+-- the check that a file fails, in a word
+abbrev pub fault_text : IndexFault → List ℕ
+fault_text Short = codes "short"
+fault_text Magic = codes "magic"
+fault_text Version = codes "version"
+fault_text Size = codes "size"
+fault_text Shape = codes "shape"
+fault_text Label = codes "label"
+fault_text Text = codes "text"
+fault_text Order = codes "order"

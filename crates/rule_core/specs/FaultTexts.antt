@@ -1,0 +1,9 @@
+-- What is said of rules files that give no rules.
+use Rattle.std.specs.Prelude.{ℕ, List, codes}
+use Rattle.rule_core.specs.declared.fault.RulesFault.{RulesFault}
+use Rattle.rule_core.specs.declared.fault.RulesFault.TheVariants.{TooMany, Memory}
+
+-- why files gave no rules, in words
+abbrev pub fault_text : RulesFault → List ℕ
+fault_text TooMany = codes "too many tokens"
+fault_text Memory = codes "out of memory"

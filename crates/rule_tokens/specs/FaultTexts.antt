@@ -1,0 +1,14 @@
+-- What is said of a part of a line that is no token.
+use Rattle.std.specs.Prelude.{ℕ, List, ◌++◌, codes, decimal}
+use Rattle.rule_tokens.specs.declared.kinds.TokenFault.{TokenFault}
+use Rattle.rule_tokens.specs.declared.kinds.TokenFaultKind.{TokenFaultKind}
+use Rattle.rule_tokens.specs.declared.kinds.TokenFaultKind.TheVariants.{Syntax, Prefix}
+
+-- why a part of a line is no token, in words
+abbrev pub kind_text : TokenFaultKind → List ℕ
+kind_text Syntax = codes "bad syntax"
+kind_text Prefix = codes "bad quote prefix"
+
+-- the same, with the place of the part
+abbrev pub fault_text : TokenFault → List ℕ
+fault_text fault = kind_text fault.kind ++ codes " at byte " ++ decimal fault.at

@@ -1,0 +1,9 @@
+-- What is said of entries that give no trie.
+use Rattle.std.specs.Prelude.{ℕ, List, codes}
+use Rattle.trie_build.specs.declared.fault.TrieFault.{TrieFault}
+use Rattle.trie_build.specs.declared.fault.TrieFault.TheVariants.{TooLarge, Memory}
+
+-- why there is no trie, in words
+abbrev pub fault_text : TrieFault → List ℕ
+fault_text TooLarge = codes "trie too large"
+fault_text Memory = codes "out of memory"

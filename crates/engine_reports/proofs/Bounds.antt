@@ -1,5 +1,5 @@
 -- The tests of the bounds, and the bounds as the reading of files states them.
-use Rattle.std.proofs.Common.{◌≡◌, ℕ, ◌-◌, ◌^◌, ◌<◌, ◌≤◌, Bool, true, false, ◌&&◌, List, Ok, Err, length, refl, sum_by, subst, arith}
+use Rattle.std.proofs.Common.{◌≡◌, ℕ, ◌-◌, ◌^◌, ◌<◌, ◌≤◌, Bool, true, false, ◌&&◌, List, [], ◌++◌, Ok, Err, length, refl, ap, sym, ◌∙◌, append_assoc, append-nil, sum_by, subst, arith}
 use Rattle.std.proofs.lemmas.Bool.{leb-true, le-leb, false_from_ne_true}
 use Rattle.std.proofs.Math.Dec.{leb}
 use Rattle.text_bytes.specs.declared.source_file.SourceFile.{SourceFile}
@@ -99,6 +99,10 @@ entries_said refusal outcome e said = subst (λ r. IsSaid r outcome) e said
 
 pub index_said : (refusal : Refusal) (fault : IndexFault) (outcome : Outcome) → refusal ≡ Index fault → IsSaid refusal outcome → outcome ≡ refused_index fault
 index_said refusal fault outcome e said = subst (λ r. IsSaid r outcome) e said
+
+-- a line in three pieces, one of which is known by another name
+pub in_pieces : (first text whole last : List ℕ) → text ≡ whole → (first ++ whole) ++ last ≡ first ++ (text ++ (last ++ []))
+in_pieces first text whole last e = append_assoc first whole last ∙ ap (λ t. first ++ t) (ap (λ t. t ++ last) (sym e) ∙ ap (λ t. text ++ t) (sym (append-nil last)))
 
 pub rules_said : (refusal : Refusal) (outcome : Outcome) → refusal ≡ TooManyRules → IsSaid refusal outcome → outcome ≡ too_many_rules
 rules_said refusal outcome e said = subst (λ r. IsSaid r outcome) e said

@@ -1,11 +1,12 @@
 -- What comes of an index file that is handed in, and what is said of one that is refused.
-use Rattle.std.specs.Prelude.{◌≡◌, ◌⊎◌, List, [], Option, Some, None, Result, Ok, Err, codes}
+use Rattle.std.specs.Prelude.{◌≡◌, ◌⊎◌, List, [], ◌∷◌, ◌++◌, Option, Some, None, Result, Ok, Err, codes}
+use Rattle.text_bytes.specs.Names.{newline}
 use Rattle.text_tables.specs.Texts.{Text}
 use Rattle.hwdb_lookup.specs.declared.entry.Entry.{Entry}
 use Rattle.trie_nodes.specs.Values.{listed}
 use Rattle.index_reading.specs.Accepted.{Accepted, FailsFirst}
 use Rattle.index_reading.specs.declared.fault.IndexFault.{IndexFault}
-use Rattle.index_reading.specs.declared.fault.IndexFault.TheVariants.{Short, Magic, Version, Size, Shape, Label, Text as TextFault, Order}
+use Rattle.index_reading.specs.FaultTexts.{fault_text}
 use Rattle.index_reading.specs.Contents.{Contents, contents}
 use Rattle.engine_ends.specs.Delivery.{Outcome}
 
@@ -21,14 +22,7 @@ entries_in contents = listed contents.nodes contents.values
 
 -- the line on an index that fails a check
 abbrev pub index_line : IndexFault → Text
-index_line Short = codes "devdry: index: short\n"
-index_line Magic = codes "devdry: index: magic\n"
-index_line Version = codes "devdry: index: version\n"
-index_line Size = codes "devdry: index: size\n"
-index_line Shape = codes "devdry: index: shape\n"
-index_line Label = codes "devdry: index: label\n"
-index_line TextFault = codes "devdry: index: text\n"
-index_line Order = codes "devdry: index: order\n"
+index_line fault = codes "devdry: index: " ++ fault_text fault ++ newline ∷ []
 
 -- what is said of an index that fails a check
 abbrev pub refused_index : IndexFault → Outcome

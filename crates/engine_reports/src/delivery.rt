@@ -3,7 +3,7 @@ ghost use Rattle.std.specs.Prelude.{◌≡◌, ◌<◌, IfOk};
 ghost use Rattle.engine_ends.specs.Delivery.{Delivers, Outcome, Tells, TellsFaults, out_of_memory};
 ghost use Rattle.engine_reports.specs.Reports.{IsReport, IsSaid};
 
-use crate::indexes::index_line;
+use crate::indexes::deliver_index_fault;
 use crate::refusal::Refusal;
 use crate::report::Report;
 use engine_ends::{Sink, deliver, tell_out_of_memory};
@@ -58,7 +58,7 @@ pub fn deliver_refusal<W: Sink, E: Sink>(refusal: Refusal, output: &mut W, error
     match refusal {
         Refusal::TooManyEntries => deliver(TOO_MANY_ENTRIES, b"", 1, output, error),
         Refusal::TooManyRules => deliver(TOO_MANY_RULES, b"", 1, output, error),
-        Refusal::Index(fault) => deliver(index_line(fault), b"", 1, output, error),
+        Refusal::Index(fault) => deliver_index_fault(fault, output, error),
         Refusal::Memory => tell_out_of_memory(error),
     }
 }

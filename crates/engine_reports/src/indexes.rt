@@ -2,9 +2,11 @@
 //!
 //! It is checked whole before anything is said by it, so that a damaged one is refused by name and
 //! never gives a wrong answer.
-ghost use Rattle.std.specs.Prelude.{◌≡◌, option_map};
-ghost use Rattle.engine_reports.specs.Indexes.{Opens, index_line};
+ghost use Rattle.std.specs.Prelude.{option_map};
+ghost use Rattle.engine_ends.specs.Delivery.{Delivers};
+ghost use Rattle.engine_reports.specs.Indexes.{Opens, refused_index};
 
+use engine_ends::{Sink, deliver_in_pieces};
 use index_reading::{Index, IndexFault};
 
 /// What comes of an index file, if one is handed in: the index, or the first check that it fails.
@@ -16,18 +18,21 @@ pub fn open_index(index: Option<&[u8]>) -> Option<Result<Index<'_>, IndexFault>>
     Some(Index::open(index?))
 }
 
-/// The line on an index that fails a check.
-pub(crate) fn index_line(fault: IndexFault) -> &'static [u8]
-    ensures { result.now ≡ index_line fault }
+/// Writes the line on an index that fails a check, and gives the status for it, 1, or 3 where a device
+/// failed.
+pub(crate) fn deliver_index_fault<W: Sink, E: Sink>(
+    fault: IndexFault,
+    output: &mut W,
+    error: &mut E,
+) -> u8
+    ensures { Delivers (refused_index fault) result
+        (W.shown output.old) (W.shown output.new) (E.shown error.old) (E.shown error.new) }
 {
-    match fault {
-        IndexFault::Short => b"devdry: index: short\n",
-        IndexFault::Magic => b"devdry: index: magic\n",
-        IndexFault::Version => b"devdry: index: version\n",
-        IndexFault::Size => b"devdry: index: size\n",
-        IndexFault::Shape => b"devdry: index: shape\n",
-        IndexFault::Label => b"devdry: index: label\n",
-        IndexFault::Text => b"devdry: index: text\n",
-        IndexFault::Order => b"devdry: index: order\n",
-    }
+    deliver_in_pieces(
+        &[b"devdry: index: ", fault.text().as_bytes(), b"\n"],
+        b"",
+        1,
+        output,
+        error,
+    )
 }

@@ -26,7 +26,8 @@ pub(crate) fn deliver_index_fault<W: Sink, E: Sink>(
     error: &mut E,
 ) -> u8
     ensures { Delivers (refused_index fault) result
-        (W.shown output.old) (W.shown output.new) (E.shown error.old) (E.shown error.new) }
+        (record { out = W.shown output.old; err = E.shown error.old })
+        (record { out = W.shown output.new; err = E.shown error.new }) }
 {
     deliver_in_pieces(
         &[b"devdry: index: ", fault.text().as_bytes(), b"\n"],

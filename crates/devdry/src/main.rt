@@ -5,6 +5,7 @@
 //! All of it stands in functions over a disk, a source and sinks; `main` itself hands them the real
 //! ones.
 #![tactic(auto)]
+
 ghost use Rattle.std.specs.Prelude.{◌≡◌, drop};
 
 mod running;

@@ -9,3 +9,7 @@ mod lines;
 mod lists;
 
 pub use answers::answer;
+pub use lines::{
+    is_hidden, push_event, push_pair, push_persist, push_priority, push_run, push_text, push_watch,
+};
+pub use lists::push_notes;

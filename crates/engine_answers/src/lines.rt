@@ -9,9 +9,10 @@ use rule_types::RunType;
 use std::alloc::{AllocError, Global};
 use text_bytes::{Bytes, escape};
 
-/// Puts a line with a text behind others.
+/// Puts a line with a text behind others. The error comes where memory is
+/// refused.
 #[tactic(auto, unfolding(crate::specs::Lines::text_line))]
-pub(crate) fn push_text(
+pub fn push_text(
     alloc: Global,
     lines: &mut Vec<u8>,
     word: &[u8],
@@ -41,9 +42,10 @@ pub(crate) fn push_given(
     }
 }
 
-/// Puts a line with a name and its value behind others.
+/// Puts a line with a name and its value behind others. The error comes where memory is
+/// refused.
 #[tactic(auto, unfolding(crate::specs::Lines::pair_line))]
-pub(crate) fn push_pair(
+pub fn push_pair(
     alloc: Global,
     lines: &mut Vec<u8>,
     word: &[u8],
@@ -76,15 +78,16 @@ pub(crate) fn push_shown(
     push_pair(alloc, lines, b"env", name, value)
 }
 
-/// Whether a name begins with a dot.
-fn is_hidden(name: &[u8]) -> bool
+/// Whether a name begins with a dot: such a property is for rules alone.
+pub fn is_hidden(name: &[u8]) -> bool
     ensures { result ≡ is_hidden name.now }
 {
     name.first() == Some(&b'.')
 }
 
-/// Puts the line of a priority behind others, if one was assigned.
-pub(crate) fn push_priority(lines: &mut Vec<u8>, priority: Option<i32>) -> Result<(), AllocError>
+/// Puts the line of a priority behind others, if one was assigned. The error comes where memory is
+/// refused.
+pub fn push_priority(lines: &mut Vec<u8>, priority: Option<i32>) -> Result<(), AllocError>
     ensures { OnOk result (lines.new.items ≡ lines.old.items ++ priority_line priority) }
 {
     let Some(priority) = priority else {
@@ -96,8 +99,9 @@ pub(crate) fn push_priority(lines: &mut Vec<u8>, priority: Option<i32>) -> Resul
     Ok(())
 }
 
-/// Puts the line on watching behind others, if it was assigned.
-pub(crate) fn push_watch(lines: &mut Vec<u8>, watch: Option<bool>) -> Result<(), AllocError>
+/// Puts the line on watching behind others, if it was assigned. The error comes where memory is
+/// refused.
+pub fn push_watch(lines: &mut Vec<u8>, watch: Option<bool>) -> Result<(), AllocError>
     ensures { OnOk result (lines.new.items ≡ lines.old.items ++ watch_line watch) }
 {
     match watch {
@@ -108,8 +112,9 @@ pub(crate) fn push_watch(lines: &mut Vec<u8>, watch: Option<bool>) -> Result<(),
     Ok(())
 }
 
-/// Puts the line of what stays in the database behind others.
-pub(crate) fn push_persist(lines: &mut Vec<u8>, persist: bool) -> Result<(), AllocError>
+/// Puts the line of what stays in the database behind others. The error comes where memory is
+/// refused.
+pub fn push_persist(lines: &mut Vec<u8>, persist: bool) -> Result<(), AllocError>
     ensures { OnOk result (lines.new.items ≡ lines.old.items ++ persist_line persist) }
 {
     if persist {
@@ -118,9 +123,10 @@ pub(crate) fn push_persist(lines: &mut Vec<u8>, persist: bool) -> Result<(), All
     Ok(())
 }
 
-/// Puts the line of a command behind others.
+/// Puts the line of a command behind others. The error comes where memory is
+/// refused.
 #[tactic(auto, unfolding(crate::specs::Lines::run_line))]
-pub(crate) fn push_run(
+pub fn push_run(
     alloc: Global,
     lines: &mut Vec<u8>,
     kind: RunType,
@@ -149,9 +155,10 @@ pub(crate) fn push_note(alloc: Global, lines: &mut Vec<u8>, note: &Note) -> Resu
     Ok(())
 }
 
-/// Puts the first line behind others: what happened, and to which device.
+/// Puts the first line behind others: what happened, and to which device. The error comes where memory is
+/// refused.
 #[tactic(auto, unfolding(crate::specs::Lines::event_line))]
-pub(crate) fn push_event(
+pub fn push_event(
     alloc: Global,
     lines: &mut Vec<u8>,
     action: &[u8],

@@ -51,12 +51,8 @@ pub(crate) fn push_env(
     Ok(())
 }
 
-/// Puts the lines of notes behind others.
-pub(crate) fn push_notes(
-    alloc: Global,
-    lines: &mut Vec<u8>,
-    notes: &Notes,
-) -> Result<(), AllocError>
+/// Puts the lines of notes behind others. The error comes where memory is refused.
+pub fn push_notes(alloc: Global, lines: &mut Vec<u8>, notes: &Notes) -> Result<(), AllocError>
     ensures { OnOk result (lines.new.items ≡ lines.old.items ++ note_lines notes.now) }
 {
     for note in notes.as_slice() {

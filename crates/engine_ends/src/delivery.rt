@@ -53,7 +53,8 @@ pub fn deliver_in_pieces<W: Sink, E: Sink>(
 ) -> u8
     requires { status < 3 }
     ensures { Delivers (record { output = answer.now; messages = flat_map (λ t. t.now) messages.now; status = status }) result
-        (W.shown output.old) (W.shown output.new) (E.shown error.old) (E.shown error.new) }
+        (record { out = W.shown output.old; err = E.shown error.old })
+        (record { out = W.shown output.new; err = E.shown error.new }) }
 {
     match hand_on_each(error, messages) {
         Ok(()) => match hand_on(output, answer) {

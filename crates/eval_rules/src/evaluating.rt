@@ -18,8 +18,13 @@ use std::alloc::{AllocError, Global};
 use std::mem;
 use text_tables::OwnedPairs;
 
-/// Renders a RUN with the device that its rule had selected, which is selected from then on.
-fn run_text(alloc: Global, kept: &Run<'_>, state: &mut State<'_>) -> Result<Rendered, AllocError>
+/// Renders a RUN with the device that its rule had selected, which is selected from then on. The error comes where
+/// memory is refused.
+pub fn run_text(
+    alloc: Global,
+    kept: &Run<'_>,
+    state: &mut State<'_>,
+) -> Result<Rendered, AllocError>
     ensures text { IfOk result (λ text. text ≡ run_text state.old kept.now) }
     ensures selects { OnOk result (state.new ≡ with_selected kept.now.selected state.old) }
 {

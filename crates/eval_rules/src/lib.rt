@@ -12,6 +12,7 @@ mod rules;
 mod sorting;
 mod steps;
 
-pub use evaluating::{evaluate_plain, finish};
+pub use evaluating::{evaluate_plain, finish, run_text};
 pub use outcome::{Command, Commands, Outcome};
+pub use rules::{is_passed, sought_after};
 pub use steps::apply;

@@ -13,8 +13,8 @@ use hwdb_lookup::Lookup;
 use rule_types::Rule;
 use std::alloc::{AllocError, Global};
 
-/// Whether a rule is passed over while a label is sought.
-fn is_passed(sought: Option<&[u8]>, rule: &Rule) -> bool
+/// Whether a rule is passed over while a label is sought, or none is.
+pub fn is_passed(sought: Option<&[u8]>, rule: &Rule) -> bool
     ensures { result ≡ is_passed (option_map (λ t. t.now) sought.entry) rule.now }
 {
     match (sought, rule.label()) {
@@ -24,8 +24,8 @@ fn is_passed(sought: Option<&[u8]>, rule: &Rule) -> bool
     }
 }
 
-/// The label that is sought behind a rule.
-fn sought_after(reached: bool, rule: &Rule) -> Option<&[u8]>
+/// The label that is sought behind a rule: that of its GOTO, if its end was reached.
+pub fn sought_after(reached: bool, rule: &Rule) -> Option<&[u8]>
     ensures { option_map (λ t. t.now) result ≡ sought_after reached rule.now }
 {
     if reached { rule.goto() } else { None }

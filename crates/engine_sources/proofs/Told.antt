@@ -1,0 +1,16 @@
+-- What is kept tells the lines where they come from.
+use Rattle.std.proofs.Common.{◌≡◌, List, None, ap}
+use Rattle.text_tables.specs.Texts.{Text}
+use Rattle.text_tables.specs.Pairs.{Pair}
+use Rattle.device_core.specs.Values.{EventValue}
+use Rattle.rule_types.specs.Rules.{Rule}
+use Rattle.eval_rules.specs.declared.outcome.Command.{Command}
+use Rattle.eval_rules.specs.declared.outcome.Outcome.{Outcome}
+use Rattle.eval_sources.specs.Sources.{Kept, Source, Stage, Tells, source_in, source_of}
+use Rattle.engine_sources.specs.Answers.{sourced_lines}
+
+pub lines_are : (stages : List Stage) (held : List (Text × Kept)) (event : EventValue) (outcome : Outcome) (commands : List (Command × Rule)) → Tells stages held
+    → sourced_lines (source_in held None) event outcome commands ≡ sourced_lines (source_of stages) event outcome commands
+unfolding Tells
+lines_are stages held event outcome commands h =
+    let same : source_in held None ≡ source_of stages = λ i item. h item i in ap (λ (source : Pair → Source). sourced_lines source event outcome commands) same

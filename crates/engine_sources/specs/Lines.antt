@@ -1,0 +1,73 @@
+-- The lines of an answer, each behind the rule that it comes from.
+use Rattle.std.specs.Prelude.{ℤ, Bool, true, false, cond, List, [], ◌∷◌, ◌++◌, Option, Some, None, codes, flat_map}
+use Rattle.std.specs.Fmt.{signed_decimal}
+use Rattle.text_tables.specs.Texts.{Text}
+use Rattle.text_tables.specs.Pairs.{Pair}
+use Rattle.rule_types.specs.Rules.{Rule}
+use Rattle.eval_rules.specs.declared.outcome.Command.{Command}
+use Rattle.eval_sources.specs.Items.{item_name, watch_word}
+use Rattle.eval_sources.specs.Sources.{Source}
+use Rattle.engine_ends.specs.Places.{place_of}
+use Rattle.engine_answers.specs.Lines.{is_hidden, pair_line, persist_line, priority_line, run_line, text_line, watch_line}
+
+-- where a line comes from, `FILE:LINE: `, or `-: ` where it comes from no rule
+abbrev pub source_part : Source → Text
+source_part None = codes "-: "
+source_part (Some r) = place_of r.file r.line
+
+-- the line of a command, behind the rule that added it
+unfoldable pub command_line : Command × Rule → Text
+command_line found = source_part (Some found.1) ++ run_line found.0.kind found.0.text
+
+-- the lines of commands
+abbrev pub command_lines : List (Command × Rule) → Text
+command_lines commands = flat_map command_line commands
+
+module _ (source : Pair → Source) where
+  -- a line with a text that is an item of its word
+  unfoldable pub word_line : Text → Text → Text
+  word_line word text = source_part (source (word, text)) ++ text_line word text
+
+  -- the same of a text that may not be there
+  abbrev pub given_line : Text → Option Text → Text
+  given_line word None = []
+  given_line word (Some text) = word_line word text
+
+  -- a line with a text that is one of several
+  unfoldable pub member_line : Text → Text → Text
+  member_line word text = source_part (source (item_name word text, [])) ++ text_line word text
+
+  -- a line for each of several texts
+  abbrev pub member_lines : Text → List Text → Text
+  member_lines word texts = flat_map (member_line word) texts
+
+  -- a line with a name and its value
+  unfoldable pub value_line : Text → Pair → Text
+  value_line word pair = source_part (source (item_name word pair.0, pair.1)) ++ pair_line word pair
+
+  -- a line for each of several names with their values
+  abbrev pub value_lines : Text → List Pair → Text
+  value_lines word pairs = flat_map (value_line word) pairs
+
+  -- the line of a property that is not for rules alone
+  abbrev pub shown_value_line : Pair → Text
+  shown_value_line pair = cond (is_hidden pair.0) [] (value_line (codes "env") pair)
+
+  -- the lines of properties
+  abbrev pub env_value_lines : List Pair → Text
+  env_value_lines pairs = flat_map shown_value_line pairs
+
+  -- the line of a priority, where one was assigned
+  abbrev pub sourced_priority : Option ℤ → Text
+  sourced_priority None = []
+  sourced_priority (Some priority) = source_part (source (codes "priority", signed_decimal priority)) ++ priority_line (Some priority)
+
+  -- the line on watching, where it was assigned
+  abbrev pub sourced_watch : Option Bool → Text
+  sourced_watch None = []
+  sourced_watch (Some watched) = source_part (source (watch_word watched, [])) ++ watch_line (Some watched)
+
+  -- the line of what stays in the database
+  abbrev pub sourced_persist : Bool → Text
+  sourced_persist true = source_part (source (codes "persist", [])) ++ persist_line true
+  sourced_persist false = []

@@ -1,0 +1,189 @@
+//! One line of each kind, behind the rule that it comes from.
+ghost use Rattle.std.specs.Prelude.{◌≡◌, ◌++◌, None, OnOk, option_map};
+ghost use Rattle.eval_sources.specs.Items.{watch_word};
+ghost use Rattle.eval_sources.specs.Sources.{source_in};
+ghost use Rattle.engine_sources.specs.Lines.{command_line, given_line, member_line, shown_value_line, source_part, sourced_persist, sourced_priority, sourced_watch, value_line, word_line};
+
+use engine_answers::{
+    is_hidden, push_pair, push_persist, push_priority, push_run, push_text, push_watch,
+};
+use engine_ends::push_place;
+use eval_sources::{SourcedCommand, Sources, item_name};
+use itoa::Buffer;
+use rule_types::Rule;
+use std::alloc::{AllocError, Global};
+use text_bytes::Bytes;
+
+/// Puts where a line comes from behind a text.
+fn push_rule(alloc: Global, lines: &mut Vec<u8>, rule: Option<&Rule>) -> Result<(), AllocError>
+    ensures { OnOk result (lines.new.items ≡ lines.old.items ++ source_part (option_map (λ r. r.now) rule.entry)) }
+{
+    match rule {
+        Some(rule) => push_place(alloc, lines, rule.file(), rule.line()),
+        None => lines.extend_from_slice(b"-: "),
+    }
+}
+
+/// Puts where an item comes from behind a text.
+fn push_source(
+    alloc: Global,
+    lines: &mut Vec<u8>,
+    sources: &Sources<'_>,
+    name: &[u8],
+    value: &[u8],
+) -> Result<(), AllocError>
+    ensures { OnOk result (lines.new.items ≡ lines.old.items ++ source_part (source_in sources.now None (name.now, value.now))) }
+{
+    push_rule(alloc, lines, sources.rule_of(name, value))
+}
+
+/// Puts a line with a text that is an item of its word behind others.
+#[tactic(auto, unfolding(crate::specs::Lines::word_line))]
+fn push_word(
+    alloc: Global,
+    lines: &mut Vec<u8>,
+    sources: &Sources<'_>,
+    word: &[u8],
+    text: &[u8],
+) -> Result<(), AllocError>
+    ensures { OnOk result (lines.new.items ≡ lines.old.items ++ word_line (source_in sources.now None) word.now text.now) }
+{
+    push_source(alloc, lines, sources, word, text)?;
+    push_text(alloc, lines, word, text)
+}
+
+/// Puts a line with a text behind others, if the text is there.
+pub(crate) fn push_given(
+    alloc: Global,
+    lines: &mut Vec<u8>,
+    sources: &Sources<'_>,
+    word: &[u8],
+    text: &Option<Bytes>,
+) -> Result<(), AllocError>
+    ensures { OnOk result (lines.new.items ≡ lines.old.items ++ given_line (source_in sources.now None) word.now text.now) }
+{
+    match text {
+        Some(text) => push_word(alloc, lines, sources, word, text.as_slice()),
+        None => Ok(()),
+    }
+}
+
+/// Puts a line with a text that is one of several behind others.
+#[tactic(auto, unfolding(crate::specs::Lines::member_line))]
+pub(crate) fn push_member(
+    alloc: Global,
+    lines: &mut Vec<u8>,
+    sources: &Sources<'_>,
+    word: &[u8],
+    text: &[u8],
+) -> Result<(), AllocError>
+    ensures { OnOk result (lines.new.items ≡ lines.old.items ++ member_line (source_in sources.now None) word.now text.now) }
+{
+    let name = item_name(alloc, word, text)?;
+    push_source(alloc, lines, sources, name.as_slice(), b"")?;
+    push_text(alloc, lines, word, text)
+}
+
+/// Puts a line with a name and its value behind others.
+#[tactic(auto, unfolding(crate::specs::Lines::value_line))]
+pub(crate) fn push_value(
+    alloc: Global,
+    lines: &mut Vec<u8>,
+    sources: &Sources<'_>,
+    word: &[u8],
+    name: &[u8],
+    value: &[u8],
+) -> Result<(), AllocError>
+    ensures { OnOk result (lines.new.items ≡ lines.old.items ++ value_line (source_in sources.now None) word.now (name.now, value.now)) }
+{
+    let item = item_name(alloc, word, name)?;
+    push_source(alloc, lines, sources, item.as_slice(), value)?;
+    push_pair(alloc, lines, word, name, value)
+}
+
+/// Puts the line of a property behind others, unless its name begins with a dot.
+pub(crate) fn push_shown(
+    alloc: Global,
+    lines: &mut Vec<u8>,
+    sources: &Sources<'_>,
+    name: &[u8],
+    value: &[u8],
+) -> Result<(), AllocError>
+    ensures { OnOk result (lines.new.items ≡ lines.old.items ++ shown_value_line (source_in sources.now None) (name.now, value.now)) }
+{
+    if is_hidden(name) {
+        return Ok(());
+    }
+    push_value(alloc, lines, sources, b"env", name, value)
+}
+
+/// Puts the line of a priority behind others, if one was assigned.
+pub(crate) fn push_sourced_priority(
+    alloc: Global,
+    lines: &mut Vec<u8>,
+    sources: &Sources<'_>,
+    priority: Option<i32>,
+) -> Result<(), AllocError>
+    ensures { OnOk result (lines.new.items ≡ lines.old.items ++ sourced_priority (source_in sources.now None) priority) }
+{
+    let Some(number) = priority else {
+        return Ok(());
+    };
+    let mut buffer = Buffer::new();
+    let value = buffer.format(number).as_bytes();
+    push_source(alloc, lines, sources, b"priority", value)?;
+    push_priority(lines, Some(number))
+}
+
+/// The word on watching.
+fn watch_word(watched: bool) -> &'static [u8]
+    ensures { result.now ≡ watch_word watched }
+{
+    if watched { b"watch" } else { b"nowatch" }
+}
+
+/// Puts the line on watching behind others, if it was assigned.
+pub(crate) fn push_sourced_watch(
+    alloc: Global,
+    lines: &mut Vec<u8>,
+    sources: &Sources<'_>,
+    watch: Option<bool>,
+) -> Result<(), AllocError>
+    ensures { OnOk result (lines.new.items ≡ lines.old.items ++ sourced_watch (source_in sources.now None) watch) }
+{
+    let Some(watched) = watch else {
+        return Ok(());
+    };
+    push_source(alloc, lines, sources, watch_word(watched), b"")?;
+    push_watch(lines, Some(watched))
+}
+
+/// Puts the line of what stays in the database behind others.
+pub(crate) fn push_sourced_persist(
+    alloc: Global,
+    lines: &mut Vec<u8>,
+    sources: &Sources<'_>,
+    persist: bool,
+) -> Result<(), AllocError>
+    ensures { OnOk result (lines.new.items ≡ lines.old.items ++ sourced_persist (source_in sources.now None) persist) }
+{
+    if !persist {
+        return Ok(());
+    }
+    push_source(alloc, lines, sources, b"persist", b"")?;
+    push_persist(lines, true)
+}
+
+/// Puts the line of a command behind others.
+#[tactic(auto, unfolding(crate::specs::Lines::command_line))]
+pub(crate) fn push_command(
+    alloc: Global,
+    lines: &mut Vec<u8>,
+    found: &SourcedCommand<'_>,
+) -> Result<(), AllocError>
+    ensures { OnOk result (lines.new.items ≡ lines.old.items ++ command_line found.now) }
+{
+    push_rule(alloc, lines, Some(found.rule()))?;
+    let command = found.command();
+    push_run(alloc, lines, command.kind, command.text.as_slice())
+}

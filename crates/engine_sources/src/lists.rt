@@ -1,0 +1,70 @@
+//! A line for each member of a list, behind the rule that it comes from.
+ghost use Rattle.std.specs.Prelude.{◌≡◌, ◌++◌, None, OnOk};
+ghost use Rattle.eval_sources.specs.Sources.{source_in};
+ghost use Rattle.engine_sources.specs.Lines.{command_lines, env_value_lines, member_lines, value_lines};
+
+use crate::lines::{push_command, push_member, push_shown, push_value};
+use eval_sources::{SourcedCommand, Sources};
+use std::alloc::{AllocError, Global};
+use text_tables::{OwnedPairs, OwnedTexts};
+
+/// Puts a line for each text behind others.
+pub(crate) fn push_members(
+    alloc: Global,
+    lines: &mut Vec<u8>,
+    sources: &Sources<'_>,
+    word: &[u8],
+    texts: &OwnedTexts,
+) -> Result<(), AllocError>
+    ensures { OnOk result (lines.new.items ≡ lines.old.items ++ member_lines (source_in sources.now None) word.now texts.now) }
+{
+    for text in texts.as_slice() {
+        push_member(alloc, lines, sources, word, text)?;
+    }
+    Ok(())
+}
+
+/// Puts a line for each name and its value behind others.
+pub(crate) fn push_values(
+    alloc: Global,
+    lines: &mut Vec<u8>,
+    sources: &Sources<'_>,
+    word: &[u8],
+    pairs: &OwnedPairs,
+) -> Result<(), AllocError>
+    ensures { OnOk result (lines.new.items ≡ lines.old.items ++ value_lines (source_in sources.now None) word.now pairs.now) }
+{
+    for (name, value) in pairs.as_map().iter() {
+        push_value(alloc, lines, sources, word, name, value.as_slice())?;
+    }
+    Ok(())
+}
+
+/// Puts the lines of properties behind others.
+pub(crate) fn push_env(
+    alloc: Global,
+    lines: &mut Vec<u8>,
+    sources: &Sources<'_>,
+    pairs: &OwnedPairs,
+) -> Result<(), AllocError>
+    ensures { OnOk result (lines.new.items ≡ lines.old.items ++ env_value_lines (source_in sources.now None) pairs.now) }
+{
+    for (name, value) in pairs.as_map().iter() {
+        push_shown(alloc, lines, sources, name, value.as_slice())?;
+    }
+    Ok(())
+}
+
+/// Puts the lines of commands behind others.
+pub(crate) fn push_commands(
+    alloc: Global,
+    lines: &mut Vec<u8>,
+    commands: &[SourcedCommand<'_>],
+) -> Result<(), AllocError>
+    ensures { OnOk result (lines.new.items ≡ lines.old.items ++ command_lines commands.now) }
+{
+    for found in commands {
+        push_command(alloc, lines, found)?;
+    }
+    Ok(())
+}

@@ -1,0 +1,5 @@
+pub mod Standing
+pub mod Keeping
+pub mod Quiet
+pub mod Passing
+pub mod Ending

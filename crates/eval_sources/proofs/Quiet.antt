@@ -1,0 +1,87 @@
+-- A rule that can have changed no item leaves all of them.
+use Rattle.std.proofs.Common.{◌≡◌, ℕ, Bool, true, false, not, ◌||◌, ◌&&◌, List, [], ◌∷◌, None, fold, cond, refl, ap, sym, ◌∙◌}
+use Rattle.text_bytes.specs.Texts.{is_empty}
+use Rattle.hwdb_lookup.specs.declared.entry.Entry.{Entry}
+use Rattle.rule_types.specs.declared.roles.PlainKey.{PlainKey}
+use Rattle.rule_types.specs.declared.roles.PlainKey.TheVariants as plain
+use Rattle.rule_types.specs.declared.part.Act.{Act}
+use Rattle.rule_types.specs.declared.part.Assignment.{Assignment}
+use Rattle.rule_types.specs.declared.part.Comparison.{Comparison}
+use Rattle.rule_types.specs.declared.part.PlainMatch.{PlainMatch}
+use Rattle.rule_types.specs.declared.part.UpMatch.{UpMatch}
+use Rattle.rule_types.specs.Rules.{Rule}
+use Rattle.eval_state.specs.declared.scene.Scene.{Scene}
+use Rattle.eval_acts.specs.Acts.{act_step}
+use Rattle.eval_acts.specs.Reaching.{reached}
+use Rattle.eval_assignments.specs.Steps.{set_step}
+use Rattle.eval_rules.specs.Steps.{Went, apply, onward, plain_step, result_step, search, set_all, walk, with_selected}
+use Rattle.eval_sources.specs.Inner.{can_change}
+use Rattle.eval_sources.specs.Items.{items, node_items}
+
+-- a scene without what matches change in it: its notes, and which device is selected
+abbrev quiet : Scene → Scene
+quiet s = record s { notes = []; state = with_selected None s.state }
+
+items_quiet : (s : Scene) → items (quiet s) ≡ items s
+unfolding items node_items
+items_quiet s = refl
+
+reached_quiet : (r : Rule) (k : PlainKey) (s : Scene) → quiet (reached r k s) ≡ quiet s
+reached_quiet r (plain.Sysctl name) s = refl
+reached_quiet r k s = refl
+
+plain_quiet : (r : Rule) (part : PlainMatch) (s : Scene) → quiet (plain_step r part s).0 ≡ quiet s
+unfolding plain_step
+plain_quiet r part s = reached_quiet r part.key s
+
+result_quiet : (part : Comparison) (s : Scene) → quiet (result_step part s).0 ≡ quiet s
+unfolding result_step
+result_quiet part s = refl
+
+search_quiet : (parts : List UpMatch) (s : Scene) → quiet (search parts s).0 ≡ quiet s
+search_quiet [] s = refl
+search_quiet (part ∷ parts) s = refl
+
+onward_quiet : (next : Scene → Went) → ((t : Scene) → quiet (next t).0 ≡ quiet t) → (s : Scene) (w : Went) → quiet w.0 ≡ quiet s → quiet (onward next w).0 ≡ quiet s
+onward_quiet next h s w e = by w.1
+  where
+    by : (b : Bool) → quiet (cond b (next w.0) w).0 ≡ quiet s
+    by true = h w.0 ∙ e
+    by false = e
+
+walk_quiet : {P : Type 0} (step : P → Scene → Went) → ((p : P) (t : Scene) → quiet (step p t).0 ≡ quiet t) → (parts : List P) (s : Scene) → quiet (walk step parts s).0 ≡ quiet s
+unfolding walk
+walk_quiet step h [] s = refl
+walk_quiet step h (part ∷ parts) s = onward_quiet (walk step parts) (walk_quiet step h parts) s (step part s) (h part s)
+
+acts_quiet : (entries : List Entry) (r : Rule) (acts : List Act) (s : Scene) → not (is_empty acts) ≡ false → quiet (walk (act_step entries r) acts s).0 ≡ quiet s
+unfolding walk
+acts_quiet entries r [] s h = refl
+acts_quiet entries r (act ∷ acts) s h = cc
+
+sets_quiet : (r : Rule) (sets : List Assignment) (s : Scene) → not (is_empty sets) ≡ false → fold (set_step r) s sets ≡ s
+sets_quiet r [] s h = refl
+sets_quiet r (set ∷ sets) s h = cc
+
+end_quiet : (r : Rule) (s : Scene) (w : Went) → quiet w.0 ≡ quiet s → ((onward (set_all r) w).1 && not (is_empty r.sets)) ≡ false → quiet (onward (set_all r) w).0 ≡ quiet s
+end_quiet r s w e h = by w.1 h
+  where
+    by : (b : Bool) → ((cond b (set_all r w.0) w).1 && not (is_empty r.sets)) ≡ false → quiet (cond b (set_all r w.0) w).0 ≡ quiet s
+    by true none = ap quiet (sets_quiet r r.sets w.0 none) ∙ e
+    by false none = e
+
+neither : (a b : Bool) → (a || b) ≡ false → (a ≡ false) × (b ≡ false)
+neither true b h = cc
+neither false b h = (refl, h)
+
+-- such a rule leaves all items
+pub items_stay : (entries : List Entry) (r : Rule) (s t : Scene) (on : Bool) → (t, on) ≡ apply entries r s → can_change on r ≡ false → items t ≡ items s
+unfolding apply
+items_stay entries r s t on e h =
+    let none = neither (not (is_empty r.acts)) ((apply entries r s).1 && not (is_empty r.sets)) (ap (λ (w : Went). can_change w.1 r) (sym e) ∙ h) in
+    let plains = walk_quiet (plain_step r) (plain_quiet r) r.plain s in
+    let ups = onward_quiet (search r.up) (search_quiet r.up) s _ plains in
+    let acted = onward_quiet (walk (act_step entries r) r.acts) (λ u. acts_quiet entries r r.acts u none.0) s _ ups in
+    let results = onward_quiet (walk result_step r.results) (walk_quiet result_step result_quiet r.results) s _ acted in
+    let all = end_quiet r s _ results none.1 in
+    ap (λ (w : Went). items w.0) e ∙ sym (items_quiet (apply entries r s).0) ∙ ap items all ∙ items_quiet s

@@ -1,0 +1,66 @@
+-- What stands in a scene, as items: each has a name, the word of its line with what it is about, and a value.
+use Rattle.std.specs.Prelude.{ℤ, Bool, true, false, List, [], ◌∷◌, ◌++◌, map, Option, Some, None, codes}
+use Rattle.std.specs.Fmt.{signed_decimal}
+use Rattle.text_bytes.specs.Names.{space}
+use Rattle.text_tables.specs.Texts.{Text}
+use Rattle.text_tables.specs.Pairs.{Pair}
+use Rattle.eval_state.specs.declared.scene.Scene.{Scene}
+
+-- the name of an item that is one of several of its word: the word, and which of them it is
+abbrev pub item_name : Text → Text → Text
+item_name word about = word ++ space ∷ about
+
+-- a text that may not be there, as an item
+abbrev pub given_item : Text → Option Text → List Pair
+given_item word None = []
+given_item word (Some text) = (word, text) ∷ []
+
+-- texts as items, which have no value
+abbrev pub text_items : Text → List Text → List Pair
+text_items word texts = map (λ text. (item_name word text, [])) texts
+
+-- names with their values as items
+abbrev pub pair_items : Text → List Pair → List Pair
+pair_items word pairs = map (λ pair. (item_name word pair.0, pair.1)) pairs
+
+-- a priority as an item, where one was assigned
+abbrev pub priority_item : Option ℤ → List Pair
+priority_item None = []
+priority_item (Some priority) = (codes "priority", signed_decimal priority) ∷ []
+
+-- the word on watching
+abbrev pub watch_word : Bool → Text
+watch_word true = codes "watch"
+watch_word false = codes "nowatch"
+
+-- the word on watching as an item, where it was assigned
+abbrev pub watch_item : Option Bool → List Pair
+watch_item None = []
+watch_item (Some watched) = (watch_word watched, []) ∷ []
+
+-- that what is known of the device stays, as an item
+abbrev pub persist_item : Bool → List Pair
+persist_item true = (codes "persist", []) ∷ []
+persist_item false = []
+
+-- the items of the device's node
+unfoldable pub node_items : Scene → List Pair
+node_items s =
+    given_item (codes "name") s.state.name
+    ++ given_item (codes "owner") s.owner
+    ++ given_item (codes "group") s.group
+    ++ given_item (codes "mode") s.mode
+    ++ priority_item s.priority
+    ++ watch_item s.watch
+    ++ persist_item s.persist
+
+-- all items of a scene
+unfoldable pub items : Scene → List Pair
+items s =
+    node_items s
+    ++ pair_items (codes "label") s.labels
+    ++ text_items (codes "link") s.state.links
+    ++ text_items (codes "tag") s.state.tags
+    ++ pair_items (codes "env") s.state.env
+    ++ pair_items (codes "attr") s.attrs
+    ++ pair_items (codes "sysctl") s.sysctls

@@ -1,0 +1,4 @@
+pub mod Items
+pub mod Sources
+pub mod Told
+pub mod Inner

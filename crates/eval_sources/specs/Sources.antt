@@ -1,0 +1,61 @@
+-- Where an item comes from, told without a walk; and a table that keeps it beside each item.
+use Rattle.std.specs.Prelude.{◌≡◌, Bool, false, if◌then◌else◌, List, [], ◌∷◌, ◌++◌, fold, Option, Some, None}
+use Rattle.std.specs.List.{list_all}
+use Rattle.text_tables.specs.Texts.{Text, same_text}
+use Rattle.text_tables.specs.Pairs.{Pair, named, value_of, with_value}
+use Rattle.rule_types.specs.Rules.{Rule}
+
+-- a source: a rule, or none where something stood from the start
+abbrev pub Source : Type 0
+Source = Option Rule
+
+-- a stage: a rule and the items that stand behind it, or no rule and those that stand at the start
+abbrev pub Stage : Type 0
+Stage = Source × List Pair
+
+-- whether a value is there and is this text
+abbrev pub is_value : Option Text → Text → Bool
+is_value None text = false
+is_value (Some value) text = same_text value text
+
+-- whether an item stands among others: its name has its value
+abbrev pub stands : Pair → List Pair → Bool
+stands item items = is_value (value_of items item.0) item.1
+
+-- whether an item stands at all of these stages
+abbrev pub stands_throughout : Pair → List Stage → Bool
+stands_throughout item stages = list_all (λ stage. stands item stage.1) stages
+
+-- where an item comes from: the first of these stages from which on it stands at all of them
+unfoldable pub source_of : List Stage → Pair → Source
+source_of [] item = None
+source_of (stage ∷ later) item = if stands_throughout item (stage ∷ later) then stage.0 else source_of later item
+
+-- what is kept beside the name of an item: its value, and where it comes from
+abbrev pub Kept : Type 0
+Kept = Text × Source
+
+-- where an item comes from that has this value: from what is kept, if that has the value too, else from this source
+abbrev pub source_by : Option Kept → Source → Text → Source
+source_by None source value = source
+source_by (Some kept) source value = if same_text kept.0 value then kept.1 else source
+
+-- the same of an item by what is kept of all
+abbrev pub source_in : List (Text × Kept) → Source → Pair → Source
+source_in held source item = source_by (value_of held item.0) source item.1
+
+-- what is kept of an item beside others; of two with one name the first is kept
+abbrev pub with_kept : List (Text × Kept) → Text → Kept → List (Text × Kept)
+with_kept held name kept = if named held name then held else with_value held name kept
+
+-- what is kept of an item that stands behind a rule, by what was kept before that rule
+abbrev pub kept_of : List (Text × Kept) → Source → Pair → Kept
+kept_of before source item = (item.1, source_in before source item)
+
+-- what is kept behind one rule more, of the items that stand behind it
+unfoldable pub kept_behind : List (Text × Kept) → Source → List Pair → List (Text × Kept)
+kept_behind before source items = fold (λ held item. with_kept held item.0 (kept_of before source item)) [] items
+
+-- what is kept tells of each item where it comes from
+unfoldable pub Tells : List Stage → List (Text × Kept) → Type 0
+Tells stages held = (item : Pair) → source_in held None item ≡ source_of stages item

@@ -1,0 +1,80 @@
+//! An event, from its start to what it comes to and where that comes from.
+ghost use Rattle.std.specs.Prelude.{◌≡◌, None, IfOk, OnOk};
+ghost use Rattle.eval_rules.specs.Inner.{unselected};
+ghost use Rattle.eval_rules.specs.Jumps.{run};
+ghost use Rattle.eval_rules.specs.Outcomes.{outcome};
+ghost use Rattle.eval_sources.specs.Sources.{Tells};
+ghost use Rattle.eval_sources.specs.Told.{commands_over, event_commands, stages, stages_over};
+
+use crate::commands::{SourcedCommand, sourced_commands};
+use crate::sources::Sources;
+use crate::telling::{begin, run};
+use device_core::Event;
+use eval_rules::{Outcome, finish};
+use eval_state::Scene;
+use hwdb_lookup::Lookup;
+use rule_core::RuleSet;
+use rule_types::Rule;
+use std::alloc::{AllocError, Global};
+
+/// What an event comes to, and where it comes from.
+#[derive(Drop)]
+pub struct Sourced<'a> {
+    /// What it comes to.
+    pub outcome: Outcome,
+    /// The rule that each item of it comes from.
+    pub sources: Sources<'a>,
+    /// Its commands, each with the rule that added it.
+    pub commands: Vec<SourcedCommand<'a>>,
+}
+
+/// Runs rules over a scene in which none has run yet; gives where what then stands comes from, and the commands. Another
+/// device may be selected then.
+fn run_sourced<'a, L: Lookup>(
+    alloc: Global,
+    rules: &'a [Rule],
+    lookup: &L,
+    scene: &mut Scene<'a>,
+) -> Result<(Sources<'a>, Vec<SourcedCommand<'a>>), AllocError>
+    ensures scene { OnOk result (unselected scene.new ≡ unselected (run (L.entries lookup.now) None rules.now scene.old)) }
+    ensures sources { IfOk result (λ told. Tells (stages_over (L.entries lookup.now) rules.now scene.old) told.0) }
+    ensures commands { IfOk result (λ told. told.1.items ≡ commands_over (L.entries lookup.now) rules.now scene.old) }
+{
+    let mut sources = begin(alloc, scene)?;
+    run(alloc, rules, lookup, scene, &mut sources)?;
+    let commands = sourced_commands(alloc, scene.runs.as_slice(), &mut scene.state)?;
+    Ok((sources, commands))
+}
+
+/// What an event comes to by the rules as they are read, as `evaluate_plain` has it, and where it comes from. An item,
+/// that is a link, a tag, the value of a property and what else has a line, comes from the first rule from behind which
+/// on it stands as it stands in the end; from none, if it stood so from the start. A command comes from the rule that
+/// added it.
+///
+/// The error comes where memory is refused.
+pub fn evaluate_sources<'a, L: Lookup>(
+    alloc: Global,
+    rules: &'a RuleSet,
+    event: &'a Event<'_>,
+    lookup: &L,
+) -> Result<Sourced<'a>, AllocError>
+    ensures outcome { IfOk result (λ s. s.outcome ≡ outcome rules.now.rules (L.entries lookup.now) event.now) }
+    ensures sources { IfOk result (λ s. Tells (stages rules.now.rules (L.entries lookup.now) event.now) s.sources) }
+    ensures commands { IfOk result (λ s. s.commands.items ≡ event_commands rules.now.rules (L.entries lookup.now) event.now) }
+{
+    let mut scene = Scene::new(alloc, event)?;
+    match run_sourced(alloc, rules.rules(), lookup, &mut scene) {
+        Ok((sources, commands)) => {
+            let outcome = finish(alloc, scene)?;
+            Ok(Sourced {
+                outcome,
+                sources,
+                commands,
+            })
+        }
+        Err(refused) => {
+            drop(scene);
+            Err(refused)
+        }
+    }
+}

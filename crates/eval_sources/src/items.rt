@@ -1,0 +1,200 @@
+//! What stands in a scene, as items.
+ghost use Rattle.std.specs.Prelude.{◌≡◌, ◌++◌, ◌∷◌, [], IfOk, OnOk};
+ghost use Rattle.eval_sources.specs.Items.{given_item, item_name, items, node_items, pair_items, persist_item, priority_item, text_items, watch_item, watch_word};
+
+use eval_state::Scene;
+use itoa::Buffer;
+use std::alloc::{AllocError, Global};
+use std::marker::Model;
+use text_bytes::Bytes;
+use text_tables::{OwnedPairs, OwnedTexts};
+
+/// Something that stands in a scene: its name is the word of its line, behind which stands what it is about, where several
+/// items have the word.
+#[derive(Drop)]
+pub(crate) struct Item {
+    name: Bytes,
+    value: Bytes,
+}
+
+impl Model for Item {
+    ghost use Rattle.text_tables.specs.Pairs.{Pair};
+
+    ghost Value = { Pair };
+
+    ghost view = { λ i. (i.name, i.value) };
+}
+
+impl Item {
+    /// Gives up the item for its name and its value.
+    pub(crate) fn into_parts(self) -> (Bytes, Bytes)
+        ensures { result ≡ self }
+    {
+        let Item { name, value } = self;
+        (name, value)
+    }
+}
+
+/// The name of an item that is one of several of its word: the word, a space, and which of them it is. The error comes
+/// where memory is refused.
+pub fn item_name(alloc: Global, word: &[u8], about: &[u8]) -> Result<Bytes, AllocError>
+    ensures { IfOk result (λ name. name ≡ item_name word.now about.now) }
+{
+    let mut name = Vec::from_slice(alloc, word)?;
+    name.push(b' ')?;
+    name.extend_from_slice(about)?;
+    Ok(Bytes::new(name))
+}
+
+/// Puts an item behind others.
+fn push_item(
+    alloc: Global,
+    items: &mut Vec<Item>,
+    name: Bytes,
+    value: &[u8],
+) -> Result<(), AllocError>
+    ensures { OnOk result (items.new.items ≡ items.old.items ++ (name, value.now) ∷ []) }
+{
+    let value = Bytes::copy_of(alloc, value)?;
+    items.push(Item { name, value })?;
+    Ok(())
+}
+
+/// Puts an item that has its word alone behind others.
+fn push_word(
+    alloc: Global,
+    items: &mut Vec<Item>,
+    word: &[u8],
+    value: &[u8],
+) -> Result<(), AllocError>
+    ensures { OnOk result (items.new.items ≡ items.old.items ++ (word.now, value.now) ∷ []) }
+{
+    push_item(alloc, items, Bytes::copy_of(alloc, word)?, value)
+}
+
+/// Puts a text that may not be there behind others.
+fn push_given(
+    alloc: Global,
+    items: &mut Vec<Item>,
+    word: &[u8],
+    text: &Option<Bytes>,
+) -> Result<(), AllocError>
+    ensures { OnOk result (items.new.items ≡ items.old.items ++ given_item word.now text.now) }
+{
+    match text {
+        Some(text) => push_word(alloc, items, word, text.as_slice()),
+        None => Ok(()),
+    }
+}
+
+/// Puts texts behind others.
+fn push_texts(
+    alloc: Global,
+    items: &mut Vec<Item>,
+    word: &[u8],
+    texts: &OwnedTexts,
+) -> Result<(), AllocError>
+    ensures { OnOk result (items.new.items ≡ items.old.items ++ text_items word.now texts.now) }
+{
+    for text in texts.as_slice() {
+        push_item(alloc, items, item_name(alloc, word, text)?, b"")?;
+    }
+    Ok(())
+}
+
+/// Puts names with their values behind others.
+fn push_pairs(
+    alloc: Global,
+    items: &mut Vec<Item>,
+    word: &[u8],
+    pairs: &OwnedPairs,
+) -> Result<(), AllocError>
+    ensures { OnOk result (items.new.items ≡ items.old.items ++ pair_items word.now pairs.now) }
+{
+    for (name, value) in pairs.as_map().iter() {
+        push_item(
+            alloc,
+            items,
+            item_name(alloc, word, name)?,
+            value.as_slice(),
+        )?;
+    }
+    Ok(())
+}
+
+/// Puts a priority behind others, where one was assigned.
+fn push_priority(
+    alloc: Global,
+    items: &mut Vec<Item>,
+    priority: Option<i32>,
+) -> Result<(), AllocError>
+    ensures { OnOk result (items.new.items ≡ items.old.items ++ priority_item priority) }
+{
+    let Some(priority) = priority else {
+        return Ok(());
+    };
+    push_word(
+        alloc,
+        items,
+        b"priority",
+        Buffer::new().format(priority).as_bytes(),
+    )
+}
+
+/// The word on watching.
+fn watch_word(watched: bool) -> &'static [u8]
+    ensures { result.now ≡ watch_word watched }
+{
+    if watched { b"watch" } else { b"nowatch" }
+}
+
+/// Puts the word on watching behind others, where it was assigned.
+fn push_watch(alloc: Global, items: &mut Vec<Item>, watch: Option<bool>) -> Result<(), AllocError>
+    ensures { OnOk result (items.new.items ≡ items.old.items ++ watch_item watch) }
+{
+    match watch {
+        Some(watched) => push_word(alloc, items, watch_word(watched), b""),
+        None => Ok(()),
+    }
+}
+
+/// Puts that what is known of the device stays behind others.
+fn push_persist(alloc: Global, items: &mut Vec<Item>, persist: bool) -> Result<(), AllocError>
+    ensures { OnOk result (items.new.items ≡ items.old.items ++ persist_item persist) }
+{
+    if persist {
+        push_word(alloc, items, b"persist", b"")?;
+    }
+    Ok(())
+}
+
+/// Puts the items of the device's node behind others.
+#[tactic(auto, unfolding(crate::specs::Items::node_items))]
+fn push_node(alloc: Global, items: &mut Vec<Item>, scene: &Scene<'_>) -> Result<(), AllocError>
+    ensures { OnOk result (items.new.items ≡ items.old.items ++ node_items scene.now) }
+{
+    push_given(alloc, items, b"name", &scene.state.name)?;
+    push_given(alloc, items, b"owner", &scene.owner)?;
+    push_given(alloc, items, b"group", &scene.group)?;
+    push_given(alloc, items, b"mode", &scene.mode)?;
+    push_priority(alloc, items, scene.priority)?;
+    push_watch(alloc, items, scene.watch)?;
+    push_persist(alloc, items, scene.persist)?;
+    Ok(())
+}
+
+/// All items of a scene. The error comes where memory is refused.
+#[tactic(auto, unfolding(crate::specs::Items::items))]
+pub(crate) fn items(alloc: Global, scene: &Scene<'_>) -> Result<Vec<Item>, AllocError>
+    ensures { IfOk result (λ found. found.items ≡ items scene.now) }
+{
+    let mut found = Vec::new(alloc);
+    push_node(alloc, &mut found, scene)?;
+    push_pairs(alloc, &mut found, b"label", &scene.labels)?;
+    push_texts(alloc, &mut found, b"link", &scene.state.links)?;
+    push_texts(alloc, &mut found, b"tag", &scene.state.tags)?;
+    push_pairs(alloc, &mut found, b"env", &scene.state.env)?;
+    push_pairs(alloc, &mut found, b"attr", &scene.attrs)?;
+    push_pairs(alloc, &mut found, b"sysctl", &scene.sysctls)?;
+    Ok(found)
+}

@@ -1,0 +1,149 @@
+//! A table that keeps beside each item where it comes from.
+ghost use Rattle.std.specs.Prelude.{◌≡◌, [], None, IfOk, OnOk, option_map};
+ghost use Rattle.text_tables.specs.Pairs.{named, value_of, with_value};
+ghost use Rattle.eval_sources.specs.Sources.{kept_behind, kept_of, source_by, source_in, with_kept};
+
+use crate::items::Item;
+use indexmap::IndexMap;
+use rule_types::Rule;
+use std::alloc::{AllocError, Global};
+use std::marker::Model;
+use std::mem;
+use text_bytes::Bytes;
+
+/// What is kept of an item: its value, and the rule that it comes from, if it comes from one.
+#[derive(Drop)]
+pub(crate) struct Kept<'a> {
+    value: Bytes,
+    rule: Option<&'a Rule>,
+}
+
+impl<'a> Model for Kept<'a> {
+    ghost use Rattle.std.specs.Prelude.{option_map};
+    ghost use Rattle.eval_sources.specs.Sources.{Kept};
+
+    ghost Value = { Kept };
+
+    ghost view = { λ k. (k.value, option_map (λ rule. rule.now) k.rule) };
+}
+
+/// What is kept of the items that stand, by their names.
+#[derive(Drop)]
+pub struct Sources<'a> {
+    held: IndexMap<Vec<u8>, Kept<'a>>,
+}
+
+impl<'a> Model for Sources<'a> {
+    ghost use Rattle.std.specs.Prelude.{List, map};
+    ghost use Rattle.text_tables.specs.Texts.{Text};
+    ghost use Rattle.eval_sources.specs.Sources.{Kept};
+
+    ghost Value = { List (Text × Kept) };
+
+    ghost view = { λ s. map (λ e. (e.0.items, e.1)) s.held.entries };
+}
+
+/// The rule that an item with a value comes from: the one that is kept of it, if it is kept with that value, else
+/// another one.
+fn source_by<'a>(
+    kept: Option<&Kept<'a>>,
+    otherwise: Option<&'a Rule>,
+    value: &[u8],
+) -> Option<&'a Rule>
+    ensures { option_map (λ rule. rule.now) result ≡ source_by (option_map (λ k. k.now) kept.entry) (option_map (λ rule. rule.now) otherwise.entry) value.now }
+{
+    match kept {
+        Some(kept) if kept.value.as_slice() == value => kept.rule,
+        _ => otherwise,
+    }
+}
+
+impl<'a> Sources<'a> {
+    /// Nothing is kept.
+    pub(crate) fn new(alloc: Global) -> Sources<'a>
+        ensures { result ≡ [] }
+    {
+        Sources {
+            held: IndexMap::new(alloc),
+        }
+    }
+
+    /// Lends what is kept of a name.
+    fn get(&self, name: &[u8]) -> Option<&Kept<'a>>
+        ensures { option_map (λ k. k.now) result ≡ value_of self.now name.now }
+    {
+        self.held.get(name)
+    }
+
+    /// The rule that an item comes from: the one that is kept of it, if it is kept with that value, else another one.
+    fn source_in(&self, name: &[u8], value: &[u8], otherwise: Option<&'a Rule>) -> Option<&'a Rule>
+        ensures { option_map (λ rule. rule.now) result ≡ source_in self.now (option_map (λ rule. rule.now) otherwise.entry) (name.now, value.now) }
+    {
+        source_by(self.get(name), otherwise, value)
+    }
+
+    /// The rule that the item with a name and a value comes from; none where it stood so from the start, or does not
+    /// stand.
+    pub fn rule_of(&self, name: &[u8], value: &[u8]) -> Option<&'a Rule>
+        ensures { option_map (λ rule. rule.now) result ≡ source_in self.now None (name.now, value.now) }
+    {
+        self.source_in(name, value, None)
+    }
+
+    /// Whether a name is kept.
+    fn contains(&self, name: &[u8]) -> bool
+        ensures { result ≡ named self.now name.now }
+    {
+        self.held.contains_key(name)
+    }
+
+    /// Keeps something of a name in place of what was kept of it.
+    fn put(&mut self, name: Vec<u8>, kept: Kept<'a>) -> Result<(), AllocError>
+        ensures { OnOk result (self.new ≡ with_value self.old name.items kept.entry) }
+    {
+        self.held.insert(name, kept)?;
+        Ok(())
+    }
+
+    /// Keeps something of a name, unless the name is kept.
+    fn add(&mut self, name: Bytes, kept: Kept<'a>) -> Result<(), AllocError>
+        ensures { OnOk result (self.new ≡ with_kept self.old name kept.entry) }
+    {
+        if self.contains(name.as_slice()) {
+            return Ok(());
+        }
+        self.put(name.into_vec(), kept)
+    }
+
+    /// Keeps an item that stands behind a rule, or at the start, by what was kept before.
+    fn keep(
+        &mut self,
+        before: &Sources<'a>,
+        rule: Option<&'a Rule>,
+        item: Item,
+    ) -> Result<(), AllocError>
+        ensures { OnOk result (self.new ≡ with_kept self.old item.0 (kept_of before.now (option_map (λ r. r.now) rule.entry) item)) }
+    {
+        let (name, value) = item.into_parts();
+        let rule = before.source_in(name.as_slice(), value.as_slice(), rule);
+        self.add(name, Kept { value, rule })
+    }
+
+    /// Keeps the items that stand behind one rule more, and no others. The error comes where memory is refused.
+    #[tactic(auto, unfolding(crate::specs::Sources::kept_behind))]
+    pub(crate) fn tell(
+        &mut self,
+        alloc: Global,
+        rule: Option<&'a Rule>,
+        items: Vec<Item>,
+    ) -> Result<(), AllocError>
+        ensures { OnOk result (self.new ≡ kept_behind self.old (option_map (λ r. r.now) rule.entry) items.items) }
+    {
+        let mut kept = Sources::new(alloc);
+        for item in items {
+            kept.keep(self, rule, item)?;
+        }
+        drop(mem::replace(self, kept));
+        Ok(())
+    }
+}

@@ -6,8 +6,7 @@
 //! ones.
 #![tactic(auto)]
 
-ghost use Rattle.std.specs.Prelude.{◌≡◌, IfOk, drop};
-ghost use Rattle.std.specs.Vec.Iter.{into_iter_items};
+ghost use Rattle.std.specs.Prelude.{◌≡◌, drop};
 
 mod running;
 mod telling;
@@ -16,22 +15,23 @@ use crate::running::run_words;
 use crate::telling::tell_arguments_fault;
 use devdry_files::RealDisk;
 use engine_ends::{SinkOver, SourceOver};
-use std::alloc::{AllocError, Global};
-use std::env::Args;
 use std::process::ExitCode;
 use std::rt::Env;
 use std::{env, io};
 
 // The words of a command line behind the first, which is the program's name.
-fn words_of(alloc: Global, all: Args) -> Result<Vec<String>, AllocError>
-    ensures { IfOk result (λ words. words.items ≡ drop 1 (into_iter_items all)) }
+fn words_of(mut all: Vec<String>) -> Vec<String>
+    ensures { result.items ≡ drop 1 all.items }
 {
-    all.skip(1).collect(alloc)
+    if !all.is_empty() {
+        all.remove(0);
+    }
+    all
 }
 
 // The words after the program's name.
 fn arguments<R: Env + AllocGlobal>(rt: &R) -> io::Result<Vec<String>> {
-    Ok(words_of(rt.alloc(), env::args(rt)?)?)
+    Ok(words_of(env::args(rt)?.collect(rt.alloc())?))
 }
 
 fn main(rt: HostRuntime) -> ExitCode {

@@ -1,8 +1,12 @@
-//! Blocks as a caller cuts and reads them, and what is known of an event before any rule has run.
+//! Blocks as a caller cuts and reads them, what is known of an event before any rule has run, and what is
+//! told of one when all have run.
 use device_core::{BlockFaultKind, Event, ProgramAnswer, SplitFault, Splitter, Taken, read_block};
-use eval_state::State;
+use eval_rules::{Command, Commands};
+use eval_state::{Note, NoteKind, Notes, State};
+use rule_core::RunType;
 use std::alloc::{AllocError, Global};
 use std::test::Fail;
+use text_bytes::Bytes;
 
 /// The blocks of an input that comes in pieces of a size, each with a `|` behind it, and the fault.
 fn blocks_of(
@@ -227,4 +231,52 @@ fn block_begins_and_clears(alloc: Global) -> bool {
 #[test]
 fn what_is_known_begins_with_the_event_and_is_cleared(rt: HostRuntime) {
     assert!(rt; block_begins_and_clears(rt.alloc()));
+}
+
+/// A note that a name was not given.
+fn note(alloc: Global, line: u32) -> Result<Note, AllocError> {
+    Ok(Note {
+        file: Bytes::copy_of(alloc, b"a.rules")?,
+        line,
+        kind: NoteKind::NameIgnored,
+        word: Bytes::copy_of(alloc, b"eth0")?,
+    })
+}
+
+#[test]
+fn a_list_of_notes_is_given_and_taken(rt: HostRuntime) -> Result<(), Fail> {
+    let alloc = rt.alloc();
+    let mut notes = Notes::from_vec(vec![in alloc; note(alloc, 2)?, note(alloc, 1)?]?);
+    notes.add(note(alloc, 3)?)?;
+    assert!(rt; notes.as_slice().len() == 3);
+    let held = notes.into_vec();
+    assert!(rt; held.len() == 3);
+    for (note, line) in held.iter().zip([2, 1, 3]) {
+        assert!(rt; note.line == line);
+    }
+    Ok(())
+}
+
+/// A program to be run.
+fn command(alloc: Global, text: &[u8]) -> Result<Command, AllocError> {
+    Ok(Command {
+        kind: RunType::Program,
+        text: Bytes::copy_of(alloc, text)?,
+    })
+}
+
+#[test]
+fn a_list_of_commands_is_given_and_taken(rt: HostRuntime) -> Result<(), Fail> {
+    let alloc = rt.alloc();
+    let commands = Commands::from_vec(vec![in alloc;
+        command(alloc, b"b")?,
+        command(alloc, b"a")?,
+    ]?);
+    assert!(rt; commands.as_slice().len() == 2);
+    let held = commands.into_vec();
+    assert!(rt; held.len() == 2);
+    for (command, text) in held.iter().zip([b"b".as_slice(), b"a"]) {
+        assert!(rt; command.text.as_slice() == text);
+    }
+    Ok(())
 }

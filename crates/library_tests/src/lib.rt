@@ -14,6 +14,8 @@ mod engine;
 #[cfg(test)]
 mod events;
 #[cfg(test)]
+mod faults;
+#[cfg(test)]
 mod longest_blocks;
 #[cfg(test)]
 mod memory_disk;

@@ -1,5 +1,5 @@
 //! What texts, patterns and tables tell a caller alone.
-use indexmap::IndexMap;
+use indexmap::{IndexMap, IndexSet};
 use std::alloc::{AllocError, Global};
 use std::test::Fail;
 use text_bytes::{Bytes, capped};
@@ -158,6 +158,42 @@ fn a_map_of_values_is_given_and_taken(rt: HostRuntime) -> Result<(), Fail> {
     assert!(rt; table.get(b"b").copied() == Some(2));
     assert!(rt; table.as_map().len() == 1);
     assert!(rt; table.len() == 1);
+    Ok(())
+}
+
+#[test]
+fn a_set_of_owned_texts_is_given_and_taken(rt: HostRuntime) -> Result<(), Fail> {
+    let alloc = rt.alloc();
+    let mut set = IndexSet::new(alloc);
+    for text in [b"b".as_slice(), b"a", b"b"] {
+        set.insert(Vec::from_slice(alloc, text)?)?;
+    }
+    let mut texts = OwnedTexts::from_set(set);
+    texts.add(alloc, b"c")?;
+    assert!(rt; texts.as_set().get_index_of(b"a".as_slice()) == Some(1));
+    let set = texts.into_set();
+    assert!(rt; set.len() == 3);
+    for (at, text) in [b"b".as_slice(), b"a", b"c"].iter().enumerate() {
+        assert!(rt; set.get_index_of(*text) == Some(at));
+    }
+    Ok(())
+}
+
+#[test]
+fn a_map_of_owned_names_is_given_and_taken(rt: HostRuntime) -> Result<(), Fail> {
+    let alloc = rt.alloc();
+    let mut map = IndexMap::new(alloc);
+    for (name, value) in [(b"b".as_slice(), b"1".as_slice()), (b"a", b"2")] {
+        map.insert(Vec::from_slice(alloc, name)?, Bytes::copy_of(alloc, value)?)?;
+    }
+    let mut pairs = OwnedPairs::from_map(map);
+    pairs.set(alloc, b"b", b"3")?;
+    assert!(rt; pairs.as_map().get_index_of(b"a".as_slice()) == Some(1));
+    let map = pairs.into_map();
+    assert!(rt; map.len() == 2);
+    assert!(rt; map.get_index_of(b"b".as_slice()) == Some(0));
+    assert!(rt; is_value(map.get(b"b".as_slice()).map(Bytes::as_slice), b"3"));
+    assert!(rt; is_value(map.get(b"a".as_slice()).map(Bytes::as_slice), b"2"));
     Ok(())
 }
 

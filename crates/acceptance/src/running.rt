@@ -81,6 +81,7 @@ pub(crate) fn line<'a>(alloc: Global, verb: Verb, modalias: &'a str) -> Line<'a>
         files: Vec::new(alloc),
         strict: false,
         sources: false,
+        why: Vec::new(alloc),
         index: None,
         modalias,
         summary: true,

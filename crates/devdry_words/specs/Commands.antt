@@ -34,6 +34,10 @@ strict_rule = record (flag_rule (codes "strict")) { short = Some letter_s }
 abbrev pub sources_rule : Rule
 sources_rule = flag_rule (codes "sources")
 
+-- `--why FILE[:LINE]`, any number of times
+abbrev pub why_rule : Rule
+why_rule = record (new_rule (codes "why")) { long = Some (codes "why"); action = Some Append; value_names = 1 }
+
 -- `--index FILE`
 abbrev pub index_rule : Rule
 index_rule = record (new_rule (codes "index")) { long = Some (codes "index"); value_names = 1 }
@@ -72,9 +76,10 @@ abbrev pub verify_shape : Shape
 verify_shape = with_rules (codes "verify")
     (root_rule ∷ no_summary_rule ∷ no_style_rule ∷ files_rule ∷ [])
 
--- `events [-r DIR] [--index FILE] [FILE]..`
+-- `events [-r DIR] [--sources] [--why FILE[:LINE]].. [--index FILE] [FILE]..`
 abbrev pub events_shape : Shape
-events_shape = with_rules (codes "events") (root_rule ∷ index_rule ∷ files_rule ∷ [])
+events_shape = with_rules (codes "events")
+    (root_rule ∷ sources_rule ∷ why_rule ∷ index_rule ∷ files_rule ∷ [])
 
 -- the program without its subcommands: the words come without its name, one subcommand has to be
 -- there, and each has the program's version

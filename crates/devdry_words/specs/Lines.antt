@@ -42,6 +42,7 @@ pub record Reads (rows : List Row) (line : Line) : Type 0 where
   pub index : option_map (λ i. i.now) line.index ≡ first_of (codes "index") rows
   pub strict : line.strict ≡ is_set (codes "strict") rows
   pub sources : line.sources ≡ is_set (codes "sources") rows
+  pub why : map (λ w. w.now) line.why.items ≡ texts_of (codes "why") rows
   pub modalias : line.modalias.now ≡ text_of (codes "MODALIAS") rows
   pub summary : line.summary ≡ not (is_set (codes "no-summary") rows)
   pub style : line.style ≡ not (is_set (codes "no-style") rows)

@@ -7,7 +7,7 @@ ghost use Rattle.clap.specs.Words.{app_of, rule_of};
 ghost use Rattle.devdry_words.specs.Commands.{IsCommand, devdry, events_shape, files_rule, flag_rule, index_rule};
 ghost use Rattle.devdry_words.specs.Commands.{modalias_rule, no_style_rule, no_summary_rule, program as program_app};
 ghost use Rattle.devdry_words.specs.Commands.{query_shape, root_rule, sources_rule, strict_rule};
-ghost use Rattle.devdry_words.specs.Commands.{update_shape, verify_shape};
+ghost use Rattle.devdry_words.specs.Commands.{update_shape, verify_shape, why_rule};
 
 use clap::{Arg, ArgAction, Command};
 use std::alloc::{AllocError, Global};
@@ -61,7 +61,17 @@ fn strict_flag<'a>(alloc: Global) -> Arg<'a>
 fn sources_flag<'a>(alloc: Global) -> Arg<'a>
     ensures { (rule_of result ≡ sources_rule) × (result.global ≡ false) }
 {
-    flag(alloc, "sources", "Say where each property comes from")
+    flag(alloc, "sources", "Say where each line comes from")
+}
+
+fn why_option<'a>(alloc: Global) -> Arg<'a>
+    ensures { (rule_of result ≡ why_rule) × (result.global ≡ false) }
+{
+    Arg::new(alloc, "why")
+        .long("why")
+        .value_name("FILE[:LINE]")
+        .action(ArgAction::Append)
+        .help("Say what the rules of this file, or the one of this line, met")
 }
 
 fn index_option<'a>(alloc: Global) -> Arg<'a>
@@ -142,6 +152,8 @@ fn events_command<'a>(alloc: Global) -> Result<Command<'a>, AllocError>
     Command::new(alloc, "events")
         .about("Answers the event blocks of the standard input")
         .arg(root_option(alloc))?
+        .arg(sources_flag(alloc))?
+        .arg(why_option(alloc))?
         .arg(index_option(alloc))?
         .arg(files_argument(alloc, RULES_FILES))
 }

@@ -3,7 +3,7 @@ ghost use Rattle.std.specs.Prelude.{◌≡◌, IfOk};
 ghost use Rattle.clap.specs.Words.{found_of, rows_of};
 ghost use Rattle.devdry_words.specs.Lines.{IsVerbName, Reads, name_of};
 
-use crate::values::{files, is_given, text, value};
+use crate::values::{is_given, text, texts, value};
 use clap::ArgMatches;
 use engine_ends::{Line, Verb};
 use std::alloc::{AllocError, Global};
@@ -33,10 +33,11 @@ pub fn line_with<'a>(
     Ok(Line {
         verb,
         root: text(matches, "root"),
-        files: files(alloc, matches)?,
+        files: texts(alloc, matches, "FILE")?,
         index: value(matches, "index"),
         strict: is_given(matches, "strict"),
         sources: is_given(matches, "sources"),
+        why: texts(alloc, matches, "why")?,
         modalias: text(matches, "MODALIAS"),
         summary: !is_given(matches, "no-summary"),
         style: !is_given(matches, "no-style"),

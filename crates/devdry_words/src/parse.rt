@@ -90,7 +90,7 @@ fn line_of<'a>(alloc: Global, matches: &ArgMatches<'a>) -> Result<Line<'a>, Line
 /// The subcommands and their options are those of `systemd-hwdb(8)` and `udevadm(8)` as far as
 /// `devdry` has them: `update [-s] [-r DIR] [FILE]..`, `query [-r DIR] [--sources] [--index FILE]
 /// MODALIAS [FILE]..`, `verify [-r DIR] [--no-summary] [--no-style] [FILE]..` and
-/// `events [-r DIR] [--index FILE] [FILE]..`.
+/// `events [-r DIR] [--sources] [--why FILE[:LINE]].. [--index FILE] [FILE]..`.
 ///
 /// `LineFault::Help` comes for `--help`, `-h`, `help`, `--version` and `-V`, also after a
 /// subcommand; `LineFault::Usage` for all else that `clap` does not take, no words at all among

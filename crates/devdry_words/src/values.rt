@@ -2,7 +2,7 @@
 //!
 //! An argument that a subcommand does not take has no value there, so that the same questions are
 //! asked of the matches of each.
-ghost use Rattle.std.specs.Prelude.{◌≡◌, IfOk, codes, map, option_map};
+ghost use Rattle.std.specs.Prelude.{◌≡◌, IfOk, map, option_map};
 ghost use Rattle.clap.specs.Words.{all_of, first_of, found_of, rows_of};
 ghost use Rattle.devdry_words.specs.Lines.{is_set, text_of, texts_of};
 
@@ -44,13 +44,17 @@ pub fn every_value<'b, 'a>(matches: &'b ArgMatches<'a>, id: &str) -> Option<&'b 
     matches.get_strs(id)
 }
 
-/// The files that are named, in their order. `Err` is want of memory.
-pub fn files<'a>(alloc: Global, matches: &ArgMatches<'a>) -> Result<Vec<&'a str>, AllocError>
-    ensures { IfOk result (λ names. map (λ f. f.now) names.items
-        ≡ texts_of (codes "FILE") (rows_of (found_of matches.now))) }
+/// The values of an argument in their order, none where it was not given. The error comes where memory is refused.
+pub fn texts<'a>(
+    alloc: Global,
+    matches: &ArgMatches<'a>,
+    id: &str,
+) -> Result<Vec<&'a str>, AllocError>
+    ensures { IfOk result (λ texts. map (λ t. t.now) texts.items
+        ≡ texts_of id.now (rows_of (found_of matches.now))) }
 {
-    match every_value(matches, "FILE") {
-        Some(names) => Vec::from_slice(alloc, names),
+    match every_value(matches, id) {
+        Some(texts) => Vec::from_slice(alloc, texts),
         None => Ok(Vec::new(alloc)),
     }
 }

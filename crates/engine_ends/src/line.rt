@@ -34,8 +34,10 @@ pub struct Line<'a> {
     pub index: Option<&'a str>,
     /// Whether a message makes `update` fail.
     pub strict: bool,
-    /// Whether `query` says where each property comes from.
+    /// Whether `query` says where each property comes from, and `events` where each line does.
     pub sources: bool,
+    /// The rules of which `events` says what they met, each as `FILE` or `FILE:LINE`, in the order given.
+    pub why: Vec<&'a str>,
     /// The modalias to look up; empty for the other subcommands.
     pub modalias: &'a str,
     /// Whether `verify` counts the files at its end; true for the other subcommands.

@@ -34,7 +34,7 @@ on_text r d act rendered.TooLong s = too_long r d s
 -- IMPORT, by from where it takes properties
 abbrev pub imported : List Entry → Rule → Deed → Import → Scene → Scene × Bool
 imported entries r d (import.Builtin template) s = on_text r d (run_builtin entries r) (render template s.state Plain) s
-imported entries r d (import.Parent names) s = from_parent names (device_at s.state.event 1) s
+imported entries r d (import.Parent names text) s = from_parent names (device_at s.state.event 1) s
 imported entries r d (import.Program template) s = not_run r (import.Program template) s
 imported entries r d (import.File template) s = not_run r (import.File template) s
 imported entries r d (import.Cmdline name) s = not_run r (import.Cmdline name) s

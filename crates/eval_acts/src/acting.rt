@@ -101,7 +101,7 @@ fn import<L: Lookup>(
 {
     match from {
         Import::Builtin(template) => builtin(alloc, rule, deed, template, database, scene),
-        Import::Parent(names) => import_parent(alloc, names, scene),
+        Import::Parent(names, _) => import_parent(alloc, names, scene),
         Import::Program(_) => not_run(alloc, rule, from, scene),
         Import::File(_) => not_run(alloc, rule, from, scene),
         Import::Cmdline(_) => not_run(alloc, rule, from, scene),

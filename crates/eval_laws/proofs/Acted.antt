@@ -123,7 +123,7 @@ module _ (event : EventValue) where
     import_within : (entries : List Entry) (from : Import) → entries_weight entries ≤ most → event_weight event ≤ most → Within event (n + most) (imported entries r (deed.Import from) from s).0
     import_within entries (import.Builtin template) light short =
         on_text_within (deed.Import (import.Builtin template)) (run_builtin entries r) (render template s.state Plain) (λ command. builtin_within entries command (builtin command) light)
-    import_within entries (import.Parent names) light short =
+    import_within entries (import.Parent names text) light short =
         let a = parent_light event in
         let b = ap (λ e. pairs_weight (env_of (device_at e 1))) h.same in
         parent_within names (device_at s.state.event 1) (omega (arith, a, b, short))

@@ -13,26 +13,26 @@ alone false = refl
 
 pub one_stands : (text : Text) → ComparesAsItStands (one text)
 unfolding holds
-one_stands text choice = alone (choice_fits choice text)
+one_stands text blind written choice = alone (choice_fits choice text)
 
 pub members_stand : (texts : List Text) → ComparesAsItStands (members texts)
 unfolding holds
-members_stand texts choice = refl
+members_stand texts blind written choice = refl
 
 pub unread_stands : ComparesAsItStands unread
 unfolding holds
-unread_stands choice = refl
+unread_stands blind written choice = refl
 
 -- a constant, and what stands for one that no match holds of
 pub constant_stands : (known : Bool) (value : Option Text) → ComparesAsItStands (cond known (constant value) never)
 unfolding holds
-constant_stands true None choice = refl
-constant_stands true (Some text) choice = alone (choice_fits choice text)
-constant_stands false value choice = refl
+constant_stands true None blind written choice = refl
+constant_stands true (Some text) blind written choice = alone (choice_fits choice text)
+constant_stands false value blind written choice = refl
 
 pub attribute_cut : (text : Text) → ComparesWithoutItsEnd (attribute (Some text)) text
 unfolding holds
 attribute_cut text = record {
-  whole = (λ choice ends. ap (λ b. choice_fits choice (cond b text (trimmed text))) (choice_seen choice ends));
-  cut = (λ choice ends short is. ap (λ b. choice_fits choice (cond b text (trimmed text))) (choice_unseen choice ends) ∙ ap (choice_fits choice) (trimmed_is text short is));
+  whole = (λ blind written choice ends. ap (λ b. choice_fits choice (cond b text (trimmed text))) (choice_seen choice ends));
+  cut = (λ blind written choice ends short is. ap (λ b. choice_fits choice (cond b text (trimmed text))) (choice_unseen choice ends) ∙ ap (choice_fits choice) (trimmed_is text short is));
 }

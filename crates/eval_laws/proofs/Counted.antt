@@ -110,7 +110,7 @@ module _ (r : Rule) (s : Scene) where
   import_counts : (entries : List Entry) (d : Deed) (from : Import) → counted (imported entries r d from s).0 ≤ counted s + 1
   import_counts entries d (import.Builtin template) =
       on_text_counts d (run_builtin entries r) (render template s.state Plain) (λ command. builtin_counts entries command (builtin command))
-  import_counts entries d (import.Parent names) = parent_counts names (device_at s.state.event 1)
+  import_counts entries d (import.Parent names text) = parent_counts names (device_at s.state.event 1)
   import_counts entries d (import.Program template) = not_run_counts (import.Program template)
   import_counts entries d (import.File template) = not_run_counts (import.File template)
   import_counts entries d (import.Cmdline name) = not_run_counts (import.Cmdline name)

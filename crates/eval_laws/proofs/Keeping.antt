@@ -101,7 +101,7 @@ parent_same names (Some d) s = refl
 
 imported_same : (es : List Entry) (r : Rule) (d : Deed) (i : Import) (s : Scene) → Same s (imported es r d i s).0
 imported_same es r d (import.Builtin t) s = on_text_same r d (run_builtin es r) (λ c u. builtin_same es r c _ u) _ s
-imported_same es r d (import.Parent names) s = parent_same names _ s
+imported_same es r d (import.Parent names text) s = parent_same names _ s
 imported_same es r d (import.Program t) s = refl
 imported_same es r d (import.File t) s = refl
 imported_same es r d (import.Cmdline name) s = refl

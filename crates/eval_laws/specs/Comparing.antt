@@ -1,5 +1,5 @@
 -- What `==` says of the texts that a key looks at.
-use Rattle.std.specs.Prelude.{◌≡◌, ◌∷◌, ◌++◌, ℕ, true, List, [], All, option_to_list}
+use Rattle.std.specs.Prelude.{◌≡◌, ◌∷◌, ◌++◌, ℕ, Bool, true, List, [], All, option_to_list}
 use Rattle.std.specs.List.{list_any}
 use Rattle.text_bytes.specs.Names.{is_whitespace}
 use Rattle.text_tables.specs.Texts.{Text}
@@ -19,13 +19,13 @@ texts_of (members texts) = texts
 texts_of never = []
 texts_of unread = []
 
--- a comparison by `==`
-abbrev pub equal_to : List (List Item) → Comparison
-equal_to choice = record { operator = Equal; choice = choice }
+-- a comparison by `==`, however its value was written
+abbrev pub equal_to : Bool → Text → List (List Item) → Comparison
+equal_to blind written choice = record { operator = Equal; blind = blind; written = written; choice = choice }
 
 -- `==` holds exactly where the choice fits one of the texts, each as it stands
 abbrev pub ComparesAsItStands : Subject → Type 0
-ComparesAsItStands subject = (choice : List (List Item)) → holds subject (equal_to choice) ≡ list_any (choice_fits choice) (texts_of subject)
+ComparesAsItStands subject = (blind : Bool) (written : Text) (choice : List (List Item)) → holds subject (equal_to blind written choice) ≡ list_any (choice_fits choice) (texts_of subject)
 
 -- A list has a last element, and that meets a condition.
 pub record HasLast {A : Type 0} (Meets : A → Type 0) (xs : List A) : Type 0 where
@@ -56,5 +56,5 @@ pub record IsWithoutItsEnd (text short : Text) : Type 0 where
 -- `==` holds exactly where the choice fits this text, if the choice ends in whitespace, and else exactly where it fits the
 -- text without the whitespace at its end.
 pub record ComparesWithoutItsEnd (subject : Subject) (text : Text) : Type 0 where
-  pub whole : (choice : List (List Item)) → EndsInWhitespace choice → holds subject (equal_to choice) ≡ choice_fits choice text
-  pub cut : (choice : List (List Item)) → ¬ EndsInWhitespace choice → (short : Text) → IsWithoutItsEnd text short → holds subject (equal_to choice) ≡ choice_fits choice short
+  pub whole : (blind : Bool) (written : Text) (choice : List (List Item)) → EndsInWhitespace choice → holds subject (equal_to blind written choice) ≡ choice_fits choice text
+  pub cut : (blind : Bool) (written : Text) (choice : List (List Item)) → ¬ EndsInWhitespace choice → (short : Text) → IsWithoutItsEnd text short → holds subject (equal_to blind written choice) ≡ choice_fits choice short

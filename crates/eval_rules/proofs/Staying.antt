@@ -58,7 +58,7 @@ parent_stays names (Some d) s = refl
 
 imported_stays : (es : List Entry) (r : Rule) (d : Deed) (i : Import) (s : Scene) → Stays s (imported es r d i s).0
 imported_stays es r d (import.Builtin t) s = text_stays r d (run_builtin es r) (λ c u. builtin_stays es r c _ u) _ s
-imported_stays es r d (import.Parent names) s = parent_stays names _ s
+imported_stays es r d (import.Parent names text) s = parent_stays names _ s
 imported_stays es r d (import.Program t) s = refl
 imported_stays es r d (import.File t) s = refl
 imported_stays es r d (import.Cmdline name) s = refl

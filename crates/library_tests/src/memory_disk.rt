@@ -61,6 +61,7 @@ fn read(alloc: Global, root: &str) -> Result<Vec<SourceFile>, ReadFault> {
         index: None,
         strict: false,
         sources: false,
+        why: Vec::new(alloc),
         modalias: "",
         summary: true,
         style: true,

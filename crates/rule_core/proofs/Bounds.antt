@@ -18,7 +18,7 @@ import_below (import.Program text) = omega arith
 import_below (import.Builtin text) = omega arith
 import_below (import.Db name) = omega arith
 import_below (import.Cmdline name) = omega arith
-import_below (import.Parent names) = omega arith
+import_below (import.Parent names text) = omega arith
 
 deed_below : (d : Deed) → turn_of_deed d < 8
 deed_below (deed.Test mask path) = omega arith

@@ -18,7 +18,7 @@ turn_of_import (import.Program text) = 3
 turn_of_import (import.Builtin text) = 4
 turn_of_import (import.Db name) = 5
 turn_of_import (import.Cmdline name) = 6
-turn_of_import (import.Parent names) = 7
+turn_of_import (import.Parent names text) = 7
 
 abbrev pub turn_of_deed : Deed → ℕ
 turn_of_deed (deed.Test mask path) = 0

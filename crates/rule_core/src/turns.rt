@@ -53,7 +53,7 @@ fn turn_of_import(import: &Import) -> u8
         Import::Builtin(_) => 4,
         Import::Db(_) => 5,
         Import::Cmdline(_) => 6,
-        Import::Parent(_) => 7,
+        Import::Parent(_, _) => 7,
     }
 }
 

@@ -49,14 +49,14 @@ ignores_case quote.BlindEscaped = true
 
 -- the patterns that something is compared with
 unfoldable pub comparison : MatchOperator → Bool → List ℕ → Result Comparison Finding
-comparison o blind text = made (λ c. record { operator = o; choice = c }) (read_choice blind text)
+comparison o blind text = made (λ c. record { operator = o; blind = blind; written = text; choice = c }) (read_choice blind text)
 
 -- the value of an IMPORT of a type
 unfoldable pub import_by : ImportType → List ℕ → Result Import Finding
 import_by import_of.Program text = made import.Program (read_template text)
 import_by import_of.Builtin text = made import.Builtin (read_template text)
 import_by import_of.File text = made import.File (read_template text)
-import_by import_of.Parent text = made import.Parent (read_choice false text)
+import_by import_of.Parent text = made (λ names. import.Parent names text) (read_choice false text)
 import_by import_of.Cmdline text = Ok (import.Cmdline text)
 import_by import_of.Db text = Ok (import.Db text)
 

@@ -138,7 +138,12 @@ fn comparison(
     ensures { Gives result (comparison operator blind text.now) }
 {
     let choice = read_choice(alloc, blind, text)?;
-    Ok(Comparison { operator, choice })
+    Ok(Comparison {
+        operator,
+        blind,
+        written: Bytes::copy_of(alloc, text)?,
+        choice,
+    })
 }
 
 /// Reads the value of an IMPORT of a type.
@@ -151,7 +156,10 @@ fn import_by(alloc: Global, known: ImportType, text: Vec<u8>) -> Result<Import, 
         ImportType::Program => Ok(Import::Program(read_template(alloc, &text)?)),
         ImportType::Builtin => Ok(Import::Builtin(read_template(alloc, &text)?)),
         ImportType::File => Ok(Import::File(read_template(alloc, &text)?)),
-        ImportType::Parent => Ok(Import::Parent(read_choice(alloc, false, &text)?)),
+        ImportType::Parent => {
+            let names = read_choice(alloc, false, &text)?;
+            Ok(Import::Parent(names, Bytes::new(text)))
+        }
         ImportType::Cmdline => Ok(Import::Cmdline(Bytes::new(text))),
         ImportType::Db => Ok(Import::Db(Bytes::new(text))),
     }

@@ -20,7 +20,7 @@ abbrev pub type_of : Import → ImportType
 type_of (import.Program t) = import_of.Program
 type_of (import.Builtin t) = import_of.Builtin
 type_of (import.File t) = import_of.File
-type_of (import.Parent names) = import_of.Parent
+type_of (import.Parent names text) = import_of.Parent
 type_of (import.Cmdline name) = import_of.Cmdline
 type_of (import.Db name) = import_of.Db
 

@@ -31,7 +31,11 @@ pub enum Part {
 pub struct Comparison {
     /// `==` where one is to fit, `!=` where none is.
     pub operator: MatchOperator,
-    /// The patterns.
+    /// Whether the case of ASCII letters is ignored.
+    pub blind: bool,
+    /// The value as it was given, its escapes read.
+    pub written: Bytes,
+    /// The patterns of the value.
     pub choice: Choice,
 }
 
@@ -82,8 +86,8 @@ pub enum Import {
     Builtin(Template),
     /// A file, by its path.
     File(Template),
-    /// The parent device: the properties whose names fit. Case counts.
-    Parent(Choice),
+    /// The parent device: the properties whose names fit, where case counts; and the value as it was given.
+    Parent(Choice, Bytes),
     /// The kernel's command line, by a parameter's name.
     Cmdline(Bytes),
     /// udev's database, by a property's name.

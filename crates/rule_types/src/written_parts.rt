@@ -16,7 +16,7 @@ impl Import {
             Import::Program(_) => ImportType::Program,
             Import::Builtin(_) => ImportType::Builtin,
             Import::File(_) => ImportType::File,
-            Import::Parent(_) => ImportType::Parent,
+            Import::Parent(_, _) => ImportType::Parent,
             Import::Cmdline(_) => ImportType::Cmdline,
             Import::Db(_) => ImportType::Db,
         }

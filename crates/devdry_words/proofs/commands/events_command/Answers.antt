@@ -9,5 +9,7 @@ pub returns : goal.returns
 returns c =
     let start : IsCommand (new_shape (codes "events")) c.about.result = search rules in
     let first = one_more _ _ _ _ _ start c.root_option.ensures c.in_ok-arg.ensures in
-    let second = one_more _ _ _ _ _ first c.index_option.ensures c.in_ok-arg-2.ensures in
-    IfOk-weaker c.arg-3.result _ _ (λ m h. one_more _ _ _ _ _ second c.files_argument.ensures h) c.arg-3.ensures
+    let second = one_more _ _ _ _ _ first c.sources_flag.ensures c.in_ok-arg-2.ensures in
+    let third = one_more _ _ _ _ _ second c.why_option.ensures c.in_ok-arg-3.ensures in
+    let fourth = one_more _ _ _ _ _ third c.index_option.ensures c.in_ok-arg-4.ensures in
+    IfOk-weaker c.arg-5.result _ _ (λ m h. one_more _ _ _ _ _ fourth c.files_argument.ensures h) c.arg-5.ensures

@@ -1,6 +1,6 @@
 #!/usr/bin/env bash
-# The gate: every proof, edit, test and run of `rt ci`, then tests/run.sh over the program that it built. The last line
-# is `N passed, M failed`, over both.
+# The gate: every proof, edit, test and run of `rt ci`, then tests/run.sh over the program that it built. Near its end stands
+# what it cost; the last line is `N passed, M failed`, over both.
 # usage: tests/all.sh [RT]    RT is the toolchain's command, rt unless one is given
 set -uo pipefail
 cd "$(dirname "$0")/.." || exit 1
@@ -26,5 +26,12 @@ for log in proofs uses; do
     passed=$((passed + ${p:-0})) failed=$((failed + ${f:-1}))
 done
 [ "$status" = 0 ] || [ "$failed" != 0 ] || failed=1
+
+# What the gate cost, by what the shell counts of the processes that it waited for.
+times > "$work/times"
+awk -v clock="$SECONDS" -v processors="$(nproc)" '
+    function seconds(told) { split(told, part, /[ms]/); return 60 * part[1] + part[2] }
+    NR == 2 { printf "the gate took %.0f minutes of processor time, %.0f of them the system'"'"'s, and %.0f by the clock on %d processors\n",
+        (seconds($1) + seconds($2)) / 60, seconds($2) / 60, clock / 60, processors }' "$work/times"
 echo "$passed passed, $failed failed"
 [ "$failed" = 0 ]

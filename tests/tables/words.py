@@ -112,7 +112,7 @@ NO_MODALIAS = """\
 error: the following required arguments were not provided:
   <MODALIAS>
 
-Usage: devdry query <MODALIAS> [FILE]...
+Usage: devdry query [OPTIONS] <MODALIAS> [FILE]...
 """
 
 # (words, what is answered)

@@ -128,6 +128,7 @@ fn query_command<'a>(alloc: Global) -> Result<Command<'a>, AllocError>
 {
     Command::new(alloc, "query")
         .about("Prints the properties that the hardware database has for a device")
+        .override_usage("devdry query [OPTIONS] <MODALIAS> [FILE]...")
         .arg(root_option(alloc))?
         .arg(sources_flag(alloc))?
         .arg(index_option(alloc))?

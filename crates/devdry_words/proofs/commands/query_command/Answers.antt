@@ -7,7 +7,7 @@ use Rattle.devdry_words.proofs.commands.query_command.Goals as goal
 
 pub returns : goal.returns
 returns c =
-    let start : IsCommand (new_shape (codes "query")) c.about.result = search rules in
+    let start : IsCommand (new_shape (codes "query")) c.override_usage.result = search rules in
     let first = one_more _ _ _ _ _ start c.root_option.ensures c.in_ok-arg.ensures in
     let second = one_more _ _ _ _ _ first c.sources_flag.ensures c.in_ok-arg-2.ensures in
     let third = one_more _ _ _ _ _ second c.index_option.ensures c.in_ok-arg-3.ensures in

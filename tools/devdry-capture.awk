@@ -8,6 +8,7 @@
 #   walk      print keys, not blocks
 # The status is 1 where a device is not printed, 4 where there is none.
 
+# Says what is left out, which the status tells then.
 function complain(text) { printf "devdry-capture: %s\n", text | "cat 1>&2"; failed = 1 }
 
 # Cuts NAME=VALUE into `name` and `value`.
@@ -37,8 +38,9 @@ function set(letter, text) {
     if (letter == "N") nodes["/dev/" text] = path
 }
 
-# Whether udev has added a property that is no `e:`. Records do not tell: `udevadm info` prints what udev added behind
-# USEC_INITIALIZED, and in records that are sorted it is known by the names that the rules of udev and others give.
+# Whether udev has added a property that is no `e:`. What udevadm says of this machine counts as added, as /sys told the
+# rest before. Records don't tell: `udevadm info` prints what udev added behind USEC_INITIALIZED, and in those that are
+# sorted it is known by the names that the rules of udev and of others give.
 function is_added(name) {
     if (name == "USEC_INITIALIZED") initialized[path] = 1
     return !recorded || path in initialized || name ~ added
@@ -57,11 +59,12 @@ function property(text, from_udev) {
     if (name == "MAJOR") major[path] = value
     if (name == "MINOR") minor[path] = value
     if (major[path] ~ /^[0-9]+$/ && minor[path] ~ /^[0-9]+$/) set("D", major[path] ":" minor[path])
-    # (links and tags stand in lines of their own)
+    # (links and tags have lines of their own)
     if (name == "TAGS") tags(value)
     else if (name != "DEVLINKS" && name != "CURRENT_TAGS") add("E", name, text, from_udev)
 }
 
+# The tags of the property TAGS, with a colon before and behind each.
 function tags(text,    i, n, names) {
     n = split(text, names, ":")
     for (i = 1; i <= n; i++) if (names[i] != "") add("G", names[i], names[i], 1)
@@ -96,6 +99,7 @@ function link(text) {
     if (name ~ /^(driver|subsystem|module)$/) add("A", name, name "=" value, 0)
 }
 
+# Whether it is a path as blocks have it.
 function is_path(text) { return text ~ /^\/./ && text !~ /\/\// && text !~ /\/$/ }
 
 BEGIN {
@@ -175,6 +179,7 @@ function device(path, first,    of, i, line, letter) {
     return of["P"] of["U"] of["V"] of["N"] of["D"] of["A"] of["E"] of["G"] of["S"]
 }
 
+# Prints a device with its parents, those that have a record, as a block or as keys.
 function block(path,    out, parent, devices) {
     out = (walk ? "" : "C: " action "\n") device(path, 1)
     devices = 1

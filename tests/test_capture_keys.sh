@@ -28,6 +28,12 @@ value l%k 1
 value 'm}' 1
 printf '%016000d\n' 0 > "$sys$odd/o_long"
 printf 'two\nlines\n' > "$sys$odd/p_lines"
+mkdir "$sys$odd/power" "$sys$odd/statistics"
+value stat '1 2 3'
+value inflight '0 0'
+value statistics/rx_bytes 12
+value power/runtime_active_time 12
+value power/runtime_status active
 mkdir "$sys$odd/queue" && printf '0\n' > "$sys$odd/queue/rotational"
 of_odd="# $odd
 KERNEL==\"cciss/c0d1\"
@@ -46,6 +52,7 @@ ATTR{k_class}=="[[][[]:alpha:]]!"
 # ATTR{l%k}: no rule can hold this name
 # ATTR{m}}: no rule can hold this name
 # ATTR{o_long}: too long for a rule
+ATTR{power/runtime_status}=="active"
 ATTR{queue/rotational}=="0"
 
 '"# $card
@@ -106,7 +113,7 @@ for line in sys.stdin.buffer.read().split(b"\n")[:-1]:
         glob = any(sign in value for sign in b"*?[")
         fits = [libc.fnmatch(part, text, 0) == 0 if glob else part == text for part in value.split(b"|")]
         print(found[1].decode()[:2], *fits)' "$sys$odd")
-    same "by udev, too" "$(printf '%s_ True\n' a b c d e f g h i j k; echo 'qu True')" "$said"
+    same "by udev, too" "$(printf '%s_ True\n' a b c d e f g h i j k; printf '%s True\n' po qu)" "$said"
 else
     skipped "what udev takes" "there is no python3"
 fi

@@ -105,6 +105,8 @@ function is_path(text) { return text ~ /^\/./ && text !~ /\/\// && text !~ /\/$/
 BEGIN {
     escapes["n"] = "\n"; escapes["t"] = "\t"; escapes["r"] = "\r"
     escapes["b"] = "\b"; escapes["f"] = "\f"; escapes["v"] = "\v"
+    # attributes that are no keys: these stand in keys above, change with each boot, or count and measure
+    passing = "^(subsystem|driver|dev|stat|inflight|statistics/.*|power/runtime_.*_time)$"
     added = "^(ID|SYSTEMD|UDISKS|UPOWER|LIBINPUT|DM|MD|LVM|SCSI|ACCEL|EVDEV|IEEE1394|KEYBOARD|MOUSE|POINTINGSTICK|SOUND|XKB)_"
 }
 
@@ -165,8 +167,7 @@ function as_key(line, s,    letter, text) {
         return "# " substr(line, 4) "\n" compared("KERNEL" s, "", text)
     }
     cut(text)
-    # (those that are left out stand in keys above, or change with each boot)
-    return letter == "A" && name !~ /^(subsystem|driver|dev)$/ ? compared("ATTR" s, name, value) : ""
+    return letter == "A" && name !~ passing ? compared("ATTR" s, name, value) : ""
 }
 
 # The lines of a device, each with its newline. As `first` it is the event device.

@@ -13,6 +13,9 @@ BASHDIR ?= $(PREFIX)/share/bash-completion/completions
 ZSHDIR ?= $(PREFIX)/share/zsh/site-functions
 FISHDIR ?= $(PREFIX)/share/fish/vendor_completions.d
 
+# Where devdry-capture looks for its second step, by the folder that it is in itself.
+CAPTUREDIR = $(BINDIR)/../share/devdry
+
 # The program that is installed and packed. It is built first, unless another that is there is named, by its
 # whole path.
 PROGRAM ?= build/devdry
@@ -66,17 +69,20 @@ mutants:
 install: $(PROGRAM)
 	install -D -m 755 $(PROGRAM) $(DESTDIR)$(BINDIR)/devdry
 	install -m 755 tools/devdry-capture $(DESTDIR)$(BINDIR)
-	install -d $(DESTDIR)$(MANDIR)/man1
-	install -m 644 man/*.1 $(DESTDIR)$(MANDIR)/man1
+	install -D -m 644 -t $(DESTDIR)$(CAPTUREDIR) tools/devdry-capture.awk
+	install -D -m 644 -t $(DESTDIR)$(MANDIR)/man1 man/*.1
 	install -D -m 644 completions/devdry.bash $(DESTDIR)$(BASHDIR)/devdry
-	install -D -m 644 completions/_devdry $(DESTDIR)$(ZSHDIR)/_devdry
-	install -D -m 644 completions/devdry.fish $(DESTDIR)$(FISHDIR)/devdry.fish
+	install -m 644 completions/devdry-capture.bash $(DESTDIR)$(BASHDIR)/devdry-capture
+	install -D -m 644 -t $(DESTDIR)$(ZSHDIR) completions/_*
+	install -D -m 644 -t $(DESTDIR)$(FISHDIR) completions/*.fish
 
 # Takes away just what `install` puts there.
 uninstall:
-	rm -f $(DESTDIR)$(BINDIR)/devdry $(DESTDIR)$(BINDIR)/devdry-capture
+	rm -f $(addprefix $(DESTDIR)$(BINDIR)/,devdry devdry-capture) $(DESTDIR)$(CAPTUREDIR)/devdry-capture.awk
 	rm -f $(patsubst man/%,$(DESTDIR)$(MANDIR)/man1/%,$(wildcard man/*.1))
-	rm -f $(DESTDIR)$(BASHDIR)/devdry $(DESTDIR)$(ZSHDIR)/_devdry $(DESTDIR)$(FISHDIR)/devdry.fish
+	rm -f $(addprefix $(DESTDIR)$(BASHDIR)/,devdry devdry-capture)
+	rm -f $(patsubst completions/%,$(DESTDIR)$(ZSHDIR)/%,$(wildcard completions/_*))
+	rm -f $(patsubst completions/%,$(DESTDIR)$(FISHDIR)/%,$(wildcard completions/*.fish))
 
 # A Debian package, build/devdry_VERSION_ARCHITECTURE.deb.
 deb: $(PROGRAM) | build

@@ -1,57 +1,10 @@
 #!/usr/bin/env bash
-# tools/devdry-capture, on trees like /sys below a temporary folder and on what udevadm and umockdev-record print.
+# tools/devdry-capture on a tree like /sys: blocks, nodes, shells, statuses.
 set -uo pipefail
 # shellcheck source=lib.sh
 . "$(dirname "$0")/lib.sh"
-capture=$top/tools/devdry-capture
-sys=$work/sys
-bus=$work/sys/bus
-
-# device PATH SUBSYSTEM DRIVER LINE..: a device below the tree, its driver `-` for none, and the lines of its uevent
-device() {
-    local folder=$sys$1
-    mkdir -p "$folder" "$bus/$2"
-    ln -s "$bus/$2" "$folder/subsystem"
-    if [ "$3" != - ]; then mkdir -p "$bus/$2/drivers/$3" && ln -s "$bus/$2/drivers/$3" "$folder/driver"; fi
-    shift 3
-    printf '%s\n' "$@" > "$folder/uevent"
-}
-
-# A disk with a partition.
-pci=/devices/pci0000:00
-disk=$pci/0000:00:17.0/ata1/host0/target0:0:0/0:0:0:0
-device $pci/0000:00:17.0 pci ahci DRIVER=ahci PCI_ID=8086:A102
-printf '0x8086\n' > "$sys$pci/0000:00:17.0/vendor"
-printf 'from 0 to 1\nfrom 2 to 3\n' > "$sys$pci/0000:00:17.0/resource"
-printf 'secret\n' > "$sys$pci/0000:00:17.0/rom"
-mkdir -p "$sys$pci/0000:00:17.0/ata1"
-device $disk scsi sd DEVTYPE=scsi_device DRIVER=sd MODALIAS=scsi:t-0x00
-printf 'Disk 7  \n' > "$sys$disk/model"
-printf '\000\200\017\001' > "$sys$disk/vpd_pg80"
-device $disk/block/sda block - MAJOR=8 MINOR=0 DEVNAME=sda DEVTYPE=disk
-mkdir -p "$sys$disk/block/sda/queue"
-printf '0\n' > "$sys$disk/block/sda/queue/rotational"
-printf '2048' > "$sys$disk/block/sda/size"
-printf '\n' > "$sys$disk/block/sda/empty"
-printf '1\n' > "$sys$disk/block/sda/a=b"
-device $disk/block/sda/sda1 block - MAJOR=8 MINOR=1 DEVNAME=sda1 DEVTYPE=partition PARTN=1
-printf '1\n' > "$sys$disk/block/sda/sda1/partition"
-
-# A keyboard.
-keyboard=$pci/0000:00:14.0/usb1/1-1
-device $keyboard usb usb MAJOR=189 MINOR=1 DEVNAME=bus/usb/001/002 DEVTYPE=usb_device DRIVER=usb
-printf '046d\n' > "$sys$keyboard/idVendor"
-printf 'Tastatur f\303\274r alle\n' > "$sys$keyboard/product"
-device $keyboard/1-1:1.0 usb usbhid DEVTYPE=usb_interface MODALIAS=usb:v046DpC31C
-device $keyboard/1-1:1.0/input/input7 input - 'NAME="USB Keyboard"' 'PHYS="usb/input0"' ''
-device $keyboard/1-1:1.0/input/input7/event3 input - MAJOR=13 MINOR=67 DEVNAME=input/event3
-
-# A network card.
-card=$pci/0000:00:03.0
-device $card pci e1000e DRIVER=e1000e MODALIAS=pci:v00008086d000015BE
-device $card/net/eth0 net - INTERFACE=eth0 IFINDEX=2
-printf '52:54:00:12:34:56\n' > "$sys$card/net/eth0/address"
-mkdir -p "$sys/class/net" && ln -s "$sys$card/net/eth0" "$sys/class/net/eth0"
+# shellcheck source=sys_tree.sh
+. "$(dirname "$0")/sys_tree.sh"
 
 of_pci_card="P: $card
 U: pci
@@ -156,6 +109,38 @@ E: DEVNAME=/dev/bus/usb/001/002
 E: DEVTYPE=usb_device
 E: DRIVER=usb" "$("$capture" --sysfs "$sys" "$sys$keyboard/1-1:1.0/input/input7/event3")"
 
+# Devices by their nodes. /dev/null is there on every machine, with the numbers 1:3; of others there are links here.
+device /devices/virtual/mem/null mem - MAJOR=1 MINOR=3 DEVNAME=null DEVMODE=0666
+mkdir -p "$sys/dev/char" "$sys/dev/block"
+ln -s ../../devices/virtual/mem/null "$sys/dev/char/1:3"
+of_null="C: add
+P: /devices/virtual/mem/null
+U: mem
+N: null
+D: 1:3
+A: subsystem=mem
+E: MAJOR=1
+E: MINOR=3
+E: DEVNAME=/dev/null
+E: DEVMODE=0666"
+same "a character device, by its node" "$of_null" "$("$capture" --sysfs "$sys" /dev/null)"
+ln -s /dev/null "$work/by-link"
+same "by a link to its node" "$of_null" "$("$capture" --sysfs "$sys" "$work/by-link")"
+if mknod "$work/sdx10" b 8 170 2> /dev/null && [ -b "$work/sdx10" ]; then
+    ln -s "../..$disk/block/sda/sda1" "$sys/dev/block/8:170"
+    same "a block device, by its node" "$of_sda1" "$("$capture" --sysfs "$sys" "$work/sdx10" 2> /dev/null)"
+else
+    skipped "a block device, by its node" "no node can be made here"
+fi
+same "no such node" "1
+devdry-capture: /dev/none/such: no such node" "$(ends "$capture" --sysfs "$sys" /dev/none/such)"
+same "what is no node" "1
+devdry-capture: /dev/.: no device node" "$(ends "$capture" --sysfs "$sys" /dev/.)"
+same "a node of a device that is not there" "1
+devdry-capture: /dev/zero: $sys has no char device 1:5" "$(ends "$capture" --sysfs "$sys" /dev/zero)"
+same "one that is not there beside one that is" "1 $of_null" \
+    "$(said=$("$capture" --sysfs "$sys" /dev/zero /dev/null 2> /dev/null); echo "$? $said")"
+
 all=$("$capture" --sysfs "$sys" --all 2> /dev/null)
 same "all devices" "$(find "$sys/devices" -name uevent | sed "s|^$sys|P: |; s|^P: /|P: /|; s|/uevent$||" | LC_ALL=C sort)" \
     "$(awk 'BEGIN { RS = ""; FS = "\n" } { print $2 }' <<< "$all" | LC_ALL=C sort)"
@@ -170,6 +155,8 @@ for shell in dash 'bash --posix' 'busybox sh'; do
     if has "${shell%% *}"; then
         # shellcheck disable=SC2086
         same "all devices by $shell" "$all" "$($shell "$capture" --sysfs "$sys" --all 2> /dev/null)"
+        # shellcheck disable=SC2086
+        same "a node by $shell" "$of_null" "$($shell "$capture" --sysfs "$sys" /dev/null)"
     fi
 done
 for awk in mawk gawk 'busybox awk' original-awk; do
@@ -178,134 +165,6 @@ for awk in mawk gawk 'busybox awk' original-awk; do
         same "all devices by $awk" "$all" "$(PATH=$work/bin:$PATH "$capture" --sysfs "$sys" --all 2> /dev/null)"
     fi
 done
-
-# What `udevadm info --export-db` prints, of two editions of it.
-cat > "$work/db" << END
-P: $card
-M: 0000:00:03.0
-R: 0
-U: pci
-V: e1000e
-E: DEVPATH=$card
-E: SUBSYSTEM=pci
-E: DRIVER=e1000e
-E: ID_VENDOR_FROM_DATABASE=Intel Corporation
-
-P: $disk/block/sda
-M: sda
-U: block
-T: disk
-D: b 8:0
-N: sda
-L: 0
-S: disk/by-id/ata-Disk_7
-S: disk/by-path/pci-0000:00:17.0-ata-1
-Q: 9
-E: DEVPATH=$disk/block/sda
-E: SUBSYSTEM=block
-E: DEVNAME=/dev/sda
-E: DEVTYPE=disk
-E: MAJOR=8
-E: MINOR=0
-E: DEVLINKS=/dev/disk/by-path/pci-0000:00:17.0-ata-1 /dev/disk/by-id/ata-Disk_7
-E: TAGS=:systemd:seat:
-E: CURRENT_TAGS=:systemd:
-
-P: $card/net/eth0
-E: DEVPATH=$card/net/eth0
-E: IFINDEX=2
-E: INTERFACE=eth0
-E: SUBSYSTEM=net
-END
-same "from udevadm info --export-db" "C: add
-P: $card
-U: pci
-V: e1000e
-E: DEVPATH=$card
-E: SUBSYSTEM=pci
-E: DRIVER=e1000e
-E: ID_VENDOR_FROM_DATABASE=Intel Corporation
-
-C: add
-P: $disk/block/sda
-U: block
-N: sda
-D: 8:0
-E: DEVPATH=$disk/block/sda
-E: SUBSYSTEM=block
-E: DEVNAME=/dev/sda
-E: DEVTYPE=disk
-E: MAJOR=8
-E: MINOR=0
-G: systemd
-G: seat
-S: disk/by-id/ata-Disk_7
-S: disk/by-path/pci-0000:00:17.0-ata-1
-
-C: add
-P: $card/net/eth0
-U: net
-E: DEVPATH=$card/net/eth0
-E: IFINDEX=2
-E: INTERFACE=eth0
-E: SUBSYSTEM=net
-P: $card
-U: pci
-V: e1000e
-E: DEVPATH=$card
-E: SUBSYSTEM=pci
-E: DRIVER=e1000e
-E: ID_VENDOR_FROM_DATABASE=Intel Corporation" "$("$capture" --from "$work/db")"
-same "from it, one device, by the standard input" "$("$capture" --from "$work/db" "$disk/block/sda")" \
-    "$("$capture" --from - "/sys$disk/block/sda" < "$work/db")"
-same "a device that it does not have" "1
-devdry-capture: /devices/none: no device of the record" \
-    "$(said=$("$capture" --from "$work/db" /devices/none 2>&1); printf '%s\n%s' $? "$said")"
-
-# What umockdev-record prints.
-cat > "$work/mock" << END
-P: $keyboard/1-1:1.0/input/input7/event3
-N: input/event3
-E: DEVNAME=/dev/input/event3
-E: MAJOR=13
-E: MINOR=67
-E: SUBSYSTEM=input
-A: dev=13:67\\n
-L: device=../../input7
-
-P: $keyboard
-N: bus/usb/001/002=12010002
-S: usb/keyboard
-E: DEVNAME=/dev/bus/usb/001/002
-E: SUBSYSTEM=usb
-A: idVendor=046d\\n
-A: product=f\\303\\274r \\"alle\\" \\\\ viele  \\n
-A: uevents=one\\ntwo\\n
-A: ifalias=
-H: descriptors=1201
-L: driver=../../../../bus/usb/drivers/usb
-END
-same "from umockdev-record" "C: add
-P: $keyboard/1-1:1.0/input/input7/event3
-U: input
-N: input/event3
-D: 13:67
-A: dev=13:67
-E: DEVNAME=/dev/input/event3
-E: MAJOR=13
-E: MINOR=67
-E: SUBSYSTEM=input
-P: $keyboard
-U: usb
-V: usb
-N: bus/usb/001/002
-A: idVendor=046d
-A: product=für \"alle\" \\ viele  
-A: ifalias=
-A: driver=usb
-E: DEVNAME=/dev/bus/usb/001/002
-E: SUBSYSTEM=usb
-S: usb/keyboard" "$("$capture" --from "$work/mock" $keyboard/1-1:1.0/input/input7/event3)"
 
 # What udev has kept, by an udevadm of one's own.
 mkdir "$work/own"
@@ -319,7 +178,7 @@ esac
 END
 chmod +x "$work/own/udevadm"
 # (the real /sys is the only tree that udevadm is asked of: here the tree stands in its place)
-sed "s|sysfs=/sys udevadm|sysfs=$sys udevadm|" "$capture" > "$work/own/capture"
+sed "s|sysfs=/sys udevadm|sysfs=$sys udevadm|" "$capture" > "$work/own/capture" && cp "$capture.awk" "$work/own"
 own() { PATH=$work/own:$PATH sh "$work/own/capture" "$@"; }
 same "with what udev has kept" "${of_card%%"$of_pci_card"}E: DEVPATH=$card/net/eth0
 E: SUBSYSTEM=net
@@ -328,6 +187,9 @@ G: systemd
 S: net/first
 $of_pci_card" "$(own "$sys/class/net/eth0")"
 same "of the device itself the kernel's alone" "$of_card" "$(own --kernel "$sys/class/net/eth0")"
+sed -i 's/E: INTERFACE=eth0/E: INTERFACE=lan0/' "$work/db"
+same "a property that udev has changed" "E: INTERFACE=lan0" "$(own "$sys/class/net/eth0" | grep INTERFACE)"
+same "of the kernel's alone" "E: INTERFACE=eth0" "$(own --kernel "$sys/class/net/eth0" | grep INTERFACE)"
 same "and of its parents all" "E: ID_VENDOR_FROM_DATABASE=Intel Corporation" \
     "$(own --kernel --all 2> /dev/null | awk -v RS='' -v path="P: $card/net/eth0" 'index($0, path "\n")' | tail -n 1)"
 
@@ -350,7 +212,6 @@ same "no device" "1
 devdry-capture: $sys/class: no device" "$(said=$("$capture" --sysfs "$sys" "$sys/class" 2>&1); printf '%s\n%s' $? "$said")"
 
 # A file that is no record, one that can't be read, and a tree without a device.
-ends() { said=$("$@" 2>&1); printf '%s\n%s' $? "$said"; }
 echo "looking at device '/devices/x':" > "$work/walk"
 same "--from of what is no record" "1
 devdry-capture: $work/walk: it has no device" "$(ends "$capture" --from "$work/walk")"
@@ -371,8 +232,11 @@ for awk in awk mawk gawk 'busybox awk' original-awk; do
 done
 same "an output that is closed" "3 devdry-capture: write failed" \
     "$({ said=$("$capture" --from "$work/db" 2>&1 >&-); echo "$? $said"; })"
-same "help to an output that is full" "3 devdry-capture: write failed" \
-    "$({ said=$("$capture" --help 2>&1 >&3); echo "$? $said"; } 3> /dev/full)"
+for words in --help --version "--walk --sysfs $sys $sys/class/net/eth0" "--kernel --from $work/db"; do
+    # shellcheck disable=SC2086
+    same "an output that is full: ${words%% *}" "3 devdry-capture: write failed" \
+        "$({ said=$("$capture" $words 2>&1 >&3); echo "$? $said"; } 3> /dev/full)"
+done
 {
     sleep 0.2
     "$capture" --from "$work/db" 2> "$work/err"
@@ -385,7 +249,17 @@ same "no words" 2 "$(status "$capture")"
 same "an option that there is not" 2 "$(status "$capture" --none)"
 same "--all with a device" 2 "$(status "$capture" --all x)"
 same "--from without a file" 2 "$(status "$capture" --from)"
+same "--walk with an action" 2 "$(status "$capture" --walk --action add --sysfs "$sys" /dev/null)"
+same "--walk with --kernel" 2 "$(status "$capture" --kernel --walk --sysfs "$sys" /dev/null)"
+same "--from with --sysfs" 2 "$(status "$capture" --from "$work/db" --sysfs "$sys")"
+same "--from with --all" 2 "$(status "$capture" --from "$work/db" --all)"
+same "an empty action" 2 "$(status "$capture" --action '' --sysfs "$sys" /dev/null)"
 same "--help" 0 "$(status "$capture" --help)"
+same "its version is that of devdry" "$("$program" --version | sed 's/ /-capture /')" "$("$capture" --version)"
+same "and by its letter" "$("$capture" --version)" "$("$capture" -V)"
+mkdir "$work/alone" && cp "$capture" "$work/alone"
+same "without its second step" "1
+devdry-capture: $work/alone/../share/devdry/devdry-capture.awk: can't be read" "$(ends "$work/alone/devdry-capture" --all)"
 
 if has shellcheck; then
     goes_well "shellcheck" shellcheck "$capture"

@@ -11,8 +11,8 @@ files_of() { (cd "$1" && find . ! -type d | sed 's/^\.//' | sorted); }
 
 # wanted PREFIX ZSHDIR END: what `make install` puts there, the pages with that end
 wanted() {
-    printf '%s\n' "$1/bin/devdry" "$1/bin/devdry-capture" "$1/share/bash-completion/completions/devdry" "$2/_devdry" \
-        "$1/share/fish/vendor_completions.d/devdry.fish"
+    printf '%s\n' "$1"/bin/devdry{,-capture} "$1/share/devdry/devdry-capture.awk" "$2"/_devdry{,-capture} \
+        "$1"/share/bash-completion/completions/devdry{,-capture} "$1"/share/fish/vendor_completions.d/devdry{,-capture}.fish
     for page in "$top"/man/*.1; do echo "$1/share/man/man1/${page##*/}$3"; done
 }
 
@@ -23,13 +23,21 @@ goes_well "make install" make_in install DESTDIR="$root"
 installed=$(wanted /usr/local /usr/local/share/zsh/site-functions '')
 same "what stands there then" "$({ echo "$installed"; echo /usr/local/bin/other; } | sorted)" "$(files_of "$root")"
 same "the program that was installed runs" "$("$program" --version)" "$(env -i "$root/usr/local/bin/devdry" --version)"
+captured=$("$top/tools/devdry-capture" --from "$top/examples/machine.txt")
+capture_in() { env -i PATH="$PATH" "$1/devdry-capture" --from "$top/examples/machine.txt"; }
+same "so does devdry-capture" "$captured" "$(capture_in "$root/usr/local/bin")"
+ln -s "$root/usr/local/bin/devdry-capture" "$work/devdry-capture"
+same "and by a link" "$captured" "$(capture_in "$work")"
 goes_well "make uninstall" make_in uninstall DESTDIR="$root"
 same "what stands there then" /usr/local/bin/other "$(files_of "$root")"
 
 own=(PREFIX=/p BINDIR=/b MANDIR=/m BASHDIR=/c/bash ZSHDIR=/c/zsh FISHDIR=/c/fish)
 goes_well "make install with folders of one's own" make_in install DESTDIR="$work/own" "${own[@]}"
-moved='s|^/p/bin|/b|; s|^/p/share/man|/m|; s|^/p/share/bash-completion/completions|/c/bash|; s|^/p/share/fish/[a-z_.]*|/c/fish|'
+moved='s|^/p/bin|/b|; s|^/p/share/devdry|/share/devdry|; s|^/p/share/man|/m|; s|^/p/share/bash-completion/completions|/c/bash|; s|^/p/share/fish/[a-z_.]*|/c/fish|'
 same "what stands there then" "$(wanted /p /c/zsh '' | sed "$moved" | sorted)" "$(files_of "$work/own")"
+same "devdry-capture runs there, too" "$captured" "$(capture_in "$work/own/b")"
+goes_well "make uninstall from there" make_in uninstall DESTDIR="$work/own" "${own[@]}"
+same "nothing stands there then" "" "$(files_of "$work/own")"
 
 if ! has dpkg-deb || ! has strip; then
     skipped "make deb" "there is no dpkg-deb"

@@ -44,17 +44,20 @@ for verb in $verbs; do
     done
 done
 
-same "devdry-capture(1) has the options of --help" "$(program=$top/tools/devdry-capture; helps)" \
-    "$(pages "$top/man/devdry-capture.1")"
+captures=$(program=$top/tools/devdry-capture; helps)
+same "devdry-capture(1) has the options of --help" "$captures" "$(pages "$top/man/devdry-capture.1")"
+same "the synopsis of devdry-capture(1) has all of them but help and version" \
+    "$(grep -vxE -e '-h|--help|-V|--version' <<< "$captures")" \
+    "$(sed -n '/^\.Sh SYNOPSIS/,/^\.Sh DESC/p' "$top/man/devdry-capture.1" | grep -oE 'Fl Fl [a-z-]+' | sed 's/^Fl Fl /--/' | sort -u)"
 
-# What bash offers behind these words.
+# What bash offers behind these words, of which the first is the program.
 bash_offers() {
     (
-        complete() { :; }
+        complete() { completing=$2; }
         # shellcheck source=../completions/devdry.bash disable=SC2317
-        . "$top/completions/devdry.bash"
+        . "$top/completions/$1.bash"
         COMP_WORDS=("$@") COMP_CWORD=$(($# - 1))
-        _devdry
+        "$completing"
         printf '%s\n' "${COMPREPLY[@]}" | sort -u
     )
 }
@@ -72,17 +75,23 @@ done
     same "bash offers all files behind --index" "a.rules b.hwdb c.txt folder" "$(bash_offers devdry query --index '' | paste -s -d " " -)"
     same "bash offers no database file beside an index" "" "$(bash_offers devdry query --index c.txt m '' | paste -s -d " " -)"
     same "bash offers rules files beside an index" "a.rules folder" "$(bash_offers devdry events --index c.txt '' | paste -s -d " " -)"
+    same "bash offers all files to devdry-capture" "a.rules b.hwdb c.txt folder" "$(bash_offers devdry-capture '' | paste -s -d " " -)"
+    same "bash offers all files behind --from" "c.txt" "$(bash_offers devdry-capture --from c)"
+    same "bash offers folders behind --sysfs" "folder" "$(bash_offers devdry-capture --sysfs '')"
 )
+same "bash offers the options of devdry-capture" "$captures" "$(bash_offers devdry-capture --kernel -)"
+same "bash offers actions behind --action" "change" "$(bash_offers devdry-capture --action c)"
 
 if has zsh; then
-    # What the function hands to _arguments for a command, whose first words of each spec are options.
+    # What the function of a program hands to _arguments for a command, whose first words of each spec are options.
     zsh_offers() {
         zsh -f -c '
             _arguments() { if [ "$1" = -C ]; then state=argument; else print -l -- "$@"; fi; }
             words=($2 -) CURRENT=2
-            . $1' zsh "$top/completions/_devdry" "$1" | sed -nE 's/^(\([^)]*\))?(--?[A-Za-z-]+)\[.*/\2/p' | sort -u
+            . $1' zsh "$top/completions/_$1" "$2" | sed -nE 's/^(\([^)]*\))?(--?[A-Za-z-]+)\[.*/\2/p' | sort -u
     }
-    for verb in $verbs; do same "zsh offers the options of $verb" "$(helps "$verb")" "$(zsh_offers "$verb")"; done
+    for verb in $verbs; do same "zsh offers the options of $verb" "$(helps "$verb")" "$(zsh_offers devdry "$verb")"; done
+    same "zsh offers the options of devdry-capture" "$captures" "$(zsh_offers devdry-capture '')"
     zsh_commands=$(zsh -f -c '
         _arguments() { state=command; }
         _describe() { print -l -- ${(P)4}; }
@@ -93,9 +102,11 @@ else
 fi
 
 if has fish; then
-    fish_offers() { fish --no-config -c "source '$top/completions/devdry.fish'; complete -C '$1'" | cut -f 1 | sort -u; }
+    fish_offers() { fish --no-config -c "source '$top/completions/${1%% *}.fish'; complete -C '$1'" | cut -f 1 | sort -u; }
     same "fish offers the commands" "$commands" "$(cd "$work" && fish_offers 'devdry ')"
     for verb in $verbs; do same "fish offers the options of $verb" "$(helps "$verb")" "$(fish_offers "devdry $verb -")"; done
+    same "fish offers the options of devdry-capture" "$captures" "$(fish_offers 'devdry-capture -')"
+    same "fish offers actions behind --action" "change" "$(fish_offers 'devdry-capture --action c')"
 else
     skipped "what fish offers" "there is no fish"
 fi

@@ -44,6 +44,13 @@ fi
 in_project() { (cd "$work/$1" && shift && "$@"); }
 goes_well "debian/rules: good files" in_project good make -f debian/rules override_dh_auto_test
 refused "debian/rules: mistakes" "$rules_message" in_project bad make -f debian/rules override_dh_auto_test
+for name in mine.udev udev; do
+    cp "$work/bad/rules/60-mine.rules" "$work/good/debian/$name"
+    refused "debian/rules: mistakes in debian/$name" "debian/$name:2: V2 unknown key: SUBSYSTEMM" \
+        in_project good make -f debian/rules override_dh_auto_test
+    rm "$work/good/debian/$name"
+done
+goes_well "debian/rules: no file at all" in_project bad make -f debian/rules override_dh_auto_test RULES= HWDB=
 
 if has rpmbuild; then
     packed() {
@@ -57,6 +64,20 @@ else
     skipped "%check" "there is no rpmbuild"
 fi
 
+taken='debian/mine.udev
+debian/udev
+debian/udev/60-mine.rules
+udev/60-mine.rules
+usr/lib/udev/rules.d/60-mine.rules'
+others='debian/rules
+debian/mine.udevdb
+polkit-1/rules.d/50-mine.rules
+rules.d/50-mine.rules
+src/udev.rules
+udev/README
+udev/60-mine.hwdb'
+same "the hook takes udev's files alone" "$taken" \
+    "$(printf '%s\n' "$taken" "$others" | grep -E "$(sed -n 's/^  files: \(.*rules.*\)/\1/p' "$top/.pre-commit-hooks.yaml")")"
 if has pre-commit && has git; then
     # hooked PROJECT FOLDER: the hooks over a project whose rules lie in that folder, beside a file that ends in .rules and
     # is not udev's

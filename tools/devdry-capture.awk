@@ -1,0 +1,207 @@
+# The second step of devdry-capture: reads records, a letter and a text in each line, and prints the devices that are
+# asked for, each with its parents, as event blocks or as keys of rules. devdry-capture says what the letters mean. It
+# hands these variables over, each empty where nothing is said:
+#   action    the action of the events
+#   all       print each device that has a record, not only those of the `w:` lines
+#   kernel    of the device itself print only what the kernel tells
+#   recorded  the records are those of a file
+#   walk      print keys, not blocks
+# The status is 1 where a device is not printed, 4 where there is none.
+
+# Says what is left out, which the status tells then.
+function complain(text) { printf "devdry-capture: %s\n", text | "cat 1>&2"; failed = 1 }
+
+# Cuts NAME=VALUE into `name` and `value`.
+function cut(text,    at) {
+    at = index(text, "=")
+    name = substr(text, 1, at - 1)
+    value = substr(text, at + 1)
+}
+
+# A line of the device, each letter and name once: what comes later takes the place of the earlier. With --kernel what
+# udev has added does not count.
+function add(letter, name, text, from_udev,    key) {
+    key = path SUBSEP letter SUBSEP name
+    if (name == "") {
+        complain(path ": " letter ": without a name is left out")
+        return
+    }
+    if (!(key in lines)) keys[path, ++count[path]] = key
+    lines[key] = letter ": " text
+    if (!from_udev) kernels[key] = lines[key]
+}
+
+# A line that a device has once.
+function set(letter, text) {
+    if (text == "") return
+    add(letter, letter, text, 0)
+    if (letter == "N") nodes["/dev/" text] = path
+}
+
+# Whether udev has added a property that is no `e:`. What udevadm says of this machine counts as added, as /sys told the
+# rest before. Records don't tell: `udevadm info` prints what udev added behind USEC_INITIALIZED, and in those that are
+# sorted it is known by the names that the rules of udev and of others give.
+function is_added(name) {
+    if (name == "USEC_INITIALIZED") initialized[path] = 1
+    return !recorded || path in initialized || name ~ added
+}
+
+# A property: the name of the node is told in full, as udev does.
+function property(text, from_udev) {
+    cut(text)
+    if (name == "DEVNAME") {
+        sub(/^\/dev\//, "", value)
+        set("N", value)
+        text = "DEVNAME=/dev/" value
+    }
+    if (name == "SUBSYSTEM") set("U", value)
+    if (name == "DRIVER") set("V", value)
+    if (name == "MAJOR") major[path] = value
+    if (name == "MINOR") minor[path] = value
+    if (major[path] ~ /^[0-9]+$/ && minor[path] ~ /^[0-9]+$/) set("D", major[path] ":" minor[path])
+    # (links and tags have lines of their own)
+    if (name == "TAGS") tags(value)
+    else if (name != "DEVLINKS" && name != "CURRENT_TAGS") add("E", name, text, from_udev)
+}
+
+# The tags of the property TAGS, with a colon before and behind each.
+function tags(text,    i, n, names) {
+    n = split(text, names, ":")
+    for (i = 1; i <= n; i++) if (names[i] != "") add("G", names[i], names[i], 1)
+}
+
+# The text that umockdev-record wrote with escapes.
+function unescaped(text,    out, c) {
+    out = ""
+    while (match(text, /\\([0-3][0-7][0-7]|.)/)) {
+        c = substr(text, RSTART + 1, RLENGTH - 1)
+        if (RLENGTH == 4) c = sprintf("%c", substr(c, 1, 1) * 64 + substr(c, 2, 1) * 8 + substr(c, 3, 1))
+        else if (c in escapes) c = escapes[c]
+        out = out substr(text, 1, RSTART - 1) c
+        text = substr(text, RSTART + RLENGTH)
+    }
+    return out text
+}
+
+# An attribute as umockdev-record tells it: one line of text stays.
+function attribute(text) {
+    cut(text)
+    value = unescaped(value)
+    sub(/[\r\n]+$/, "", value)
+    if (value !~ /[\001-\010\012-\037\177]/) add("A", name, name "=" value, 0)
+}
+
+# What a link says in such a record: where its last name counts.
+function link(text) {
+    cut(text)
+    sub(/.*\//, "", value)
+    if (name == "driver") set("V", value)
+    if (name ~ /^(driver|subsystem|module)$/) add("A", name, name "=" value, 0)
+}
+
+# Whether it is a path as blocks have it.
+function is_path(text) { return text ~ /^\/./ && text !~ /\/\// && text !~ /\/$/ }
+
+BEGIN {
+    escapes["n"] = "\n"; escapes["t"] = "\t"; escapes["r"] = "\r"
+    escapes["b"] = "\b"; escapes["f"] = "\f"; escapes["v"] = "\v"
+    # attributes that are no keys: these stand in keys above, change with each boot, or count and measure
+    passing = "^(subsystem|driver|dev|stat|inflight|statistics/.*|power/runtime_.*_time)$"
+    added = "^(ID|SYSTEMD|UDISKS|UPOWER|LIBINPUT|DM|MD|LVM|SCSI|ACCEL|EVDEV|IEEE1394|KEYBOARD|MOUSE|POINTINGSTICK|SOUND|XKB)_"
+}
+
+{ letter = substr($0, 1, 2); text = substr($0, 4) }
+letter == "w:" { if (text == "") failed = 1; else order[++orders] = text; next }
+letter == "P:" {
+    path = text
+    if (!is_path(path)) { complain(path ": no path of a device"); path = ""; next }
+    if (!(path in seen) && all) order[++orders] = path
+    seen[path] = 1
+    set("P", path)
+    next
+}
+path == "" || $0 == "" { next }
+letter == "U:" || letter == "V:" { set(substr(letter, 1, 1), text) }
+letter == "N:" { sub(/=.*/, "", text); set("N", text) }
+letter == "S:" { add("S", text, text, 1) }
+letter == "E:" { property(text, is_added(substr(text, 1, index(text, "=") - 1))) }
+letter == "e:" { property(text, 0) }
+letter == "a:" { add("A", substr(text, 1, index(text, "=") - 1), text, 0) }
+letter == "A:" { attribute(text) }
+letter == "L:" && text ~ /=/ { link(text) }
+
+# A value that is met by this text. What patterns are made of stands in sets, and so do a backslash in a pattern and one
+# that would hide the quote behind the value; `|` can stand in none, and is the `?` that any byte meets.
+function quoted(text,    out, i, c, pattern) {
+    pattern = text ~ /[*?[|]|\\$/
+    out = ""
+    for (i = 1; i <= length(text); i++) {
+        c = substr(text, i, 1)
+        if (c == "\"") c = "\\\""
+        else if (pattern && c == "\\") c = "[\\\\]"
+        else if (pattern && c == "|") c = "?"
+        else if (pattern && index("*?[", c)) c = "[" c "]"
+        out = out c
+    }
+    return "\"" out "\""
+}
+
+# The line of a key that the text meets, or a comment where no rule can say so: in the name of an attribute udev
+# replaces `$` and `%`, looks for another device behind `[` and for any folder at `*`.
+function compared(key, braced, text,    line) {
+    if (braced != "") key = key "{" braced "}"
+    if (braced ~ /[$%}]|^\[|\/\*\//) return "# " key ": no rule can hold this name\n"
+    line = key "==" quoted(text) "\n"
+    return length(line) > 16000 ? "# " key ": too long for a rule\n" : line
+}
+
+# The line of a key that a line of a block gives, or nothing; the keys of parents end in `s`.
+function as_key(line, s,    letter, text) {
+    letter = substr(line, 1, 1)
+    text = substr(line, 4)
+    if (letter == "U") return compared("SUBSYSTEM" s, "", text)
+    if (letter == "V") return compared("DRIVER" s, "", text)
+    if (letter == "P") {
+        sub(/.*\//, "", text)
+        gsub(/!/, "/", text)
+        return "# " substr(line, 4) "\n" compared("KERNEL" s, "", text)
+    }
+    cut(text)
+    return letter == "A" && name !~ passing ? compared("ATTR" s, name, value) : ""
+}
+
+# The lines of a device, each with its newline. As `first` it is the event device.
+function device(path, first,    of, i, line, letter) {
+    for (i = 1; i <= count[path]; i++) {
+        line = first && kernel ? kernels[keys[path, i]] : lines[keys[path, i]]
+        letter = substr(line, 1, 1)
+        of[letter] = of[letter] (walk ? as_key(line, first ? "" : "S") : line == "" ? "" : line "\n")
+    }
+    return of["P"] of["U"] of["V"] of["N"] of["D"] of["A"] of["E"] of["G"] of["S"]
+}
+
+# Prints a device with its parents, those that have a record, as a block or as keys.
+function block(path,    out, parent, devices) {
+    out = (walk ? "" : "C: " action "\n") device(path, 1)
+    devices = 1
+    parent = path
+    while (sub(/\/[^\/]*$/, "", parent) && parent != "") if (parent in seen) {
+        out = out (walk ? "\n" : "") device(parent, 0)
+        devices++
+    }
+    if (devices > 64 && !walk) complain(path ": it has over 63 parents, and is left out")
+    else if (length(out) > 65536 && !walk) complain(path ": its block has over 65,536 bytes, and is left out")
+    else printf "%s\n", out
+}
+
+END {
+    for (i = 1; i <= orders; i++) {
+        path = order[i] in nodes ? nodes[order[i]] : order[i]
+        if (path in printed) continue
+        printed[path] = 1
+        if (path in seen) block(path)
+        else complain(path ": no device of the record")
+    }
+    close("cat 1>&2")
+    exit (orders || failed ? failed : 4)
+}

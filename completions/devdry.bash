@@ -44,7 +44,7 @@ _devdry() {
         verify) suffix=.rules options='-r --root --no-summary --no-style -h --help -V --version' ;;
         query) suffix=.hwdb options='-r --root --sources --index -h --help -V --version' ;;
         update) suffix=.hwdb options='-r --root -s --strict -h --help -V --version' ;;
-        events) suffix=.rules options='-r --root --index -h --help -V --version' ;;
+        events) suffix=.rules options='-r --root --sources --why --index -h --help -V --version' ;;
         help)
             [ "$COMP_CWORD" -gt 2 ] || _devdry_words verify query update events help
             return
@@ -54,6 +54,7 @@ _devdry() {
     case $before:$word in
         -r:* | --root:*) _devdry_files '' ;;
         --index:*) _devdry_any_files ;;
+        --why:*) _devdry_files .rules ;;
         *:-*) _devdry_words "$options" ;;
         *) if [ "$command" != query ] || _devdry_takes_database; then _devdry_files "$suffix"; fi ;;
     esac

@@ -19,6 +19,7 @@ complete -c devdry -n '__fish_seen_subcommand_from verify' -l no-summary -d 'Do 
 complete -c devdry -n '__fish_seen_subcommand_from verify' -l no-style -d 'Give no messages about style'
 complete -c devdry -n '__fish_seen_subcommand_from verify events' -k -a '(__fish_complete_suffix .rules)'
 
-complete -c devdry -n '__fish_seen_subcommand_from query' -l sources -d 'Say where each property comes from'
+complete -c devdry -n '__fish_seen_subcommand_from query events' -l sources -d 'Say where each line comes from'
+complete -c devdry -n '__fish_seen_subcommand_from events' -l why -r -k -a '(__fish_complete_suffix .rules)' -d 'Say what the rules of this file, or the one of this line, met'
 complete -c devdry -n '__fish_seen_subcommand_from update' -s s -l strict -d 'Exit with status 1 if there is a message'
 complete -c devdry -n '__fish_seen_subcommand_from query update' -k -a '(__fish_complete_suffix .hwdb)'

@@ -73,6 +73,7 @@ done
     same "bash offers no file for a modalias" "" "$(bash_offers devdry query '' | paste -s -d " " -)"
     same "bash offers database files behind a modalias" "b.hwdb folder" "$(bash_offers devdry query -r folder m '' | paste -s -d " " -)"
     same "bash offers all files behind --index" "a.rules b.hwdb c.txt folder" "$(bash_offers devdry query --index '' | paste -s -d " " -)"
+    same "bash offers rules files behind --why" "a.rules folder" "$(bash_offers devdry events --why '' | paste -s -d " " -)"
     same "bash offers no database file beside an index" "" "$(bash_offers devdry query --index c.txt m '' | paste -s -d " " -)"
     same "bash offers rules files beside an index" "a.rules folder" "$(bash_offers devdry events --index c.txt '' | paste -s -d " " -)"
     same "bash offers all files to devdry-capture" "a.rules b.hwdb c.txt folder" "$(bash_offers devdry-capture '' | paste -s -d " " -)"
@@ -88,7 +89,7 @@ if has zsh; then
         zsh -f -c '
             _arguments() { if [ "$1" = -C ]; then state=argument; else print -l -- "$@"; fi; }
             words=($2 -) CURRENT=2
-            . $1' zsh "$top/completions/_$1" "$2" | sed -nE 's/^(\([^)]*\))?(--?[A-Za-z-]+)\[.*/\2/p' | sort -u
+            . $1' zsh "$top/completions/_$1" "$2" | sed -nE 's/^(\([^)]*\))?\*?(--?[A-Za-z-]+)\[.*/\2/p' | sort -u
     }
     for verb in $verbs; do same "zsh offers the options of $verb" "$(helps "$verb")" "$(zsh_offers devdry "$verb")"; done
     same "zsh offers the options of devdry-capture" "$captures" "$(zsh_offers devdry-capture '')"

@@ -63,7 +63,7 @@ Arguments:
 
 Options:
   -r, --root <DIR>    Folder to put before each folder that is read
-      --sources       Say where each property comes from
+      --sources       Say where each line comes from
       --index <FILE>  Index to read in place of the database's folders
   -h, --help          Print help
   -V, --version       Print version
@@ -94,10 +94,12 @@ Arguments:
   [FILE]...  Rules files to read in place of the folders
 
 Options:
-  -r, --root <DIR>    Folder to put before each folder that is read
-      --index <FILE>  Index to read in place of the database's folders
-  -h, --help          Print help
-  -V, --version       Print version
+  -r, --root <DIR>         Folder to put before each folder that is read
+      --sources            Say where each line comes from
+      --why <FILE[:LINE]>  Say what the rules of this file, or the one of this line, met
+      --index <FILE>       Index to read in place of the database's folders
+  -h, --help               Print help
+  -V, --version            Print version
 """
 
 TWO_DATABASES = """\
@@ -141,6 +143,10 @@ NOT_UNDERSTOOD = [
     ("verify --none", "error: unexpected argument '--none' found\n"),
     ("verify --strict", "error: unexpected argument '--strict' found\n"),
     ("verify --sources", "error: unexpected argument '--sources' found\n"),
+    ("verify --why a.rules", "error: unexpected argument '--why' found\n"),
+    ("query m --why a.rules", "error: unexpected argument '--why' found\n"),
+    ("events --sources --sources", "error: the argument '--sources' cannot be used multiple times\n"),
+    ("events --why", "error: a value is required for '--why <FILE[:LINE]>' but none was supplied\n"),
     ("query m --strict", "error: unexpected argument '--strict' found\n"),
     ("update --index a.index", "error: unexpected argument '--index' found\n"),
     ("update -s -s", "error: the argument '--strict' cannot be used multiple times\n"),

@@ -1,0 +1,40 @@
+"""Rows of `events --why` over one rules file: what the keys of its rules met, and how the rules ended."""
+from tables.kinds.answered import answer, block
+from tables.kinds.row import Row, as_bytes
+
+# An answer shows at most so many bytes of a text, and a rendered text has at most so many.
+SHOWN = 200
+LONGEST = 16_384
+
+# A property that is not printed, and a text that is too long where the property has over half of the bytes.
+LONG = "E: .L=" + "l" * (LONGEST // 2 + 1)
+TWICE = "$env{.L}$env{.L}"
+
+
+def cut(text):
+    """A text over 200 bytes as it is shown, where nothing of it is escaped."""
+    return f"{text[:SHOWN]}.. ({len(text)} bytes)"
+
+
+def of(number, *told):
+    """The lines that tell of the rule in one line."""
+    return [b"%d: %s" % (number, as_bytes(line)) for line in told]
+
+
+def why(name, rules, lines, wanted, *courses, path="/d", asked=("r.rules",), messages=b"", files=(), root="none"):
+    """A run over a file `r.rules` of these rules, over a block with these lines behind its path.
+
+    `wanted` are the lines that its answer has besides the event, ACTION and DEVPATH. `courses` are lists of what stands
+    behind them, as `of` gives them: each line without its `why r.rules:`. `files` and `root` may hold a database.
+    """
+    answered = answer(path, wanted)
+    told = b"".join(b"why r.rules:" + line + b"\n" for course in courses for line in course)
+    words = ["events", "-r", root, *(word for text in asked for word in ("--why", text)), "r.rules"]
+    return Row(
+        name,
+        words,
+        {"r.rules": b"".join(as_bytes(rule) + b"\n" for rule in rules), **dict(files)},
+        input=block(path, *lines),
+        output=answered[:-1] + told + b"\n",
+        messages=messages,
+    )

@@ -1,0 +1,263 @@
+"""`events --why`: what is told of TEST, PROGRAM and IMPORT: what each looked at, whether it is answered, what it set.
+
+What is wanted follows the reference, docs/behaviour.md, and udev(7); nothing here was taken from the program.
+"""
+from tables.kinds.why import LONG, SHOWN, TWICE, cut, of, why
+
+# The word of a note has at most so many bytes.
+WORD = 32
+
+
+def note(number, text, word):
+    """A note of the rule in one line."""
+    return f"note r.rules:{number}: {text}: {word[:WORD]}"
+
+
+# Tests: of an attribute that is there, of others, and those that a dry run does not make.
+TESTS = [
+    why(
+        "tests of attributes",
+        ['TEST=="model"', 'TEST!="model", TAG+="never"', 'TEST=="sub/$kernel", TAG+="never"', 'TEST!="sub/$kernel"', 'TEST=="%k/a"'],
+        ["A: model=Disk", "A: p/a="],
+        [],
+        of(1, 'TEST=="model": holds, model', "reached its end"),
+        of(2, 'TEST!="model": fails, model', "stops there"),
+        of(3, 'TEST=="sub/$kernel": fails, sub/p', "stops there"),
+        of(4, 'TEST!="sub/$kernel": holds, sub/p', "reached its end"),
+        of(5, 'TEST=="%k/a": holds, p/a', "reached its end"),
+        path="/devices/p",
+    ),
+    why(
+        "tests that are not made",
+        ['TEST=="/run/%k"', 'TEST!="/run/%k"', 'TEST{0644}=="model"', 'TEST{0644}!="model"'],
+        ["A: model=Disk"],
+        [
+            note(1, "test not made", "/run/p"), note(2, "test not made", "/run/p"),
+            note(3, "test not made", "model"), note(4, "test not made", "model"),
+        ],
+        of(1, 'TEST=="/run/%k": fails, not made: /run/p', "stops there"),
+        of(2, 'TEST!="/run/%k": holds, not made: /run/p', "reached its end"),
+        of(3, 'TEST{0644}=="model": fails, not made: model', "stops there"),
+        of(4, 'TEST{0644}!="model": holds, not made: model', "reached its end"),
+        path="/devices/p",
+    ),
+    why(
+        "paths of tests that are empty, escaped, cut or too long",
+        ['TEST=="$env{.NONE}"', 'TEST=="$env{.ODD}"', 'TEST=="$env{.P}"', f'TEST=="{TWICE}"', f'TEST!="{TWICE}"'],
+        ["E: .ODD=a\tb", "E: .P=" + "p" * 300, LONG],
+        [note(4, "text too long", "TEST"), note(5, "text too long", "TEST")],
+        of(1, 'TEST=="$env{.NONE}": fails, ""', "stops there"),
+        of(2, 'TEST=="$env{.ODD}": fails, a\\x09b', "stops there"),
+        of(3, f'TEST=="$env{{.P}}": fails, {cut("p" * 300)}', "stops there"),
+        of(4, f'TEST=="{TWICE}": fails, too long', "stops there"),
+        of(5, f'TEST!="{TWICE}": holds, too long', "reached its end"),
+    ),
+]
+
+# a command that is longer than the word of a note, and one that is longer than what is shown of other texts
+ASKING = "/bin/ask --for-a-text-of-over-32-bytes p"
+LONG_COMMAND = "/bin/x " + "c" * 300
+ANSWERS = ["Q: /bin/id p", "R: 0 ab cd", "Q: /bin/no p", "R: 1 oops", "Q: /bin/quiet", "R: 0"]
+
+PROGRAMS = [
+    why(
+        "programs that are answered",
+        [
+            'PROGRAM=="/bin/id %k", ENV{A}="%c"', 'PROGRAM=="/bin/no $kernel", TAG+="never"', 'PROGRAM!="/bin/no $kernel"',
+            'PROGRAM=="/bin/quiet"', 'PROGRAM!="/bin/id p", TAG+="never"',
+        ],
+        ANSWERS,
+        ["env A=ab cd"],
+        of(1, 'PROGRAM=="/bin/id %k": holds, /bin/id p answers 0 ab cd', "reached its end: env A=ab cd set"),
+        of(2, 'PROGRAM=="/bin/no $kernel": fails, /bin/no p answers 1 oops', "stops there"),
+        of(3, 'PROGRAM!="/bin/no $kernel": holds, /bin/no p answers 1 oops', "reached its end"),
+        of(4, 'PROGRAM=="/bin/quiet": holds, /bin/quiet answers 0', "reached its end"),
+        of(5, 'PROGRAM!="/bin/id p": fails, /bin/id p answers 0 ab cd', "stops there"),
+        path="/devices/p",
+    ),
+    why(
+        "operators that are read as ==",
+        ['PROGRAM="/bin/id %k"', 'PROGRAM+="/bin/id %k"', 'PROGRAM:="/bin/id %k"'],
+        ANSWERS,
+        [],
+        *(of(at, 'PROGRAM=="/bin/id %k": holds, /bin/id p answers 0 ab cd', "reached its end") for at in (1, 2, 3)),
+        path="/devices/p",
+    ),
+    why(
+        "a command without an answer is told whole",
+        ['PROGRAM=="/bin/ask --for-a-text-of-over-32-bytes %k", TAG+="never"', 'PROGRAM!="/bin/none"'],
+        ["A: ask=1"],
+        [note(1, "no answer for program", ASKING), note(2, "no answer for program", "/bin/none")],
+        of(1, f'PROGRAM=="/bin/ask --for-a-text-of-over-32-bytes %k": fails, no answer for {ASKING}', "stops there"),
+        of(2, 'PROGRAM!="/bin/none": holds, no answer for /bin/none', "reached its end"),
+        path="/devices/p",
+    ),
+    why(
+        "what is copied into a block is the answer's command",
+        ['PROGRAM=="/bin/ask --for-a-text-of-over-32-bytes %k"'],
+        ["Q: " + ASKING, "R: 255 no"],
+        [],
+        of(1, f'PROGRAM=="/bin/ask --for-a-text-of-over-32-bytes %k": fails, {ASKING} answers 255 no', "stops there"),
+        path="/devices/p",
+    ),
+    why(
+        "a command of over 200 bytes is told whole, the value that it was given is cut",
+        ['PROGRAM=="$env{.C}"', f'PROGRAM=="{LONG_COMMAND}"'],
+        ["E: .C=" + LONG_COMMAND, "Q: " + LONG_COMMAND, "R: 0 " + "t" * (SHOWN + 1)],
+        [],
+        of(1, f'PROGRAM=="$env{{.C}}": holds, {LONG_COMMAND} answers 0 {cut("t" * (SHOWN + 1))}', "reached its end"),
+        of(2, f'PROGRAM=="{cut(LONG_COMMAND)}": holds, {LONG_COMMAND} answers 0 {cut("t" * (SHOWN + 1))}', "reached its end"),
+    ),
+    why(
+        "a long command without an answer is told whole",
+        ['PROGRAM=="$env{.C}"'],
+        ["E: .C=" + LONG_COMMAND],
+        [note(1, "no answer for program", LONG_COMMAND)],
+        of(1, f'PROGRAM=="$env{{.C}}": fails, no answer for {LONG_COMMAND}', "stops there"),
+    ),
+    why(
+        "commands and answers are escaped",
+        ['PROGRAM=="a\\b"', 'PROGRAM=="c\\d"'],
+        ["Q: a\\b", "R: 0 x\ty"],
+        [note(2, "no answer for program", "c\\x5Cd")],
+        of(1, 'PROGRAM=="a\\x5Cb": holds, a\\x5Cb answers 0 x\\x09y', "reached its end"),
+        of(2, 'PROGRAM=="c\\x5Cd": fails, no answer for c\\x5Cd', "stops there"),
+    ),
+    why(
+        "a command that is too long",
+        [f'PROGRAM=="{TWICE}"', f'PROGRAM!="{TWICE}"'],
+        [LONG],
+        [note(1, "text too long", "PROGRAM"), note(2, "text too long", "PROGRAM")],
+        of(1, f'PROGRAM=="{TWICE}": fails, too long', "stops there"),
+        of(2, f'PROGRAM!="{TWICE}": holds, too long', "reached its end"),
+    ),
+]
+
+PARENT = ["P: /devices/h", "E: ID_A=1", "E: X=2"]
+# what stood before keeps its place among the properties: X of the device stands before those that are new
+ODD_PARENT = ["E: X=0", "P: /devices/h", "E: N=", "E: X=1", "E: .P=p", "E: L=" + "l" * 300]
+
+IMPORTS = [
+    why(
+        "properties of the parent",
+        ['IMPORT{parent}=="ID_*"', 'IMPORT{parent}="ID_*"', 'IMPORT{parent}+="none*"', 'IMPORT{parent}!="X", TAG+="never"'],
+        PARENT,
+        ["env ID_A=1", "env X=2"],
+        of(1, 'IMPORT{parent}=="ID_*": holds, sets ID_A=1', "reached its end"),
+        of(2, 'IMPORT{parent}=="ID_*": holds, sets nothing', "reached its end"),
+        of(3, 'IMPORT{parent}=="none*": holds, sets nothing', "reached its end"),
+        of(4, 'IMPORT{parent}!="X": fails, sets X=2', "stops there"),
+        path="/devices/h/p",
+    ),
+    why(
+        "there is no parent",
+        ['IMPORT{parent}=="*", TAG+="never"', 'IMPORT{parent}!="*"'],
+        ["E: X=0"],
+        ["env X=0"],
+        of(1, 'IMPORT{parent}=="*": fails, sets nothing', "stops there"),
+        of(2, 'IMPORT{parent}!="*": holds, sets nothing', "reached its end"),
+    ),
+    why(
+        "properties stand in their order, hidden ones too, an empty value as two quotes, a long one cut",
+        ['IMPORT{parent}="?*"'],
+        ODD_PARENT,
+        ["env X=1", "env N=", "env L=" + "l" * 300],
+        of(1, f'IMPORT{{parent}}=="?*": holds, sets X=1, N="", .P=p, L={cut("l" * 300)}', "reached its end"),
+        path="/devices/h/p",
+    ),
+    why(
+        "imports that are never run",
+        [
+            'IMPORT{program}=="/bin/x %k", TAG+="never"', 'IMPORT{file}!="/etc/$kernel"', 'IMPORT{cmdline}="quiet", TAG+="never"',
+            'IMPORT{db}:="ID_X", TAG+="never"', 'IMPORT{db}!="ID_X"',
+        ],
+        [],
+        [
+            "note r.rules:1: import not run: program", "note r.rules:2: import not run: file",
+            "note r.rules:3: import not run: cmdline", "note r.rules:4: import not run: db", "note r.rules:5: import not run: db",
+        ],
+        of(1, 'IMPORT{program}=="/bin/x %k": fails, not run', "stops there"),
+        of(2, 'IMPORT{file}!="/etc/$kernel": holds, not run', "reached its end"),
+        of(3, 'IMPORT{cmdline}=="quiet": fails, not run', "stops there"),
+        of(4, 'IMPORT{db}=="ID_X": fails, not run', "stops there"),
+        of(5, 'IMPORT{db}!="ID_X": holds, not run', "reached its end"),
+    ),
+    why(
+        "builtins that are not run, and what hwdb does not take",
+        ['IMPORT{builtin}=="kmod load %k"', 'IMPORT{builtin}!="path_id"', 'IMPORT{builtin}="hwdb --none"', f'IMPORT{{builtin}}="{TWICE}"',
+         f'IMPORT{{builtin}}!="{TWICE}"'],
+        [LONG],
+        [
+            note(1, "builtin not run", "kmod"), note(2, "builtin not run", "path_id"), note(3, "bad hwdb arguments", "hwdb --none"),
+            note(4, "text too long", "IMPORT{builtin}"), note(5, "text too long", "IMPORT{builtin}"),
+        ],
+        of(1, 'IMPORT{builtin}=="kmod load %k": fails, kmod load d sets nothing', "stops there"),
+        of(2, 'IMPORT{builtin}!="path_id": holds, path_id sets nothing', "reached its end"),
+        of(3, 'IMPORT{builtin}=="hwdb --none": fails, hwdb --none sets nothing', "stops there"),
+        of(4, f'IMPORT{{builtin}}=="{TWICE}": fails, too long', "stops there"),
+        of(5, f'IMPORT{{builtin}}!="{TWICE}": holds, too long', "reached its end"),
+    ),
+]
+
+DATABASE = {"mnt/etc/udev/hwdb.d/a.hwdb": "usb:v1D6B*\n ID_VENDOR=Linux\n ID_A=1\n\nname:p\n ID_NAME=p\n"}
+HUB = ["P: /devices/h", "U: usb", "E: MODALIAS=usb:v1D6Bp0002"]
+
+LOOKED_UP = [
+    why(
+        "properties of the database",
+        [
+            'IMPORT{builtin}="hwdb --subsystem=usb"', 'IMPORT{builtin}="hwdb --subsystem=usb"', 'IMPORT{builtin}=="hwdb name:$kernel"',
+            'IMPORT{builtin}=="hwdb name:none", TAG+="never"', 'IMPORT{builtin}!="hwdb name:none"',
+        ],
+        HUB,
+        ["env ID_VENDOR=Linux", "env ID_A=1", "env ID_NAME=p"],
+        of(1, 'IMPORT{builtin}=="hwdb --subsystem=usb": holds, hwdb --subsystem=usb sets ID_A=1, ID_VENDOR=Linux', "reached its end"),
+        of(2, 'IMPORT{builtin}=="hwdb --subsystem=usb": holds, hwdb --subsystem=usb sets nothing', "reached its end"),
+        of(3, 'IMPORT{builtin}=="hwdb name:$kernel": holds, hwdb name:p sets ID_NAME=p', "reached its end"),
+        of(4, 'IMPORT{builtin}=="hwdb name:none": fails, hwdb name:none sets nothing', "stops there"),
+        of(5, 'IMPORT{builtin}!="hwdb name:none": holds, hwdb name:none sets nothing', "reached its end"),
+        path="/devices/h/p",
+        files=DATABASE.items(),
+        root="mnt",
+    ),
+    why(
+        "a long command of a builtin is cut",
+        ['IMPORT{builtin}=="hwdb $env{.C}"'],
+        ["E: .C=" + "c" * 300],
+        [],
+        of(1, f'IMPORT{{builtin}}=="hwdb $env{{.C}}": fails, {cut("hwdb " + "c" * 300)} sets nothing', "stops there"),
+    ),
+]
+
+ORDER = [
+    why(
+        "tests, then programs, then imports by their types",
+        [
+            'IMPORT{parent}!="*", IMPORT{cmdline}!="c", IMPORT{db}!="d", IMPORT{builtin}!="kmod", IMPORT{program}!="i", '
+            'IMPORT{file}!="f", PROGRAM!="p", TEST!="t"',
+        ],
+        [],
+        [
+            note(1, "no answer for program", "p"), note(1, "import not run", "file"), note(1, "import not run", "program"),
+            note(1, "builtin not run", "kmod"), note(1, "import not run", "db"), note(1, "import not run", "cmdline"),
+        ],
+        of(
+            1,
+            'TEST!="t": holds, t',
+            'PROGRAM!="p": holds, no answer for p',
+            'IMPORT{file}!="f": holds, not run',
+            'IMPORT{program}!="i": holds, not run',
+            'IMPORT{builtin}!="kmod": holds, kmod sets nothing',
+            'IMPORT{db}!="d": holds, not run',
+            'IMPORT{cmdline}!="c": holds, not run',
+            'IMPORT{parent}!="*": holds, sets nothing',
+            "reached its end",
+        ),
+    ),
+    why("acts behind one that failed are not told", ['TEST=="none", PROGRAM=="p", IMPORT{db}=="d"'], [], [],
+        of(1, 'TEST=="none": fails, none', "stops there")),
+    why("the result behind a program that failed is not told", ['PROGRAM=="p", RESULT==""'], [],
+        ["note r.rules:1: no answer for program: p"], of(1, 'PROGRAM=="p": fails, no answer for p', "stops there")),
+]
+
+ROWS = [*TESTS, *PROGRAMS, *IMPORTS, *LOOKED_UP, *ORDER]

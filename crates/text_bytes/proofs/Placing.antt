@@ -1,22 +1,22 @@
 -- Files in their place among others that are sorted by name.
-use Rattle.std.proofs.Common.{◌≡◌, ℕ, zero, suc, ◌+◌, ◌<◌, ◌≤◌, Bool, true, false, List, [], ◌∷◌, ◌++◌, length, fold, cond, ltb, eqb, get_or, set, insert, Result, Ok, Err, refl, ap, sym, ◌∙◌, arith}
+use Rattle.std.proofs.Common.{◌≡◌, ℕ, zero, suc, ◌<◌, ◌≤◌, Bool, true, false, List, [], ◌∷◌, ◌++◌, length, fold, cond, ltb, eqb, get_or, Some, refl, ap, sym, ◌∙◌, arith}
+use Rattle.std.specs.BTreeMap.{insert_entry}
 use Rattle.std.specs.List.{AllByRecursion, ends_with}
-use Rattle.std.specs.List.Sorted.{IsStrictlySortedBy, IsSortedBy, IsSearchInRange, IsBinarySearchResult}
-use Rattle.std.specs.Ordering.{nat_cmp, is_lt, ordering_reverse}
+use Rattle.std.specs.List.Sorted.{IsStrictlySortedBy}
+use Rattle.std.specs.Map.{lookup, values_of}
+use Rattle.std.specs.Ordering.{nat_cmp, is_eq, match_ordering, ordering_reverse}
 use Rattle.std.specs.declared.cmp.Ordering.{Ordering}
 use Rattle.std.specs.declared.cmp.Ordering.TheVariants.{Less, Equal, Greater}
 use Rattle.std.specs.Cmp.Lexicographic.{slice_cmp}
 use Rattle.std.proofs.lemmas.Cmp.{nat_list_cmp_total}
-use Rattle.std.proofs.lemmas.Bool.{lt-ltb, le-ltb}
-use Rattle.std.proofs.lemmas.List.{set-get_or}
+use Rattle.std.proofs.lemmas.Bool.{lt-ltb, le-ltb, leb-true, leb-false}
 use Rattle.std.proofs.lemmas.List.Elements.{filter-append}
 use Rattle.std.proofs.lemmas.List.Sums.{fold-append}
-use Rattle.std.proofs.lemmas.List.Sorted.{searchable_from_sorted}
 use Rattle.std.proofs.lemmas.Map.Lookups.{exact_bytes}
+use Rattle.text_bytes.specs.ByName.{hides, StandUnderTheirNames}
 use Rattle.text_bytes.specs.Insertion.{by_order}
 use Rattle.text_bytes.specs.FileOrder.{winner, put, with_suffix, ordered}
 use Rattle.text_bytes.specs.OrderLaws.{names, NamesRise}
-use Rattle.text_bytes.specs.Places.{IsPlaceOf}
 use Rattle.text_bytes.specs.declared.source_file.SourceFile.{SourceFile}
 
 -- how two names compare
@@ -44,55 +44,84 @@ pub rises_before : (x : SourceFile) (xs : List SourceFile) → Above x.name xs �
 unfolding IsStrictlySortedBy
 rises_before x xs a h = (a, h)
 
--- no name is below the one before it
-rises_weakly : (xs : List SourceFile) → NamesRise xs → IsSortedBy (λ a b. is_lt (order a.name b.name)) xs
-rises_weakly [] h k d low l = absurd (omega arith)
-rises_weakly (x ∷ xs) h zero d low l =
-    let less : order x.name (get_or xs 0 d).name ≡ Less = above_at x.name xs 0 d (rises_behind x xs h).0 (omega arith) in
-    ap is_lt (nat_list_cmp_total.antisymm (get_or xs 0 d).name x.name ∙ ap ordering_reverse less)
-rises_weakly (x ∷ xs) h (suc k) d low l =
-    let e : suc k + 1 ≡ suc (k + 1) = omega arith in
-    rw e (rises_weakly xs (rises_behind x xs h).1 k d (omega arith) (omega arith))
+pub above_further : (low high : List ℕ) (xs : List SourceFile) → order low high ≡ Less → Above high xs → Above low xs
+above_further low high [] l h = tt
+above_further low high (x ∷ xs) l h = (nat_list_cmp_total.trans low high x.name l h.0, above_further low high xs l h.1)
 
--- what a binary search finds
-pub place_found : (name : List ℕ) (xs : List SourceFile) (r : Result ℕ ℕ) → NamesRise xs → IsSearchInRange r (length xs)
-    → IsBinarySearchResult (λ file. order file.name name) xs r → IsPlaceOf name xs r
-place_found name xs (Ok i) h within found = (within, found)
-place_found name xs (Err i) h within found = (within, found (searchable_from_sorted nat_list_cmp_total (λ (file : SourceFile). file.name) xs name (rises_weakly xs h)))
+-- no file of a name below all others hides one of that name
+none_hides : {K : Type 0} (text : K → List ℕ) (es : List (K × SourceFile)) (e : SourceFile) → StandUnderTheirNames text es → Above e.name (values_of es)
+    → hides (lookup (λ k. is_eq (order e.name (text k))) es) e ≡ false
+none_hides text [] e named above = refl
+none_hides text (p ∷ es) e named above =
+    let less : order e.name (text p.0) ≡ Less = ap (order e.name) named.0 ∙ above.0 in
+    ap (λ o. hides (cond (is_eq o) (Some p.1) (lookup (λ k. is_eq (order e.name (text k))) es)) e) less ∙ none_hides text es e named.1 above.1
 
--- at its place a name is met again
-put_at : (xs : List SourceFile) (e x : SourceFile) (i : ℕ) → NamesRise xs → i < length xs → x ≡ get_or xs i x → order x.name e.name ≡ Equal
-    → put xs e ≡ set xs i (winner x e)
-put_at [] e x i h l is same = absurd (omega arith)
-put_at (y ∷ ys) e x zero h l is same =
-    ap (λ o. placed o e y ys (put ys e)) (ap (λ (z : SourceFile). order z.name e.name) (sym is) ∙ same)
-    ∙ ap (λ (z : SourceFile). winner z e ∷ ys) (sym is)
-put_at (y ∷ ys) e x (suc i) h l is same =
-    let here : i < length ys = omega arith in
-    let less : order y.name e.name ≡ Less =
-    ap (order y.name) (sym (exact_bytes x.name e.name same)) ∙ ap (λ (z : SourceFile). order y.name z.name) is ∙ above_at y.name ys i x (rises_behind y ys h).0 here in
-    ap (λ o. placed o e y ys (put ys e)) less ∙ ap (λ (zs : List SourceFile). y ∷ zs) (put_at ys e x i (rises_behind y ys h).1 here is same)
+-- a file that is hidden changes nothing
+pub put_hidden : {K : Type 0} (text : K → List ℕ) (es : List (K × SourceFile)) (e : SourceFile) → StandUnderTheirNames text es → NamesRise (values_of es)
+    → hides (lookup (λ k. is_eq (order e.name (text k))) es) e ≡ true → values_of es ≡ put (values_of es) e
+put_hidden text [] e named rise h = cc
+put_hidden {K} text (p ∷ es) e named rise h = by (put_hidden text es e named.1 (rises_behind p.1 (values_of es) rise).1) (order e.name (text p.0)) refl h
+  where
+    back : (o : Ordering) → order e.name (text p.0) ≡ o → order p.1.name e.name ≡ ordering_reverse o
+    back o is = nat_list_cmp_total.antisymm p.1.name e.name ∙ ap ordering_reverse (ap (order e.name) (sym named.0) ∙ is)
 
-pub put_wins : (xs : List SourceFile) (e x : SourceFile) (i : ℕ) → NamesRise xs → i < length xs → x ≡ get_or xs i x → order x.name e.name ≡ Equal → e.rank < x.rank
-    → set xs i e ≡ put xs e
-put_wins xs e x i h l is same less = sym (put_at xs e x i h l is same ∙ ap (λ b. set xs i (cond b e x)) (lt-ltb e.rank x.rank less))
+    Later : Type 0
+    Later = hides (lookup (λ k. is_eq (order e.name (text k))) es) e ≡ true → values_of es ≡ put (values_of es) e
 
-pub put_loses : (xs : List SourceFile) (e x : SourceFile) (i : ℕ) → NamesRise xs → i < length xs → x ≡ get_or xs i x → order x.name e.name ≡ Equal → x.rank ≤ e.rank
-    → xs ≡ put xs e
-put_loses xs e x i h l is same up =
-    sym (put_at xs e x i h l is same ∙ ap (λ b. set xs i (cond b e x)) (le-ltb e.rank x.rank up) ∙ ap (set xs i) is ∙ set-get_or xs i x)
+    by : Later → (o : Ordering) → order e.name (text p.0) ≡ o → hides (cond (is_eq o) (Some p.1) (lookup (λ k. is_eq (order e.name (text k))) es)) e ≡ true
+        → p.1 ∷ values_of es ≡ placed (order p.1.name e.name) e p.1 (values_of es) (put (values_of es) e)
+    by later Less is h =
+        let less : order e.name p.1.name ≡ Less = ap (order e.name) (sym named.0) ∙ is in
+        let none = none_hides text es e named.1 (above_further e.name p.1.name (values_of es) less (rises_behind p.1 (values_of es) rise).0) in
+        cc
+    by later Equal is h =
+        let up : p.1.rank ≤ e.rank = leb-true p.1.rank e.rank h in
+        sym (ap (λ o. placed o e p.1 (values_of es) (put (values_of es) e)) (back Equal is) ∙ ap (λ b. cond b e p.1 ∷ values_of es) (le-ltb e.rank p.1.rank up))
+    by later Greater is h =
+        ap (λ (xs : List SourceFile). p.1 ∷ xs) (later h)
+        ∙ ap (λ o. placed o e p.1 (values_of es) (put (values_of es) e)) (sym (back Greater is))
 
--- a name that was not met
-pub put_between : (xs : List SourceFile) (e : SourceFile) (i : ℕ) → i ≤ length xs
-    → ((k : ℕ) (d : SourceFile) → 0 ≤ k → k < i → order (get_or xs k d).name e.name ≡ Less)
-    → ((k : ℕ) (d : SourceFile) → i ≤ k → k < length xs → order (get_or xs k d).name e.name ≡ Greater)
-    → put xs e ≡ insert xs i e
-put_between [] e zero l below above = refl
-put_between [] e (suc i) l below above = absurd (omega arith)
-put_between (x ∷ xs) e zero l below above = ap (λ o. placed o e x xs (put xs e)) (above 0 e (omega arith) (omega arith))
-put_between (x ∷ xs) e (suc i) l below above =
-    ap (λ o. placed o e x xs (put xs e)) (below 0 e (omega arith) (omega arith))
-    ∙ ap (λ (ys : List SourceFile). x ∷ ys) (put_between xs e i (omega arith) (λ k d z m. below (suc k) d (omega arith) (omega arith)) (λ k d z m. above (suc k) d (omega arith) (omega arith)))
+-- a file that is not hidden stands under its name, in the place of the one that is there
+pub put_shown : {K : Type 0} (text : K → List ℕ) (es : List (K × SourceFile)) (k : K) (e : SourceFile) → StandUnderTheirNames text es → text k ≡ e.name
+    → hides (lookup (λ k. is_eq (order e.name (text k))) es) e ≡ false → values_of (insert_entry (λ j k. order (text j) (text k)) es k e) ≡ put (values_of es) e
+put_shown text [] k e named own h = refl
+put_shown {K} text (p ∷ es) k e named own h = by (put_shown text es k e named.1 own) (order e.name (text p.0)) refl h
+  where
+    inserted : Ordering → List (K × SourceFile)
+    inserted o = match_ordering o ((k, e) ∷ p ∷ es) ((p.0, e) ∷ es) (p ∷ insert_entry (λ j k. order (text j) (text k)) es k e)
+
+    here : (o : Ordering) → order e.name (text p.0) ≡ o → order (text k) (text p.0) ≡ o
+    here o is = ap (λ name. order name (text p.0)) own ∙ is
+
+    back : (o : Ordering) → order e.name (text p.0) ≡ o → order p.1.name e.name ≡ ordering_reverse o
+    back o is = nat_list_cmp_total.antisymm p.1.name e.name ∙ ap ordering_reverse (ap (order e.name) (sym named.0) ∙ is)
+
+    Later : Type 0
+    Later = hides (lookup (λ k. is_eq (order e.name (text k))) es) e ≡ false → values_of (insert_entry (λ j k. order (text j) (text k)) es k e) ≡ put (values_of es) e
+
+    by : Later → (o : Ordering) → order e.name (text p.0) ≡ o → hides (cond (is_eq o) (Some p.1) (lookup (λ k. is_eq (order e.name (text k))) es)) e ≡ false
+        → values_of (inserted (order (text k) (text p.0))) ≡ placed (order p.1.name e.name) e p.1 (values_of es) (put (values_of es) e)
+    by later Less is h =
+        ap (λ o. values_of (inserted o)) (here Less is) ∙ ap (λ o. placed o e p.1 (values_of es) (put (values_of es) e)) (sym (back Less is))
+    by later Equal is h =
+        let less : e.rank < p.1.rank = leb-false p.1.rank e.rank h in
+        ap (λ o. values_of (inserted o)) (here Equal is)
+        ∙ sym (ap (λ o. placed o e p.1 (values_of es) (put (values_of es) e)) (back Equal is) ∙ ap (λ b. cond b e p.1 ∷ values_of es) (lt-ltb e.rank p.1.rank less))
+    by later Greater is h =
+        ap (λ o. values_of (inserted o)) (here Greater is) ∙ ap (λ (xs : List SourceFile). p.1 ∷ xs) (later h)
+        ∙ ap (λ o. placed o e p.1 (values_of es) (put (values_of es) e)) (sym (back Greater is))
+
+-- its name is its own
+pub named_inserted : {K : Type 0} (text : K → List ℕ) (es : List (K × SourceFile)) (k : K) (e : SourceFile) → StandUnderTheirNames text es → text k ≡ e.name
+    → StandUnderTheirNames text (insert_entry (λ j k. order (text j) (text k)) es k e)
+named_inserted text [] k e named own = (own, tt)
+named_inserted {K} text (p ∷ es) k e named own = by (named_inserted text es k e named.1 own) (order (text k) (text p.0)) refl
+  where
+    by : StandUnderTheirNames text (insert_entry (λ j k. order (text j) (text k)) es k e) → (o : Ordering) → order (text k) (text p.0) ≡ o
+        → StandUnderTheirNames text (match_ordering o ((k, e) ∷ p ∷ es) ((p.0, e) ∷ es) (p ∷ insert_entry (λ j k. order (text j) (text k)) es k e))
+    by later Less is = (own, (named.0, named.1))
+    by later Equal is = (sym (exact_bytes (text k) (text p.0) is) ∙ own, named.1)
+    by later Greater is = (named.0, later)
 
 -- the lesser or the other
 above-winner : (name : List ℕ) (x e : SourceFile) (b : Bool) → order name x.name ≡ Less → order name e.name ≡ Less → order name (cond b e x).name ≡ Less
@@ -109,10 +138,6 @@ above-placed name x xs e Greater hx h he behind = (he, (hx, h))
 above-put : (name : List ℕ) (xs : List SourceFile) (e : SourceFile) → Above name xs → order name e.name ≡ Less → Above name (put xs e)
 above-put name [] e h he = (he, tt)
 above-put name (x ∷ xs) e h he = above-placed name x xs e (order x.name e.name) h.0 h.1 he (above-put name xs e h.1 he)
-
-pub above_further : (low high : List ℕ) (xs : List SourceFile) → order low high ≡ Less → Above high xs → Above low xs
-above_further low high [] l h = tt
-above_further low high (x ∷ xs) l h = (nat_list_cmp_total.trans low high x.name l h.0, above_further low high xs l h.1)
 
 pub winner-name : (x e : SourceFile) (b : Bool) → x.name ≡ e.name → (cond b e x).name ≡ x.name
 winner-name x e true same = sym same

@@ -8,4 +8,4 @@ pub mod OrderLaws
 pub mod Insertion
 pub mod Escapes
 pub mod Messages
-pub mod Places
+pub mod ByName

@@ -1,18 +1,17 @@
 //! Which of the files handed in are read, and in which order.
 //!
 //! Files come from several folders, and one that stands in a folder of less rank hides those of its
-//! name in the others. Files are put one by one among those kept, which stay sorted: a file's place
-//! is found by a binary search.
+//! name in the others. Files are put one by one into a map by their names, which has them sorted.
 ghost use Rattle.std.specs.Prelude.{◌≡◌, IfOk, OnOk};
-ghost use Rattle.std.specs.Cmp.Lexicographic.{slice_cmp};
-ghost use Rattle.std.specs.Ordering.{nat_cmp};
+ghost use Rattle.std.specs.BTreeMap.{get_by, values};
+ghost use Rattle.text_bytes.specs.ByName.{hides, StandUnderTheirNames};
 ghost use Rattle.text_bytes.specs.FileOrder.{ordered, put};
+ghost use Rattle.text_bytes.specs.Insertion.{text_order};
 ghost use Rattle.text_bytes.specs.OrderLaws.{NamesRise};
-ghost use Rattle.text_bytes.specs.Places.{IsPlaceOf};
 
 use crate::source_file::SourceFile;
 use std::alloc::{AllocError, Global};
-use std::cmp::Ordering;
+use std::collections::BTreeMap;
 
 /// The files whose names end in a suffix, sorted by name, byte by byte; of equal names the file of
 /// least rank stays, and of equal ranks the one handed in first. So hwdb(7) has it of files of one
@@ -26,39 +25,39 @@ pub fn order_files(
 ) -> Result<Vec<SourceFile>, AllocError>
     ensures { IfOk result (λ kept. kept.items ≡ ordered suffix.now files.items) }
 {
-    let mut kept = Vec::with_capacity(alloc, files.len())?;
+    let mut kept = BTreeMap::new(alloc);
     for file in files {
         if file.name.as_slice().ends_with(suffix) {
-            put(&mut kept, file)?;
+            put(alloc, &mut kept, file)?;
         }
     }
-    Ok(kept)
+    kept.into_values().collect(alloc)
 }
 
-/// Puts a file in its place among those kept.
-fn put(kept: &mut Vec<SourceFile>, file: SourceFile) -> Result<(), AllocError>
-    requires { NamesRise kept.old.items }
-    ensures { OnOk result (kept.new.items ≡ put kept.old.items file) }
+/// Puts a file among those kept, unless one of them hides it; one that it hides goes.
+fn put(
+    alloc: Global,
+    kept: &mut BTreeMap<Vec<u8>, SourceFile>,
+    file: SourceFile,
+) -> Result<(), AllocError>
+    requires names { StandUnderTheirNames (λ name. name.items) kept.old.entries }
+    requires rise { NamesRise (values kept.old) }
+    ensures files { OnOk result (values kept.new ≡ put (values kept.old) file) }
+    ensures names { OnOk result (StandUnderTheirNames (λ name. name.items) kept.new.entries) }
 {
-    match place_of(kept, file.name.as_slice()) {
-        Ok(at) => {
-            if file.rank < kept[at].rank {
-                kept[at] = file;
-            }
-        }
-        Err(at) => kept.insert(at, file)?,
+    if !is_hidden(kept, &file) {
+        let name = Vec::from_slice(alloc, file.name.as_slice())?;
+        kept.insert(name, file)?;
     }
     Ok(())
 }
 
-/// Where a name stands among files that are sorted by name, or else where it belongs.
-fn place_of(files: &[SourceFile], name: &[u8]) -> Result<usize, usize>
-    requires { NamesRise files.now }
-    ensures { IsPlaceOf name.now files.now result }
+/// Whether a file of this one's name is kept, of no greater rank.
+fn is_hidden(kept: &BTreeMap<Vec<u8>, SourceFile>, file: &SourceFile) -> bool
+    ensures { result ≡ hides (get_by (λ name. text_order file.now.name name.items) kept.now) file.now }
 {
-    files.binary_search_by(
-        |file: &SourceFile| -> Ordering
-            ensures { result ≡ slice_cmp nat_cmp file.now.name name.entry.now }
-        { file.name.as_slice().cmp(name) },
-    )
+    match kept.get(file.name.as_slice()) {
+        Some(held) => held.rank <= file.rank,
+        None => false,
+    }
 }

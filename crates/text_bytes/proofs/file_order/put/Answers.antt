@@ -1,25 +1,17 @@
-use Rattle.std.proofs.Common.{◌≡◌, List, sym, ◌∙◌, ap}
-use Rattle.std.specs.declared.cmp.Ordering.TheVariants.{Equal}
-use Rattle.text_bytes.specs.declared.source_file.SourceFile.{SourceFile}
-use Rattle.text_bytes.proofs.Placing.{order, put_wins, put_loses, put_between}
+use Rattle.std.proofs.Common.{◌≡◌, ◌∙◌, sym}
+use Rattle.text_bytes.proofs.Placing.{named_inserted, put_hidden, put_shown}
 use Rattle.text_bytes.proofs.file_order.put.Goals as goal
 
-pub returns-then-file-index : goal.returns-then-file-index
-returns-then-file-index c =
-    let xs : List SourceFile = c.args.kept.now.items in
-    let found = rw (c.deref.ensures.value, c.as_slice.ensures) at c.in-Ok.ensures in
-    let same : order c.index.result.now.name c.args.file.name ≡ Equal = ap (λ (x : SourceFile). order x.name c.args.file.name) c.index.ensures ∙ found.1 c.index.result.now in
-    put_wins xs c.args.file c.index.result.now c.in-Ok.at c.requires found.0 c.index.ensures same c.if-file-index.true
+pub returns-in_ok-insert-clause-files : goal.returns-in_ok-insert-clause-files
+returns-in_ok-insert-clause-files c =
+    let own : c.in_ok-name.name.items ≡ c.args.file.name = c.in_ok-name.ensures.items ∙ c.as_slice.ensures in
+    rw c.in_ok-insert.ensures.entries (put_shown (λ name. name.items) c.args.kept.now.entries c.in_ok-name.name c.args.file c.requires.names own (sym c.is_hidden.ensures ∙ c.if-not-is_hidden.true))
 
-pub returns-else-file-index : goal.returns-else-file-index
-returns-else-file-index c =
-    let xs : List SourceFile = c.args.kept.now.items in
-    let found = rw (c.deref.ensures.value, c.as_slice.ensures) at c.in-Ok.ensures in
-    let same : order c.index.result.now.name c.args.file.name ≡ Equal = ap (λ (x : SourceFile). order x.name c.args.file.name) c.index.ensures ∙ found.1 c.index.result.now in
-    put_loses xs c.args.file c.index.result.now c.in-Ok.at c.requires found.0 c.index.ensures same c.if-file-index.false
+pub returns-in_ok-insert-clause-names : goal.returns-in_ok-insert-clause-names
+returns-in_ok-insert-clause-names c =
+    let own : c.in_ok-name.name.items ≡ c.args.file.name = c.in_ok-name.ensures.items ∙ c.as_slice.ensures in
+    rw c.in_ok-insert.ensures.entries (named_inserted (λ name. name.items) c.args.kept.now.entries c.in_ok-name.name c.args.file c.requires.names own)
 
-pub returns-in_ok-insert-in-Err : goal.returns-in_ok-insert-in-Err
-returns-in_ok-insert-in-Err c =
-    let xs : List SourceFile = c.args.kept.now.items in
-    let found = rw (c.deref.ensures.value, c.as_slice.ensures) at c.in-Err.ensures in
-    c.in_ok-insert-in-Err.ensures.items ∙ sym (put_between xs c.args.file c.in-Err.at found.0 found.1.0 found.1.1)
+pub returns-else-not-is_hidden-clause-files : goal.returns-else-not-is_hidden-clause-files
+returns-else-not-is_hidden-clause-files c =
+    put_hidden (λ name. name.items) c.args.kept.now.entries c.args.file c.requires.names c.requires.rise (sym c.is_hidden.ensures ∙ c.if-not-is_hidden.false)

@@ -99,7 +99,7 @@ module _ (m : List ℕ) where
 
 module _ {A : Type 0} where
   -- an element behind another
-  behind : (x : A) (xs : List A) (y : A) → Contains xs y → Contains (x ∷ xs) y
+  pub behind : (x : A) (xs : List A) (y : A) → Contains xs y → Contains (x ∷ xs) y
   behind x xs y c = (suc c.0, omega (arith, c.1), c.2)
 
   -- an element is the first, or behind it

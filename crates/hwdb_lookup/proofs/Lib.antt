@@ -2,6 +2,8 @@ pub mod Counting
 pub mod Placing
 pub mod Keys
 pub mod Orders
+pub mod Settling
+pub mod Sorted
 pub mod Places
 pub mod Stripping
 pub mod Unique

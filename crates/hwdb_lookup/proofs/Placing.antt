@@ -1,13 +1,17 @@
 -- Where an entry is put among others.
-use Rattle.std.proofs.Common.{◌≡◌, ℕ, zero, suc, ◌+◌, ◌<◌, ◌≤◌, List, ◌∷◌, [], length, drop, fold, map, add-one, set, insert, get_or, refl, sym, ◌∙◌, ap, arith, subst, All, cond, true, false, nat_lt}
-use Rattle.std.proofs.Math.Seq.{drop-cons}
-use Rattle.std.proofs.lemmas.List.Elements.{All-cons}
-use Rattle.std.specs.List.{AllWithin, HoldsAt}
+use Rattle.std.proofs.Common.{◌≡◌, ◌≢◌, ℕ, zero, suc, ◌+◌, ◌-◌, ◌<◌, List, ◌∷◌, [], ◌++◌, length, take, map, set, get_or, refl, sym, ◌∙◌, ap, append-nil, arith, All, cond, true, false, nat_lt}
+use Rattle.std.proofs.Math.Logic.{⊎_elim}
+use Rattle.std.proofs.lemmas.Bool.{cases_order}
+use Rattle.std.proofs.lemmas.List.{get_or_default, map-append, take_more}
+use Rattle.std.proofs.lemmas.List.Elements.{All-cons, All-tail, filter-append}
+use Rattle.std.specs.List.{HoldsAt}
+use Rattle.std.specs.Ordering.{is_lt}
 use Rattle.std.specs.declared.cmp.Ordering.{Ordering}
 use Rattle.std.specs.declared.cmp.Ordering.TheVariants.{Less, Equal, Greater}
 use Rattle.text_core.specs.Fits.{fits}
 use Rattle.hwdb_lookup.specs.declared.entry.Entry.{Entry}
 use Rattle.hwdb_lookup.specs.Found.{stripped}
+use Rattle.hwdb_lookup.specs.Places.{NoneBehind}
 use Rattle.hwdb_lookup.specs.Query.{fitting, key_order, placed, put, winner}
 use Rattle.hwdb_lookup.specs.Winning.{KeysRise}
 use Rattle.hwdb_lookup.proofs.Keys.{before_trans, turned, itself, same_key}
@@ -23,15 +27,32 @@ put_found (x ∷ xs) (suc i) e rises within same =
     ap (λ (o : Ordering). placed o e x xs (put xs e)) below
     ∙ ap (λ (l : List Entry). x ∷ l) (put_found xs i e (λ a b d l w. rises (suc a) (suc b) d (omega arith) (omega arith)) (omega arith) same)
 
--- an entry with a new key
-pub put_new : (xs : List Entry) (i : ℕ) (e : Entry) → i ≤ length xs → AllWithin (λ (x : Entry). key_order x.key e.key ≡ Less) xs 0 i
-    → AllWithin (λ (x : Entry). key_order x.key e.key ≡ Greater) xs i (length xs) → put xs e ≡ insert xs i e
-put_new [] zero e within low high = refl
-put_new [] (suc i) e within low high = absurd (omega arith)
-put_new (x ∷ xs) zero e within low high = ap (λ (o : Ordering). placed o e x xs (put xs e)) (high zero x (omega arith) (omega arith))
-put_new (x ∷ xs) (suc i) e within low high =
-    ap (λ (o : Ordering). placed o e x xs (put xs e)) (low zero x (omega arith) (omega arith))
-    ∙ ap (λ (l : List Entry). x ∷ l) (put_new xs i e (omega arith) (λ k d a b. low (suc k) d (omega arith) (omega arith)) (λ k d a b. high (suc k) d (omega arith) (omega arith)))
+-- an entry whose key comes behind all others
+pub put_behind : (xs : List Entry) (e : Entry) → All (λ (x : Entry). key_order x.key e.key ≡ Less) xs → put xs e ≡ xs ++ e ∷ []
+put_behind [] e low = refl
+put_behind (x ∷ xs) e low =
+    ap (λ (o : Ordering). placed o e x xs (put xs e)) (low zero x (omega arith))
+    ∙ ap (λ (l : List Entry). x ∷ l) (put_behind xs e (All-tail (λ (x : Entry). key_order x.key e.key ≡ Less) x xs low))
+
+-- where keys rise, a key that comes before none of them, and is not the last, comes behind all
+pub all_before : (xs : List Entry) (key : List ℕ) → KeysRise xs → NoneBehind xs key → ((x : Entry) → 0 < length xs → x ≡ get_or xs (length xs - 1) x → x.key ≢ key)
+    → All (λ (x : Entry). key_order x.key key ≡ Less) xs
+all_before xs key rises behind apart k d within = by (key_order (get_or xs k d).key key) refl where
+  last : Entry
+  last = get_or xs (length xs - 1) d
+
+  clash : (e : Entry) → key_order key e.key ≡ Less → is_lt (key_order key e.key) ≡ false → ⊥
+  clash e less not_less = let wrong : true ≡ false = sym (ap is_lt less) ∙ not_less in cc
+
+  by : (o : Ordering) → key_order (get_or xs k d).key key ≡ o → o ≡ Less
+  by Less h = refl
+  by Greater h = absurd (clash (get_or xs k d) (turned (get_or xs k d).key key h) (behind k d within))
+  by Equal h = ⊎_elim
+      (λ (is : k ≡ length xs - 1). absurd (apart last (omega arith) (get_or_default xs (length xs - 1) d last (omega arith)) (ap (λ n. (get_or xs n d).key) (sym is) ∙ same_key (get_or xs k d).key key h)))
+      (⊎_elim
+      (λ (less : k < length xs - 1). absurd (clash last (ap (λ (a : List ℕ). key_order a last.key) (sym (same_key (get_or xs k d).key key h)) ∙ rises k (length xs - 1) d less (omega arith)) (behind (length xs - 1) d (omega arith))))
+      (λ (more : length xs - 1 < k). absurd (omega arith)))
+      (cases_order k (length xs - 1))
 
 -- one entry before others whose keys rise and are greater
 pub rises_cons : (x : Entry) (xs : List Entry) → All (λ (y : Entry). key_order x.key y.key ≡ Less) xs → KeysRise xs → KeysRise (x ∷ xs)
@@ -73,27 +94,18 @@ put_rises (x ∷ xs) e rises = by (put_rises xs e (rises_tail x xs rises)) (key_
   by behind Greater h = rises_cons e (x ∷ xs) (All-cons (λ (y : Entry). key_order e.key y.key ≡ Less) x xs (turned x.key e.key h)
       (λ k d within. before_trans e.key x.key (get_or xs k d).key (turned x.key e.key h) (rises_head x xs rises k d within))) rises
 
--- one entry less to come
+-- one entry more that was looked at
 module _ (es : List Entry) (m : List ℕ) (i : ℕ) (e : Entry) (within : i < length es) (is : e ≡ get_or es i e) where
-  split : drop i es ≡ e ∷ drop (i + 1) es
-  split = rw add-one (drop-cons es i e within ∙ ap (λ (x : Entry). x ∷ drop (suc i) es) (sym is))
+  split : take (i + 1) es ≡ take i es ++ e ∷ []
+  split = take_more es i e within ∙ ap (λ (x : Entry). take i es ++ x ∷ []) (sym is)
 
-  -- it fits, and is put among those that won
-  pub puts_next : (won more : List Entry) → fits e.pattern m ≡ true → more ≡ put won (stripped e) → KeysRise won
-      → KeysRise more × (fold put more (map stripped (fitting (drop (i + 1) es) m)) ≡ fold put won (map stripped (fitting (drop i es) m)))
-  puts_next won more fit is_put rises = (
-    subst KeysRise (sym is_put) (put_rises won (stripped e) rises),
-    ap (λ (l : List Entry). fold put l (map stripped (fitting (drop (i + 1) es) m))) is_put
-        ∙ ap (λ b. fold put won (map stripped (cond b (e ∷ fitting (drop (i + 1) es) m) (fitting (drop (i + 1) es) m)))) (sym fit)
-        ∙ ap (λ (l : List Entry). fold put won (map stripped (fitting l m))) (sym split),
-  )
+  fitting_more : fitting (take (i + 1) es) m ≡ fitting (take i es) m ++ cond (fits e.pattern m) (e ∷ []) []
+  fitting_more = ap (λ l. fitting l m) split ∙ filter-append (λ e. fits e.pattern m) (take i es) (e ∷ [])
 
-  -- it does not fit
-  pub passes_next : (won more : List Entry) → fits e.pattern m ≡ false → more ≡ won → KeysRise won
-      → KeysRise more × (fold put more (map stripped (fitting (drop (i + 1) es) m)) ≡ fold put won (map stripped (fitting (drop i es) m)))
-  passes_next won more unfit same rises = (
-    subst KeysRise (sym same) rises,
-    ap (λ (l : List Entry). fold put l (map stripped (fitting (drop (i + 1) es) m))) same
-        ∙ ap (λ b. fold put won (map stripped (cond b (e ∷ fitting (drop (i + 1) es) m) (fitting (drop (i + 1) es) m)))) (sym unfit)
-        ∙ ap (λ (l : List Entry). fold put won (map stripped (fitting l m))) (sym split),
-  )
+  -- it fits
+  pub fits_more : fits e.pattern m ≡ true → map stripped (fitting (take i es) m) ++ stripped e ∷ [] ≡ map stripped (fitting (take (i + 1) es) m)
+  fits_more fit = sym (map-append stripped (fitting (take i es) m) (e ∷ [])) ∙ ap (λ b. map stripped (fitting (take i es) m ++ cond b (e ∷ []) [])) (sym fit) ∙ ap (map stripped) (sym fitting_more)
+
+  -- it does not
+  pub passes_more : fits e.pattern m ≡ false → map stripped (fitting (take i es) m) ≡ map stripped (fitting (take (i + 1) es) m)
+  passes_more unfit = ap (map stripped) (sym (append-nil (fitting (take i es) m)) ∙ ap (λ b. fitting (take i es) m ++ cond b (e ∷ []) []) (sym unfit) ∙ sym fitting_more)

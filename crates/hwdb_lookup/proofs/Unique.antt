@@ -64,7 +64,7 @@ module _ (es : List Entry) (m : List ℕ) where
       (there.0, inside, same_entry (get_or ys there.0 x) x (second.counts there.0 x inside) counts same)
 
 -- with rising keys the same elements are the same list
-one_list : (xs ys : List Entry) → KeysRise xs → KeysRise ys → All (Contains ys) xs → All (Contains xs) ys → xs ≡ ys
+pub one_list : (xs ys : List Entry) → KeysRise xs → KeysRise ys → All (Contains ys) xs → All (Contains xs) ys → xs ≡ ys
 one_list [] [] up up' to fro = refl
 one_list [] (y ∷ ys) up up' to fro = absurd (let c = fro zero y (omega arith) in omega (arith, c.1))
 one_list (x ∷ xs) [] up up' to fro = absurd (let c = to zero x (omega arith) in omega (arith, c.1))

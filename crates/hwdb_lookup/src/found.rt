@@ -1,15 +1,15 @@
 //! Properties that were found for a device, and which of them count.
 //!
-//! Those that count so far are kept sorted by key, and each further one is put in its place by a
-//! binary search.
-ghost use Rattle.std.specs.Prelude.{◌≡◌, OnErr, OnOk};
+//! They are gathered as they are listed, then sorted by key without a change among those of one key, so
+//! that it takes one pass more to leave of each key the one that counts.
+ghost use Rattle.std.specs.Prelude.{◌≡◌, [], IfOk, OnOk, fold};
 ghost use Rattle.hwdb_lookup.specs.Found.{all_seen, seen, stripped};
-ghost use Rattle.hwdb_lookup.specs.Places.{IsPlace};
+ghost use Rattle.hwdb_lookup.specs.Places.{NoneBehind};
 ghost use Rattle.hwdb_lookup.specs.Query.{put};
 ghost use Rattle.hwdb_lookup.specs.Winning.{KeysRise};
 
 use crate::entry::Entry;
-use std::alloc::AllocError;
+use std::alloc::{AllocError, Global};
 
 /// A property, with the order of its entry, and where it comes from.
 #[derive(Clone, Copy, Debug)]
@@ -41,30 +41,37 @@ impl<'a> Found<'a> {
     }
 }
 
-/// Puts a property that is listed later in its place among those that count, whose keys rise: it takes
-/// the place of one with its key, unless that is of a greater order.
+/// Leaves of the properties that were found, in the order in which they are listed, those that count,
+/// sorted by key: of several with one key that of the greatest order, and of equal orders the one
+/// listed last.
 ///
-/// Where memory is refused, those that count stay as they were.
-pub fn put<'a>(won: &mut Vec<Found<'a>>, found: Found<'a>) -> Result<(), AllocError>
-    requires { KeysRise (all_seen won.old.items) }
-    ensures put { OnOk result (all_seen won.new.items ≡ put (all_seen won.old.items) (seen found.entry)) }
-    ensures refused { OnErr result (won.new.items ≡ won.old.items) }
+/// Fails only where there is no memory for the answer.
+pub fn settle<'a>(alloc: Global, mut found: Vec<Found<'a>>) -> Result<Vec<Found<'a>>, AllocError>
+    ensures { IfOk result (λ won. all_seen won.items ≡ fold put [] (all_seen found.entry.items)) }
 {
-    match place_of(won, found.key) {
-        Ok(place) => {
-            if won[place].order <= found.order {
+    found.sort_by(|property, other| property.key.cmp(other.key))?;
+    let mut won = Vec::new(alloc);
+    for property in &found {
+        put_last(&mut won, *property)?;
+    }
+    Ok(won)
+}
+
+/// Puts a property behind those that count, none of whose keys comes after its own: it takes the place
+/// of the last one if that has its key, unless that is of a greater order.
+fn put_last<'a>(won: &mut Vec<Found<'a>>, found: Found<'a>) -> Result<(), AllocError>
+    requires rise { KeysRise (all_seen won.old.items) }
+    requires last { NoneBehind (all_seen won.old.items) found.key.now }
+    ensures { OnOk result (all_seen won.new.items ≡ put (all_seen won.old.items) (seen found.entry)) }
+{
+    match won.last() {
+        Some(last) if last.key == found.key => {
+            if last.order <= found.order {
+                let place = won.len() - 1;
                 won[place] = found;
             }
         }
-        Err(place) => won.insert(place, found)?,
+        _ => won.push(found)?,
     }
     Ok(())
-}
-
-/// The place of the property with a key among those that count, or the one where it would be.
-fn place_of(won: &[Found<'_>], key: &[u8]) -> Result<usize, usize>
-    requires { KeysRise (all_seen won.now) }
-    ensures { IsPlace (all_seen won.now) key.now result }
-{
-    won.binary_search_by(|other| other.key.cmp(key))
 }

@@ -15,7 +15,7 @@ mod winners;
 
 pub use bounds::{MAX_ENTRIES, MAX_MATCH_BYTES, MAX_NAME_BYTES, MAX_TEXT_BYTES};
 pub use entry::Entry;
-pub use found::{Found, put};
+pub use found::{Found, settle};
 pub use law::winners_are_the_answer;
 pub use lookup::{Lookup, Sourced};
 pub use order::rising;

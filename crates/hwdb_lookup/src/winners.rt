@@ -1,12 +1,12 @@
 //! The entries that count for a device.
 //!
-//! One pass over all entries; each that fits is put in its place among those that count so far.
+//! One pass over all entries gathers those that fit, of which those that count are left.
 ghost use Rattle.std.specs.Prelude.{◌≡◌, [], IfOk, fold, map};
 ghost use Rattle.hwdb_lookup.specs.Found.{all_seen, stripped};
 ghost use Rattle.hwdb_lookup.specs.Query.{fitting, put};
 
 use crate::entry::Entry;
-use crate::found::{Found, put};
+use crate::found::{Found, settle};
 use std::alloc::{AllocError, Global};
 
 /// The properties of the entries that fit, for each key the one that counts, sorted by key.
@@ -17,11 +17,11 @@ pub(crate) fn winners<'a>(
 ) -> Result<Vec<Found<'a>>, AllocError>
     ensures { IfOk result (λ won. all_seen won.items ≡ fold put [] (map stripped (fitting entries.now modalias.now))) }
 {
-    let mut won = Vec::new(alloc);
+    let mut found = Vec::new(alloc);
     for entry in entries {
         if entry.pattern.fits(modalias) {
-            put(&mut won, Found::of(entry))?;
+            found.push(Found::of(entry))?;
         }
     }
-    Ok(won)
+    settle(alloc, found)
 }

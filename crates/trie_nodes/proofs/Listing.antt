@@ -1,5 +1,5 @@
 -- What the active nodes have is what the listed entries that fit have.
-use Rattle.std.proofs.Common.{◌≡◌, ℕ, ◌+◌, ◌-◌, ◌<◌, ◌≤◌, Bool, true, false, cond, List, ◌∷◌, [], ◌++◌, length, filter, map, fold, refl, sym, ◌∙◌, ap}
+use Rattle.std.proofs.Common.{◌≡◌, ℕ, ◌+◌, ◌-◌, ◌<◌, Bool, true, false, cond, List, ◌∷◌, [], ◌++◌, filter, map, fold, append_assoc, refl, sym, ◌∙◌, ap}
 use Rattle.std.specs.List.{flat_map, range_with_len}
 use Rattle.std.proofs.lemmas.List.{map-append}
 use Rattle.text_core.specs.declared.item.Item.{Item}
@@ -65,11 +65,12 @@ winners_by_nodes nodes values m =
     ∙ fold_same [] (flat_map (at nodes values m) (active_after nodes m))
     ∙ ap (fold put []) (properties nodes values m (active_after nodes m))
 
--- one value more is put
-pub put_next : (vs : List Value) (acc acc2 : List Entry) (e : Entry) (j end : ℕ) → j < end → end ≤ length vs → e ≡ bare (value_at vs j) → acc2 ≡ put acc e
-    → fold put acc2 (map bare (map (value_at vs) (range_with_len (j + 1) (end - (j + 1))))) ≡ fold put acc (map bare (map (value_at vs) (range_with_len j (end - j))))
-put_next vs acc acc2 e j end h k is grown =
+-- one value more is added
+pub push_next : (vs : List Value) (acc acc2 : List Entry) (e : Entry) (j end : ℕ) → j < end → e ≡ bare (value_at vs j) → acc2 ≡ acc ++ e ∷ []
+    → acc2 ++ map bare (map (value_at vs) (range_with_len (j + 1) (end - (j + 1)))) ≡ acc ++ map bare (map (value_at vs) (range_with_len j (end - j)))
+push_next vs acc acc2 e j end h is grown =
     let rest : List Entry = map bare (map (value_at vs) (range_with_len (j + 1) (end - (j + 1)))) in
-    ap (λ (l : List Entry). fold put l rest) grown
-    ∙ ap (λ (x : Entry). fold put (put acc x) rest) is
-    ∙ ap (λ l. fold put acc (map bare (map (value_at vs) l))) (sym (range_step j end h))
+    ap (λ (l : List Entry). l ++ rest) grown
+    ∙ append_assoc acc (e ∷ []) rest
+    ∙ ap (λ (x : Entry). acc ++ x ∷ rest) is
+    ∙ ap (λ l. acc ++ map bare (map (value_at vs) l)) (sym (range_step j end h))

@@ -1,30 +1,27 @@
 //! What the nodes of a database answer for a modalias: only the active nodes are looked at.
-ghost use Rattle.std.specs.Prelude.{◌≡◌, ◌<◌, [], All, IfOk, OnOk, flat_map, fold, length, map};
+ghost use Rattle.std.specs.Prelude.{◌≡◌, ◌<◌, [], ◌++◌, IfOk, OnOk, flat_map, fold, length, map};
 ghost use Rattle.hwdb_lookup.specs.Found.{all_seen};
 ghost use Rattle.hwdb_lookup.specs.Query.{put, query, shown, shown_origin, sourced};
-ghost use Rattle.hwdb_lookup.specs.Winning.{KeysRise};
 ghost use Rattle.trie_nodes.specs.Tree.{active_after};
 ghost use Rattle.trie_nodes.specs.Values.{bare, listed, values_of};
 
 use crate::tree::Database;
 use crate::walk::visits;
-use hwdb_lookup::{Found, Sourced, put};
+use hwdb_lookup::{Found, Sourced, settle};
 use std::alloc::{AllocError, Global};
 
-/// Puts the values of a node, in order.
-fn put_values<'a, D: Database>(
-    won: &mut Vec<Found<'a>>,
+/// Adds the values of a node, in order.
+fn push_values<'a, D: Database>(
+    found: &mut Vec<Found<'a>>,
     database: &'a D,
     i: u32,
 ) -> Result<(), AllocError>
-    requires node { i < length (D.nodes database.now) }
-    requires rise { KeysRise (all_seen won.old.items) }
-    ensures rise { OnOk result (KeysRise (all_seen won.new.items)) }
-    ensures put { OnOk result (all_seen won.new.items ≡ fold put (all_seen won.old.items) (map bare (values_of (D.nodes database.now) (D.values database.now) i))) }
+    requires { i < length (D.nodes database.now) }
+    ensures { OnOk result (all_seen found.new.items ≡ all_seen found.old.items ++ map bare (values_of (D.nodes database.now) (D.values database.now) i)) }
 {
     let numbers = database.values_of(i);
     for j in numbers.start..numbers.end {
-        put(won, database.value(j))?;
+        found.push(database.value(j))?;
     }
     Ok(())
 }
@@ -38,11 +35,11 @@ fn winners<'a, D: Database>(
     ensures { IfOk result (λ won. all_seen won.items ≡ fold put [] (map bare (flat_map (values_of (D.nodes database.now) (D.values database.now)) (active_after (D.nodes database.now) modalias.now)))) }
 {
     let (active, _) = visits(alloc, database, modalias)?;
-    let mut won = Vec::new(alloc);
+    let mut found = Vec::new(alloc);
     for i in &active {
-        put_values(&mut won, database, *i)?;
+        push_values(&mut found, database, *i)?;
     }
-    Ok(won)
+    settle(alloc, found)
 }
 
 /// The keys and values of the properties for a modalias, sorted by key.

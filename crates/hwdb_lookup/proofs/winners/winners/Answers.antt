@@ -1,22 +1,27 @@
-use Rattle.std.proofs.Common.{sym, ◌∙◌, ap}
-use Rattle.hwdb_lookup.specs.Found.{all_seen}
-use Rattle.hwdb_lookup.specs.Query.{put}
-use Rattle.hwdb_lookup.proofs.Placing.{puts_next, passes_next}
+use Rattle.std.proofs.Common.{◌≡◌, IfOk, subst, sym, ◌∷◌, [], ◌++◌, ◌∙◌, ap, arith, map, fold}
+use Rattle.std.proofs.lemmas.List.{map-append, take_all}
+use Rattle.hwdb_lookup.specs.Found.{all_seen, seen, stripped}
+use Rattle.hwdb_lookup.specs.Query.{fitting, put}
+use Rattle.hwdb_lookup.proofs.Placing.{fits_more, passes_more}
 use Rattle.hwdb_lookup.proofs.winners.winners.Goals as goal
-use Rattle.hwdb_lookup.proofs.winners.winners.Goals.{then-fits+in_ok-put, else-fits}
-
-pub put-requires : goal.put-requires
-put-requires c = c.loop-entry.invariant.rises
+use Rattle.hwdb_lookup.proofs.winners.winners.Goals.{then-fits+in_ok-push, else-fits}
 
 pub loop-entry-preserved : goal.loop-entry-preserved
 loop-entry-preserved c = elim c.if-fits.branch [
-  | then-fits+in_ok-put w ↦
-      let next = puts_next c.args.entries.now c.args.modalias.now c.loop-entry.entry-index c.entry-item.result c.loop-entry-test.true c.entry-item.is
-      (all_seen c.loop-entry.won.items) (all_seen c.if-fits.won.items) (sym c.fits.ensures ∙ w.if-fits.true)
-      (ap (λ v. all_seen v.items) w.won-is ∙ w.in_ok-put.ensures.put ∙ ap (put (all_seen c.loop-entry.won.items)) w.of.ensures) c.loop-entry.invariant.rises in
-      record { rises = next.0; so_far = next.1 ∙ c.loop-entry.invariant.so_far }
+  | then-fits+in_ok-push w ↦
+      ap (λ v. all_seen v.items) w.found-is
+      ∙ ap all_seen w.in_ok-push.ensures.items
+      ∙ map-append seen c.loop-entry.found.items (w.of.result ∷ [])
+      ∙ ap (λ e. all_seen c.loop-entry.found.items ++ e ∷ []) w.of.ensures
+      ∙ ap (λ l. l ++ stripped c.entry-item.result ∷ []) c.loop-entry.invariant
+      ∙ fits_more c.args.entries.now c.args.modalias.now c.loop-entry.entry-index c.entry-item.result c.loop-entry-test.true c.entry-item.is (sym c.fits.ensures ∙ w.if-fits.true)
   | else-fits w ↦
-      let next = passes_next c.args.entries.now c.args.modalias.now c.loop-entry.entry-index c.entry-item.result c.loop-entry-test.true c.entry-item.is
-      (all_seen c.loop-entry.won.items) (all_seen c.if-fits.won.items) (sym c.fits.ensures ∙ w.if-fits.false) (ap (λ v. all_seen v.items) w.won-is) c.loop-entry.invariant.rises in
-      record { rises = next.0; so_far = next.1 ∙ c.loop-entry.invariant.so_far }
+      ap (λ v. all_seen v.items) w.found-is
+      ∙ c.loop-entry.invariant
+      ∙ passes_more c.args.entries.now c.args.modalias.now c.loop-entry.entry-index c.entry-item.result c.loop-entry-test.true c.entry-item.is (sym c.fits.ensures ∙ w.if-fits.false)
 ]
+
+pub returns : goal.returns
+returns c =
+    subst (λ es. IfOk c.settle.result (λ won. all_seen won.items ≡ fold put [] es))
+    (c.loop-entry.invariant ∙ ap (λ es. map stripped (fitting es c.args.modalias.now)) (take_all c.loop-entry.entry-index c.args.entries.now (omega arith))) c.settle.ensures

@@ -1,13 +1,8 @@
-use Rattle.std.proofs.Common.{◌≡◌, [], map, fold, take}
+use Rattle.std.proofs.Common.{◌≡◌, map, take}
 use Rattle.std.specs.List.{flat_map}
-use Rattle.hwdb_lookup.specs.Query.{put}
-use Rattle.hwdb_lookup.specs.Winning.{KeysRise}
 use Rattle.hwdb_lookup.specs.Found.{all_seen}
 use Rattle.trie_nodes.specs.Values.{bare, values_of}
 use Rattle.trie_nodes.proofs.answers.winners.Given as goal
 
 abbrev pub invariant-loop-i : goal.invariant-loop-i
-invariant-loop-i g l = record {
-  rise : KeysRise (all_seen l.won.items);
-  so_far : all_seen l.won.items ≡ fold put [] (map bare (flat_map (values_of (g.D.Nodes.nodes l.database) (g.D.Database.values l.database)) (take l.i-index l.i-items)));
-}
+invariant-loop-i g l = all_seen l.found.items ≡ map bare (flat_map (values_of (g.D.Nodes.nodes l.database) (g.D.Database.values l.database)) (take l.i-index l.i-items))

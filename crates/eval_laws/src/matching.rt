@@ -4,7 +4,6 @@ ghost use Rattle.std.specs.List.{list_any};
 ghost use Rattle.text_tables.specs.Texts.{Text};
 ghost use Rattle.text_tables.specs.Pairs.{value_of};
 ghost use Rattle.text_core.specs.Choices.{choice_fits};
-ghost use Rattle.text_core.specs.declared.item.Item.{Item};
 ghost use Rattle.device_core.specs.Values.{DeviceValue};
 ghost use Rattle.rule_types.specs.declared.roles.MatchOperator.TheVariants.{NotEqual};
 ghost use Rattle.rule_types.specs.declared.roles.PlainKey.{PlainKey};
@@ -32,7 +31,7 @@ pub fn nothing_is_found_where_no_device_meets_all_matches()
 
 /// `!=` of a list holds exactly where no member fits.
 pub fn a_list_differs_where_no_member_fits()
-    ensures { (texts : List Text) (choice : List (List Item)) → holds (members texts) (record { operator = NotEqual; choice = choice }) ≡ not (list_any (choice_fits choice) texts) }
+    ensures { (texts : List Text) (wanted : Comparison) → wanted.operator ≡ NotEqual → holds (members texts) wanted ≡ not (list_any (choice_fits wanted.choice) texts) }
 {}
 
 /// `==` of any key but ATTR and ATTRS holds exactly where the choice fits a text that the key looks at,

@@ -1,7 +1,8 @@
 //! Patterns, as udev(7) and hwdb(7) describe them for matching.
 //!
 //! A pattern is read once and matched often, so it holds its items ready, each set as bits, and in
-//! just the room that they need: a database has more than a hundred thousand.
+//! just the room that they need: a database has more than a hundred thousand. Copies share the items,
+//! since each property of a match has one.
 ghost use Rattle.std.specs.Prelude.{◌≡◌, ◌≢◌, ◌+◌, ◌<◌, ◌^◌, length, Ok, Err, IfOk, IsErrOf, MatchResult};
 ghost use Rattle.text_core.specs.Fits.{fits};
 ghost use Rattle.text_core.specs.Spell.{items_at, max_len, spell};
@@ -14,6 +15,7 @@ use crate::reading::Reading;
 use crate::spell::front;
 use std::alloc::{AllocError, Global};
 use std::marker::Model;
+use std::rc::RcSlice;
 
 /// How many bytes the text of a pattern or of a choice may have.
 pub const MAX_LEN: usize = 16384;
@@ -23,16 +25,18 @@ pub const MAX_LEN: usize = 16384;
 /// first `]` behind its first member; a `[` that no such `]` follows is a byte.
 #[derive(Debug, Drop)]
 pub struct Pattern {
-    items: Vec<Item>,
+    items: RcSlice<Item>,
 }
 
 impl Model for Pattern {
     ghost use Rattle.std.specs.Prelude.{List};
     ghost use Rattle.text_core.specs.declared.item.Item.{Item};
 
+    ghost use Rattle.std.specs.Rc.{rc_slice_items};
+
     ghost Value = { List Item };
 
-    ghost view = { λ p. p.items.items };
+    ghost view = { λ p. rc_slice_items p.items };
 }
 
 impl Pattern {
@@ -69,15 +73,17 @@ impl Pattern {
             (_, rest) = after.split_at(head.behind);
         }
         items.shrink_to_fit();
-        Ok(Pattern { items })
+        Ok(Pattern {
+            items: RcSlice::from_vec(items)?,
+        })
     }
 
-    /// A pattern of the same items, in just the room that they need. Only memory can fail.
-    pub fn copy(&self, alloc: Global) -> Result<Pattern, AllocError>
+    /// A pattern of the same items, which both share: it takes no memory. Only memory can fail.
+    pub fn copy(&self, _alloc: Global) -> Result<Pattern, AllocError>
         ensures { IfOk result (λ p. p ≡ self.now) }
     {
         Ok(Pattern {
-            items: Vec::from_slice(alloc, &self.items)?,
+            items: self.items.clone()?,
         })
     }
 

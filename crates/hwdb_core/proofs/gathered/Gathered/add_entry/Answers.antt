@@ -1,4 +1,5 @@
 use Rattle.std.proofs.Common.{◌∷◌, [], subst, arith}
+use Rattle.std.specs.Rc.{rc_slice_items}
 use Rattle.text_bytes.specs.Messages.{capped}
 use Rattle.hwdb_core.specs.Found.{Found, IsKept, join}
 use Rattle.hwdb_core.proofs.Joining.{found_as}
@@ -20,14 +21,14 @@ returns-then-len-self c =
 pub invariant_of-self-2 : goal.invariant_of-self-2
 invariant_of-self-2 c =
     counted_as c.self.inside.entries.items c.push.new.self.items c.self.inside.match_bytes c.self.inside.text_bytes
-    c.pattern.inside.items.items c.in_ok-copy_of.field-0 c.in_ok-copy_of-2.field-0 c.len-2.result c.in_ok-copy_of-3.field-0 c.capped.result
+    (rc_slice_items c.pattern.inside.items) c.in_ok-copy_of.field-0 c.in_ok-copy_of-2.field-0 c.len-2.result c.in_ok-copy_of-3.field-0 c.capped.result
     c.args.pair.now.key.now c.args.pair.now.value.now c.in_ok-copy_of.ensures c.in_ok-copy_of-2.ensures (omega (arith, c.len-2.ensures))
     c.in_ok-push.ensures.items c.self.invariant (omega (arith, c.len.ensures, c.if-len-ge-MAX_ENTRIES.false)) (omega (arith, c.if-len-self.false, c.self.invariant.texts))
 
 pub returns : goal.returns
 returns c =
     added_as c.self.inside.entries.items c.push.new.self.items c.self.inside.messages.items c.self.inside.match_bytes c.args.self.now
-    c.pattern.inside.items.items c.in_ok-copy_of.field-0 c.in_ok-copy_of-2.field-0 c.len-2.result c.in_ok-copy_of-3.field-0 c.capped.result
+    (rc_slice_items c.pattern.inside.items) c.in_ok-copy_of.field-0 c.in_ok-copy_of-2.field-0 c.len-2.result c.in_ok-copy_of-3.field-0 c.capped.result
     c.args.pattern c.args.pair.now.key.now c.args.pair.now.value.now c.args.file.now (capped c.args.number)
     c.pattern.view_is c.in_ok-copy_of.ensures c.in_ok-copy_of-2.ensures c.in_ok-copy_of-3.ensures c.capped.ensures
     c.in_ok-push.ensures.items c.self.view_is

@@ -1,4 +1,4 @@
-use Rattle.std.proofs.Common.{◌≡◌, ◌+◌, ◌-◌, ◌≤◌, length, sym, ◌∙◌, arith, ℕ}
+use Rattle.std.proofs.Common.{◌≡◌, ◌+◌, ◌-◌, ◌≤◌, length, sym, ◌∙◌, ap, arith, ℕ, Ok}
 use Rattle.std.proofs.lemmas.Result.{err_from_is_err_and}
 use Rattle.text_core.proofs.Scanning.{read_more, read_fault, read_all}
 use Rattle.text_core.proofs.pattern.Pattern.read_at.Goals as goal
@@ -28,5 +28,6 @@ loop-byte-preserved c = record {
 
 pub returns : goal.returns
 returns c =
-    rw c.shrink_to_fit.ensures.items (sym c.loop-byte.invariant.read
-    ∙ read_all c.args.reading c.loop-byte.items.items c.loop-byte.rest.now (c.args.at + (length c.args.text.now - length c.loop-byte.rest.now)) c.in_default.ensures.cases)
+    sym c.loop-byte.invariant.read
+    ∙ read_all c.args.reading c.loop-byte.items.items c.loop-byte.rest.now (c.args.at + (length c.args.text.now - length c.loop-byte.rest.now)) c.in_default.ensures.cases
+    ∙ ap Ok (sym (c.in_ok-from_vec.ensures ∙ c.shrink_to_fit.ensures.items))

@@ -3,9 +3,10 @@
 
 Each of some devices is asked four times: without an option, with --why of every rules file, with --sources, and with both.
 Without its lines `why` an answer has to be that without --why, byte for byte, and without its sources that without
---sources. Of each rule just one end is told: those of the files are read here once more, by what the reference says of
-lines alone. A rule that stops has a key that fails above that, one that reached its end has none, and a jump is one of a
-rule above whose end was reached. And the two options agree: what a line comes from has told so in its course.
+--sources. Of each rule just one end is told. A rule that stops has a key that fails above that, one that reached its end
+has none, and a jump is one of a rule above whose end was reached. And the two options agree: what a line comes from has
+told so in its course. All that is asked over the distribution's database, and once more over none: then each line, with
+what is told and where it comes from, has to be that of a plain reading of the rules (plain_courses.py).
 
 What is counted is printed, and then the time that an event takes with each option, beside that of the start.
 
@@ -19,7 +20,9 @@ import subprocess
 import sys
 import tempfile
 
+import plain_courses
 from devices import REAL
+from plain_rules import rules_of
 from timing import Run, least
 
 TOP = os.path.dirname(os.path.dirname(os.path.realpath(__file__)))
@@ -28,6 +31,8 @@ FOLDERS = ("etc", "run", "usr/local/lib", "usr/lib")
 ROUNDS = 20
 # A text that is longer is cut where it is told.
 SHOWN = 200
+# The faults that leave their line a rule: of a label or a jump alone.
+KEPT = ("V7", "V8")
 ENDS = ("stops there", "reached its end", "passed over by GOTO of ", "not read: ")
 WORDS = "name owner group mode priority watch nowatch persist label link tag env attr sysctl run".split()
 SOURCE = re.compile(rf"(?:-|(.+?):(\d+)): ((?:{'|'.join(WORDS)})\b.*)")
@@ -46,21 +51,6 @@ def rules_files(root):
     return dict(sorted(found.items()))
 
 
-def rule_lines(path):
-    """The numbers of the lines in which a file's rules begin."""
-    begun, joined, continued = None, "", False
-    with open(path, encoding="latin-1", newline="\n") as file:
-        for number, line in enumerate(file.read().split("\n"), 1):
-            line = line.lstrip(" \t")
-            if line.startswith("#"):
-                continue
-            begun, joined = (begun, joined + line) if continued else (number, line)
-            continued = joined.endswith("\\")
-            joined = joined.removesuffix("\\")
-            if not continued and joined:
-                yield begun
-
-
 def devices_of_this_machine(count):
     """Blocks of so many of its devices, of as many subsystems as there are."""
     words = [f"{TOP}/tools/devdry-capture", "--kernel", "--all"]
@@ -75,34 +65,46 @@ def devices_of_this_machine(count):
 
 
 class Runs:
-    """The program over the rules of a root and an index of its database, in a folder of its own."""
+    """The program over rules files and a database, which is an index in a folder of its own."""
 
-    def __init__(self, program, root, folder):
-        self.index = f"{folder}/hwdb.index"
-        with open(self.index, "wb") as index:
-            subprocess.run([program, "update", "-r", root], stdout=index, stderr=subprocess.DEVNULL, check=True)
-        self.words = [program, "events", "-r", root, "--index", self.index]
+    def __init__(self, program, root, files, database, folder):
         self.folder = folder
-        whys = [word for name in rules_files(root) for word in ("--why", name)]
+        with open(f"{folder}/hwdb.index", "wb") as index:
+            subprocess.run([program, "update", *database], stdout=index, stderr=subprocess.DEVNULL, check=True)
+        self.words = [program, "events", "-r", root, "--index", f"{folder}/hwdb.index"]
+        whys = [word for name in files for word in ("--why", name)]
         self.options = {"plain": [], "why": whys, "sources": ["--sources"], "both": ["--sources", *whys]}
 
     def answers(self, way, blocks):
-        """The answers to blocks, each as its lines."""
+        """The answers to blocks, each as its lines, and the messages."""
         text = "".join(f"{block}\n\n" for block in blocks).encode("latin-1")
-        ran = subprocess.run([*self.words, *self.options[way]], input=text, stdout=subprocess.PIPE, stderr=subprocess.DEVNULL, check=True)
-        return [answer.split("\n") for answer in ran.stdout.decode("latin-1").split("\n\n")[:-1]]
+        ran = subprocess.run([*self.words, *self.options[way]], input=text, capture_output=True, check=True)
+        return [answer.split("\n") for answer in ran.stdout.decode("latin-1").split("\n\n")[:-1]], ran.stderr.decode("latin-1")
 
     def times(self, blocks):
-        """What an event takes in each way, in milliseconds, and what the start takes."""
-        texts = {"once": "\n\n".join(blocks) + "\n", "often": "\n\n".join(blocks * (ROUNDS + 1)) + "\n"}
-        for name, text in texts.items():
+        """What the start takes, and in each way an event, in milliseconds."""
+        for name, rounds in (("once", 1), ("often", ROUNDS + 1)):
             with open(f"{self.folder}/{name}", "w", encoding="latin-1") as file:
-                file.write(text)
+                file.write("".join(f"{block}\n\n" for block in blocks) * rounds)
         taken = least({(way, name): Run([*self.words, *words], f"{self.folder}/{name}")
-                       for way, words in self.options.items() for name in texts}, 3)
+                       for way, words in self.options.items() for name in ("once", "often")}, 3)
         more = ROUNDS * len(blocks)
         return taken["plain", "once"].seconds, {
             way: (taken[way, "often"].seconds - taken[way, "once"].seconds) / more * 1000 for way in self.options}
+
+
+def read_plainly(files, messages):
+    """The rules of the files as the plain reading has them, and what is told of lines that are not read."""
+    not_read = {}
+    for said in messages.splitlines():
+        found = re.fullmatch(r"(.+?):(\d+): ((V\d+) .*)", said)
+        if found and found[4] not in KEPT:
+            not_read[found[1], int(found[2])] = f"{found[1]}:{found[2]}: not read: {found[3]}"
+    rules = []
+    for name, path in files.items():
+        with open(path, encoding="latin-1", newline="\n") as file:
+            rules += rules_of(name, file.read(), {line for file_name, line in not_read if file_name == name})
+    return rules, not_read
 
 
 def read_why(line):
@@ -186,31 +188,42 @@ def answer_faults(answers, rules, counts):
     yield from end_faults(courses, rules, counts)
 
 
-def compare(runs, blocks, rules):
+def compare(runs, blocks, files, plainly):
     """Asks for all blocks in each way, and tells what is wrong; gives how much is, and what was counted."""
-    answers = {way: runs.answers(way, blocks) for way in runs.options}
-    counts, wrong = collections.Counter(), 0
+    answers, messages = {}, ""
+    for way in runs.options:
+        answers[way], messages = runs.answers(way, blocks)
+    rules, not_read = read_plainly(files, messages)
+    places = {(rule.file, rule.line) for rule in rules} | not_read.keys()
+    counts, wrong = collections.Counter(rules=len(rules)), 0
     for at, block in enumerate(blocks):
+        faults = [("the answer", "is not given in each way")]
+        if all(at < len(found) for found in answers.values()):
+            faults = list(answer_faults({way: found[at] for way, found in answers.items()}, places, counts))
+            if plainly:
+                lines, whys = plain_courses.answers(rules, block, not_read.values())
+                wanted = [f"{source}: {line}" if source else line for source, line in lines] + whys
+                faults += [(line, "is told by one of the program and the plain reading alone") for line in sorted(set(wanted) ^ set(answers["both"][at]))]
+                faults += [("the answer", "has its lines in another order")] * (not faults and wanted != answers["both"][at])
+        wrong += len(faults)
         path = re.search("^P: (.*)", block, re.M)[1]
-        if any(at >= len(found) for found in answers.values()):
-            wrong += 1
-            print(f"{path}: is not answered in each way")
-            continue
-        for about, fault in answer_faults({way: found[at] for way, found in answers.items()}, rules, counts):
-            wrong += 1
+        for about, fault in faults:
             print(f"{path}: {about if isinstance(about, str) else ':'.join(map(str, about))} {fault}")
     return wrong, counts
 
 
 def main(program, root, count=20):
+    program, root = os.path.realpath(program), os.path.realpath(root)
     files = rules_files(root)
-    rules = {(name, line) for name, path in files.items() for line in rule_lines(path)}
     blocks = ["\n".join(lines) for lines in REAL.values()] + devices_of_this_machine(int(count))
+    wrong = 0
     with tempfile.TemporaryDirectory() as folder:
-        runs = Runs(os.path.realpath(program), os.path.realpath(root), folder)
-        wrong, counts = compare(runs, blocks, rules)
-        print(f"{len(blocks)} events over {len(rules)} rules in {len(files)} files: {wrong} differences")
-        print(", ".join(f"{name}: {number}" for name, number in sorted(counts.items())))
+        for name, database in (("no database", [os.devnull]), ("the database", ["-r", root])):
+            runs = Runs(program, root, files, database, folder)
+            found, counts = compare(runs, blocks, files, database == [os.devnull])
+            print(f"{len(blocks)} events over {name} and the rules of {len(files)} files: {found} differences")
+            print("  " + ", ".join(f"{word}: {number}" for word, number in sorted(counts.items())))
+            wrong += found
         start, times = runs.times(blocks)
     print(f"start {start:.2f} s; an event " + ", ".join(f"{way} {time:.3f} ms" for way, time in times.items()))
     return wrong > 0

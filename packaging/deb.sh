@@ -26,7 +26,7 @@ strip --remove-section=.comment --remove-section=.note "$root/usr/bin/devdry"
 gzip -9n "$root"/usr/share/man/man1/*
 mkdir -p "$doc"
 gzip -9nc "$top/CHANGELOG.md" > "$doc/CHANGELOG.md.gz"
-cp "$top/README.md" "$top/docs/behaviour.md" "$top/docs/messages.md" "$top/docs/differences.md" "$doc"
+cp "$top/README.md" "$top/docs/behaviour.md" "$top/docs/writing-rules.md" "$top/docs/messages.md" "$top/docs/differences.md" "$doc"
 cp -r --no-preserve=mode "$top/examples" "$doc"
 gzip -9nc > "$doc/changelog.gz" << END
 devdry ($version) unstable; urgency=low

@@ -34,6 +34,8 @@ FAILED = re.compile(rb"devdry: (write failed|read failed|cannot read [^\n]*)\n$"
 STREAM_FAILED = re.compile(rb"devdry: (write|read) failed\n$")
 ALL = 2**63
 
+FIRST, SECOND = "usr/lib/udev/hwdb.d", "etc/udev/hwdb.d"
+
 DISK_RULE = 'SUBSYSTEM=="block", KERNEL=="sd[a-z]", SYMLINK+="disk/%k"\n'
 DISK = "C: add\nP: /devices/pci0/block/sda\nU: block\nN: sda\nD: 8:0\n"
 DISK_ANSWER = """\
@@ -79,6 +81,55 @@ note p.rules:1: no answer for program: /bin/id sda
 
 """
 
+# a rule that finds no device, one that asks a program and jumps, one that is jumped over, one that looks up the parent
+# and comes too late with an owner, and a line that is not read
+TOLD_RULES = """\
+SUBSYSTEM=="block", SUBSYSTEMS=="usb", ATTRS{serial}=="7", OWNER="a"
+PROGRAM=="/bin/id %k", RESULT=="ab*", SYMLINK+="by/$result{1}", OWNER:="root", RUN+="/bin/log %k", GOTO="end"
+TAG+="never"
+LABEL="end", IMPORT{builtin}="hwdb --subsystem=usb", ENV{B}+="b", OWNER="b"
+ENV{C}="$nope"
+"""
+TOLD_FILES = {"w.rules": TOLD_RULES, f"{SECOND}/usb.hwdb": "usb:v1D6B*\n ID_VENDOR=Linux\n"}
+TOLD = "C: add\nP: /a/sda\nU: block\nQ: /bin/id sda\nR: 0 ab cd\nP: /a\nU: usb\nE: MODALIAS=usb:v1D6Bp0002\n"
+TOLD_MESSAGE = "w.rules:5: V6 bad substitution: $nope\n"
+TOLD_ANSWER = """\
+event add /a/sda
+owner root
+link by/ab
+env ACTION=add
+env B=b
+env DEVPATH=/a/sda
+env ID_VENDOR=Linux
+env SUBSYSTEM=block
+run program /bin/log sda
+"""
+TOLD_SOURCES = """\
+event add /a/sda
+w.rules:2: owner root
+w.rules:2: link by/ab
+-: env ACTION=add
+w.rules:4: env B=b
+-: env DEVPATH=/a/sda
+w.rules:4: env ID_VENDOR=Linux
+-: env SUBSYSTEM=block
+w.rules:2: run program /bin/log sda
+"""
+TOLD_WHY = """\
+why w.rules:5: not read: V6 bad substitution: $nope
+why w.rules:1: SUBSYSTEM=="block": holds, block
+why w.rules:1: SUBSYSTEMS=="usb": sda fails, block, a holds
+why w.rules:1: ATTRS{serial}=="7": sda has none, a has none
+why w.rules:1: no device meets all: a meets 1 of 2
+why w.rules:1: stops there
+why w.rules:2: PROGRAM=="/bin/id %k": holds, /bin/id sda answers 0 ab cd
+why w.rules:2: RESULT=="ab*": holds, ab cd
+why w.rules:2: reached its end: owner=root set, link by/ab added, run program /bin/log %k added
+why w.rules:3: passed over by GOTO of w.rules:2
+why w.rules:4: IMPORT{builtin}=="hwdb --subsystem=usb": holds, hwdb --subsystem=usb sets ID_VENDOR=Linux
+why w.rules:4: reached its end: OWNER is final since w.rules:2, env B=b set
+"""
+
 FAULTY_RULES = """\
 KERNEL=="a" FOO="b"
 SUBSYSTEM=="x",ACTION-="y"
@@ -120,9 +171,6 @@ INDEX = bytes.fromhex("""\
 EMPTY_INDEX = bytes.fromhex("""\
 6465766472796877 02000000 01000000 00000000 00000000 00000000 00000000
 00000000 00000000 01000000 00000000 00000000 00000000""")
-
-FIRST, SECOND = "usr/lib/udev/hwdb.d", "etc/udev/hwdb.d"
-
 
 def as_bytes(text):
     return text.encode() if isinstance(text, str) else text
@@ -173,6 +221,17 @@ ROWS = [
         "a faulty block", ["events", "-r", "none", "v.rules"], {"v.rules": 'FOO=="x"\n'},
         "C: add\nP: /a\n\nC: add\nP: /a\nP: /b\n", "event add /a\nenv ACTION=add\nenv DEVPATH=/a\n\n",
         "v.rules:1: V2 unknown key: FOO\n", "block 2, line 3: path\n", 1),
+    Row(
+        "where lines come from", ["events", "-r", ".", "--sources", "w.rules"], TOLD_FILES, TOLD, TOLD_SOURCES + "\n", TOLD_MESSAGE),
+    Row(
+        "what rules met", ["events", "-r", ".", "--why", "w.rules", "w.rules"], TOLD_FILES, TOLD,
+        TOLD_ANSWER + TOLD_WHY + "\n", TOLD_MESSAGE),
+    Row(
+        "both, over two blocks", ["events", "-r", ".", "--why", "w.rules", "--sources", "w.rules"], TOLD_FILES, TOLD + "\n" + TOLD,
+        (TOLD_SOURCES + TOLD_WHY + "\n") * 2, TOLD_MESSAGE),
+    Row(
+        "a line that no rule has", ["events", "-r", ".", "--why", "w.rules:9", "w.rules"], TOLD_FILES, TOLD, "", TOLD_MESSAGE,
+        "devdry: --why w.rules:9: no such rule, the nearest is w.rules:5\n", 2),
     Row(
         "faulty rules", ["verify", "v.rules"], {"v.rules": FAULTY_RULES},
         output="1 files checked, 0 good, 1 bad\n", messages=FAULTY_RULES_TOLD, status=1),

@@ -1,9 +1,12 @@
--- For proofs only, no reader has to believe it: the text of a piece, lent or made.
+-- For proofs only, no reader has to believe it: the text of a piece, lent, made or put together.
+use Rattle.std.specs.Prelude.{map}
 use Rattle.text_tables.specs.Texts.{Text}
 use Rattle.eval_rendering.specs.declared.pieces.PieceText.{PieceText}
-use Rattle.eval_rendering.specs.declared.pieces.PieceText.TheVariants.{Lent, Made}
+use Rattle.eval_rendering.specs.Words.{spaced}
+use Rattle.eval_rendering.specs.declared.pieces.PieceText.TheVariants.{Lent, Made, Spaced}
 
 -- the text that a piece has
 abbrev pub shown : PieceText → Text
 shown (Lent text) = text.now
 shown (Made text) = text.items
+shown (Spaced texts) = spaced (map (λ t. t.items) texts.now)

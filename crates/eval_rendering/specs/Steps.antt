@@ -3,6 +3,7 @@ use Rattle.std.specs.Prelude.{ℕ, Bool, true, false, if◌then◌else◌, List,
 use Rattle.text_bytes.specs.Names.{underscore, is_whitespace}
 use Rattle.text_bytes.specs.Texts.{is_empty}
 use Rattle.eval_rendering.specs.Underscores.{words}
+use Rattle.eval_rendering.specs.declared.underscores.Word.{Word}
 
 -- words behind others, each with `_` before it
 abbrev pub further : List (List ℕ) → List ℕ
@@ -25,3 +26,7 @@ abbrev pub with_byte : List ℕ → Bool → ℕ → List ℕ
 with_byte word gap b =
     if is_whitespace b then word
     else (if gap && not (is_empty word) then word ++ underscore ∷ [] else word) ++ b ∷ []
+
+-- the word that comes of a word as so much of the text is left
+abbrev pub grown : Word → List ℕ → List ℕ
+grown word left = word.bytes.items ++ added (is_empty word.bytes.items) word.gap left

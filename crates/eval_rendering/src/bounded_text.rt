@@ -1,12 +1,14 @@
 //! A text that is built piece by piece and never over a bound.
-ghost use Rattle.std.specs.Prelude.{◌≡◌, [], Some, OnOk, option_map};
+ghost use Rattle.std.specs.Prelude.{◌≡◌, ◌∷◌, [], Some, OnOk, flat_map, is_some, map, option_map};
+ghost use Rattle.text_bytes.specs.Names.{space};
 ghost use Rattle.eval_rendering.specs.Bounds.{joined};
+ghost use Rattle.eval_rendering.specs.Words.{spaced};
 
 use std::alloc::{AllocError, Global};
 use std::marker::Model;
 
 /// The most bytes of a rendered text.
-const MOST_BYTES: usize = 16384;
+pub(crate) const MOST_BYTES: usize = 16384;
 
 /// A text so far, or that it is too long.
 #[derive(Drop)]
@@ -47,6 +49,41 @@ impl BoundedText {
             self.text.extend_from_slice(more)?;
         }
         Ok(())
+    }
+
+    /// Puts texts with a space between each two behind the text, until it is too long.
+    pub(crate) fn push_spaced(&mut self, texts: &[Vec<u8>]) -> Result<(), AllocError>
+        ensures { OnOk result (self.new ≡ joined self.old (spaced (map (λ t. t.items) texts.now))) }
+    {
+        match texts.split_first() {
+            Some((first, others)) => {
+                self.push(first)?;
+                self.push_others(others)
+            }
+            None => self.push(b""),
+        }
+    }
+
+    /// Puts texts, each with a space before it, behind the text, until it is too long.
+    fn push_others(&mut self, others: &[Vec<u8>]) -> Result<(), AllocError>
+        requires { joined self.old [] ≡ self.old }
+        ensures { OnOk result (self.new ≡ joined self.old (flat_map (λ other. space ∷ other.items) others.now)) }
+    {
+        for other in others {
+            if !self.fits {
+                return Ok(());
+            }
+            self.push(b" ")?;
+            self.push(other)?;
+        }
+        Ok(())
+    }
+
+    /// Whether the text is not too long.
+    pub(crate) fn fits(&self) -> bool
+        ensures { result ≡ is_some self.now }
+    {
+        self.fits
     }
 
     /// Gives the text up, unless it is too long.

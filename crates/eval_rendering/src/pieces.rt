@@ -1,39 +1,58 @@
 //! What stands in a text in place of each substitution.
 //!
-//! Most of it is lent by the event or its state; what has to be put together or changed is made.
-ghost use Rattle.std.specs.Prelude.{◌≡◌, ◌∷◌, ◌++◌, OnOk, IfOk, flat_map, map, option_copied, option_map, unwrap_or, codes};
+//! Most of it is lent by the event or its state; what has to be changed is made. The links, which can have any number
+//! of bytes, are put together no further than a rendered text may go.
+ghost use Rattle.std.specs.Prelude.{◌≡◌, OnOk, IfOk, option_copied, option_map, unwrap_or, codes};
 ghost use Rattle.std.specs.Option.{option_and_then};
-ghost use Rattle.text_bytes.specs.Names.{space};
 ghost use Rattle.text_tables.specs.Pairs.{value_of};
 ghost use Rattle.eval_state.specs.Chains.{kernel_of};
 ghost use Rattle.eval_state.specs.Start.{node_path};
 ghost use Rattle.eval_state.specs.Texts.{or_empty};
+ghost use Rattle.eval_rendering.specs.Bounds.{bounded, joined};
 ghost use Rattle.eval_rendering.specs.Pieces.{attribute, parent_node, piece_text, selected_device};
 ghost use Rattle.eval_rendering.specs.Shown.{shown};
-ghost use Rattle.eval_rendering.specs.Words.{spaced};
+ghost use Rattle.eval_rendering.specs.Underscores.{underscored};
 
+use crate::bounded_text::BoundedText;
 use crate::safe::attribute_safe;
+use crate::underscores::{spaced_word, underscored};
 use crate::words::{from_word, last_digits, word_at};
 use device_core::Device;
 use eval_state::{State, node_path, trimmed};
 use rule_templates::Piece;
 use std::alloc::{AllocError, Global};
 
-/// The text of a piece: one that is lent, or one that was made for it.
+/// The text of a piece.
 #[derive(Debug, Drop)]
 pub(crate) enum PieceText<'s> {
+    /// One that is lent.
     Lent(&'s [u8]),
+    /// One that was made for the piece.
     Made(Vec<u8>),
+    /// Several that are lent, with a space between each two.
+    Spaced(&'s [Vec<u8>]),
 }
 
 impl<'s> PieceText<'s> {
-    /// Lends the text.
-    pub(crate) fn as_slice(&self) -> &[u8]
-        ensures { result.now ≡ shown self.now }
+    /// Puts the text behind another one.
+    pub(crate) fn push_to(&self, text: &mut BoundedText) -> Result<(), AllocError>
+        ensures { OnOk result (text.new ≡ joined text.old (shown self.now)) }
     {
         match self {
-            PieceText::Lent(text) => text,
-            PieceText::Made(text) => text,
+            PieceText::Lent(found) => text.push(found),
+            PieceText::Made(found) => text.push(found),
+            PieceText::Spaced(found) => text.push_spaced(found),
+        }
+    }
+
+    /// The text as one word; of one that is too long perhaps only so much that it is too long, too.
+    pub(crate) fn to_word(&self, alloc: Global) -> Result<Vec<u8>, AllocError>
+        ensures { IfOk result (λ word. bounded word.items ≡ bounded (underscored (shown self.now))) }
+    {
+        match self {
+            PieceText::Lent(found) => underscored(alloc, found),
+            PieceText::Made(found) => underscored(alloc, found),
+            PieceText::Spaced(found) => spaced_word(alloc, found),
         }
     }
 }
@@ -128,31 +147,6 @@ fn name<'s>(state: &'s State<'_>) -> &'s [u8]
     }
 }
 
-/// Texts with a space between each two.
-fn spaced(alloc: Global, texts: &[Vec<u8>]) -> Result<Vec<u8>, AllocError>
-    ensures { IfOk result (λ text. text.items ≡ spaced (map (λ t. t.items) texts.now)) }
-{
-    match texts.split_first() {
-        Some((first, others)) => {
-            let mut text = Vec::from_slice(alloc, first)?;
-            push_others(&mut text, others)?;
-            Ok(text)
-        }
-        None => Ok(Vec::new(alloc)),
-    }
-}
-
-/// Puts texts, each with a space before it, behind a text.
-fn push_others(text: &mut Vec<u8>, others: &[Vec<u8>]) -> Result<(), AllocError>
-    ensures { OnOk result (text.new.items ≡ text.old.items ++ flat_map (λ other. space ∷ other.items) others.now) }
-{
-    for other in others {
-        text.push(b' ')?;
-        text.extend_from_slice(other)?;
-    }
-    Ok(())
-}
-
 /// The path of the event device's node, empty where there is none.
 fn devnode(alloc: Global, node: Option<&[u8]>) -> Result<Vec<u8>, AllocError>
     ensures { IfOk result (λ path. path.items ≡ or_empty (option_map (λ n. node_path n.now) node.entry)) }
@@ -190,7 +184,7 @@ pub(crate) fn piece_text<'s>(
         Piece::From(number) => from_word(number.saturating_sub(1), state.result.as_slice()),
         Piece::Parent => parent_node(state),
         Piece::Name => name(state),
-        Piece::Links => return Ok(PieceText::Made(spaced(alloc, state.links.as_slice())?)),
+        Piece::Links => return Ok(PieceText::Spaced(state.links.as_slice())),
         Piece::Root => b"/dev",
         Piece::Sys => b"/sys",
         Piece::Devnode => {

@@ -7,7 +7,6 @@ use crate::bounded_text::BoundedText;
 use crate::pieces::piece_text;
 use crate::rendered::{Mode, Rendered};
 use crate::safe::link_safe;
-use crate::underscores::underscored;
 use eval_state::State;
 use rule_templates::{Piece, Template};
 use std::alloc::{AllocError, Global};
@@ -48,10 +47,10 @@ fn push_piece(
 {
     let found = piece_text(alloc, state, piece)?;
     if is_word(mode, piece) {
-        let word = underscored(alloc, found.as_slice())?;
+        let word = found.to_word(alloc)?;
         text.push(&word)
     } else {
-        text.push(found.as_slice())
+        found.push_to(text)
     }
 }
 
@@ -76,7 +75,7 @@ fn answer(alloc: Global, text: Option<Vec<u8>>, mode: Mode) -> Result<Rendered, 
 }
 
 /// A template with each substitution made over what is known of an event, as udev(7) has them. Over
-/// 16,384 bytes it is [`TooLong`](Rendered::TooLong), and no more is built than that.
+/// 16,384 bytes it is [`TooLong`](Rendered::TooLong), and no piece behind the first that does not fit is looked at.
 ///
 /// In [`Link`](Mode::Link) each substitution but that of `$result` loses the whitespace at its ends, and
 /// each run of it inside becomes one `_`; the whole is then made safe for a path. The error comes where
@@ -93,6 +92,9 @@ pub fn render(
     let mut text = BoundedText::new(alloc);
     for piece in template.pieces() {
         push_piece(alloc, &mut text, state, piece, mode)?;
+        if !text.fits() {
+            return Ok(Rendered::TooLong);
+        }
     }
     answer(alloc, text.into_text(), mode)
 }

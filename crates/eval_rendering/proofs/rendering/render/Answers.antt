@@ -1,0 +1,16 @@
+use Rattle.std.proofs.Common.{◌∙◌, flat_map, ap, sym}
+use Rattle.eval_rendering.specs.Bounds.{bounded}
+use Rattle.eval_rendering.specs.Rendering.{answer, render, text_in}
+use Rattle.eval_rendering.proofs.Joining.{too_long_at}
+use Rattle.eval_rendering.proofs.rendering.render.Goals as goal
+
+pub returns-then-not-fits : goal.returns-then-not-fits
+unfolding render
+returns-then-not-fits c =
+    let mode = c.args.mode in
+    let text = text_in mode c.args.state.now in
+    let pieces = c.pieces-piece-items.result.now in
+    sym (ap (answer mode)
+    (ap (λ ps. bounded (flat_map text ps)) (sym c.pieces-piece-items.ensures)
+    ∙ too_long_at text pieces c.loop-piece.piece-index c.piece-item.result c.loop-piece.text c.push_piece.new.text c.loop-piece-test.true c.piece-item.is c.loop-piece.invariant c.in_ok-push_piece.ensures
+    (sym c.fits.ensures ∙ c.if-not-fits.true)))

@@ -14,6 +14,9 @@ if awk -v most="$(nproc)" '/^MemAvailable/ { exit $2 < most * 4000000 }' /proc/m
     export RT_JOBS
 fi
 
+# The kit by which all of this is proved.
+"${1:-rt}" version
+
 "${1:-rt}" ci | tee "$work/proofs"
 status=${PIPESTATUS[0]}
 tests/run.sh crates/devdry/out/devdry | tee "$work/uses"

@@ -10,6 +10,12 @@ BELOW_DEVICE = (
     "P: /devices/h\nU: usb\nE: MODALIAS=usb:v1D6Bp0002\n"
 )
 
+# A device with a modalias of its own below a hub.
+BELOW_UNKNOWN = (
+    "C: add\nP: /devices/h/p\nU: tty\nE: MODALIAS=tty:unknown\n"
+    "P: /devices/h\nU: usb\nE: MODALIAS=usb:v1D6Bp0002\n"
+)
+
 # A device of which nothing but its path is known.
 ALONE = "C: add\nP: /devices/d\n"
 
@@ -56,6 +62,32 @@ CHAIN = [
         BELOW_DEVICE + "P: /devices\nU: pci\nE: MODALIAS=usb:v1D6B\n",
         LINUX,
         name="a device of USB that the subsystem passes over does not end the search",
+    ),
+    found(
+        "hwdb",
+        BELOW_UNKNOWN,
+        "env MODALIAS=tty:unknown",
+        "env SUBSYSTEM=tty",
+        LINUX,
+        name="a modalias of which nothing is known is passed over",
+    ),
+    found(
+        "hwdb --filter=ID_*",
+        BELOW_UNKNOWN,
+        "env MODALIAS=tty:unknown",
+        "env SUBSYSTEM=tty",
+        LINUX,
+        database=HUBS + "\ntty:*\n A=1\n",
+        name="and one of which the filter leaves nothing",
+    ),
+    found(
+        "hwdb",
+        BELOW_UNKNOWN,
+        "env MODALIAS=tty:unknown",
+        "env SUBSYSTEM=tty",
+        "env A=1",
+        database=HUBS + "\ntty:*\n A=1\n",
+        name="behind a modalias of which something is known no other is looked up",
     ),
     asked(
         "a device without a subsystem is not looked up",

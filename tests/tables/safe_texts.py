@@ -38,6 +38,9 @@ ROWS = [
     ),
     answered("a link keeps UTF-8", [f'SYMLINK+="{UTF_8}"'], ([], [f"link {UTF_8}"])),
     answered("a name keeps UTF-8", [f'NAME="{UTF_8}"'], (["U: net"], [f"name {UTF_8}", "env SUBSYSTEM=net"])),
+    answered("a link keeps a character", [b'SYMLINK+="\xC3\xA4"'], ([], [b"link \xC3\xA4"])),
+    answered("the first byte of a character alone", [b'SYMLINK+="\xC3"'], ([], ["link _"])),
+    answered("an overlong sequence", [b'SYMLINK+="\xC0\xAF"'], ([], ["link __"])),
     answered("a link keeps nothing else over 0x7F", [b'SYMLINK+="' + NOT_UTF_8 + b'"'], ([], ["link __________"])),
     answered(
         "the longest and the shortest of each length",

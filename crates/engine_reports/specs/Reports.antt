@@ -1,4 +1,4 @@
--- Serves the contracts inside this crate alone; no reader of `serve` has to believe it.
+-- Serves the contracts of the calls between this crate and `engine_core`; no reader of `serve` has to believe it.
 -- What a report holds, as an outcome, and what is said where there is none.
 use Rattle.std.specs.Prelude.{◌≡◌, IfOk, IfErr, List, Result, Err}
 use Rattle.hwdb_lookup.specs.declared.entry.Entry.{Entry}

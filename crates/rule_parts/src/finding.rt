@@ -18,9 +18,9 @@ pub struct Finding {
 /// Why a text gave no part of a rule.
 #[derive(Debug, Drop)]
 pub enum PartFault {
-    /// It is none, for this reason.
+    /// 1: it is none, for this reason.
     Wrong(Finding),
-    /// Want of memory.
+    /// 2: memory was refused.
     Memory,
 }
 

@@ -262,7 +262,7 @@ ROWS = [
     why("a kernel parameter is not read", ['SYSCTL{x}=="*"'], [], ["note r.rules:1: sysctl not read: x"],
         of(1, 'SYSCTL{x}=="*": fails, not read', "stops there")),
     why(
-        "what is absent meets !=",
+        "what the event does not have meets !=",
         [match for match, _ in BARE_HOLDS],
         [],
         [],

@@ -10,9 +10,9 @@ A dry run of udev's rules and hardware database
 Usage: devdry <COMMAND>
 
 Commands:
-  update  Checks the files of the hardware database and writes its index
-  query   Prints the properties that the hardware database has for a device
   verify  Checks rules files
+  query   Prints the properties that the hardware database has for a device
+  update  Checks the files of the hardware database and writes its index
   events  Answers the event blocks of the standard input
   help    Print this message or the help of the given subcommand(s)
 

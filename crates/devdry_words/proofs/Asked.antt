@@ -93,4 +93,4 @@ names_a_verb words e =
     go : (stop : Option (Text × List Text)) → StopsWell stop → is_some (entered (built devdry) stop) ≡ true → NamesVerb (entered (built devdry) stop)
     go None well f = absurd (cc)
     go (Some p) well f = found_named p.0 p.1 (built devdry).subs
-        ((λ _. (Update, refl)), ((λ _. (Query, refl)), ((λ _. (Verify, refl)), ((λ _. (Events, refl)), (not_help p.0 well, tt))))) f
+        ((λ _. (Verify, refl)), ((λ _. (Query, refl)), ((λ _. (Update, refl)), ((λ _. (Events, refl)), (not_help p.0 well, tt))))) f

@@ -97,7 +97,7 @@ program = record {
 
 -- `devdry` with its subcommands
 unfoldable pub devdry : App
-devdry = with_subcommand (with_subcommand (with_subcommand (with_subcommand program update_shape) query_shape) verify_shape)
+devdry = with_subcommand (with_subcommand (with_subcommand (with_subcommand program verify_shape) query_shape) update_shape)
     events_shape
 
 -- the command has this shape, and none of its arguments is global

@@ -178,8 +178,8 @@ pub fn devdry_command<'a>(alloc: Global) -> Result<Command<'a>, AllocError>
     ensures { IfOk result (λ c. app_of c ≡ devdry) }
 {
     program(alloc)?
-        .subcommand(update_command(alloc)?)?
-        .subcommand(query_command(alloc)?)?
         .subcommand(verify_command(alloc)?)?
+        .subcommand(query_command(alloc)?)?
+        .subcommand(update_command(alloc)?)?
         .subcommand(events_command(alloc)?)
 }

@@ -6,7 +6,7 @@ use Rattle.devdry_words.proofs.commands.devdry_command.Goals as goal
 pub returns : goal.returns
 unfolding devdry
 returns c =
-    let first = one_more_command _ _ _ _ _ c.in_ok-program.ensures c.in_ok-update_command.ensures c.in_ok-subcommand.ensures in
+    let first = one_more_command _ _ _ _ _ c.in_ok-program.ensures c.in_ok-verify_command.ensures c.in_ok-subcommand.ensures in
     let second = one_more_command _ _ _ _ _ first c.in_ok-query_command.ensures c.in_ok-subcommand-2.ensures in
-    let third = one_more_command _ _ _ _ _ second c.in_ok-verify_command.ensures c.in_ok-subcommand-3.ensures in
+    let third = one_more_command _ _ _ _ _ second c.in_ok-update_command.ensures c.in_ok-subcommand-3.ensures in
     IfOk-weaker c.subcommand-4.result _ _ (λ m h. one_more_command _ _ _ _ _ third c.in_ok-events_command.ensures h) c.subcommand-4.ensures

@@ -31,7 +31,6 @@ pub struct Pattern {
 impl Model for Pattern {
     ghost use Rattle.std.specs.Prelude.{List};
     ghost use Rattle.text_core.specs.declared.item.Item.{Item};
-
     ghost use Rattle.std.specs.Rc.{rc_slice_items};
 
     ghost Value = { List Item };
@@ -78,7 +77,8 @@ impl Pattern {
         })
     }
 
-    /// A pattern of the same items, which both share: it takes no memory. Only memory can fail.
+    /// A pattern of the same items, which both share, so that it takes no memory. It fails only where
+    /// there are as many copies as a `usize` counts.
     pub fn copy(&self, _alloc: Global) -> Result<Pattern, AllocError>
         ensures { IfOk result (λ p. p ≡ self.now) }
     {

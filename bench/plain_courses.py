@@ -305,6 +305,8 @@ class Event:
         did += [f"run {kind} {shown(text)} added" for kind, text in kept if (kind, text) not in runs]
         if runs and not set(runs) & set(kept):
             did.append("all runs removed")
+        else:
+            did += [f"run {kind} {shown(text)} removed" for kind, text in runs if (kind, text) not in kept]
         return ", ".join(did) or f"{key_text(token)} changes nothing"
 
     def run(self, rule):

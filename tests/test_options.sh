@@ -87,9 +87,9 @@ if has zsh; then
     # What the function of a program hands to _arguments for a command, whose first words of each spec are options.
     zsh_offers() {
         zsh -f -c '
-            _arguments() { if [ "$1" = -C ]; then state=argument; else print -l -- "$@"; fi; }
+            _arguments() { if [ "$1" = -C ]; then state=argument; else print -l -- "${@#\*}"; fi; }
             words=($2 -) CURRENT=2
-            . $1' zsh "$top/completions/_$1" "$2" | sed -nE 's/^(\([^)]*\))?\*?(--?[A-Za-z-]+)\[.*/\2/p' | sort -u
+            . $1' zsh "$top/completions/_$1" "$2" | sed -nE 's/^(\([^)]*\))?(--?[A-Za-z-]+)\[.*/\2/p' | sort -u
     }
     for verb in $verbs; do same "zsh offers the options of $verb" "$(helps "$verb")" "$(zsh_offers devdry "$verb")"; done
     same "zsh offers the options of devdry-capture" "$captures" "$(zsh_offers devdry-capture '')"

@@ -101,6 +101,9 @@ EFFECTS = [
         ["tag a\\x5Cb", "attr a\\x5Cb=" + "x" * 300, "run program " + "r" * 300],
         of(1, f'reached its end: attr a\\x5Cb={cut("x" * 300)} set'), of(2, "reached its end: tag a\\x5Cb added"),
         of(3, f'reached its end: run program {cut("r" * 300)} added')),
+    why("commands of which one stays", ['RUN+="/bin/a", RUN{builtin}+="b", RUN+="/bin/c"', 'RUN="/bin/a"'], [], ["run program /bin/a"],
+        of(1, "reached its end: run program /bin/a added, run builtin b added, run program /bin/c added"),
+        of(2, "reached its end: run builtin b removed, run program /bin/c removed")),
     why("a rule without an assignment", ['KERNEL=="d"', 'KERNEL=="x"'], [], [], of(1, 'KERNEL=="d": holds, d', "reached its end"),
         of(2, 'KERNEL=="x": fails, d', "stops there")),
 ]

@@ -50,6 +50,19 @@ env SUBSYSTEM=block
 
 """
 
+SOURCED_ANSWER = """\
+event add /devices/pci0/block/sda
+r.rules:1: link disk/sda
+-: env ACTION=add
+-: env DEVNAME=/dev/sda
+-: env DEVPATH=/devices/pci0/block/sda
+-: env MAJOR=8
+-: env MINOR=0
+-: env SUBSYSTEM=block
+r.rules:2: run program /bin/a
+
+"""
+
 DOUBLING = 'ENV{X}="$env{X}$env{X}"\n' * 30
 DOUBLED = (
     "event add /devices/x\nenv ACTION=add\nenv DEVPATH=/devices/x\nenv X=" + "v" * 16000 + "\n"
@@ -204,6 +217,9 @@ ROWS = [
         },
         output="60-a.hwdb:2: A=1\n"),
     Row("a disk", ["events", "-r", "none", "r.rules"], {"r.rules": DISK_RULE}, DISK, DISK_ANSWER),
+    Row(
+        "a disk with sources", ["events", "--sources", "-r", "none", "r.rules"], {"r.rules": DISK_RULE + 'RUN+="/bin/a"\n'},
+        DISK, SOURCED_ANSWER),
     Row("rules of a folder", ["events", "-r", "."], {"run/udev/rules.d/r.rules": DISK_RULE}, DISK, DISK_ANSWER),
     Row(
         "a text doubled thirty times", ["events", "-r", "none", "d.rules"], {"d.rules": DOUBLING},

@@ -22,9 +22,9 @@ node_lines outcome =
 abbrev pub run_lines : List Command → Text
 run_lines runs = flat_map (λ command. run_line command.kind command.text) runs
 
--- the answer to an event that comes to this: a line for each part that has something to say, and an empty line
-unfoldable pub answer : EventValue → Outcome → Text
-answer event outcome =
+-- the lines of the answer to an event that comes to this, one for each part that has something to say
+unfoldable pub answer_lines : EventValue → Outcome → Text
+answer_lines event outcome =
     event_line event.action event.device.path
     ++ node_lines outcome
     ++ pair_lines (codes "label") outcome.labels
@@ -35,4 +35,7 @@ answer event outcome =
     ++ pair_lines (codes "sysctl") outcome.sysctls
     ++ run_lines outcome.runs
     ++ note_lines outcome.notes
-    ++ newline ∷ []
+
+-- the answer to an event that comes to this: its lines, and an empty line
+abbrev pub answer : EventValue → Outcome → Text
+answer event outcome = answer_lines event outcome ++ newline ∷ []

@@ -1,6 +1,6 @@
 //! The whole answer.
 ghost use Rattle.std.specs.Prelude.{◌≡◌, ◌++◌, IfOk, OnOk};
-ghost use Rattle.engine_answers.specs.Answers.{answer, node_lines, run_lines};
+ghost use Rattle.engine_answers.specs.Answers.{answer, answer_lines, node_lines, run_lines};
 
 use crate::lines::{push_event, push_given, push_persist, push_priority, push_run, push_watch};
 use crate::lists::{push_env, push_notes, push_pairs, push_texts};
@@ -9,17 +9,20 @@ use eval_rules::{Commands, Outcome};
 use std::alloc::{AllocError, Global};
 use text_bytes::Bytes;
 
-/// The answer to an event: a line for each part of what it comes to that has something to say, and an
-/// empty line behind them.
+/// The lines of the answer to an event: one for each part of what it comes to that has something to say.
 ///
 /// The lines are `event ACTION PATH`, `name`, `owner`, `group`, `mode`, `priority`, `watch` or
 /// `nowatch`, `persist`, `label MODULE=..`, `link`, `tag`, `env KEY=..`, `attr NAME=..`,
 /// `sysctl NAME=..`, `run TYPE ..` and `note FILE:LINE: TEXT: WORD`, in this order, as udev(7) names
 /// these things. Properties whose names begin with a dot are left out. The error comes where memory is
 /// refused.
-#[tactic(auto, unfolding(crate::specs::Answers::answer))]
-pub fn answer(alloc: Global, event: &Event<'_>, outcome: &Outcome) -> Result<Bytes, AllocError>
-    ensures { IfOk result (λ text. text ≡ answer event.now outcome.now) }
+#[tactic(auto, unfolding(crate::specs::Answers::answer_lines))]
+pub fn answer_lines(
+    alloc: Global,
+    event: &Event<'_>,
+    outcome: &Outcome,
+) -> Result<Vec<u8>, AllocError>
+    ensures { IfOk result (λ lines. lines.items ≡ answer_lines event.now outcome.now) }
 {
     let mut lines = Vec::new(alloc);
     push_event(alloc, &mut lines, event.action(), event.device().path())?;
@@ -32,6 +35,15 @@ pub fn answer(alloc: Global, event: &Event<'_>, outcome: &Outcome) -> Result<Byt
     push_pairs(alloc, &mut lines, b"sysctl", &outcome.sysctls)?;
     push_runs(alloc, &mut lines, &outcome.runs)?;
     push_notes(alloc, &mut lines, &outcome.notes)?;
+    Ok(lines)
+}
+
+/// The answer to an event: the lines of `answer_lines`, and an empty line behind them. The error comes
+/// where memory is refused.
+pub fn answer(alloc: Global, event: &Event<'_>, outcome: &Outcome) -> Result<Bytes, AllocError>
+    ensures { IfOk result (λ text. text ≡ answer event.now outcome.now) }
+{
+    let mut lines = answer_lines(alloc, event, outcome)?;
     lines.push(b'\n')?;
     Ok(Bytes::new(lines))
 }

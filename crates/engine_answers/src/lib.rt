@@ -8,7 +8,7 @@ mod answers;
 mod lines;
 mod lists;
 
-pub use answers::answer;
+pub use answers::{answer, answer_lines};
 pub use lines::{
     is_hidden, push_event, push_pair, push_persist, push_priority, push_run, push_text, push_watch,
 };

@@ -1,5 +1,6 @@
 -- From the steps of a run to what it serves.
 use Rattle.std.proofs.Common.{◌≡◌, ℕ, inl, inr, refl, Result, Ok, Err}
+use Rattle.engine_ends.specs.declared.line.Line.{Line}
 use Rattle.engine_ends.specs.Streams.{Streams, outputs}
 use Rattle.engine_ends.specs.Delivery.{Outcome, Delivers, Tells, TellsFaults, out_of_memory}
 use Rattle.engine_reports.specs.Openings.{OpeningValue}
@@ -14,21 +15,21 @@ use Rattle.engine_sessions.proofs.Serving.{answers_serve, reports_serve}
 use Rattle.engine_core.specs.Outcomes.{answer_with, outcome_by}
 use Rattle.engine_core.specs.Runs.{RunsBy}
 
-pub runs_serve : (opened : Result OpeningValue Outcome) (status : ℕ) (before now : Streams) → RunsBy opened status before now → Serves (outcome_by opened) status before now
-runs_serve (Ok opening) status before now r = answers_serve opening.messages (answer_with opening) status before now r
-runs_serve (Err said) status before now r = reports_serve (λ text. said) said status before now (λ text. refl) r
+pub runs_serve : (line : Line) (opened : Result OpeningValue Outcome) (status : ℕ) (before now : Streams) → RunsBy line opened status before now → Serves (outcome_by line opened) status before now
+runs_serve line (Ok opening) status before now r = answers_serve opening.messages (answer_with line opening) status before now r
+runs_serve line (Err said) status before now r = reports_serve (λ text. said) said status before now (λ text. refl) r
 
 -- what is said without a look at the input
-pub report_runs : (begun : Result OpeningValue Outcome) (said : Outcome) (report : Result Report Refusal) (status : ℕ) (before now : Streams) → begun ≡ Err said → ((outcome : Outcome) → IsReport outcome report → Delivers outcome status (outputs before) (outputs now))
-    → TellsFaults status (outputs before) (outputs now) → IsReport said report → now.input ≡ before.input → RunsBy begun status before now
-report_runs begun said report status before now e delivers faults is unread = rw e (record { delivers = delivers said is; faults = faults; unread = unread })
+pub report_runs : (line : Line) (begun : Result OpeningValue Outcome) (said : Outcome) (report : Result Report Refusal) (status : ℕ) (before now : Streams) → begun ≡ Err said → ((outcome : Outcome) → IsReport outcome report → Delivers outcome status (outputs before) (outputs now))
+    → TellsFaults status (outputs before) (outputs now) → IsReport said report → now.input ≡ before.input → RunsBy line begun status before now
+report_runs line begun said report status before now e delivers faults is unread = rw e (record { delivers = delivers said is; faults = faults; unread = unread })
 
 -- what there is to say where events can't be answered
-pub refused_runs : (refusal : Refusal) (opened : Result OpeningValue Outcome) (status : ℕ) (before now : Streams) → IsRefused refusal opened
+pub refused_runs : (line : Line) (refusal : Refusal) (opened : Result OpeningValue Outcome) (status : ℕ) (before now : Streams) → IsRefused refusal opened
     → ((outcome : Outcome) → IsSaid refusal outcome → Delivers outcome status (outputs before) (outputs now)) → TellsFaults status (outputs before) (outputs now)
-    → (refusal ≡ Memory → Tells out_of_memory 4 status before.err now.err × (now.out ≡ before.out)) → now.input ≡ before.input → RunsBy opened status before now
-refused_runs TooManyEntries opened status before now is delivers faults memory unread = rw is (record { delivers = delivers too_many_entries refl; faults = faults; unread = unread })
-refused_runs TooManyRules opened status before now is delivers faults memory unread = rw is (record { delivers = delivers too_many_rules refl; faults = faults; unread = unread })
-refused_runs (Index fault) opened status before now is delivers faults memory unread = rw is (record { delivers = delivers (refused_index fault) refl; faults = faults; unread = unread })
-refused_runs Memory (Ok opening) status before now is delivers faults memory unread = inl (record { unread = unread; unanswered = (memory refl).1; tells = inr (memory refl).0 })
-refused_runs Memory (Err said) status before now is delivers faults memory unread = record { delivers = delivers said tt; faults = faults; unread = unread }
+    → (refusal ≡ Memory → Tells out_of_memory 4 status before.err now.err × (now.out ≡ before.out)) → now.input ≡ before.input → RunsBy line opened status before now
+refused_runs line TooManyEntries opened status before now is delivers faults memory unread = rw is (record { delivers = delivers too_many_entries refl; faults = faults; unread = unread })
+refused_runs line TooManyRules opened status before now is delivers faults memory unread = rw is (record { delivers = delivers too_many_rules refl; faults = faults; unread = unread })
+refused_runs line (Index fault) opened status before now is delivers faults memory unread = rw is (record { delivers = delivers (refused_index fault) refl; faults = faults; unread = unread })
+refused_runs line Memory (Ok opening) status before now is delivers faults memory unread = inl (record { unread = unread; unanswered = (memory refl).1; tells = inr (memory refl).0 })
+refused_runs line Memory (Err said) status before now is delivers faults memory unread = record { delivers = delivers said tt; faults = faults; unread = unread }

@@ -1,3 +1,4 @@
 pub mod Answering
+pub mod Told
 pub mod Runs
 pub mod Outcomes

@@ -1,5 +1,5 @@
 -- What a run says: its outcome, as a function of the command line, of the files handed in, of what comes of an index and of the input.
-use Rattle.std.specs.Prelude.{List, Option, Result, Ok, Err}
+use Rattle.std.specs.Prelude.{if◌then◌else◌, List, Option, Result, Ok, Err}
 use Rattle.text_tables.specs.Texts.{Text}
 use Rattle.text_bytes.specs.declared.source_file.SourceFile.{SourceFile}
 use Rattle.text_bytes.specs.declared.source_file.FileKind.TheVariants.{Hwdb}
@@ -13,12 +13,17 @@ use Rattle.engine_ends.specs.Delivery.{Outcome}
 use Rattle.engine_reports.specs.FilesRead.{files_read}
 use Rattle.engine_reports.specs.Openings.{OpeningValue, opening}
 use Rattle.engine_reports.specs.Outcomes.{database_outcome, query_over, update_outcome, verify_outcome}
-use Rattle.engine_core.specs.Answering.{answer_by}
+use Rattle.engine_core.specs.Answering.{TablesValue, answer_by}
+use Rattle.engine_core.specs.Told.{told_by}
 use Rattle.engine_sessions.specs.Outcomes.{input_outcome}
 
--- the answer to an event, by the rules and entries of an opening
-abbrev pub answer_with : OpeningValue → EventValue → Text
-answer_with opening = answer_by (record { rules = opening.rules; entries = opening.entries })
+-- the rules and entries of an opening
+abbrev pub tables_of : OpeningValue → TablesValue
+tables_of opening = record { rules = opening.rules; entries = opening.entries }
+
+-- the answer to an event by the rules and entries of an opening, with sources where the line asks for them
+abbrev pub answer_with : Line → OpeningValue → EventValue → Text
+answer_with line opening = if line.sources then told_by (tables_of opening) else answer_by (tables_of opening)
 
 -- What a command comes to before it looks at its input: `events` to what comes before its first answer, or to what is said in place
 -- of that; any other command to what it says. At an index `query` and `events` alone look.
@@ -30,10 +35,10 @@ before_input Events line files opened = opening line files opened
 
 -- the outcome of a run over an input: the messages of its opening and the answers to the blocks of the input, or what is said without
 -- a look at the input
-abbrev pub outcome_by : Result OpeningValue Outcome → Text → Outcome
-outcome_by (Ok opening) input = input_outcome opening.messages (answer_with opening) input
-outcome_by (Err said) input = said
+abbrev pub outcome_by : Line → Result OpeningValue Outcome → Text → Outcome
+outcome_by line (Ok opening) input = input_outcome opening.messages (answer_with line opening) input
+outcome_by line (Err said) input = said
 
 -- the outcome of a run over the files handed in, what comes of an index and an input
 abbrev pub outcome : Line → List SourceFile → Option (Result Contents IndexFault) → Text → Outcome
-outcome line files opened input = outcome_by (before_input line.verb line files opened) input
+outcome line files opened input = outcome_by line (before_input line.verb line files opened) input

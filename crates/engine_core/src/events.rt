@@ -1,12 +1,16 @@
 //! `events`: the messages, and then the answers to the blocks of the input.
 ghost use Rattle.std.specs.Prelude.{◌≡◌, Ok, IfOk, IfErr, None, Some, Result};
 ghost use Rattle.engine_ends.specs.Delivery.{Outcome};
+ghost use Rattle.engine_core.specs.Outcomes.{answer_with};
 ghost use Rattle.engine_core.specs.Runs.{RunsBy};
+ghost use Rattle.engine_reports.specs.Indexes.{entries_in};
 ghost use Rattle.engine_reports.specs.Openings.{OpeningValue, opening};
-ghost use Rattle.engine_reports.specs.Reports.{IsRefused};
+ghost use Rattle.engine_reports.specs.Reports.{IsRefused, shown_rules};
+ghost use Rattle.engine_sessions.specs.Serves.{AnswersAll};
 
 use crate::tables::Tables;
-use engine_ends::{Line, Sink, Source};
+use crate::told::ToldTables;
+use engine_ends::{Line, Sink, Source, tell_out_of_memory};
 use engine_reports::{Opening, Refusal, RulesRead, deliver_refusal, open_files, open_rules};
 use engine_sessions::answer_behind;
 use hwdb_lookup::Lookup;
@@ -26,50 +30,77 @@ pub(crate) fn serve_events<R: Source, W: Sink, E: Sink>(
     output: &mut W,
     error: &mut E,
 ) -> u8
-    ensures { RunsBy (opening line.now files.items opened.entry) result
+    ensures { RunsBy line.now (opening line.now files.items opened.entry) result
         (record { input = R.shown input.old; out = W.shown output.old; err = E.shown error.old })
         (record { input = R.shown input.new; out = W.shown output.new; err = E.shown error.new }) }
 {
     match opened {
         None => {
-            let tables = open_tables(alloc, line, files);
-            answer_over(alloc, tables, input, output, error)
+            let read = open_with_database(alloc, line, files);
+            answer_over(alloc, line, read, input, output, error)
         }
         Some(Ok(index)) => {
-            let tables = open_tables_over(alloc, line, files, index);
-            answer_over(alloc, tables, input, output, error)
+            let read = open_beside(alloc, line, files, index);
+            answer_over(alloc, line, read, input, output, error)
         }
         Some(Err(fault)) => deliver_refusal(Refusal::Index(fault), output, error),
     }
 }
 
-/// Writes the messages, answers the input by the tables, and gives the status to exit with; or writes
-/// why there are none.
+/// Writes the messages, answers the input by the rules and the database, and gives the status to exit
+/// with; or writes why there are none.
 fn answer_over<L: Lookup + Drop, R: Source, W: Sink, E: Sink>(
     alloc: Global,
-    tables: Result<(Vec<u8>, Tables<L>), Refusal>,
+    line: &Line<'_>,
+    read: Result<(RulesRead, L), Refusal>,
     input: &mut R,
     output: &mut W,
     error: &mut E,
 ) -> u8
-    ensures { (opened : Result OpeningValue Outcome) → IfOk tables (λ t. opened ≡ Ok (record { messages = t.0.items; rules = t.1.rules; entries = t.1.entries }))
-        → IfErr tables (λ e. IsRefused e opened) → RunsBy opened result
+    ensures { (opened : Result OpeningValue Outcome) → IfOk read (λ r. opened ≡ Ok (shown_rules r.0 (L.entries r.1)))
+        → IfErr read (λ e. IsRefused e opened) → RunsBy line.now opened result
         (record { input = R.shown input.old; out = W.shown output.old; err = E.shown error.old })
         (record { input = R.shown input.new; out = W.shown output.new; err = E.shown error.new }) }
 {
-    match tables {
-        Ok((messages, tables)) => answer_behind(alloc, &messages, &tables, input, output, error),
+    match read {
+        Ok((rules, lookup)) => answer_by_rules(alloc, line, rules, lookup, input, output, error),
         Err(refusal) => deliver_refusal(refusal, output, error),
     }
 }
 
-/// The messages about the files, and what events are answered by.
-fn open_tables(
+/// Writes the messages and answers the input: by the program of the rules, or where the line asks for
+/// sources by the rules as they were read.
+fn answer_by_rules<L: Lookup + Drop, R: Source, W: Sink, E: Sink>(
+    alloc: Global,
+    line: &Line<'_>,
+    read: RulesRead,
+    lookup: L,
+    input: &mut R,
+    output: &mut W,
+    error: &mut E,
+) -> u8
+    ensures { AnswersAll read.messages.items (answer_with line.now (shown_rules read (L.entries lookup))) result
+        (record { input = R.shown input.old; out = W.shown output.old; err = E.shown error.old })
+        (record { input = R.shown input.new; out = W.shown output.new; err = E.shown error.new }) }
+{
+    let RulesRead { messages, rules } = read;
+    if line.sources {
+        let tables = ToldTables::new(rules, lookup);
+        return answer_behind(alloc, &messages, &tables, input, output, error);
+    }
+    match Tables::new(alloc, rules, lookup) {
+        Ok(tables) => answer_behind(alloc, &messages, &tables, input, output, error),
+        Err(_) => tell_out_of_memory(error),
+    }
+}
+
+/// The rules and the messages about the files, and the database that these hold.
+fn open_with_database(
     alloc: Global,
     line: &Line<'_>,
     files: Vec<SourceFile>,
-) -> Result<(Vec<u8>, Tables<Trie>), Refusal>
-    ensures opening { IfOk result (λ r. opening line.now files.items None ≡ Ok (record { messages = r.0.items; rules = r.1.rules; entries = r.1.entries })) }
+) -> Result<(RulesRead, Trie), Refusal>
+    ensures opening { IfOk result (λ r. opening line.now files.items None ≡ Ok (shown_rules r.0 r.1.entries)) }
     ensures refused { IfErr result (λ e. IsRefused e (opening line.now files.items None)) }
 {
     let Opening {
@@ -78,21 +109,19 @@ fn open_tables(
         entries,
     } = open_files(alloc, line, files)?;
     let database = trie_of(alloc, entries)?;
-    let tables = Tables::new(alloc, rules, database)?;
-    Ok((messages, tables))
+    Ok((RulesRead { messages, rules }, database))
 }
 
 /// The same where the database is an index: of the files rules alone are read.
-fn open_tables_over<'a>(
+fn open_beside<'a>(
     alloc: Global,
     line: &Line<'_>,
     files: Vec<SourceFile>,
     index: Index<'a>,
-) -> Result<(Vec<u8>, Tables<Index<'a>>), Refusal>
-    ensures opening { IfOk result (λ r. opening line.now files.items (Some (Ok index.entry)) ≡ Ok (record { messages = r.0.items; rules = r.1.rules; entries = r.1.entries })) }
+) -> Result<(RulesRead, Index<'a>), Refusal>
+    ensures opening { IfOk result (λ r. opening line.now files.items (Some (Ok index.entry)) ≡ Ok (shown_rules r.0 (entries_in r.1))) }
     ensures refused { IfErr result (λ e. IsRefused e (opening line.now files.items (Some (Ok index.entry)))) }
 {
-    let RulesRead { messages, rules } = open_rules(alloc, line, files)?;
-    let tables = Tables::new(alloc, rules, index)?;
-    Ok((messages, tables))
+    let read = open_rules(alloc, line, files)?;
+    Ok((read, index))
 }

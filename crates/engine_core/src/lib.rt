@@ -9,6 +9,7 @@
 mod events;
 mod serving;
 mod tables;
+mod told;
 
 pub use engine_ends::{
     DeviceFault, Line, LineFault, MemorySink, MemorySource, Sink, SinkOver, Source, SourceOver,
@@ -18,3 +19,4 @@ pub use engine_sessions::{Answering, Session, SessionFault, Step, TurnFault, tur
 pub use index_reading::{Index, IndexFault};
 pub use serving::serve;
 pub use tables::Tables;
+pub use told::ToldTables;

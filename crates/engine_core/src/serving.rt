@@ -56,7 +56,7 @@ fn serve_opened<R: Source, W: Sink, E: Sink>(
     output: &mut W,
     error: &mut E,
 ) -> u8
-    ensures runs { RunsBy (before_input line.now.verb line.now files.items opened.entry) result
+    ensures runs { RunsBy line.now (before_input line.now.verb line.now files.items opened.entry) result
         (record { input = R.shown input.old; out = W.shown output.old; err = E.shown error.old })
         (record { input = R.shown input.new; out = W.shown output.new; err = E.shown error.new }) }
     ensures untouched { (line.now.verb ≡ Verb.Events → ⊥) → input.new ≡ input.old }

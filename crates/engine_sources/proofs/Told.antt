@@ -7,10 +7,11 @@ use Rattle.rule_types.specs.Rules.{Rule}
 use Rattle.eval_rules.specs.declared.outcome.Command.{Command}
 use Rattle.eval_rules.specs.declared.outcome.Outcome.{Outcome}
 use Rattle.eval_sources.specs.Sources.{Kept, Source, Stage, Tells, source_in, source_of}
-use Rattle.engine_sources.specs.Answers.{sourced_lines}
+use Rattle.engine_sources.specs.Answers.{lines_behind}
+use Rattle.engine_sources.specs.Lines.{source_part}
 
 pub lines_are : (stages : List Stage) (held : List (Text × Kept)) (event : EventValue) (outcome : Outcome) (commands : List (Command × Rule)) → Tells stages held
-    → sourced_lines (source_in held None) event outcome commands ≡ sourced_lines (source_of stages) event outcome commands
+    → lines_behind source_part (source_in held None) event outcome commands ≡ lines_behind source_part (source_of stages) event outcome commands
 unfolding Tells
 lines_are stages held event outcome commands h =
-    let same : source_in held None ≡ source_of stages = λ i item. h item i in ap (λ (source : Pair → Source). sourced_lines source event outcome commands) same
+    let same : source_in held None ≡ source_of stages = λ i item. h item i in ap (λ (source : Pair → Source). lines_behind source_part source event outcome commands) same

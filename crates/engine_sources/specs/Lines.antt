@@ -1,4 +1,4 @@
--- The lines of an answer, each behind the rule that it comes from.
+-- The lines of an answer, each behind a part on the rule that it comes from.
 use Rattle.std.specs.Prelude.{ℤ, Bool, true, false, cond, List, [], ◌∷◌, ◌++◌, Option, Some, None, codes, flat_map}
 use Rattle.std.specs.Fmt.{signed_decimal}
 use Rattle.text_tables.specs.Texts.{Text}
@@ -15,18 +15,18 @@ abbrev pub source_part : Source → Text
 source_part None = codes "-: "
 source_part (Some r) = place_of r.file r.line
 
--- the line of a command, behind the rule that added it
-unfoldable pub command_line : Command × Rule → Text
-command_line found = source_part (Some found.1) ++ run_line found.0.kind found.0.text
+-- the line of a command, behind the part on the rule that added it
+unfoldable pub command_line : (Source → Text) → Command × Rule → Text
+command_line part found = part (Some found.1) ++ run_line found.0.kind found.0.text
 
 -- the lines of commands
-abbrev pub command_lines : List (Command × Rule) → Text
-command_lines commands = flat_map command_line commands
+abbrev pub command_lines : (Source → Text) → List (Command × Rule) → Text
+command_lines part commands = flat_map (command_line part) commands
 
-module _ (source : Pair → Source) where
+module _ (part : Source → Text) (source : Pair → Source) where
   -- a line with a text that is an item of its word
   unfoldable pub word_line : Text → Text → Text
-  word_line word text = source_part (source (word, text)) ++ text_line word text
+  word_line word text = part (source (word, text)) ++ text_line word text
 
   -- the same of a text that may not be there
   abbrev pub given_line : Text → Option Text → Text
@@ -35,7 +35,7 @@ module _ (source : Pair → Source) where
 
   -- a line with a text that is one of several
   unfoldable pub member_line : Text → Text → Text
-  member_line word text = source_part (source (item_name word text, [])) ++ text_line word text
+  member_line word text = part (source (item_name word text, [])) ++ text_line word text
 
   -- a line for each of several texts
   abbrev pub member_lines : Text → List Text → Text
@@ -43,7 +43,7 @@ module _ (source : Pair → Source) where
 
   -- a line with a name and its value
   unfoldable pub value_line : Text → Pair → Text
-  value_line word pair = source_part (source (item_name word pair.0, pair.1)) ++ pair_line word pair
+  value_line word pair = part (source (item_name word pair.0, pair.1)) ++ pair_line word pair
 
   -- a line for each of several names with their values
   abbrev pub value_lines : Text → List Pair → Text
@@ -60,14 +60,14 @@ module _ (source : Pair → Source) where
   -- the line of a priority, where one was assigned
   abbrev pub sourced_priority : Option ℤ → Text
   sourced_priority None = []
-  sourced_priority (Some priority) = source_part (source (codes "priority", signed_decimal priority)) ++ priority_line (Some priority)
+  sourced_priority (Some priority) = part (source (codes "priority", signed_decimal priority)) ++ priority_line (Some priority)
 
   -- the line on watching, where it was assigned
   abbrev pub sourced_watch : Option Bool → Text
   sourced_watch None = []
-  sourced_watch (Some watched) = source_part (source (watch_word watched, [])) ++ watch_line (Some watched)
+  sourced_watch (Some watched) = part (source (watch_word watched, [])) ++ watch_line (Some watched)
 
   -- the line of what stays in the database
   abbrev pub sourced_persist : Bool → Text
-  sourced_persist true = source_part (source (codes "persist", [])) ++ persist_line true
+  sourced_persist true = part (source (codes "persist", [])) ++ persist_line true
   sourced_persist false = []

@@ -1,7 +1,8 @@
-//! The whole answer.
+//! The lines of a whole answer.
 ghost use Rattle.std.specs.Prelude.{◌≡◌, ◌++◌, None, IfOk, OnOk};
 ghost use Rattle.eval_sources.specs.Sources.{source_in};
-ghost use Rattle.engine_sources.specs.Answers.{sourced_answer, sourced_lines, sourced_node};
+ghost use Rattle.engine_sources.specs.Answers.{lines_behind, sourced_lines, sourced_node};
+ghost use Rattle.engine_sources.specs.Lines.{source_part};
 
 use crate::lines::{push_given, push_sourced_persist, push_sourced_priority, push_sourced_watch};
 use crate::lists::{push_commands, push_env, push_members, push_values};
@@ -12,7 +13,6 @@ use eval_sources::{Sourced, Sources, evaluate_sources};
 use hwdb_lookup::Lookup;
 use rule_core::RuleSet;
 use std::alloc::{AllocError, Global};
-use text_bytes::Bytes;
 
 /// Puts the lines on the device's node behind others.
 #[tactic(auto, unfolding(crate::specs::Answers::sourced_node))]
@@ -22,7 +22,7 @@ fn push_node(
     sources: &Sources<'_>,
     outcome: &Outcome,
 ) -> Result<(), AllocError>
-    ensures { OnOk result (lines.new.items ≡ lines.old.items ++ sourced_node (source_in sources.now None) outcome.now) }
+    ensures { OnOk result (lines.new.items ≡ lines.old.items ++ sourced_node source_part (source_in sources.now None) outcome.now) }
 {
     push_given(alloc, lines, sources, b"name", &outcome.name)?;
     push_given(alloc, lines, sources, b"owner", &outcome.owner)?;
@@ -34,9 +34,9 @@ fn push_node(
 }
 
 /// The lines of what an event comes to, each behind where it comes from.
-#[tactic(auto, unfolding(crate::specs::Answers::sourced_lines))]
-fn lines_of(alloc: Global, event: &Event<'_>, found: &Sourced<'_>) -> Result<Bytes, AllocError>
-    ensures { IfOk result (λ text. text ≡ sourced_lines (source_in found.now.sources None) event.now found.now.outcome found.now.commands.items) }
+#[tactic(auto, unfolding(crate::specs::Answers::lines_behind))]
+fn lines_of(alloc: Global, event: &Event<'_>, found: &Sourced<'_>) -> Result<Vec<u8>, AllocError>
+    ensures { IfOk result (λ lines. lines.items ≡ lines_behind source_part (source_in found.now.sources None) event.now found.now.outcome found.now.commands.items) }
 {
     let mut lines = Vec::new(alloc);
     let sources = &found.sources;
@@ -51,18 +51,17 @@ fn lines_of(alloc: Global, event: &Event<'_>, found: &Sourced<'_>) -> Result<Byt
     push_values(alloc, &mut lines, sources, b"sysctl", &outcome.sysctls)?;
     push_commands(alloc, &mut lines, &found.commands)?;
     push_notes(alloc, &mut lines, &outcome.notes)?;
-    lines.push(b'\n')?;
-    Ok(Bytes::new(lines))
+    Ok(lines)
 }
 
 /// The same, where rules and event are lent for one time.
-fn answer_for<'a, L: Lookup>(
+fn lines_for<'a, L: Lookup>(
     alloc: Global,
     rules: &'a RuleSet,
     event: &'a Event<'_>,
     lookup: &L,
-) -> Result<Bytes, AllocError>
-    ensures { IfOk result (λ text. text ≡ sourced_answer rules.now.rules (L.entries lookup.now) event.now) }
+) -> Result<Vec<u8>, AllocError>
+    ensures { IfOk result (λ lines. lines.items ≡ sourced_lines rules.now.rules (L.entries lookup.now) event.now) }
 {
     let found = evaluate_sources(alloc, rules, event, lookup)?;
     let said = lines_of(alloc, event, &found);
@@ -70,15 +69,15 @@ fn answer_for<'a, L: Lookup>(
     said
 }
 
-/// The answer to an event by the rules as they are read, with the rule that each line comes from before it. The first
-/// line and those of notes stay as they are. The error comes where memory is refused.
-pub fn sourced_answer<L: Lookup>(
+/// The lines of the answer to an event by the rules as they are read, each behind the place of the rule that it comes
+/// from. The first line and those of notes stay as they are. The error comes where memory is refused.
+pub fn sourced_lines<L: Lookup>(
     alloc: Global,
     rules: &RuleSet,
     event: &Event<'_>,
     lookup: &L,
-) -> Result<Bytes, AllocError>
-    ensures { IfOk result (λ text. text ≡ sourced_answer rules.now.rules (L.entries lookup.now) event.now) }
+) -> Result<Vec<u8>, AllocError>
+    ensures { IfOk result (λ lines. lines.items ≡ sourced_lines rules.now.rules (L.entries lookup.now) event.now) }
 {
-    answer_for(alloc, rules, event, lookup)
+    lines_for(alloc, rules, event, lookup)
 }

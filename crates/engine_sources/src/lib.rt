@@ -8,4 +8,4 @@ mod answers;
 mod lines;
 mod lists;
 
-pub use answers::sourced_answer;
+pub use answers::sourced_lines;

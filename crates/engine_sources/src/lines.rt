@@ -46,7 +46,7 @@ fn push_word(
     word: &[u8],
     text: &[u8],
 ) -> Result<(), AllocError>
-    ensures { OnOk result (lines.new.items ≡ lines.old.items ++ word_line (source_in sources.now None) word.now text.now) }
+    ensures { OnOk result (lines.new.items ≡ lines.old.items ++ word_line source_part (source_in sources.now None) word.now text.now) }
 {
     push_source(alloc, lines, sources, word, text)?;
     push_text(alloc, lines, word, text)
@@ -60,7 +60,7 @@ pub(crate) fn push_given(
     word: &[u8],
     text: &Option<Bytes>,
 ) -> Result<(), AllocError>
-    ensures { OnOk result (lines.new.items ≡ lines.old.items ++ given_line (source_in sources.now None) word.now text.now) }
+    ensures { OnOk result (lines.new.items ≡ lines.old.items ++ given_line source_part (source_in sources.now None) word.now text.now) }
 {
     match text {
         Some(text) => push_word(alloc, lines, sources, word, text.as_slice()),
@@ -77,7 +77,7 @@ pub(crate) fn push_member(
     word: &[u8],
     text: &[u8],
 ) -> Result<(), AllocError>
-    ensures { OnOk result (lines.new.items ≡ lines.old.items ++ member_line (source_in sources.now None) word.now text.now) }
+    ensures { OnOk result (lines.new.items ≡ lines.old.items ++ member_line source_part (source_in sources.now None) word.now text.now) }
 {
     let name = item_name(alloc, word, text)?;
     push_source(alloc, lines, sources, name.as_slice(), b"")?;
@@ -94,7 +94,7 @@ pub(crate) fn push_value(
     name: &[u8],
     value: &[u8],
 ) -> Result<(), AllocError>
-    ensures { OnOk result (lines.new.items ≡ lines.old.items ++ value_line (source_in sources.now None) word.now (name.now, value.now)) }
+    ensures { OnOk result (lines.new.items ≡ lines.old.items ++ value_line source_part (source_in sources.now None) word.now (name.now, value.now)) }
 {
     let item = item_name(alloc, word, name)?;
     push_source(alloc, lines, sources, item.as_slice(), value)?;
@@ -109,7 +109,7 @@ pub(crate) fn push_shown(
     name: &[u8],
     value: &[u8],
 ) -> Result<(), AllocError>
-    ensures { OnOk result (lines.new.items ≡ lines.old.items ++ shown_value_line (source_in sources.now None) (name.now, value.now)) }
+    ensures { OnOk result (lines.new.items ≡ lines.old.items ++ shown_value_line source_part (source_in sources.now None) (name.now, value.now)) }
 {
     if is_hidden(name) {
         return Ok(());
@@ -124,7 +124,7 @@ pub(crate) fn push_sourced_priority(
     sources: &Sources<'_>,
     priority: Option<i32>,
 ) -> Result<(), AllocError>
-    ensures { OnOk result (lines.new.items ≡ lines.old.items ++ sourced_priority (source_in sources.now None) priority) }
+    ensures { OnOk result (lines.new.items ≡ lines.old.items ++ sourced_priority source_part (source_in sources.now None) priority) }
 {
     let Some(number) = priority else {
         return Ok(());
@@ -149,7 +149,7 @@ pub(crate) fn push_sourced_watch(
     sources: &Sources<'_>,
     watch: Option<bool>,
 ) -> Result<(), AllocError>
-    ensures { OnOk result (lines.new.items ≡ lines.old.items ++ sourced_watch (source_in sources.now None) watch) }
+    ensures { OnOk result (lines.new.items ≡ lines.old.items ++ sourced_watch source_part (source_in sources.now None) watch) }
 {
     let Some(watched) = watch else {
         return Ok(());
@@ -165,7 +165,7 @@ pub(crate) fn push_sourced_persist(
     sources: &Sources<'_>,
     persist: bool,
 ) -> Result<(), AllocError>
-    ensures { OnOk result (lines.new.items ≡ lines.old.items ++ sourced_persist (source_in sources.now None) persist) }
+    ensures { OnOk result (lines.new.items ≡ lines.old.items ++ sourced_persist source_part (source_in sources.now None) persist) }
 {
     if !persist {
         return Ok(());
@@ -181,7 +181,7 @@ pub(crate) fn push_command(
     lines: &mut Vec<u8>,
     found: &SourcedCommand<'_>,
 ) -> Result<(), AllocError>
-    ensures { OnOk result (lines.new.items ≡ lines.old.items ++ command_line found.now) }
+    ensures { OnOk result (lines.new.items ≡ lines.old.items ++ command_line source_part found.now) }
 {
     push_rule(alloc, lines, Some(found.rule()))?;
     let command = found.command();

@@ -1,7 +1,7 @@
 //! A line for each member of a list, behind the rule that it comes from.
 ghost use Rattle.std.specs.Prelude.{◌≡◌, ◌++◌, None, OnOk};
 ghost use Rattle.eval_sources.specs.Sources.{source_in};
-ghost use Rattle.engine_sources.specs.Lines.{command_lines, env_value_lines, member_lines, value_lines};
+ghost use Rattle.engine_sources.specs.Lines.{command_lines, env_value_lines, member_lines, source_part, value_lines};
 
 use crate::lines::{push_command, push_member, push_shown, push_value};
 use eval_sources::{SourcedCommand, Sources};
@@ -16,7 +16,7 @@ pub(crate) fn push_members(
     word: &[u8],
     texts: &OwnedTexts,
 ) -> Result<(), AllocError>
-    ensures { OnOk result (lines.new.items ≡ lines.old.items ++ member_lines (source_in sources.now None) word.now texts.now) }
+    ensures { OnOk result (lines.new.items ≡ lines.old.items ++ member_lines source_part (source_in sources.now None) word.now texts.now) }
 {
     for text in texts.as_slice() {
         push_member(alloc, lines, sources, word, text)?;
@@ -32,7 +32,7 @@ pub(crate) fn push_values(
     word: &[u8],
     pairs: &OwnedPairs,
 ) -> Result<(), AllocError>
-    ensures { OnOk result (lines.new.items ≡ lines.old.items ++ value_lines (source_in sources.now None) word.now pairs.now) }
+    ensures { OnOk result (lines.new.items ≡ lines.old.items ++ value_lines source_part (source_in sources.now None) word.now pairs.now) }
 {
     for (name, value) in pairs.as_map().iter() {
         push_value(alloc, lines, sources, word, name, value.as_slice())?;
@@ -47,7 +47,7 @@ pub(crate) fn push_env(
     sources: &Sources<'_>,
     pairs: &OwnedPairs,
 ) -> Result<(), AllocError>
-    ensures { OnOk result (lines.new.items ≡ lines.old.items ++ env_value_lines (source_in sources.now None) pairs.now) }
+    ensures { OnOk result (lines.new.items ≡ lines.old.items ++ env_value_lines source_part (source_in sources.now None) pairs.now) }
 {
     for (name, value) in pairs.as_map().iter() {
         push_shown(alloc, lines, sources, name, value.as_slice())?;
@@ -61,7 +61,7 @@ pub(crate) fn push_commands(
     lines: &mut Vec<u8>,
     commands: &[SourcedCommand<'_>],
 ) -> Result<(), AllocError>
-    ensures { OnOk result (lines.new.items ≡ lines.old.items ++ command_lines commands.now) }
+    ensures { OnOk result (lines.new.items ≡ lines.old.items ++ command_lines source_part commands.now) }
 {
     for found in commands {
         push_command(alloc, lines, found)?;

@@ -16,7 +16,7 @@ use Rattle.eval_rules.specs.Outcomes.{outcome}
 use Rattle.eval_rules.specs.declared.outcome.Outcome.{Outcome}
 use Rattle.eval_laws.specs.Weights.{command_weight, note_weight, outcome_weight}
 use Rattle.engine_answers.specs.Lines.{event_line, note_line, pair_line, run_line, shown_line, text_line}
-use Rattle.engine_answers.specs.Answers.{answer}
+use Rattle.engine_answers.specs.Answers.{answer, answer_lines}
 use Rattle.eval_laws.proofs.Lines.{escape_short, line_length, lines_short, note_line_short, pair_line_short, run_line_short, shown_line_short, text_line_short}
 use Rattle.eval_laws.proofs.Nodes.{behind, node_short}
 use Rattle.eval_laws.proofs.Priorities.{outcome_small}
@@ -38,7 +38,7 @@ event_line_short event =
     omega (arith, a, b, c, d, e, f)
 
 pub answer_short : (event : EventValue) (o : Outcome) → IfSome o.priority (λ z. unsigned_abs z ≤ 2 ^ 31) → length (answer event o) ≤ 8 * outcome_weight o + 4 * event_weight event + 64
-unfolding answer outcome_weight
+unfolding answer_lines outcome_weight
 answer_short event o fits =
     let head = behind _ _ _ _ (event_line_short event) (node_short o fits) in
     let labels = behind _ _ _ _ head (lines_short pair_weight (pair_line (codes "label")) (λ p. pair_line_short (codes "label") p (omega arith)) o.labels) in

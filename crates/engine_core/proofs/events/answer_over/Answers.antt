@@ -6,4 +6,4 @@ use Rattle.engine_core.proofs.events.answer_over.Goals as goal
 pub returns-in-Err : goal.returns-in-Err
 returns-in-Err g c opened is_opened is_refused =
     let refused = subst (λ t. IfErr t (λ e. IsRefused e opened)) c.in-Err.is is_refused in
-    refused_runs c.in-Err.refusal opened _ _ _ refused c.deliver_refusal.ensures.delivers c.deliver_refusal.ensures.faults c.deliver_refusal.ensures.memory refl
+    refused_runs c.args.line.now c.in-Err.refusal opened _ _ _ refused c.deliver_refusal.ensures.delivers c.deliver_refusal.ensures.faults c.deliver_refusal.ensures.memory refl

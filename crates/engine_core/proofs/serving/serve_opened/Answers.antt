@@ -8,15 +8,15 @@ use Rattle.engine_core.proofs.serving.serve_opened.Goals as goal
 
 pub returns-in-Query-clause-runs : goal.returns-in-Query-clause-runs
 returns-in-Query-clause-runs g c =
-    report_runs _ (query_over c.args.line.now c.args.files.items c.args.opened) c.report_on_query.result _ _ _ (ap (λ v. before_input v c.args.line.now c.args.files.items c.args.opened) c.in-Query.is)
+    report_runs c.args.line.now _ (query_over c.args.line.now c.args.files.items c.args.opened) c.report_on_query.result _ _ _ (ap (λ v. before_input v c.args.line.now c.args.files.items c.args.opened) c.in-Query.is)
     c.deliver_report.ensures.delivers c.deliver_report.ensures.faults (record { says = c.report_on_query.ensures.said; refused = c.report_on_query.ensures.refused }) refl
 
 pub returns-in-Update-clause-runs : goal.returns-in-Update-clause-runs
 returns-in-Update-clause-runs g c =
-    report_runs _ (database_outcome (update_outcome c.args.line.now) (files_read Hwdb c.args.line.now c.args.files.items)) c.report_on_update.result _ _ _ (ap (λ v. before_input v c.args.line.now c.args.files.items c.args.opened) c.in-Update.is)
+    report_runs c.args.line.now _ (database_outcome (update_outcome c.args.line.now) (files_read Hwdb c.args.line.now c.args.files.items)) c.report_on_update.result _ _ _ (ap (λ v. before_input v c.args.line.now c.args.files.items c.args.opened) c.in-Update.is)
     c.deliver_report-in-Update.ensures.delivers c.deliver_report-in-Update.ensures.faults (record { says = c.report_on_update.ensures.said; refused = c.report_on_update.ensures.refused }) refl
 
 pub returns-in-Verify-clause-runs : goal.returns-in-Verify-clause-runs
 returns-in-Verify-clause-runs g c =
-    report_runs _ (verify_outcome c.args.line.now c.args.files.items) c.report_on_rules.result _ _ _ (ap (λ v. before_input v c.args.line.now c.args.files.items c.args.opened) c.in-Verify.is)
+    report_runs c.args.line.now _ (verify_outcome c.args.line.now c.args.files.items) c.report_on_rules.result _ _ _ (ap (λ v. before_input v c.args.line.now c.args.files.items c.args.opened) c.in-Verify.is)
     c.deliver_report-in-Verify.ensures.delivers c.deliver_report-in-Verify.ensures.faults (record { says = c.report_on_rules.ensures.said; refused = c.report_on_rules.ensures.refused }) refl

@@ -3,15 +3,16 @@ use Rattle.std.proofs.lemmas.Result.{IfOk-weaker}
 use Rattle.eval_rules.specs.Outcomes.{outcome}
 use Rattle.eval_sources.specs.Sources.{source_of}
 use Rattle.eval_sources.specs.Told.{stages}
-use Rattle.engine_sources.specs.Answers.{sourced_lines}
+use Rattle.engine_sources.specs.Answers.{lines_behind}
+use Rattle.engine_sources.specs.Lines.{source_part}
 use Rattle.engine_sources.proofs.Told.{lines_are}
-use Rattle.engine_sources.proofs.answers.answer_for.Goals as goal
+use Rattle.engine_sources.proofs.answers.lines_for.Goals as goal
 
 pub returns : goal.returns
 returns g c =
     let source = source_of (stages c.args.rules.now.rules (g.L.Lookup.entries c.args.lookup.now) c.args.event.now) in
     let rest =
     lines_are _ _ c.args.event.now c.in_ok-found.found.outcome c.in_ok-found.found.commands.items c.in_ok-found.ensures.sources
-    ∙ ap (λ o. sourced_lines source c.args.event.now o c.in_ok-found.found.commands.items) c.in_ok-found.ensures.outcome
-    ∙ ap (sourced_lines source c.args.event.now (outcome c.args.rules.now.rules (g.L.Lookup.entries c.args.lookup.now) c.args.event.now)) c.in_ok-found.ensures.commands in
-    IfOk-weaker c.lines_of-said.result _ _ (λ text e. e ∙ rest) c.lines_of-said.ensures
+    ∙ ap (λ o. lines_behind source_part source c.args.event.now o c.in_ok-found.found.commands.items) c.in_ok-found.ensures.outcome
+    ∙ ap (lines_behind source_part source c.args.event.now (outcome c.args.rules.now.rules (g.L.Lookup.entries c.args.lookup.now) c.args.event.now)) c.in_ok-found.ensures.commands in
+    IfOk-weaker c.lines_of-said.result _ _ (λ lines e. e ∙ rest) c.lines_of-said.ensures

@@ -1,0 +1,5 @@
+pub mod Shown
+pub mod Named
+pub mod Since
+pub mod Changes
+pub mod Effects

@@ -4,3 +4,4 @@ pub mod Since
 pub mod Changes
 pub mod Effects
 pub mod Inner
+pub mod Laws

@@ -47,11 +47,7 @@ fn note_left(count: usize, scene: &Scene<'_>) -> Option<NoteKind>
 }
 
 /// All that changed since so much stood.
-fn changes(
-    alloc: Global,
-    was: &Standing<'_>,
-    scene: &Scene<'_>,
-) -> Result<Vec<Bytes>, AllocError>
+fn changes(alloc: Global, was: &Standing<'_>, scene: &Scene<'_>) -> Result<Vec<Bytes>, AllocError>
     ensures { IfOk result (λ told. told.items ≡ changes was.now scene.now) }
 {
     let mut told = Vec::new(alloc);
@@ -93,9 +89,7 @@ fn made_text(
 {
     match note_left(was.notes(), scene) {
         Some(NoteKind::TextTooLong) => said_of(alloc, change, b" left out, too long"),
-        Some(NoteKind::NameIgnored) => {
-            Bytes::copy_of(alloc, b"NAME ignored, no network device")
-        }
+        Some(NoteKind::NameIgnored) => { Bytes::copy_of(alloc, b"NAME ignored, no network device") }
         _ => changed_text(alloc, change, &changes(alloc, was, scene)?),
     }
 }

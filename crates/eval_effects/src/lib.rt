@@ -7,6 +7,7 @@
 
 mod changes;
 mod effects;
+mod laws;
 mod named;
 mod runs;
 mod shown;
@@ -14,6 +15,7 @@ mod since;
 mod standing;
 
 pub use effects::end_told;
+pub use laws::{final_since_the_first_rule, notes_tell_what_is_left_out};
 pub use named::{push_key, push_rule};
 pub use shown::{push_joined, push_shortened, push_shown};
-pub use since::{Since, final_since_the_first_rule};
+pub use since::Since;

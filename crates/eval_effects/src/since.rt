@@ -1,8 +1,6 @@
 //! Since which rule each key is final.
-ghost use Rattle.std.specs.Prelude.{◌≡◌, List, find, option_map, unwrap_or};
-ghost use Rattle.rule_types.specs.Rules as rules;
-ghost use Rattle.eval_state.specs.Finals.{is_final};
-ghost use Rattle.eval_effects.specs.Since.{no_since, since_behind, since_either, since_of, since_over};
+ghost use Rattle.std.specs.Prelude.{◌≡◌, option_map, unwrap_or};
+ghost use Rattle.eval_effects.specs.Since.{no_since, since_behind, since_either, since_of};
 
 use eval_state::{FinalKey, Finals};
 use rule_types::Rule;
@@ -41,22 +39,12 @@ impl<'a> Model for Since<'a> {
 
 /// The rule since which a key is final behind one rule more: the one that is known, or that rule where the key is final
 /// now.
-fn since_either<'a>(
-    first: Option<&'a Rule>,
-    is_final: bool,
-    rule: &'a Rule,
-) -> Option<&'a Rule>
+fn since_either<'a>(first: Option<&'a Rule>, is_final: bool, rule: &'a Rule) -> Option<&'a Rule>
     ensures { option_map (λ r. r.now) result ≡ since_either (option_map (λ r. r.now) first.entry) is_final rule.now }
 {
     match first {
         Some(first) => Some(first),
-        None => {
-            if is_final {
-                Some(rule)
-            } else {
-                None
-            }
-        }
+        None => { if is_final { Some(rule) } else { None } }
     }
 }
 
@@ -117,8 +105,3 @@ impl<'a> Since<'a> {
         }
     }
 }
-
-/// A key is final since the first rule behind which it is final. The function is empty: its contract is the law.
-pub fn final_since_the_first_rule()
-    ensures { (stages : List (rules.Rule × Finals)) (key : FinalKey) → since_of (since_over stages) key ≡ option_map (λ stage. stage.0) (find (λ stage. is_final stage.1 key) stages) }
-{}

@@ -29,12 +29,7 @@ fn copied<'a>(alloc: Global, runs: &[Run<'a>]) -> Result<Vec<Run<'a>>, AllocErro
 {
     let mut copy = Vec::with_capacity(alloc, runs.len())?;
     for run in runs {
-        copy.push(Run::new(
-            run.rule(),
-            run.braces(),
-            run.template(),
-            run.selected(),
-        ))?;
+        copy.push(Run::new(run.rule(), run.braces(), run.template(), run.selected()))?;
     }
     Ok(copy)
 }

@@ -28,15 +28,15 @@ tells_none s t same = ap (λ notes. option_map (λ (note : Note). note.kind) (sl
 
 pub tells_too_long : TellsTooLong
 unfolding set_step
-tells_too_long r o about template s open long =
-    ap (note_left (length s.notes)) (ap (λ b. cond b s (step_by r o (change.Text about template) s)) open ∙ ap (λ given. text_set r (escape_of r.sets) o about given s) long)
+tells_too_long r o about template s free long =
+    ap (note_left (length s.notes)) (ap (λ b. cond b s (step_by r o (change.Text about template) s)) free ∙ ap (λ given. text_set r (escape_of r.sets) o about given s) long)
     ∙ ap (option_map (λ (note : Note). note.kind)) (one_behind s.notes (note_about r TextTooLong (word_of_key (key_of_target about) (attribute_of_target about))))
 
 pub tells_ignored : TellsIgnored
 unfolding set_step
-tells_ignored r o about template s t open made no =
+tells_ignored r o about template s t free made ignored =
     ap (note_left (length s.notes))
-    (ap (λ b. cond b s (step_by r o (change.Text about template) s)) open
+    (ap (λ b. cond b s (step_by r o (change.Text about template) s)) free
     ∙ ap (λ given. text_set r (escape_of r.sets) o about given s) made
-    ∙ ap (λ b. cond b (noted r NameIgnored t s) (finally o (final_target about) (assigned r (escape_of r.sets) o about t s))) no)
+    ∙ ap (λ b. cond b (noted r NameIgnored t s) (finally o (final_target about) (assigned r (escape_of r.sets) o about t s))) ignored)
     ∙ ap (option_map (λ (note : Note). note.kind)) (one_behind s.notes (note_about r NameIgnored t))

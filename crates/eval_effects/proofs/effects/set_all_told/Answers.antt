@@ -1,4 +1,4 @@
-use Rattle.std.proofs.Common.{◌≡◌, ◌+◌, ◌∙◌, ◌∷◌, ◌++◌, [], List, ap, drop, fold, sym}
+use Rattle.std.proofs.Common.{◌≡◌, ◌+◌, ◌∙◌, ◌++◌, List, ap, drop, fold, sym}
 use Rattle.std.proofs.lemmas.List.{drop_more}
 use Rattle.text_tables.specs.Texts.{Text}
 use Rattle.rule_types.specs.declared.part.Assignment.{Assignment}

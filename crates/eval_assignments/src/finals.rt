@@ -32,7 +32,7 @@ pub(crate) fn final_option(option: RuleOption) -> Option<FinalKey>
 }
 
 /// The key of an assignment that `:=` makes final, if there is one.
-pub(crate) fn final_key(change: &Change) -> Option<FinalKey>
+pub fn final_key(change: &Change) -> Option<FinalKey>
     ensures { result ≡ final_key change.now }
 {
     match change {

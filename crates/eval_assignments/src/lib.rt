@@ -14,4 +14,5 @@ mod properties;
 mod step;
 
 pub use escapes::Escape;
-pub use step::set_all;
+pub use finals::final_key;
+pub use step::{set_all, set_one};

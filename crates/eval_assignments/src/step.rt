@@ -169,3 +169,23 @@ pub fn set_all<'a>(alloc: Global, rule: &'a Rule, scene: &mut Scene<'a>) -> Resu
     }
     made
 }
+
+/// Makes one assignment of a rule, unless its key is final, as `set_all` makes each of them. How the rule treats bytes is
+/// looked for anew.
+///
+/// The error comes where memory is refused; nothing is then left of the scene but its event.
+pub fn set_one<'a>(
+    alloc: Global,
+    rule: &'a Rule,
+    assignment: &'a Assignment,
+    scene: &mut Scene<'a>,
+) -> Result<(), AllocError>
+    ensures scene { OnOk result (scene.new ≡ set_step rule.now scene.old assignment.now) }
+    ensures refused { OnErr result (scene.new ≡ blank scene.old.state.event) }
+{
+    let made = set_open(alloc, rule, escape_of(rule.sets()), assignment, scene);
+    if made.is_err() {
+        scene.clear(alloc);
+    }
+    made
+}

@@ -12,7 +12,7 @@ use text_tables::{OwnedPairs, OwnedTexts};
 /// Something that stands in a scene: its name is the word of its line, behind which stands what it is about, where several
 /// items have the word.
 #[derive(Drop)]
-pub(crate) struct Item {
+pub struct Item {
     name: Bytes,
     value: Bytes,
 }
@@ -26,6 +26,20 @@ impl Model for Item {
 }
 
 impl Item {
+    /// Lends its name.
+    pub fn name(&self) -> &[u8]
+        ensures { result.now ≡ self.now.0 }
+    {
+        self.name.as_slice()
+    }
+
+    /// Lends its value; empty where a name says all.
+    pub fn value(&self) -> &[u8]
+        ensures { result.now ≡ self.now.1 }
+    {
+        self.value.as_slice()
+    }
+
     /// Gives up the item for its name and its value.
     pub(crate) fn into_parts(self) -> (Bytes, Bytes)
         ensures { result ≡ self }
@@ -185,7 +199,7 @@ fn push_node(alloc: Global, items: &mut Vec<Item>, scene: &Scene<'_>) -> Result<
 
 /// All items of a scene. The error comes where memory is refused.
 #[tactic(auto, unfolding(crate::specs::Items::items))]
-pub(crate) fn items(alloc: Global, scene: &Scene<'_>) -> Result<Vec<Item>, AllocError>
+pub fn items_of(alloc: Global, scene: &Scene<'_>) -> Result<Vec<Item>, AllocError>
     ensures { IfOk result (λ found. found.items ≡ items scene.now) }
 {
     let mut found = Vec::new(alloc);

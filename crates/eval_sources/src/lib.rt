@@ -13,5 +13,5 @@ mod telling;
 
 pub use commands::SourcedCommand;
 pub use evaluating::{Sourced, evaluate_sources};
-pub use items::item_name;
+pub use items::{Item, item_name, items_of};
 pub use sources::Sources;

@@ -7,7 +7,7 @@ ghost use Rattle.eval_sources.specs.Inner.{GoesOn, Keeps, can_change};
 ghost use Rattle.eval_sources.specs.Sources.{Tells};
 ghost use Rattle.eval_sources.specs.Told.{stages_over};
 
-use crate::items::items;
+use crate::items::items_of;
 use crate::sources::Sources;
 use eval_rules::{apply, is_passed, sought_after};
 use eval_state::Scene;
@@ -26,7 +26,7 @@ fn can_change(reached: bool, rule: &Rule) -> bool
 pub(crate) fn begin<'a>(alloc: Global, scene: &Scene<'_>) -> Result<Sources<'a>, AllocError>
     ensures { IfOk result (λ kept. Keeps ((None, items scene.now) ∷ []) (items scene.now) kept) }
 {
-    let items = items(alloc, scene)?;
+    let items = items_of(alloc, scene)?;
     let mut sources = Sources::new(alloc);
     sources.tell(alloc, None, items)?;
     Ok(sources)
@@ -47,7 +47,7 @@ fn step<'a, L: Lookup>(
     if !can_change(reached, rule) {
         return Ok(reached);
     }
-    let items = items(alloc, scene)?;
+    let items = items_of(alloc, scene)?;
     sources.tell(alloc, Some(rule), items)?;
     Ok(reached)
 }

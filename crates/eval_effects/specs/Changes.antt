@@ -1,0 +1,76 @@
+-- What changed between two scenes, as texts: items that stand only since then or no longer, and RUNs.
+use Rattle.std.specs.Prelude.{ℕ, ◌||◌, if◌then◌else◌, Bool, List, [], ◌∷◌, ◌++◌, is_some, length, codes, flat_map}
+use Rattle.std.specs.List.{list_any}
+use Rattle.text_bytes.specs.Names.{equals, space}
+use Rattle.text_bytes.specs.Texts.{is_empty}
+use Rattle.text_tables.specs.Texts.{Text}
+use Rattle.text_tables.specs.Pairs.{Pair, value_of}
+use Rattle.rule_types.specs.Names.{run_name}
+use Rattle.eval_state.specs.Runs.{RunValue, run_kind, same_run}
+use Rattle.eval_state.specs.declared.scene.Scene.{Scene}
+use Rattle.eval_sources.specs.Items.{items}
+use Rattle.eval_sources.specs.Sources.{stands}
+use Rattle.eval_effects.specs.Shown.{shown}
+
+-- what is compared of a scene: its items, its RUNs, and how many notes it has
+pub record Standing : Type 0 where
+  pub items : List Pair
+  pub runs : List RunValue
+  pub notes : ℕ
+
+abbrev pub standing : Scene → Standing
+standing s = record { items = items s; runs = s.runs; notes = length s.notes }
+
+-- what becomes of an item that takes a value: without one it is added
+abbrev pub value_part : Text → Text
+value_part [] = codes " added"
+value_part (byte ∷ value) = equals ∷ shown (byte ∷ value) ++ codes " set"
+
+-- an item that is set
+abbrev pub set_text : Pair → Text
+set_text item = shown item.0 ++ value_part item.1
+
+-- an item of those that stand now is told unless it stood so before
+abbrev pub set_item : List Pair → Pair → List Text
+set_item was item = if stands item was then [] else set_text item ∷ []
+
+-- an item whose name no longer stands
+abbrev pub removed_text : Text → Text
+removed_text name = shown name ++ codes " removed"
+
+-- an item of those that stood before is told where its name no longer stands
+abbrev pub removed_item : List Pair → Pair → List Text
+removed_item now item = if is_some (value_of now item.0) then [] else removed_text item.0 ∷ []
+
+-- what changed of items, by those before and those now
+abbrev pub item_changes : List Pair → List Pair → List Text
+item_changes was now = flat_map (set_item was) now ++ flat_map (removed_item now) was
+
+-- whether a RUN is one of these, by its type and its written text
+abbrev pub is_kept : List RunValue → RunValue → Bool
+is_kept runs run = list_any (λ other. same_run other run) runs
+
+-- a RUN, by its type and its written text
+unfoldable pub run_text : RunValue → Text
+run_text run = codes "run " ++ run_name (run_kind run.braces) ++ space ∷ shown run.template.written
+
+-- a RUN of those now is told unless it was there before
+abbrev pub added_run : List RunValue → RunValue → List Text
+added_run was run = if is_kept was run then [] else (run_text run ++ codes " added") ∷ []
+
+-- a RUN of those before is told where it is no longer there
+abbrev pub removed_run : List RunValue → RunValue → List Text
+removed_run now run = if is_kept now run then [] else (run_text run ++ codes " removed") ∷ []
+
+-- the RUNs that are no longer there, one by one, unless none of them stayed
+abbrev pub removed_runs : List RunValue → List RunValue → List Text
+removed_runs was now =
+    if is_empty was || list_any (is_kept now) was then flat_map (removed_run now) was else codes "all runs removed" ∷ []
+
+-- what changed of RUNs, by those before and those now
+abbrev pub run_changes : List RunValue → List RunValue → List Text
+run_changes was now = flat_map (added_run was) now ++ removed_runs was now
+
+-- all that changed
+abbrev pub changes : Standing → Scene → List Text
+changes was s = item_changes was.items (items s) ++ run_changes was.runs s.runs

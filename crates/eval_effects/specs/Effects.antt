@@ -1,0 +1,66 @@
+-- What the assignments of a rule did, told while they are made.
+use Rattle.std.specs.Prelude.{ℕ, if◌then◌else◌, List, [], ◌∷◌, ◌++◌, Option, Some, None, option_map, unwrap_or, codes, slice_get}
+use Rattle.text_tables.specs.Texts.{Text}
+use Rattle.rule_types.specs.Rules.{Rule}
+use Rattle.rule_types.specs.declared.part.Assignment.{Assignment}
+use Rattle.rule_types.specs.declared.part.Change.{Change}
+use Rattle.eval_state.specs.Finals.{is_final}
+use Rattle.eval_state.specs.declared.finals.FinalKey.{FinalKey}
+use Rattle.eval_state.specs.declared.finals.Finals.{Finals}
+use Rattle.eval_state.specs.declared.note_kind.NoteKind.{NoteKind}
+use Rattle.eval_state.specs.declared.note_kind.NoteKind.TheVariants.{TextTooLong, NameIgnored}
+use Rattle.eval_state.specs.declared.scene.Scene.{Scene}
+use Rattle.eval_assignments.specs.Finality.{final_key}
+use Rattle.eval_assignments.specs.Steps.{set_step}
+use Rattle.eval_effects.specs.Changes.{Standing, changes, standing}
+use Rattle.eval_effects.specs.Named.{change_key, final_name, rule_place}
+use Rattle.eval_effects.specs.Shown.{joined}
+use Rattle.eval_effects.specs.Since.{Since, since_of}
+
+-- a key, if there is one and it no longer changes
+abbrev pub settled_key : Finals → Option FinalKey → Option FinalKey
+settled_key finals None = None
+settled_key finals (Some key) = if is_final finals key then Some key else None
+
+-- an assignment to a key that is final since a rule
+abbrev pub final_text : FinalKey → Rule → Text
+final_text key r = final_name key ++ codes " is final since " ++ rule_place r
+
+-- what the note is that an assignment left, if it left one: the one behind those that there were
+abbrev pub note_left : ℕ → Scene → Option NoteKind
+note_left count s = option_map (λ note. note.kind) (slice_get s.notes count)
+
+-- what an assignment changed, if anything
+abbrev pub changed_text : Change → List Text → Text
+changed_text c [] = change_key c ++ codes " changes nothing"
+changed_text c (text ∷ more) = joined (text ∷ more)
+
+-- an assignment that was made or left a note, by what stood before it and the scene behind it
+abbrev pub made_text : Option NoteKind → Change → Standing → Scene → Text
+made_text (Some TextTooLong) c was s = change_key c ++ codes " left out, too long"
+made_text (Some NameIgnored) c was s = codes "NAME ignored, no network device"
+made_text _ c was s = changed_text c (changes was s)
+
+-- an assignment, by its key where that was final, what stood before it, and the scene behind it; a key that no earlier rule made
+-- final is final since the rule itself
+abbrev pub effect_by : Since → Rule → Change → Option FinalKey → Standing → Scene → Text
+effect_by since r c (Some key) was s = final_text key (unwrap_or (since_of since key) r)
+effect_by since r c None was s = made_text (note_left was.notes s) c was s
+
+-- what an assignment of a rule does over a scene
+unfoldable pub effect : Since → Rule → Scene → Assignment → Text
+effect since r s a = effect_by since r a.change (settled_key s.finals (final_key a.change)) (standing s) (set_step r s a)
+
+-- what assignments do, each over the scene that the one before it left
+abbrev pub effects : Since → Rule → Scene → List Assignment → List Text
+effects since r s [] = []
+effects since r s (a ∷ more) = effect since r s a ∷ effects since r (set_step r s a) more
+
+-- a rule whose end is reached, by what its assignments did
+abbrev pub ending_of : List Text → Text
+ending_of [] = codes "reached its end"
+ending_of (text ∷ more) = codes "reached its end: " ++ joined (text ∷ more)
+
+-- a rule whose end is reached over a scene, where it is known since which rules keys are final
+unfoldable pub ending : Since → Rule → Scene → Text
+ending since r s = ending_of (effects since r s r.sets)

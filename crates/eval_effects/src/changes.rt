@@ -1,0 +1,155 @@
+//! Items that stand only now, and names that no longer stand.
+ghost use Rattle.std.specs.Prelude.{◌≡◌, ◌++◌, IfOk, OnOk, flat_map, is_some, option_map};
+ghost use Rattle.text_tables.specs.Pairs.{value_of};
+ghost use Rattle.eval_sources.specs.Sources.{is_value, stands};
+ghost use Rattle.eval_effects.specs.Inner.{table_of};
+ghost use Rattle.eval_effects.specs.Changes.{item_changes, removed_item, removed_text, set_item, set_text, value_part};
+
+use crate::shown::push_shown;
+use eval_sources::Item;
+use std::alloc::{AllocError, Global};
+use text_bytes::Bytes;
+use text_tables::Pairs;
+
+/// A table of items, in which a name has the value that it has among them: of two items with one name the first counts.
+fn table_of<'i>(alloc: Global, items: &'i [Item]) -> Result<Pairs<'i>, AllocError>
+    ensures { IfOk result (λ table. table ≡ table_of items.now) }
+{
+    let mut table = Pairs::new(alloc);
+    for item in items.iter().rev() {
+        table.add(item.name(), item.value())?;
+    }
+    Ok(table)
+}
+
+/// Whether a value is there and is this text.
+fn is_value(value: Option<&[u8]>, text: &[u8]) -> bool
+    ensures { result ≡ is_value (option_map (λ v. v.now) value.entry) text.now }
+{
+    match value {
+        Some(value) => value == text,
+        None => false,
+    }
+}
+
+/// Whether an item stands among others: its name has its value.
+fn stands(items: &Pairs<'_>, item: &Item) -> bool
+    ensures { result ≡ stands item.now items.now }
+{
+    is_value(items.get(item.name()), item.value())
+}
+
+/// Whether a name has a value.
+fn is_named(items: &Pairs<'_>, name: &[u8]) -> bool
+    ensures { result ≡ is_some (value_of items.now name.now) }
+{
+    items.get(name).is_some()
+}
+
+/// Puts what becomes of an item that takes a value behind a text.
+fn push_value(alloc: Global, text: &mut Vec<u8>, value: &[u8]) -> Result<(), AllocError>
+    ensures { OnOk result (text.new.items ≡ text.old.items ++ value_part value.now) }
+{
+    if value.is_empty() {
+        return text.extend_from_slice(b" added");
+    }
+    text.push(b'=')?;
+    push_shown(alloc, text, value)?;
+    text.extend_from_slice(b" set")
+}
+
+/// An item that is set.
+fn set_text(alloc: Global, item: &Item) -> Result<Bytes, AllocError>
+    ensures { IfOk result (λ text. text ≡ set_text item.now) }
+{
+    let mut text = Vec::new(alloc);
+    push_shown(alloc, &mut text, item.name())?;
+    push_value(alloc, &mut text, item.value())?;
+    Ok(Bytes::new(text))
+}
+
+/// An item whose name no longer stands.
+fn removed_text(alloc: Global, name: &[u8]) -> Result<Bytes, AllocError>
+    ensures { IfOk result (λ text. text ≡ removed_text name.now) }
+{
+    let mut text = Vec::new(alloc);
+    push_shown(alloc, &mut text, name)?;
+    text.extend_from_slice(b" removed")?;
+    Ok(Bytes::new(text))
+}
+
+/// Tells an item behind other texts, unless it stood so before.
+fn push_set(
+    alloc: Global,
+    told: &mut Vec<Bytes>,
+    was: &Pairs<'_>,
+    item: &Item,
+) -> Result<(), AllocError>
+    ensures { OnOk result (told.new.items ≡ told.old.items ++ set_item was.now item.now) }
+{
+    if !stands(was, item) {
+        told.push(set_text(alloc, item)?)?;
+    }
+    Ok(())
+}
+
+/// Tells an item of before behind other texts, where its name no longer stands.
+fn push_removed(
+    alloc: Global,
+    told: &mut Vec<Bytes>,
+    now: &Pairs<'_>,
+    item: &Item,
+) -> Result<(), AllocError>
+    ensures { OnOk result (told.new.items ≡ told.old.items ++ removed_item now.now item.now) }
+{
+    if !is_named(now, item.name()) {
+        told.push(removed_text(alloc, item.name())?)?;
+    }
+    Ok(())
+}
+
+/// Tells the items that did not stand so before, behind other texts.
+fn push_all_set(
+    alloc: Global,
+    told: &mut Vec<Bytes>,
+    was: &Pairs<'_>,
+    now: &[Item],
+) -> Result<(), AllocError>
+    ensures { OnOk result (told.new.items ≡ told.old.items ++ flat_map (set_item was.now) now.now) }
+{
+    for item in now {
+        push_set(alloc, told, was, item)?;
+    }
+    Ok(())
+}
+
+/// Tells the items whose names no longer stand, behind other texts.
+fn push_all_removed(
+    alloc: Global,
+    told: &mut Vec<Bytes>,
+    was: &[Item],
+    now: &Pairs<'_>,
+) -> Result<(), AllocError>
+    ensures { OnOk result (told.new.items ≡ told.old.items ++ flat_map (removed_item now.now) was.now) }
+{
+    for item in was {
+        push_removed(alloc, told, now, item)?;
+    }
+    Ok(())
+}
+
+/// Tells what changed of items, behind other texts.
+pub(crate) fn push_item_changes(
+    alloc: Global,
+    told: &mut Vec<Bytes>,
+    was: &[Item],
+    now: &[Item],
+) -> Result<(), AllocError>
+    ensures { OnOk result (told.new.items ≡ told.old.items ++ item_changes was.now now.now) }
+{
+    let was_table = table_of(alloc, was)?;
+    push_all_set(alloc, told, &was_table, now)?;
+    let now_table = table_of(alloc, now)?;
+    push_all_removed(alloc, told, was, &now_table)?;
+    Ok(())
+}

@@ -1,0 +1,125 @@
+//! RUNs that are there only now, and those that are no longer there.
+ghost use Rattle.std.specs.Prelude.{◌≡◌, ◌++◌, IfOk, OnOk, flat_map};
+ghost use Rattle.std.specs.List.{list_any};
+ghost use Rattle.eval_effects.specs.Changes.{added_run, is_kept, removed_run, removed_runs, run_changes, run_text};
+
+use crate::shown::push_shown;
+use eval_state::Run;
+use std::alloc::{AllocError, Global};
+use text_bytes::Bytes;
+
+/// Whether a RUN is one of these, by its type and its written text.
+fn is_kept(runs: &[Run<'_>], run: &Run<'_>) -> bool
+    ensures { result ≡ is_kept runs.now run.now }
+{
+    runs.contains(run)
+}
+
+/// Whether one of these RUNs is one of those.
+fn any_kept(was: &[Run<'_>], now: &[Run<'_>]) -> bool
+    ensures { result ≡ list_any (is_kept now.now) was.now }
+{
+    was.iter().any(|run| is_kept(now, run))
+}
+
+/// A RUN by its type and its written text, and what became of it.
+#[tactic(auto, unfolding(crate::specs::Changes::run_text))]
+fn run_told(alloc: Global, run: &Run<'_>, became: &[u8]) -> Result<Bytes, AllocError>
+    ensures { IfOk result (λ text. text ≡ run_text run.now ++ became.now) }
+{
+    let mut text = Vec::from_slice(alloc, b"run ")?;
+    text.extend_from_slice(run.kind().name())?;
+    text.push(b' ')?;
+    push_shown(alloc, &mut text, run.template().written())?;
+    text.extend_from_slice(became)?;
+    Ok(Bytes::new(text))
+}
+
+/// Tells a RUN behind other texts, unless it was there before.
+fn push_added(
+    alloc: Global,
+    told: &mut Vec<Bytes>,
+    was: &[Run<'_>],
+    run: &Run<'_>,
+) -> Result<(), AllocError>
+    ensures { OnOk result (told.new.items ≡ told.old.items ++ added_run was.now run.now) }
+{
+    if !is_kept(was, run) {
+        told.push(run_told(alloc, run, b" added")?)?;
+    }
+    Ok(())
+}
+
+/// Tells a RUN of before behind other texts, where it is no longer there.
+fn push_removed(
+    alloc: Global,
+    told: &mut Vec<Bytes>,
+    now: &[Run<'_>],
+    run: &Run<'_>,
+) -> Result<(), AllocError>
+    ensures { OnOk result (told.new.items ≡ told.old.items ++ removed_run now.now run.now) }
+{
+    if !is_kept(now, run) {
+        told.push(run_told(alloc, run, b" removed")?)?;
+    }
+    Ok(())
+}
+
+/// Tells the RUNs that were not there before, behind other texts.
+fn push_all_added(
+    alloc: Global,
+    told: &mut Vec<Bytes>,
+    was: &[Run<'_>],
+    now: &[Run<'_>],
+) -> Result<(), AllocError>
+    ensures { OnOk result (told.new.items ≡ told.old.items ++ flat_map (added_run was.now) now.now) }
+{
+    for run in now {
+        push_added(alloc, told, was, run)?;
+    }
+    Ok(())
+}
+
+/// Tells one by one the RUNs that are no longer there, behind other texts.
+fn push_each_removed(
+    alloc: Global,
+    told: &mut Vec<Bytes>,
+    was: &[Run<'_>],
+    now: &[Run<'_>],
+) -> Result<(), AllocError>
+    ensures { OnOk result (told.new.items ≡ told.old.items ++ flat_map (removed_run now.now) was.now) }
+{
+    for run in was {
+        push_removed(alloc, told, now, run)?;
+    }
+    Ok(())
+}
+
+/// Tells the RUNs that are no longer there, behind other texts: one by one, unless none of them stayed.
+fn push_all_removed(
+    alloc: Global,
+    told: &mut Vec<Bytes>,
+    was: &[Run<'_>],
+    now: &[Run<'_>],
+) -> Result<(), AllocError>
+    ensures { OnOk result (told.new.items ≡ told.old.items ++ removed_runs was.now now.now) }
+{
+    if was.is_empty() || any_kept(was, now) {
+        return push_each_removed(alloc, told, was, now);
+    }
+    told.push(Bytes::copy_of(alloc, b"all runs removed")?)?;
+    Ok(())
+}
+
+/// Tells what changed of RUNs, behind other texts.
+pub(crate) fn push_run_changes(
+    alloc: Global,
+    told: &mut Vec<Bytes>,
+    was: &[Run<'_>],
+    now: &[Run<'_>],
+) -> Result<(), AllocError>
+    ensures { OnOk result (told.new.items ≡ told.old.items ++ run_changes was.now now.now) }
+{
+    push_all_added(alloc, told, was, now)?;
+    push_all_removed(alloc, told, was, now)
+}

@@ -1,0 +1,69 @@
+//! Texts as lines that tell why show them, and several of them in one line.
+ghost use Rattle.std.specs.Prelude.{◌≡◌, ◌++◌, ◌≤◌, length, OnOk};
+ghost use Rattle.eval_effects.specs.Shown.{behind_commas, cut, joined, shortened, shown};
+
+use itoa::Buffer;
+use std::alloc::{AllocError, Global};
+use text_bytes::{Bytes, escape};
+
+/// The most bytes of a text that are shown.
+const MOST_SHOWN: usize = 200;
+
+/// Puts the start of a long text behind another one, with how many bytes the whole has.
+#[tactic(auto, unfolding(crate::specs::Shown::cut))]
+fn push_cut(alloc: Global, text: &mut Vec<u8>, about: &[u8]) -> Result<(), AllocError>
+    requires { MOST_SHOWN ≤ length about.now }
+    ensures { OnOk result (text.new.items ≡ text.old.items ++ cut about.now) }
+{
+    let (front, _) = about.split_at(MOST_SHOWN);
+    text.extend_from_slice(&escape(alloc, front)?)?;
+    text.extend_from_slice(b".. (")?;
+    text.extend_from_slice(Buffer::new().format(about.len()).as_bytes())?;
+    text.extend_from_slice(b" bytes)")
+}
+
+/// Puts a text behind another one as it stands between quotes: escaped, and of one over 200 bytes the first 200, and then
+/// `.. (N bytes)`. The error comes where memory is refused.
+pub fn push_shortened(alloc: Global, text: &mut Vec<u8>, about: &[u8]) -> Result<(), AllocError>
+    ensures { OnOk result (text.new.items ≡ text.old.items ++ shortened about.now) }
+{
+    if about.len() > MOST_SHOWN {
+        push_cut(alloc, text, about)
+    } else {
+        text.extend_from_slice(&escape(alloc, about)?)
+    }
+}
+
+/// Puts a text behind another one as it is shown: as `push_shortened` does, and an empty one as two quotes. The error
+/// comes where memory is refused.
+pub fn push_shown(alloc: Global, text: &mut Vec<u8>, about: &[u8]) -> Result<(), AllocError>
+    ensures { OnOk result (text.new.items ≡ text.old.items ++ shown about.now) }
+{
+    if about.is_empty() {
+        text.extend_from_slice(b"\"\"")
+    } else {
+        push_shortened(alloc, text, about)
+    }
+}
+
+/// Puts texts behind another one, each behind a comma.
+fn push_behind_commas(text: &mut Vec<u8>, more: &[Bytes]) -> Result<(), AllocError>
+    ensures { OnOk result (text.new.items ≡ text.old.items ++ behind_commas more.now) }
+{
+    for next in more {
+        text.extend_from_slice(b", ")?;
+        text.extend_from_slice(next.as_slice())?;
+    }
+    Ok(())
+}
+
+/// Puts texts behind another one, with commas between them. The error comes where memory is refused.
+pub fn push_joined(text: &mut Vec<u8>, texts: &[Bytes]) -> Result<(), AllocError>
+    ensures { OnOk result (text.new.items ≡ text.old.items ++ joined texts.now) }
+{
+    let Some((first, more)) = texts.split_first() else {
+        return Ok(());
+    };
+    text.extend_from_slice(first.as_slice())?;
+    push_behind_commas(text, more)
+}

@@ -1,0 +1,107 @@
+//! Since which rule each key is final.
+ghost use Rattle.std.specs.Prelude.{◌≡◌, option_map, unwrap_or};
+ghost use Rattle.eval_effects.specs.Since.{no_since, since_behind, since_either, since_of};
+
+use eval_state::{FinalKey, Finals};
+use rule_types::Rule;
+use std::marker::Model;
+
+/// Of each key that `:=` made final the rule behind which it was final first.
+#[derive(Drop)]
+pub struct Since<'a> {
+    owner: Option<&'a Rule>,
+    group: Option<&'a Rule>,
+    mode: Option<&'a Rule>,
+    name: Option<&'a Rule>,
+    symlink: Option<&'a Rule>,
+    run: Option<&'a Rule>,
+    priority: Option<&'a Rule>,
+    watch: Option<&'a Rule>,
+}
+
+impl<'a> Model for Since<'a> {
+    ghost use Rattle.std.specs.Prelude.{option_map};
+    ghost use Rattle.eval_effects.specs.Since as known;
+
+    ghost Value = { known.Since };
+
+    ghost view = { λ s. record {
+      owner = option_map (λ r. r.now) s.owner;
+      group = option_map (λ r. r.now) s.group;
+      mode = option_map (λ r. r.now) s.mode;
+      name = option_map (λ r. r.now) s.name;
+      symlink = option_map (λ r. r.now) s.symlink;
+      run = option_map (λ r. r.now) s.run;
+      priority = option_map (λ r. r.now) s.priority;
+      watch = option_map (λ r. r.now) s.watch;
+    } };
+}
+
+/// The rule since which a key is final behind one rule more: the one that is known, or that rule where the key is final
+/// now.
+fn since_either<'a>(first: Option<&'a Rule>, is_final: bool, rule: &'a Rule) -> Option<&'a Rule>
+    ensures { option_map (λ r. r.now) result ≡ since_either (option_map (λ r. r.now) first.entry) is_final rule.now }
+{
+    match first {
+        Some(first) => Some(first),
+        None => { if is_final { Some(rule) } else { None } }
+    }
+}
+
+impl<'a> Since<'a> {
+    /// No key is final.
+    pub fn new() -> Since<'a>
+        ensures { result ≡ no_since }
+    {
+        Since {
+            owner: None,
+            group: None,
+            mode: None,
+            name: None,
+            symlink: None,
+            run: None,
+            priority: None,
+            watch: None,
+        }
+    }
+
+    /// Takes in a rule, with the keys that are final behind it.
+    pub fn tell(&mut self, rule: &'a Rule, finals: Finals)
+        ensures { self.new ≡ since_behind self.old rule.now finals }
+    {
+        self.owner = since_either(self.owner, finals.owner, rule);
+        self.group = since_either(self.group, finals.group, rule);
+        self.mode = since_either(self.mode, finals.mode, rule);
+        self.name = since_either(self.name, finals.name, rule);
+        self.symlink = since_either(self.symlink, finals.symlink, rule);
+        self.run = since_either(self.run, finals.run, rule);
+        self.priority = since_either(self.priority, finals.priority, rule);
+        self.watch = since_either(self.watch, finals.watch, rule);
+    }
+
+    /// The rule since which a key is final, if a rule that was taken in made it final.
+    pub fn rule_of(&self, key: FinalKey) -> Option<&'a Rule>
+        ensures { option_map (λ rule. rule.now) result ≡ since_of self.now key }
+    {
+        match key {
+            FinalKey::Owner => self.owner,
+            FinalKey::Group => self.group,
+            FinalKey::Mode => self.mode,
+            FinalKey::Name => self.name,
+            FinalKey::Symlink => self.symlink,
+            FinalKey::Run => self.run,
+            FinalKey::Priority => self.priority,
+            FinalKey::Watch => self.watch,
+        }
+    }
+
+    /// The rule since which a key is final, else another one.
+    pub(crate) fn rule_or(&self, key: FinalKey, otherwise: &'a Rule) -> &'a Rule
+        ensures { result.now ≡ unwrap_or (since_of self.now key) otherwise.now }
+    {
+        match self.rule_of(key) {
+            Some(rule) => rule,
+            None => otherwise,
+        }
+    }
+}

@@ -1,0 +1,108 @@
+-- Which stages an item comes from.
+use Rattle.std.proofs.Common.{◌≡◌, Bool, true, false, not, ◌&&◌, is_some, List, [], ◌∷◌, ◌++◌, Option, Some, None, cond, refl, ap, sym, ◌∙◌}
+use Rattle.text_tables.specs.Texts.{Text}
+use Rattle.text_tables.specs.Pairs.{Pair}
+use Rattle.hwdb_lookup.specs.declared.entry.Entry.{Entry}
+use Rattle.rule_types.specs.Rules.{Rule}
+use Rattle.eval_state.specs.declared.scene.Scene.{Scene}
+use Rattle.eval_rules.specs.Jumps.{is_passed, run, sought_after}
+use Rattle.eval_rules.specs.Steps.{apply}
+use Rattle.eval_sources.specs.Items.{items}
+use Rattle.eval_sources.specs.Sources.{Source, Stage, source_of, stands, stands_throughout}
+use Rattle.eval_sources.specs.Told.{stages_from, stages_over}
+
+-- what stands at the last of these stages, or else what stood before them
+abbrev last_of : List Pair → List Stage → List Pair
+last_of were [] = were
+last_of were (stage ∷ later) = last_of stage.1 later
+
+-- each of these stages is behind a rule
+abbrev AreRules : List Stage → Type 0
+AreRules [] = Unit {0}
+AreRules (stage ∷ later) = (is_some stage.0 ≡ true) × AreRules later
+
+and_false : (b : Bool) → (b && false) ≡ false
+and_false true = refl
+and_false false = refl
+
+and_true : (b : Bool) → (b && true) ≡ b
+and_true true = refl
+and_true false = refl
+
+right_of : (a b : Bool) → (a && b) ≡ true → b ≡ true
+right_of true b h = h
+right_of false b h = cc
+
+left_of : (a b : Bool) → (a && b) ≡ true → a ≡ true
+left_of true b h = refl
+left_of false b h = cc
+
+module _ (item : Pair) where
+  -- what stands throughout stands at the last stage
+  stands_last : (were : List Pair) (later : List Stage) → (stands item were && stands_throughout item later) ≡ true → stands item (last_of were later) ≡ true
+  stands_last were [] h = left_of (stands item were) true h
+  stands_last were (stage ∷ later) h = stands_last stage.1 later (right_of (stands item were) (stands_throughout item (stage ∷ later)) h)
+
+  -- what does not stand throughout comes from a rule where it stands at the last stage
+  comes : (were : List Pair) (later : List Stage) → AreRules later → (stands item were && stands_throughout item later) ≡ false → is_some (source_of later item) ≡ stands item (last_of were later)
+  unfolding source_of
+  comes were [] are h = sym (sym (and_true (stands item were)) ∙ h)
+  comes were (stage ∷ later) are h = by (stands_throughout item (stage ∷ later)) refl (comes stage.1 later are.1)
+    where
+      by : (b : Bool) → stands_throughout item (stage ∷ later) ≡ b → (stands_throughout item (stage ∷ later) ≡ false → is_some (source_of later item) ≡ stands item (last_of stage.1 later))
+          → is_some (cond b stage.0 (source_of later item)) ≡ stands item (last_of stage.1 later)
+      by true e rest = are.0 ∙ sym (stands_last stage.1 later e)
+      by false e rest = rest e
+
+  pub none_where : (were : List Pair) (later : List Stage) → AreRules later
+      → is_some (source_of ((None, were) ∷ later) item) ≡ (stands item (last_of were later) && not (stands_throughout item ((None, were) ∷ later)))
+  unfolding source_of
+  none_where were later are = by (stands_throughout item ((None, were) ∷ later)) refl
+    where
+      nowhere : Source
+      nowhere = None
+
+      by : (b : Bool) → stands_throughout item ((None, were) ∷ later) ≡ b → is_some (cond b nowhere (source_of later item)) ≡ (stands item (last_of were later) && not b)
+      by true e = sym (and_false (stands item (last_of were later)))
+      by false e = comes were later are e ∙ sym (and_true (stands item (last_of were later)))
+
+  not_throughout : (before later : List Stage) (last : Stage) → stands item last.1 ≡ false → stands_throughout item (before ++ last ∷ later) ≡ false
+  not_throughout [] later last h = ap (λ b. b && stands_throughout item later) h
+  not_throughout (stage ∷ before) later last h = ap (λ b. stands item stage.1 && b) (not_throughout before later last h) ∙ and_false (stands item stage.1)
+
+  pub from_then_on : (before later : List Stage) (last stage : Stage) → stands item last.1 ≡ false → stands_throughout item (stage ∷ later) ≡ true → source_of (before ++ last ∷ stage ∷ later) item ≡ stage.0
+  unfolding source_of
+  from_then_on [] later last stage h all =
+      ap (λ b. cond b last.0 (source_of (stage ∷ later) item)) (not_throughout [] (stage ∷ later) last h) ∙ ap (λ b. cond b stage.0 (source_of later item)) all
+  from_then_on (first ∷ before) later last stage h all =
+      ap (λ b. cond b first.0 (source_of (before ++ last ∷ stage ∷ later) item)) (not_throughout (first ∷ before) (stage ∷ later) last h) ∙ from_then_on before later last stage h all
+
+module _ (es : List Entry) where
+  -- the stages behind rules
+  pub are_rules : (sought : Option Text) (rules : List Rule) (s : Scene) → AreRules (stages_from es sought rules s)
+  unfolding stages_from
+  are_rules sought [] s = tt
+  are_rules sought (r ∷ rs) s = by (is_passed sought r) (are_rules sought rs s) (are_rules (sought_after (apply es r s).1 r) rs (apply es r s).0)
+    where
+      by : (b : Bool) → AreRules (stages_from es sought rs s) → AreRules (stages_from es (sought_after (apply es r s).1 r) rs (apply es r s).0)
+          → AreRules (cond b (stages_from es sought rs s) ((Some r, items (apply es r s).0) ∷ stages_from es (sought_after (apply es r s).1 r) rs (apply es r s).0))
+      by true passed come = passed
+      by false passed come = (refl, come)
+
+  -- the last of them is where the rules end
+  pub ends : (sought : Option Text) (rules : List Rule) (s : Scene) → last_of (items s) (stages_from es sought rules s) ≡ items (run es sought rules s)
+  unfolding stages_from run
+  ends sought [] s = refl
+  ends sought (r ∷ rs) s = by (is_passed sought r) (ends sought rs s) (ends (sought_after (apply es r s).1 r) rs (apply es r s).0)
+    where
+      by : (b : Bool) → last_of (items s) (stages_from es sought rs s) ≡ items (run es sought rs s)
+          → last_of (items (apply es r s).0) (stages_from es (sought_after (apply es r s).1 r) rs (apply es r s).0) ≡ items (run es (sought_after (apply es r s).1 r) rs (apply es r s).0)
+          → last_of (items s) (cond b (stages_from es sought rs s) ((Some r, items (apply es r s).0) ∷ stages_from es (sought_after (apply es r s).1 r) rs (apply es r s).0))
+          ≡ items (cond b (run es sought rs s) (run es (sought_after (apply es r s).1 r) rs (apply es r s).0))
+      by true passed come = passed
+      by false passed come = come
+
+  pub from_no_rule : (rules : List Rule) (s : Scene) (item : Pair) → is_some (source_of (stages_over es rules s) item) ≡ (stands item (items (run es None rules s)) && not (stands_throughout item (stages_over es rules s)))
+  from_no_rule rules s item =
+      none_where item (items s) (stages_from es None rules s) (are_rules None rules s)
+      ∙ ap (λ end. stands item end && not (stands_throughout item (stages_over es rules s))) (ends None rules s)

@@ -1,0 +1,33 @@
+//! What holds of the lines of an answer and of the rules that they come from.
+//!
+//! Each function here is empty: its contract is the law.
+ghost use Rattle.std.specs.Prelude.{◌≡◌, ◌&&◌, ◌++◌, [], ◌∷◌, false, is_some, List, None, not, true};
+ghost use Rattle.text_tables.specs.Pairs.{Pair};
+ghost use Rattle.hwdb_lookup.specs.declared.entry.Entry.{Entry};
+ghost use Rattle.rule_types.specs.Rules.{Rule};
+ghost use Rattle.device_core.specs.Values.{EventValue};
+ghost use Rattle.eval_state.specs.Scenes.{start};
+ghost use Rattle.eval_rules.specs.Jumps.{run};
+ghost use Rattle.eval_rules.specs.Outcomes.{outcome};
+ghost use Rattle.eval_sources.specs.Items.{items};
+ghost use Rattle.eval_sources.specs.Sources.{Stage, source_of, stands, stands_throughout};
+ghost use Rattle.eval_sources.specs.Told.{stages};
+ghost use Rattle.engine_answers.specs.Answers.{answer_lines};
+ghost use Rattle.engine_sources.specs.Answers.{lines_by};
+
+/// Taking the sources away gives the answer: with nothing before any line, the lines are those of the
+/// answer, each once and in their order.
+pub fn without_their_sources_the_lines_are_the_answer()
+    ensures { (rules : List Rule) (entries : List Entry) (event : EventValue) → lines_by (λ source. []) rules entries event ≡ answer_lines event (outcome rules entries event) }
+{}
+
+/// An item comes from a rule exactly where it stands in the end and did not stand so from the start,
+/// through all stages.
+pub fn what_stood_from_the_start_comes_from_no_rule()
+    ensures { (rules : List Rule) (entries : List Entry) (event : EventValue) (item : Pair) → is_some (source_of (stages rules entries event) item) ≡ (stands item (items (run entries None rules (start event))) && not (stands_throughout item (stages rules entries event))) }
+{}
+
+/// An item comes from a stage where it stands there and at all later ones, and did not stand before.
+pub fn an_item_comes_from_where_it_stands_from_then_on()
+    ensures { (before later : List Stage) (last stage : Stage) (item : Pair) → stands item last.1 ≡ false → stands_throughout item (stage ∷ later) ≡ true → source_of (before ++ last ∷ stage ∷ later) item ≡ stage.0 }
+{}

@@ -1,0 +1,5 @@
+pub mod Fronts
+pub mod Digits
+pub mod Least
+pub mod Passing
+pub mod Known

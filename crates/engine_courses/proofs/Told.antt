@@ -1,6 +1,6 @@
 -- What is told, and what is not.
-use Rattle.std.proofs.Common.{◌≡◌, ℕ, Bool, true, false, not, ◌&&◌, ◌||◌, cond, List, [], ◌∷◌, ◌++◌, map, Option, Some, None, option_map, refl, ap, sym, ◌∙◌}
-use Rattle.std.specs.List.{filter, find, flat_map, list_all, list_any}
+use Rattle.std.proofs.Common.{◌≡◌, Bool, true, false, ◌&&◌, cond, List, [], ◌∷◌, ◌++◌, Option, None, refl, ap, ◌∙◌}
+use Rattle.std.specs.List.{filter, flat_map, list_all}
 use Rattle.std.proofs.lemmas.List.Folds.{list_all-append}
 use Rattle.text_bytes.specs.declared.message.Message.{Message}
 use Rattle.text_tables.specs.Texts.{Text}
@@ -13,7 +13,7 @@ use Rattle.eval_rules.specs.Jumps.{is_passed}
 use Rattle.eval_rules.specs.Steps.{apply}
 use Rattle.eval_effects.specs.Since.{Since, no_since, since_behind}
 use Rattle.eval_courses.specs.Courses.{course}
-use Rattle.engine_courses.specs.Asked.{has_rule, is_asked, is_of_unread, unread}
+use Rattle.engine_courses.specs.Asked.{is_asked, is_of_unread, unread}
 use Rattle.engine_courses.specs.WhyLines.{jumping_after, passed_texts, rule_lines, sought_by, told_from, told_if_asked, told_of, unread_text, why_line, why_lines}
 
 and_false : (b : Bool) → (b && false) ≡ false

@@ -1,6 +1,6 @@
 //! The lines behind the answer to an event.
-ghost use Rattle.std.specs.Prelude.{◌≡◌, ◌++◌, ◌==◌, not, ◌&&◌, OnOk, map};
-ghost use Rattle.engine_courses.specs.Asked.{has_rule, is_asked, is_of_unread, unread};
+ghost use Rattle.std.specs.Prelude.{◌≡◌, ◌++◌, OnOk, map};
+ghost use Rattle.engine_courses.specs.Asked.{unread};
 ghost use Rattle.engine_courses.specs.WhyLines.{unread_lines, why_lines};
 
 use crate::lines::push_unread;

@@ -1,8 +1,7 @@
 //! All rules over an event, with what is told of those that are asked for.
 ghost use Rattle.std.specs.Prelude.{◌≡◌, ◌++◌, None, IfOk, OnOk, flat_map, map, option_map};
-ghost use Rattle.eval_state.specs.Scenes.{start};
 ghost use Rattle.eval_rules.specs.Steps.{apply};
-ghost use Rattle.eval_effects.specs.Since.{no_since, since_behind};
+ghost use Rattle.eval_effects.specs.Since.{no_since};
 ghost use Rattle.eval_courses.specs.Courses.{course};
 ghost use Rattle.engine_courses.specs.WhyLines.{jumping_after, passed_texts, rule_lines, sought_by, told_from, told_if_asked, told_of};
 

@@ -1,5 +1,6 @@
 -- From the steps of a run to what it serves.
-use Rattle.std.proofs.Common.{◌≡◌, ℕ, inl, inr, refl, Result, Ok, Err}
+use Rattle.std.proofs.Common.{◌≡◌, ℕ, List, inl, inr, refl, ap, Result, Ok, Err}
+use Rattle.text_tables.specs.Texts.{Text}
 use Rattle.engine_ends.specs.declared.line.Line.{Line}
 use Rattle.engine_ends.specs.Streams.{Streams, outputs}
 use Rattle.engine_ends.specs.Delivery.{Outcome, Delivers, Tells, TellsFaults, out_of_memory}
@@ -12,7 +13,7 @@ use Rattle.engine_reports.specs.declared.refusal.Refusal.{Refusal}
 use Rattle.engine_reports.specs.declared.refusal.Refusal.TheVariants.{TooManyEntries, TooManyRules, Index, Memory}
 use Rattle.engine_sessions.specs.Serves.{Serves}
 use Rattle.engine_sessions.proofs.Serving.{answers_serve, reports_serve}
-use Rattle.engine_core.specs.Outcomes.{answer_with, outcome_by}
+use Rattle.engine_core.specs.Outcomes.{answer_with, asked_of, outcome_by}
 use Rattle.engine_core.specs.Runs.{RunsBy}
 
 pub runs_serve : (line : Line) (opened : Result OpeningValue Outcome) (status : ℕ) (before now : Streams) → RunsBy line opened status before now → Serves (outcome_by line opened) status before now
@@ -33,3 +34,10 @@ refused_runs line TooManyRules opened status before now is delivers faults memor
 refused_runs line (Index fault) opened status before now is delivers faults memory unread = rw is (record { delivers = delivers (refused_index fault) refl; faults = faults; unread = unread })
 refused_runs line Memory (Ok opening) status before now is delivers faults memory unread = inl (record { unread = unread; unanswered = (memory refl).1; tells = inr (memory refl).0 })
 refused_runs line Memory (Err said) status before now is delivers faults memory unread = record { delivers = delivers said tt; faults = faults; unread = unread }
+
+-- what refuses an opening is said whatever is asked for
+pub asked_refused : (refusal : Refusal) (why : List Text) (opened : Result OpeningValue Outcome) → IsRefused refusal opened → IsRefused refusal (asked_of why opened)
+asked_refused TooManyEntries why opened is = ap (asked_of why) is
+asked_refused TooManyRules why opened is = ap (asked_of why) is
+asked_refused (Index fault) why opened is = ap (asked_of why) is
+asked_refused Memory why opened is = tt

@@ -1,5 +1,5 @@
 -- What a run says: its outcome, as a function of the command line, of the files handed in, of what comes of an index and of the input.
-use Rattle.std.specs.Prelude.{if◌then◌else◌, List, Option, Result, Ok, Err}
+use Rattle.std.specs.Prelude.{Bool, not, ◌||◌, ◌==◌, if◌then◌else◌, List, map, Option, Some, None, Result, Ok, Err, vec_len}
 use Rattle.text_tables.specs.Texts.{Text}
 use Rattle.text_bytes.specs.declared.source_file.SourceFile.{SourceFile}
 use Rattle.text_bytes.specs.declared.source_file.FileKind.TheVariants.{Hwdb}
@@ -12,18 +12,41 @@ use Rattle.engine_ends.specs.declared.line.Verb.TheVariants.{Update, Query, Veri
 use Rattle.engine_ends.specs.Delivery.{Outcome}
 use Rattle.engine_reports.specs.FilesRead.{files_read}
 use Rattle.engine_reports.specs.Openings.{OpeningValue, opening}
-use Rattle.engine_reports.specs.Outcomes.{database_outcome, query_over, update_outcome, verify_outcome}
+use Rattle.engine_reports.specs.Outcomes.{database_outcome, query_over, update_outcome, usage_error, verify_outcome}
+use Rattle.engine_courses.specs.Asked.{unknown}
 use Rattle.engine_core.specs.Answering.{TablesValue, answer_by}
-use Rattle.engine_core.specs.Told.{told_by}
+use Rattle.engine_core.specs.Told.{ToldValue, told_by}
 use Rattle.engine_sessions.specs.Outcomes.{input_outcome}
+
+-- the texts of a line's `--why`
+abbrev pub why_of : Line → List Text
+why_of line = map (λ w. w.now) line.why.items
 
 -- the rules and entries of an opening
 abbrev pub tables_of : OpeningValue → TablesValue
 tables_of opening = record { rules = opening.rules; entries = opening.entries }
 
--- the answer to an event by the rules and entries of an opening, with sources where the line asks for them
+-- these, with the messages about the rules and what a line asks for
+abbrev pub told_of : Line → OpeningValue → ToldValue
+told_of line opening = record { sources = line.sources; why = why_of line; messages = opening.about_rules; rules = opening.rules; entries = opening.entries }
+
+-- whether a line asks for more than the answers
+abbrev pub asks_more : Line → Bool
+asks_more line = line.sources || not (vec_len line.why == 0)
+
+-- the answer to an event by what an opening has: where the line asks for no more the answer alone
 abbrev pub answer_with : Line → OpeningValue → EventValue → Text
-answer_with line opening = if line.sources then told_by (tables_of opening) else answer_by (tables_of opening)
+answer_with line opening = if asks_more line then told_by (told_of line opening) else answer_by (tables_of opening)
+
+-- an opening, or what is said in its place where the line asks for a rule that is not there
+abbrev pub opening_unless : Option Text → OpeningValue → Result OpeningValue Outcome
+opening_unless None opening = Ok opening
+opening_unless (Some line) opening = Err (usage_error opening.messages line)
+
+-- the same of what came of the files
+abbrev pub asked_of : List Text → Result OpeningValue Outcome → Result OpeningValue Outcome
+asked_of why (Ok opening) = opening_unless (unknown why opening.about_rules opening.rules) opening
+asked_of why (Err said) = Err said
 
 -- What a command comes to before it looks at its input: `events` to what comes before its first answer, or to what is said in place
 -- of that; any other command to what it says. At an index `query` and `events` alone look.
@@ -31,7 +54,7 @@ abbrev pub before_input : Verb → Line → List SourceFile → Option (Result C
 before_input Query line files opened = Err (query_over line files opened)
 before_input Update line files opened = Err (database_outcome (update_outcome line) (files_read Hwdb line files))
 before_input Verify line files opened = Err (verify_outcome line files)
-before_input Events line files opened = opening line files opened
+before_input Events line files opened = asked_of (why_of line) (opening line files opened)
 
 -- the outcome of a run over an input: the messages of its opening and the answers to the blocks of the input, or what is said without
 -- a look at the input

@@ -1,7 +1,7 @@
 //! `events`: the messages, and then the answers to the blocks of the input.
 ghost use Rattle.std.specs.Prelude.{◌≡◌, Ok, IfOk, IfErr, None, Some, Result};
 ghost use Rattle.engine_ends.specs.Delivery.{Outcome};
-ghost use Rattle.engine_core.specs.Outcomes.{answer_with};
+ghost use Rattle.engine_core.specs.Outcomes.{answer_with, asked_of, why_of};
 ghost use Rattle.engine_core.specs.Runs.{RunsBy};
 ghost use Rattle.engine_reports.specs.Indexes.{entries_in};
 ghost use Rattle.engine_reports.specs.Openings.{OpeningValue, opening};
@@ -10,8 +10,11 @@ ghost use Rattle.engine_sessions.specs.Serves.{AnswersAll};
 
 use crate::tables::Tables;
 use crate::told::ToldTables;
+use engine_courses::first_unknown;
 use engine_ends::{Line, Sink, Source, tell_out_of_memory};
-use engine_reports::{Opening, Refusal, RulesRead, deliver_refusal, open_files, open_rules};
+use engine_reports::{
+    Opening, Refusal, RulesRead, deliver_refusal, deliver_usage_error, open_files, open_rules,
+};
 use engine_sessions::answer_behind;
 use hwdb_lookup::Lookup;
 use index_reading::{Index, IndexFault};
@@ -30,7 +33,7 @@ pub(crate) fn serve_events<R: Source, W: Sink, E: Sink>(
     output: &mut W,
     error: &mut E,
 ) -> u8
-    ensures { RunsBy line.now (opening line.now files.items opened.entry) result
+    ensures { RunsBy line.now (asked_of (why_of line.now) (opening line.now files.items opened.entry)) result
         (record { input = R.shown input.old; out = W.shown output.old; err = E.shown error.old })
         (record { input = R.shown input.new; out = W.shown output.new; err = E.shown error.new }) }
 {
@@ -58,18 +61,42 @@ fn answer_over<L: Lookup + Drop, R: Source, W: Sink, E: Sink>(
     error: &mut E,
 ) -> u8
     ensures { (opened : Result OpeningValue Outcome) → IfOk read (λ r. opened ≡ Ok (shown_rules r.0 (L.entries r.1)))
-        → IfErr read (λ e. IsRefused e opened) → RunsBy line.now opened result
+        → IfErr read (λ e. IsRefused e opened) → RunsBy line.now (asked_of (why_of line.now) opened) result
         (record { input = R.shown input.old; out = W.shown output.old; err = E.shown error.old })
         (record { input = R.shown input.new; out = W.shown output.new; err = E.shown error.new }) }
 {
     match read {
-        Ok((rules, lookup)) => answer_by_rules(alloc, line, rules, lookup, input, output, error),
+        Ok((rules, lookup)) => answer_asked(alloc, line, rules, lookup, input, output, error),
         Err(refusal) => deliver_refusal(refusal, output, error),
     }
 }
 
-/// Writes the messages and answers the input: by the program of the rules, or where the line asks for
-/// sources by the rules as they were read.
+/// Writes the messages, and behind them the answers, or else which rule the line asks for that is not
+/// there.
+fn answer_asked<L: Lookup + Drop, R: Source, W: Sink, E: Sink>(
+    alloc: Global,
+    line: &Line<'_>,
+    read: RulesRead,
+    lookup: L,
+    input: &mut R,
+    output: &mut W,
+    error: &mut E,
+) -> u8
+    ensures { RunsBy line.now (asked_of (why_of line.now) (Ok (shown_rules read (L.entries lookup)))) result
+        (record { input = R.shown input.old; out = W.shown output.old; err = E.shown error.old })
+        (record { input = R.shown input.new; out = W.shown output.new; err = E.shown error.new }) }
+{
+    match first_unknown(alloc, &line.why, read.rules.messages(), read.rules.rules()) {
+        Ok(None) => answer_by_rules(alloc, line, read, lookup, input, output, error),
+        Ok(Some(unknown)) => {
+            deliver_usage_error(&read.messages, unknown.as_slice(), output, error)
+        }
+        Err(_) => deliver_refusal(Refusal::Memory, output, error),
+    }
+}
+
+/// Writes the messages and answers the input: by the program of the rules, or by the rules as they were
+/// read where the line asks for more than the answers.
 fn answer_by_rules<L: Lookup + Drop, R: Source, W: Sink, E: Sink>(
     alloc: Global,
     line: &Line<'_>,
@@ -84,8 +111,8 @@ fn answer_by_rules<L: Lookup + Drop, R: Source, W: Sink, E: Sink>(
         (record { input = R.shown input.new; out = W.shown output.new; err = E.shown error.new }) }
 {
     let RulesRead { messages, rules } = read;
-    if line.sources {
-        let tables = ToldTables::new(rules, lookup);
+    if line.sources || !line.why.is_empty() {
+        let tables = ToldTables::new(line.sources, &line.why, rules, lookup);
         return answer_behind(alloc, &messages, &tables, input, output, error);
     }
     match Tables::new(alloc, rules, lookup) {

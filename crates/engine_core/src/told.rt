@@ -1,60 +1,125 @@
-//! Rules as they were read and a database, as one thing that answers events and says where each line comes from.
-ghost use Rattle.std.specs.Prelude.{◌≡◌, IfOk};
-ghost use Rattle.engine_core.specs.Told.{told_by};
+//! Rules as they were read and a database, as one thing that answers events and says what a line asks for beside.
+ghost use Rattle.std.specs.Prelude.{◌≡◌, IfOk, map};
+ghost use Rattle.engine_core.specs.Told.{lines_told, told_by};
 
 use device_core::Event;
+use engine_answers::answer_lines;
+use engine_courses::push_why_lines;
 use engine_sessions::Answering;
 use engine_sources::sourced_lines;
+use eval_rules::evaluate_plain;
 use hwdb_lookup::Lookup;
 use rule_core::RuleSet;
 use std::alloc::{AllocError, Global};
 use std::marker::Model;
 use text_bytes::Bytes;
 
-/// Rules and a database, by which events are answered with the rule that each line comes from.
+/// Rules and a database, by which events are answered, and what is told beside: the rule that each line
+/// comes from, and what rules met.
 #[derive(Drop)]
-pub struct ToldTables<L: Lookup> {
+pub struct ToldTables<'b, 'a, L: Lookup> {
+    sources: bool,
+    why: &'b [&'a str],
     rules: RuleSet,
     lookup: L,
 }
 
-impl<L: Lookup> Model for ToldTables<L> {
-    ghost use Rattle.engine_core.specs.Answering.{TablesValue};
+impl<'b, 'a, L: Lookup> Model for ToldTables<'b, 'a, L> {
+    ghost use Rattle.std.specs.Prelude.{map};
+    ghost use Rattle.engine_core.specs.Told.{ToldValue};
 
-    ghost Value = { TablesValue };
+    ghost Value = { ToldValue };
 
-    ghost view = { λ t. record { rules = t.rules.rules; entries = L.entries t.lookup } };
+    ghost view = { λ t. record {
+      sources = t.sources;
+      why = map (λ w. w.now) t.why.now;
+      messages = t.rules.messages;
+      rules = t.rules.rules;
+      entries = L.entries t.lookup;
+    } };
 }
 
-impl<L: Lookup + Drop> ToldTables<L> {
-    /// The rules and the database that events are answered by.
-    pub fn new(rules: RuleSet, lookup: L) -> ToldTables<L>
-        ensures { result ≡ record { rules = rules.rules; entries = L.entries lookup } }
+impl<'b, 'a, L: Lookup + Drop> ToldTables<'b, 'a, L> {
+    /// The rules and the database that events are answered by, and what is told beside: with `sources`
+    /// the rule that each line comes from, and what the rules met that `why` asks for.
+    pub fn new(
+        sources: bool,
+        why: &'b [&'a str],
+        rules: RuleSet,
+        lookup: L,
+    ) -> ToldTables<'b, 'a, L>
+        ensures { result ≡ record {
+          sources = sources;
+          why = map (λ w. w.now) why.entry.now;
+          messages = rules.messages;
+          rules = rules.rules;
+          entries = L.entries lookup;
+        } }
     {
-        ToldTables { rules, lookup }
+        ToldTables {
+            sources,
+            why,
+            rules,
+            lookup,
+        }
     }
 }
 
-/// The answer to an event by rules and a database, with the rule that each line comes from.
+/// The lines of an answer, with sources or without.
+fn lines_told<L: Lookup>(
+    alloc: Global,
+    sources: bool,
+    rules: &RuleSet,
+    lookup: &L,
+    event: &Event<'_>,
+) -> Result<Vec<u8>, AllocError>
+    ensures { IfOk result (λ lines. lines.items ≡ lines_told sources rules.now.rules (L.entries lookup.now) event.now) }
+{
+    if sources {
+        return sourced_lines(alloc, rules, event, lookup);
+    }
+    let outcome = evaluate_plain(alloc, rules, event, lookup)?;
+    let said = answer_lines(alloc, event, &outcome);
+    drop(outcome);
+    said
+}
+
+/// The answer to an event, with what is asked for beside it.
 fn told_by<L: Lookup>(
     alloc: Global,
+    sources: bool,
+    why: &[&str],
     rules: &RuleSet,
     lookup: &L,
     event: &Event<'_>,
 ) -> Result<Bytes, AllocError>
-    ensures { IfOk result (λ text. text ≡ told_by (record { rules = rules.now.rules; entries = L.entries lookup.now }) event.now) }
+    ensures { IfOk result (λ text. text ≡ told_by (record {
+      sources = sources;
+      why = map (λ w. w.now) why.now;
+      messages = rules.now.messages;
+      rules = rules.now.rules;
+      entries = L.entries lookup.now;
+    }) event.now) }
 {
-    let mut lines = sourced_lines(alloc, rules, event, lookup)?;
+    let mut lines = lines_told(alloc, sources, rules, lookup, event)?;
+    push_why_lines(alloc, &mut lines, why, rules, event, lookup)?;
     lines.push(b'\n')?;
     Ok(Bytes::new(lines))
 }
 
-impl<L: Lookup> Answering for ToldTables<L> {
+impl<'b, 'a, L: Lookup> Answering for ToldTables<'b, 'a, L> {
     ghost use Rattle.engine_core.specs.Told.{told_by};
 
     ghost answers = { told_by };
 
     fn answer(&self, alloc: Global, event: &Event<'_>) -> Result<Bytes, AllocError> {
-        told_by(alloc, &self.rules, &self.lookup, event)
+        told_by(
+            alloc,
+            self.sources,
+            self.why,
+            &self.rules,
+            &self.lookup,
+            event,
+        )
     }
 }

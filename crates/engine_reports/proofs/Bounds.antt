@@ -104,11 +104,15 @@ index_said refusal fault outcome e said = subst (λ r. IsSaid r outcome) e said
 pub in_pieces : (first text whole last : List ℕ) → text ≡ whole → (first ++ whole) ++ last ≡ first ++ (text ++ (last ++ []))
 in_pieces first text whole last e = append_assoc first whole last ∙ ap (λ t. first ++ t) (ap (λ t. t ++ last) (sym e) ∙ ap (λ t. text ++ t) (sym (append-nil last)))
 
+-- messages and a line behind them, in two pieces
+pub two_pieces : (messages line : List ℕ) → messages ++ line ≡ messages ++ (line ++ [])
+two_pieces messages line = ap (λ t. messages ++ t) (sym (append-nil line))
+
 pub rules_said : (refusal : Refusal) (outcome : Outcome) → refusal ≡ TooManyRules → IsSaid refusal outcome → outcome ≡ too_many_rules
 rules_said refusal outcome e said = subst (λ r. IsSaid r outcome) e said
 
 -- what comes of rules files beside a database, by the bound of rules
-pub rules_opened : (files : List SourceFile) (messages : List Message) (entries : List Entry) → tokens_in (set_of files).rules ≤ 2 ^ 24 → opening_by files messages entries ≡ Ok (record { messages = opening_messages (set_of files).messages messages; rules = (set_of files).rules; entries = entries })
+pub rules_opened : (files : List SourceFile) (messages : List Message) (entries : List Entry) → tokens_in (set_of files).rules ≤ 2 ^ 24 → opening_by files messages entries ≡ Ok (record { messages = opening_messages (set_of files).messages messages; about_rules = (set_of files).messages; rules = (set_of files).rules; entries = entries })
 unfolding opening_by
 rules_opened files messages entries w = rw (le-leb (tokens_in (set_of files).rules) (2 ^ 24) w) refl
 

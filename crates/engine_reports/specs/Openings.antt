@@ -18,9 +18,10 @@ use Rattle.engine_reports.specs.Indexes.{entries_in, refused_index}
 use Rattle.engine_reports.specs.Messages.{message_lines}
 use Rattle.engine_reports.specs.Outcomes.{are_few, too_many_entries, too_many_rules}
 
--- the messages, and the rules and entries that events are answered by
+-- the lines of the messages, and what events are answered by: the messages about the rules, the rules and the entries
 pub record OpeningValue : Type 0 where
   pub messages : Text
+  pub about_rules : List Message
   pub rules : List Rule
   pub entries : List Entry
 
@@ -32,7 +33,7 @@ opening_messages rules database = message_lines (told false rules) ++ message_li
 -- what is said of that
 unfoldable pub opening_by : List SourceFile → List Message → List Entry → Result OpeningValue Outcome
 opening_by rules messages entries =
-    if nat_le (tokens_in (set_of rules).rules) (2 ^ 24) then Ok (record { messages = opening_messages (set_of rules).messages messages; rules = (set_of rules).rules; entries = entries })
+    if nat_le (tokens_in (set_of rules).rules) (2 ^ 24) then Ok (record { messages = opening_messages (set_of rules).messages messages; about_rules = (set_of rules).messages; rules = (set_of rules).rules; entries = entries })
     else Err too_many_rules
 
 -- the same of rules files and of files of a database, where these too hold no more than they may: what is said is said of the database first

@@ -1,8 +1,9 @@
 -- What a run says: its outcome, as a function of the command line and of the files handed in.
-use Rattle.std.specs.Prelude.{ℕ, ◌^◌, Bool, ◌==◌, ◌&&◌, nat_le, not, if◌then◌else◌, List, [], Option, Some, None, Result, Ok, Err, length, sum_by, codes}
+use Rattle.std.specs.Prelude.{ℕ, ◌^◌, Bool, ◌==◌, ◌&&◌, nat_le, not, if◌then◌else◌, List, [], ◌++◌, Option, Some, None, Result, Ok, Err, length, sum_by, codes}
 use Rattle.text_bytes.specs.declared.source_file.SourceFile.{SourceFile}
 use Rattle.text_bytes.specs.declared.source_file.FileKind.TheVariants.{Hwdb, Rules}
 use Rattle.text_bytes.specs.declared.message.Message.{Message}
+use Rattle.text_tables.specs.Texts.{Text}
 use Rattle.hwdb_lookup.specs.Bounds.{max_entries, max_match_bytes, max_name_bytes, max_text_bytes}
 use Rattle.hwdb_lookup.specs.declared.entry.Entry.{Entry}
 use Rattle.hwdb_core.specs.Sources.{entries_of, match_bytes_of, messages_of, properties_of, text_len}
@@ -50,6 +51,10 @@ update_outcome line entries messages = record {
 -- what is said of files that hold more than a database may
 abbrev pub too_many_entries : Outcome
 too_many_entries = record { output = []; messages = codes "devdry: hwdb: too many\n"; status = 1 }
+
+-- what is said where a command line asks for what is not there: the messages, and the line that says so
+abbrev pub usage_error : Text → Text → Outcome
+usage_error messages line = record { output = []; messages = messages ++ line; status = 2 }
 
 -- what is said of rules with too many tokens
 abbrev pub too_many_rules : Outcome

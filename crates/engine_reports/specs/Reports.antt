@@ -44,11 +44,11 @@ pub record IsReport (outcome : Outcome) (report : Result Report Refusal) : Type 
 
 -- what a contract sees of what comes before the first answer
 abbrev pub shown_opening : Opening → OpeningValue
-shown_opening opening = record { messages = opening.messages.items; rules = opening.rules.rules; entries = opening.entries.items }
+shown_opening opening = record { messages = opening.messages.items; about_rules = opening.rules.messages; rules = opening.rules.rules; entries = opening.entries.items }
 
 -- what a contract sees of it, by the rules that were read and the entries beside them
 abbrev pub shown_rules : RulesRead → List Entry → OpeningValue
-shown_rules read entries = record { messages = read.messages.items; rules = read.rules.rules; entries = entries }
+shown_rules read entries = record { messages = read.messages.items; about_rules = read.rules.messages; rules = read.rules.rules; entries = entries }
 
 -- A refusal is what is to be said in place of an opening; of want of memory nothing is told here.
 abbrev pub IsRefused : Refusal → Result OpeningValue Outcome → Type 0

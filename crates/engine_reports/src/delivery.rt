@@ -1,12 +1,13 @@
 //! Writing a report, or why there is none.
 ghost use Rattle.std.specs.Prelude.{◌≡◌, ◌<◌, IfOk};
 ghost use Rattle.engine_ends.specs.Delivery.{Delivers, Outcome, Tells, TellsFaults, out_of_memory};
+ghost use Rattle.engine_reports.specs.Outcomes.{usage_error};
 ghost use Rattle.engine_reports.specs.Reports.{IsReport, IsSaid};
 
 use crate::indexes::deliver_index_fault;
 use crate::refusal::Refusal;
 use crate::report::Report;
-use engine_ends::{Sink, deliver, tell_out_of_memory};
+use engine_ends::{Sink, deliver, deliver_in_pieces, tell_out_of_memory};
 
 /// The line on files that hold more than a database may.
 const TOO_MANY_ENTRIES: &[u8] = b"devdry: hwdb: too many\n";
@@ -61,4 +62,22 @@ pub fn deliver_refusal<W: Sink, E: Sink>(refusal: Refusal, output: &mut W, error
         Refusal::Index(fault) => deliver_index_fault(fault, output, error),
         Refusal::Memory => tell_out_of_memory(error),
     }
+}
+
+/// Writes the messages and, behind them, a line on what a command line asks for that is not there, and
+/// gives the status for it: 2, or 3 where an output failed.
+pub fn deliver_usage_error<W: Sink, E: Sink>(
+    messages: &[u8],
+    line: &[u8],
+    output: &mut W,
+    error: &mut E,
+) -> u8
+    ensures delivers { Delivers (usage_error messages.now line.now) result
+        (record { out = W.shown output.old; err = E.shown error.old })
+        (record { out = W.shown output.new; err = E.shown error.new }) }
+    ensures faults { TellsFaults result
+        (record { out = W.shown output.old; err = E.shown error.old })
+        (record { out = W.shown output.new; err = E.shown error.new }) }
+{
+    deliver_in_pieces(&[messages, line], b"", 2, output, error)
 }

@@ -20,7 +20,7 @@ mod report;
 
 pub use checks::report_on_rules;
 pub use database::{report_on_query, report_on_update};
-pub use delivery::{deliver_refusal, deliver_report};
+pub use delivery::{deliver_refusal, deliver_report, deliver_usage_error};
 pub use indexes::open_index;
 pub use law::an_index_opens_to_one_thing;
 pub use messages::heading;

@@ -3,4 +3,5 @@
 //! A law is the contract of a function with an empty body. Nothing stands on this crate.
 #![tactic(auto)]
 
+pub mod asking;
 pub mod sources;

@@ -1,0 +1,27 @@
+-- A line that asks for no more than the answers.
+use Rattle.std.proofs.Common.{◌≡◌, ℕ, Bool, false, not, ◌||◌, ◌==◌, cond, List, [], ◌∷◌, length, map, Result, Ok, Err, refl, ap, sym, ◌∙◌, rules, vec_len}
+use Rattle.engine_courses.specs.Asked.{unknown}
+use Rattle.engine_ends.specs.declared.line.Line.{Line}
+use Rattle.engine_ends.specs.Delivery.{Outcome}
+use Rattle.engine_reports.specs.Openings.{OpeningValue}
+use Rattle.engine_core.specs.Answering.{answer_by}
+use Rattle.engine_core.specs.Outcomes.{answer_with, asked_of, tables_of, told_of, why_of}
+use Rattle.engine_core.specs.Told.{told_by}
+
+none_asked : {A B : Type 0} (f : A → B) (l : List A) → length l ≡ 0 → map f l ≡ []
+none_asked f [] e = refl
+none_asked f (x ∷ l) e = cc
+
+pub nothing_asked : (line : Line) → vec_len line.why ≡ 0 → why_of line ≡ []
+nothing_asked line e = let same : vec_len line.why ≡ length line.why.items = search rules in none_asked (λ w. w.now) line.why.items (sym same ∙ e)
+
+opened_as_it_is : (opened : Result OpeningValue Outcome) → asked_of [] opened ≡ opened
+unfolding unknown
+opened_as_it_is (Ok opened) = refl
+opened_as_it_is (Err said) = refl
+
+pub asked_as_it_is : (line : Line) (opened : Result OpeningValue Outcome) → vec_len line.why ≡ 0 → asked_of (why_of line) opened ≡ opened
+asked_as_it_is line opened e = ap (λ why. asked_of why opened) (nothing_asked line e) ∙ opened_as_it_is opened
+
+pub answered_alone : (line : Line) (opened : OpeningValue) → line.sources ≡ false → vec_len line.why ≡ 0 → answer_with line opened ≡ answer_by (tables_of opened)
+answered_alone line opened a b = ap (λ (s : Bool). cond (s || not (vec_len line.why == 0)) (told_by (told_of line opened)) (answer_by (tables_of opened))) a ∙ ap (λ (n : ℕ). cond (not (n == 0)) (told_by (told_of line opened)) (answer_by (tables_of opened))) b

@@ -1,0 +1,19 @@
+//! What a line of `events` gets that asks for no more than the answers.
+//!
+//! The function here is empty: its contract is the law.
+ghost use Rattle.std.specs.Prelude.{◌≡◌, false, List, Option, Result, vec_len};
+ghost use Rattle.text_bytes.specs.declared.source_file.SourceFile.{SourceFile};
+ghost use Rattle.index_reading.specs.Contents.{Contents};
+ghost use Rattle.index_reading.specs.declared.fault.IndexFault.{IndexFault};
+ghost use Rattle.engine_ends.specs.declared.line.Line.{Line};
+ghost use Rattle.engine_ends.specs.declared.line.Verb.TheVariants.{Events};
+ghost use Rattle.engine_reports.specs.Openings.{OpeningValue, opening};
+ghost use Rattle.engine_core.specs.Answering.{answer_by};
+ghost use Rattle.engine_core.specs.Outcomes.{answer_with, before_input, tables_of};
+
+/// Without `--sources` and `--why` events get the answers by rules and entries, and nothing is said
+/// before them but the messages.
+pub fn a_line_that_asks_for_no_more_gets_the_answers_alone()
+    ensures answers { (line : Line) (opened : OpeningValue) → line.sources ≡ false → vec_len line.why ≡ 0 → answer_with line opened ≡ answer_by (tables_of opened) }
+    ensures opening { (line : Line) (files : List SourceFile) (index : Option (Result Contents IndexFault)) → vec_len line.why ≡ 0 → before_input Events line files index ≡ opening line files index }
+{}

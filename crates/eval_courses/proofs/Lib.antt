@@ -1,0 +1,4 @@
+pub mod Telling
+pub mod Copying
+pub mod Ending
+pub mod Finding

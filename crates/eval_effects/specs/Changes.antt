@@ -1,10 +1,10 @@
 -- What changed between two scenes, as texts: items that stand only since then or no longer, and RUNs.
-use Rattle.std.specs.Prelude.{ℕ, ◌||◌, if◌then◌else◌, Bool, List, [], ◌∷◌, ◌++◌, length, codes, flat_map}
+use Rattle.std.specs.Prelude.{ℕ, ◌||◌, if◌then◌else◌, Bool, List, [], ◌∷◌, ◌++◌, is_some, length, codes, flat_map}
 use Rattle.std.specs.List.{list_any}
 use Rattle.text_bytes.specs.Names.{equals, space}
 use Rattle.text_bytes.specs.Texts.{is_empty}
 use Rattle.text_tables.specs.Texts.{Text}
-use Rattle.text_tables.specs.Pairs.{Pair, named}
+use Rattle.text_tables.specs.Pairs.{Pair, value_of}
 use Rattle.rule_types.specs.Names.{run_name}
 use Rattle.eval_state.specs.Runs.{RunValue, run_kind, same_run}
 use Rattle.eval_state.specs.declared.scene.Scene.{Scene}
@@ -40,7 +40,7 @@ removed_text name = shown name ++ codes " removed"
 
 -- an item of those that stood before is told where its name no longer stands
 abbrev pub removed_item : List Pair → Pair → List Text
-removed_item now item = if named now item.0 then [] else removed_text item.0 ∷ []
+removed_item now item = if is_some (value_of now item.0) then [] else removed_text item.0 ∷ []
 
 -- what changed of items, by those before and those now
 abbrev pub item_changes : List Pair → List Pair → List Text

@@ -3,3 +3,4 @@ pub mod Named
 pub mod Since
 pub mod Changes
 pub mod Effects
+pub mod Inner

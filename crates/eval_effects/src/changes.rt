@@ -1,24 +1,25 @@
 //! Items that stand only now, and names that no longer stand.
-ghost use Rattle.std.specs.Prelude.{◌≡◌, ◌++◌, IfOk, OnOk, flat_map, option_map};
-ghost use Rattle.text_tables.specs.Pairs as pairs;
+ghost use Rattle.std.specs.Prelude.{◌≡◌, ◌++◌, IfOk, OnOk, flat_map, is_some, option_map};
+ghost use Rattle.text_tables.specs.Pairs.{value_of};
 ghost use Rattle.eval_sources.specs.Sources.{is_value, stands};
+ghost use Rattle.eval_effects.specs.Inner.{table_of};
 ghost use Rattle.eval_effects.specs.Changes.{item_changes, removed_item, removed_text, set_item, set_text, value_part};
 
 use crate::shown::push_shown;
 use eval_sources::Item;
 use std::alloc::{AllocError, Global};
 use text_bytes::Bytes;
+use text_tables::Pairs;
 
-/// Lends the value of the first item of a name.
-fn value_of<'i>(items: &'i [Item], name: &[u8]) -> Option<&'i [u8]>
-    ensures { option_map (λ value. value.now) result ≡ pairs.value_of items.now name.now }
+/// A table of items, in which a name has the value that it has among them: of two items with one name the first counts.
+fn table_of<'i>(alloc: Global, items: &'i [Item]) -> Result<Pairs<'i>, AllocError>
+    ensures { IfOk result (λ table. table ≡ table_of items.now) }
 {
-    for item in items {
-        if name == item.name() {
-            return Some(item.value());
-        }
+    let mut table = Pairs::new(alloc);
+    for item in items.iter().rev() {
+        table.add(item.name(), item.value())?;
     }
-    None
+    Ok(table)
 }
 
 /// Whether a value is there and is this text.
@@ -32,17 +33,17 @@ fn is_value(value: Option<&[u8]>, text: &[u8]) -> bool
 }
 
 /// Whether an item stands among others: its name has its value.
-fn stands(items: &[Item], item: &Item) -> bool
+fn stands(items: &Pairs<'_>, item: &Item) -> bool
     ensures { result ≡ stands item.now items.now }
 {
-    is_value(value_of(items, item.name()), item.value())
+    is_value(items.get(item.name()), item.value())
 }
 
-/// Whether a name stands among items.
-fn is_named(items: &[Item], name: &[u8]) -> bool
-    ensures { result ≡ pairs.named items.now name.now }
+/// Whether a name has a value.
+fn is_named(items: &Pairs<'_>, name: &[u8]) -> bool
+    ensures { result ≡ is_some (value_of items.now name.now) }
 {
-    items.iter().any(|item| name == item.name())
+    items.get(name).is_some()
 }
 
 /// Puts what becomes of an item that takes a value behind a text.
@@ -81,7 +82,7 @@ fn removed_text(alloc: Global, name: &[u8]) -> Result<Bytes, AllocError>
 fn push_set(
     alloc: Global,
     told: &mut Vec<Bytes>,
-    was: &[Item],
+    was: &Pairs<'_>,
     item: &Item,
 ) -> Result<(), AllocError>
     ensures { OnOk result (told.new.items ≡ told.old.items ++ set_item was.now item.now) }
@@ -96,7 +97,7 @@ fn push_set(
 fn push_removed(
     alloc: Global,
     told: &mut Vec<Bytes>,
-    now: &[Item],
+    now: &Pairs<'_>,
     item: &Item,
 ) -> Result<(), AllocError>
     ensures { OnOk result (told.new.items ≡ told.old.items ++ removed_item now.now item.now) }
@@ -111,7 +112,7 @@ fn push_removed(
 fn push_all_set(
     alloc: Global,
     told: &mut Vec<Bytes>,
-    was: &[Item],
+    was: &Pairs<'_>,
     now: &[Item],
 ) -> Result<(), AllocError>
     ensures { OnOk result (told.new.items ≡ told.old.items ++ flat_map (set_item was.now) now.now) }
@@ -127,7 +128,7 @@ fn push_all_removed(
     alloc: Global,
     told: &mut Vec<Bytes>,
     was: &[Item],
-    now: &[Item],
+    now: &Pairs<'_>,
 ) -> Result<(), AllocError>
     ensures { OnOk result (told.new.items ≡ told.old.items ++ flat_map (removed_item now.now) was.now) }
 {
@@ -146,6 +147,9 @@ pub(crate) fn push_item_changes(
 ) -> Result<(), AllocError>
     ensures { OnOk result (told.new.items ≡ told.old.items ++ item_changes was.now now.now) }
 {
-    push_all_set(alloc, told, was, now)?;
-    push_all_removed(alloc, told, was, now)
+    let was_table = table_of(alloc, was)?;
+    push_all_set(alloc, told, &was_table, now)?;
+    let now_table = table_of(alloc, now)?;
+    push_all_removed(alloc, told, was, &now_table)?;
+    Ok(())
 }

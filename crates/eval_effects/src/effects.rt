@@ -135,7 +135,8 @@ fn set_all_told<'a>(
 {
     let mut told = Vec::new(alloc);
     for assignment in rule.sets() {
-        told.push(set_told(alloc, rule, since, assignment, scene)?)?;
+        let text = set_told(alloc, rule, since, assignment, scene)?;
+        told.push(text)?;
     }
     Ok(told)
 }

@@ -23,7 +23,7 @@ fn push_cut(alloc: Global, text: &mut Vec<u8>, about: &[u8]) -> Result<(), Alloc
 }
 
 /// Puts a text behind another one as it stands between quotes: escaped, and of one over 200 bytes the first 200, and then
-/// ` .. (N bytes)` without the space before it. The error comes where memory is refused.
+/// `.. (N bytes)`. The error comes where memory is refused.
 pub fn push_shortened(alloc: Global, text: &mut Vec<u8>, about: &[u8]) -> Result<(), AllocError>
     ensures { OnOk result (text.new.items ≡ text.old.items ++ shortened about.now) }
 {

@@ -1,0 +1,45 @@
+-- A table of items gives each name the value that it has among them.
+use Rattle.std.proofs.Common.{◌≡◌, cond, List, [], ◌∷◌, ◌++◌, Some, is_some, reverse, flat_map, append_assoc, refl, ap, ◌∙◌}
+use Rattle.std.proofs.lemmas.Grind.{reverse_onto}
+use Rattle.std.proofs.lemmas.List.Sums.{fold-append}
+use Rattle.text_tables.specs.Texts.{Text, same_text}
+use Rattle.text_tables.specs.Pairs.{Pair, value_of, with_value, with_values}
+use Rattle.text_tables.proofs.Found.{value_set}
+use Rattle.eval_sources.specs.Sources.{is_value}
+use Rattle.eval_effects.specs.Changes.{item_changes, removed_item, removed_text, set_item, set_text}
+use Rattle.eval_effects.specs.Inner.{table_of}
+
+values : (items : List Pair) (name : Text) → value_of (table_of items) name ≡ value_of items name
+values [] name = refl
+values (item ∷ items) name =
+    ap (λ all. value_of (with_values [] all) name) (reverse_onto items item [])
+    ∙ ap (λ held. value_of held name) (fold-append (λ held pair. with_value held pair.0 pair.1) [] (reverse items) (item ∷ []))
+    ∙ value_set (table_of items) item.0 item.1 name
+    ∙ ap (cond (same_text name item.0) (Some item.1)) (values items name)
+
+set_same : (was : List Pair) → set_item (table_of was) ≡ set_item was
+set_same was =
+    let same : (item : Pair) → set_item (table_of was) item ≡ set_item was item = λ item. ap (λ value. cond (is_value value item.1) [] (set_text item ∷ [])) (values was item.0) in
+    λ i item. same item i
+
+removed_same : (now : List Pair) → removed_item (table_of now) ≡ removed_item now
+removed_same now =
+    let same : (item : Pair) → removed_item (table_of now) item ≡ removed_item now item = λ item. ap (λ value. cond (is_some value) [] (removed_text item.0 ∷ [])) (values now item.0) in
+    λ i item. same item i
+
+-- what is told by tables is what is told by the items
+changes_same : (was now : List Pair) → flat_map (set_item (table_of was)) now ++ flat_map (removed_item (table_of now)) was ≡ item_changes was now
+changes_same was now =
+    ap (λ tell. flat_map tell now ++ flat_map (removed_item (table_of now)) was) (set_same was)
+    ∙ ap (λ tell. flat_map (set_item was) now ++ flat_map tell was) (removed_same now)
+
+-- the same, one behind another behind what was told before
+pub told_same : (start mid end : List Text) (was now was_table now_table : List Pair) → was_table ≡ table_of was → now_table ≡ table_of now
+    → mid ≡ start ++ flat_map (set_item was_table) now → end ≡ mid ++ flat_map (removed_item now_table) was → end ≡ start ++ item_changes was now
+told_same start mid end was now was_table now_table w n first second =
+    second
+    ∙ ap (λ told. told ++ flat_map (removed_item now_table) was) first
+    ∙ append_assoc start (flat_map (set_item was_table) now) (flat_map (removed_item now_table) was)
+    ∙ ap (λ table. start ++ (flat_map (set_item table) now ++ flat_map (removed_item now_table) was)) w
+    ∙ ap (λ table. start ++ (flat_map (set_item (table_of was)) now ++ flat_map (removed_item table) was)) n
+    ∙ ap (λ told. start ++ told) (changes_same was now)

@@ -1,0 +1,6 @@
+use Rattle.std.proofs.Common.{◌≡◌, ◌++◌, take, flat_map}
+use Rattle.eval_effects.specs.Changes.{removed_item}
+use Rattle.eval_effects.proofs.changes.push_all_removed.Given as goal
+
+abbrev pub invariant-loop-item : goal.invariant-loop-item
+invariant-loop-item l = l.told.items ≡ l.initial.told.items ++ flat_map (removed_item l.now) (take l.item-index l.was)

@@ -2,3 +2,4 @@ pub mod Telling
 pub mod Copying
 pub mod Ending
 pub mod Finding
+pub mod Reaching

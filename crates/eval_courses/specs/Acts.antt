@@ -1,7 +1,7 @@
 -- What TEST, PROGRAM and IMPORT met, by the scene before them and the scene behind.
 use Rattle.std.specs.Prelude.{Bool, not, ◌||◌, if◌then◌else◌, List, [], ◌∷◌, ◌++◌, map, filter, Option, Some, None, is_some, codes, decimal}
 use Rattle.text_bytes.specs.Names.{equals, slash, space}
-use Rattle.text_bytes.specs.Texts.{begins_with}
+use Rattle.text_bytes.specs.Texts.{begins_with, is_empty}
 use Rattle.text_bytes.specs.Escapes.{escape_text}
 use Rattle.text_tables.specs.Texts.{Text}
 use Rattle.text_tables.specs.Pairs.{Pair, value_of}
@@ -36,8 +36,7 @@ path_told has_mask path = if has_mask || begins_with slash path then codes "not 
 
 -- a text behind a space; an empty one is left out with its space
 abbrev pub spaced : Text → Text
-spaced [] = []
-spaced (b ∷ text) = space ∷ shown (b ∷ text)
+spaced text = if is_empty text then [] else space ∷ shown text
 
 -- the command of a PROGRAM, and what the event's block answers to it
 abbrev pub answer_told : Text → Option AnswerValue → Text
@@ -50,8 +49,7 @@ property_told property = shown property.0 ++ equals ∷ shown property.1
 
 -- properties that were set
 abbrev pub set_told : List Text → Text
-set_told [] = codes "sets nothing"
-set_told (property ∷ others) = codes "sets " ++ joined (property ∷ others)
+set_told properties = if is_empty properties then codes "sets nothing" else codes "sets " ++ joined properties
 
 -- the properties of those that stand now which did not stand so before
 abbrev pub newly_set : List Pair → List Pair → List Pair

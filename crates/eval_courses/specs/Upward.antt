@@ -1,6 +1,7 @@
 -- What the matches of one device met, device by device, and what the search for one device came to.
 use Rattle.std.specs.Prelude.{ℕ, zero, suc, Bool, true, false, if◌then◌else◌, List, [], ◌∷◌, ◌++◌, length, map, filter, count_by, Option, Some, None, option_map, codes, decimal}
 use Rattle.std.specs.List.{list_any, range_with_len}
+use Rattle.text_bytes.specs.Texts.{is_empty}
 use Rattle.text_tables.specs.Texts.{Text}
 use Rattle.device_core.specs.Values.{chain}
 use Rattle.rule_types.specs.declared.part.UpMatch.{UpMatch}
@@ -58,18 +59,17 @@ falling (suc last) = last ∷ falling last
 abbrev pub partly : List UpMatch → State → List ℕ
 partly parts state = filter (λ place. list_any (holds_at state place) parts) (falling (length (chain state.event)))
 
--- that no device meets all, with those that meet some
-abbrev pub missed : List Text → Text
-missed [] = codes "no device meets any"
-missed (text ∷ others) = codes "no device meets all: " ++ joined (text ∷ others)
+-- what no device meets: any of the matches, or all of them, with the devices that meet some
+abbrev pub unmet : List Text → Text
+unmet devices = if is_empty devices then codes "any" else codes "all: " ++ joined devices
 
 -- what the search came to: the device at a place, or none
 abbrev pub found_told : List UpMatch → State → Option ℕ → Text
 found_told parts state (Some place) = name_at state place ++ codes " meets all"
-found_told parts state None = missed (map (partly_told parts state) (partly parts state))
+found_told parts state None = codes "no device meets " ++ unmet (map (partly_told parts state) (partly parts state))
 
 -- the search for one device: each of its matches, and what the search came to
 unfoldable pub search_told : List UpMatch → State → List Text
 search_told [] state = []
 search_told (part ∷ parts) state =
-    map (λ match. up_told match state) (part ∷ parts) ++ found_told (part ∷ parts) state (found_place (part ∷ parts) state) ∷ []
+    map (λ each. up_told each state) (part ∷ parts) ++ found_told (part ∷ parts) state (found_place (part ∷ parts) state) ∷ []

@@ -12,6 +12,8 @@ ghost use Rattle.text_bytes.specs.Names.{space};
 ghost use Rattle.eval_effects.specs.Shown.{shown};
 ghost use Rattle.eval_courses.specs.Acts.{act_told, answer_told, deed_told, import_told, on_rendered, path_told, spaced};
 ghost use Rattle.eval_courses.specs.Inner.{told_behind};
+ghost use Rattle.eval_courses.specs.Keys.{act_key};
+ghost use Rattle.eval_courses.specs.Looks.{met};
 
 use crate::keys::push_act_key;
 use crate::plain::push_met;
@@ -194,8 +196,25 @@ fn push_behind(
     }
 }
 
+/// An act that was done, whether its rule goes on, and what it met.
+fn act_met(
+    alloc: Global,
+    act: &Act,
+    goes_on: bool,
+    before: &ToldBefore,
+    env: &OwnedPairs,
+) -> Result<Bytes, AllocError>
+    ensures { IfOk result (λ text. text ≡ act_key act.now ++ met goes_on ++ told_behind before.now env.now) }
+{
+    let mut text = Vec::new(alloc);
+    push_act_key(alloc, &mut text, act)?;
+    push_met(&mut text, goes_on)?;
+    push_behind(alloc, &mut text, before, env)?;
+    Ok(Bytes::new(text))
+}
+
 /// Does what an act asks for, and tells what it met.
-#[tactic(auto, unfolding(crate::specs::Acts::act_told))]
+#[tactic(auto, using(eval_rules::proofs::Staying::act_stays, crate::proofs::Telling::act_is))]
 pub(crate) fn tell_act<L: Lookup>(
     alloc: Global,
     rule: &Rule,
@@ -210,10 +229,7 @@ pub(crate) fn tell_act<L: Lookup>(
 {
     let before = told_before(alloc, &act.deed, &scene.state)?;
     let goes_on = act_step(alloc, rule, act, lookup, scene)?;
-    let mut text = Vec::new(alloc);
-    push_act_key(alloc, &mut text, act)?;
-    push_met(&mut text, goes_on)?;
-    push_behind(alloc, &mut text, &before, &scene.state.env)?;
-    texts.push(Bytes::new(text))?;
+    let text = act_met(alloc, act, goes_on, &before, &scene.state.env)?;
+    texts.push(text)?;
     Ok(goes_on)
 }

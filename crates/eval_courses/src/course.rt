@@ -6,11 +6,9 @@ ghost use Rattle.eval_rules.specs.Steps.{apply, plain_step, result_step, walk};
 ghost use Rattle.eval_courses.specs.Courses.{acts_told, course, event_told, keys_told, resulted, results_told};
 
 use crate::acts::tell_act;
-use crate::plain::{plain_told, result_told};
+use crate::plain::{tell_match, tell_result};
 use crate::upward::tell_search;
 use eval_effects::{Since, end_told};
-use eval_matching::result_holds;
-use eval_rules::plain_step;
 use eval_state::Scene;
 use hwdb_lookup::Lookup;
 use rule_types::{Act, Comparison, PlainMatch, Rule};
@@ -39,8 +37,7 @@ fn tell_event(
     ensures event { scene.new.state.event ≡ scene.old.state.event }
 {
     for part in parts {
-        texts.push(plain_told(alloc, part, &scene.state)?)?;
-        if !plain_step(alloc, rule, part, scene)? {
+        if !tell_match(alloc, rule, part, scene, texts)? {
             return Ok(false);
         }
     }
@@ -79,8 +76,7 @@ fn tell_results(
     ensures texts { OnOk result (texts.new.items ≡ texts.old.items ++ results_told parts.now scene.now) }
 {
     for part in parts {
-        texts.push(result_told(alloc, part, &scene.state)?)?;
-        if !result_holds(part, &scene.state) {
+        if !tell_result(alloc, part, scene, texts)? {
             return Ok(false);
         }
     }
@@ -88,7 +84,6 @@ fn tell_results(
 }
 
 /// Tells the keys of a rule, up to the first that stops it, and answers whether all let it go on.
-#[tactic(auto, unfolding(crate::specs::Courses::keys_told))]
 fn tell_keys<L: Lookup>(
     alloc: Global,
     rule: &Rule,
@@ -113,7 +108,6 @@ fn tell_keys<L: Lookup>(
 }
 
 /// Tells the keys of a rule and how it ends, and answers whether its end was reached.
-#[tactic(auto, unfolding(crate::specs::Courses::course, eval_rules::specs::Steps::apply))]
 fn tell_steps<'a, L: Lookup>(
     alloc: Global,
     rule: &'a Rule,

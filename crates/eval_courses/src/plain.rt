@@ -1,14 +1,16 @@
 //! The matches of the event and of the result of the last program, and what they met.
-ghost use Rattle.std.specs.Prelude.{◌≡◌, ◌++◌, IfOk, OnOk, map, option_map};
+ghost use Rattle.std.specs.Prelude.{◌≡◌, ◌∷◌, ◌++◌, [], IfOk, OnOk, map, option_map};
 ghost use Rattle.eval_state.specs.Texts.{or_empty};
 ghost use Rattle.eval_matching.specs.Subjects.{named_constant, plain_subject};
+ghost use Rattle.eval_rules.specs.Steps.{plain_step, result_step};
 ghost use Rattle.eval_courses.specs.Looks.{looked, members_told, met, plain_told, result_told, value_told};
 
 use crate::keys::{push_plain_key, push_result_key};
 use eval_effects::push_shown;
 use eval_matching::{is_known_constant, plain_holds, result_holds};
-use eval_state::State;
-use rule_types::{Comparison, PlainKey, PlainMatch};
+use eval_rules::plain_step;
+use eval_state::{Scene, State};
+use rule_types::{Comparison, PlainKey, PlainMatch, Rule};
 use std::alloc::{AllocError, Global};
 use text_bytes::Bytes;
 
@@ -110,11 +112,7 @@ fn push_looked(
 
 /// A match of the event, and what it met.
 #[tactic(auto, unfolding(crate::specs::Looks::plain_told))]
-pub(crate) fn plain_told(
-    alloc: Global,
-    part: &PlainMatch,
-    state: &State<'_>,
-) -> Result<Bytes, AllocError>
+fn plain_told(alloc: Global, part: &PlainMatch, state: &State<'_>) -> Result<Bytes, AllocError>
     ensures { IfOk result (λ text. text ≡ plain_told part.now state.now) }
 {
     let mut text = Vec::new(alloc);
@@ -126,11 +124,7 @@ pub(crate) fn plain_told(
 
 /// A match of the result of the last program, and what it met.
 #[tactic(auto, unfolding(crate::specs::Looks::result_told))]
-pub(crate) fn result_told(
-    alloc: Global,
-    part: &Comparison,
-    state: &State<'_>,
-) -> Result<Bytes, AllocError>
+fn result_told(alloc: Global, part: &Comparison, state: &State<'_>) -> Result<Bytes, AllocError>
     ensures { IfOk result (λ text. text ≡ result_told part.now state.now) }
 {
     let mut text = Vec::new(alloc);
@@ -138,4 +132,35 @@ pub(crate) fn result_told(
     push_met(&mut text, result_holds(part, state))?;
     push_shown(alloc, &mut text, state.result.as_slice())?;
     Ok(Bytes::new(text))
+}
+
+/// Reaches a match of the event, tells what it met, and answers whether it holds.
+pub(crate) fn tell_match(
+    alloc: Global,
+    rule: &Rule,
+    part: &PlainMatch,
+    scene: &mut Scene<'_>,
+    texts: &mut Vec<Bytes>,
+) -> Result<bool, AllocError>
+    ensures scene { IfOk result (λ on. (scene.new, on) ≡ plain_step rule.now part.now scene.old) }
+    ensures text { OnOk result (texts.new.items ≡ texts.old.items ++ plain_told part.now scene.old.state ∷ []) }
+    ensures event { scene.new.state.event ≡ scene.old.state.event }
+{
+    texts.push(plain_told(alloc, part, &scene.state)?)?;
+    plain_step(alloc, rule, part, scene)
+}
+
+/// Tells what a match of the result of the last program met, and answers whether it holds.
+#[tactic(auto, unfolding(eval_rules::specs::Steps::result_step))]
+pub(crate) fn tell_result(
+    alloc: Global,
+    part: &Comparison,
+    scene: &Scene<'_>,
+    texts: &mut Vec<Bytes>,
+) -> Result<bool, AllocError>
+    ensures scene { IfOk result (λ on. (scene.now, on) ≡ result_step part.now scene.now) }
+    ensures text { OnOk result (texts.new.items ≡ texts.old.items ++ result_told part.now scene.now.state ∷ []) }
+{
+    texts.push(result_told(alloc, part, &scene.state)?)?;
+    Ok(result_holds(part, &scene.state))
 }

@@ -4,7 +4,7 @@ ghost use Rattle.std.specs.List.{list_any};
 ghost use Rattle.eval_matching.specs.Subjects.{found_place, holds_at, tags_at, up_subject};
 ghost use Rattle.eval_rules.specs.Steps.{search};
 ghost use Rattle.eval_courses.specs.Looks.{looked, members_told};
-ghost use Rattle.eval_courses.specs.Upward.{device_told, found_told, hits, is_absent, met_at, missed, name_at, partly, partly_told, places, search_told, up_told};
+ghost use Rattle.eval_courses.specs.Upward.{device_told, found_told, hits, is_absent, met_at, name_at, partly, partly_told, places, search_told, unmet, up_told};
 
 use crate::keys::push_up_key;
 use crate::plain::{push_members, push_value};
@@ -203,14 +203,14 @@ fn partly_all_told(
     Ok(texts)
 }
 
-/// Puts that no device meets all of the matches behind a text, with those that meet some.
-fn push_missed(text: &mut Vec<u8>, devices: &[Bytes]) -> Result<(), AllocError>
-    ensures { OnOk result (text.new.items ≡ text.old.items ++ missed devices.now) }
+/// Puts what no device meets behind a text: any of the matches, or all of them, with the devices that meet some.
+fn push_unmet(text: &mut Vec<u8>, devices: &[Bytes]) -> Result<(), AllocError>
+    ensures { OnOk result (text.new.items ≡ text.old.items ++ unmet devices.now) }
 {
     if devices.is_empty() {
-        return text.extend_from_slice(b"no device meets any");
+        return text.extend_from_slice(b"any");
     }
-    text.extend_from_slice(b"no device meets all: ")?;
+    text.extend_from_slice(b"all: ")?;
     push_joined(text, devices)
 }
 
@@ -224,7 +224,10 @@ fn found_told(alloc: Global, parts: &[UpMatch], state: &State<'_>) -> Result<Byt
             push_name(alloc, &mut text, state, place)?;
             text.extend_from_slice(b" meets all")?;
         }
-        None => push_missed(&mut text, &partly_all_told(alloc, parts, state)?)?,
+        None => {
+            text.extend_from_slice(b"no device meets ")?;
+            push_unmet(&mut text, &partly_all_told(alloc, parts, state)?)?;
+        }
     }
     Ok(Bytes::new(text))
 }

@@ -1,6 +1,6 @@
-use Rattle.std.proofs.Common.{◌≡◌, [], map, ap, ◌∙◌, subst}
+use Rattle.std.proofs.Common.{rules, ◌≡◌, [], ◌∙◌}
 use Rattle.text_tables.specs.Texts.{AreOnce}
-use Rattle.text_tables.specs.Pairs.{names, with_values, Pair}
+use Rattle.text_tables.specs.Pairs.{names, with_values}
 use Rattle.text_tables.proofs.Held.{names_once}
 use Rattle.eval_courses.proofs.Copying.{set_anew}
 use Rattle.eval_courses.proofs.properties.copied.Goals as goal

@@ -23,6 +23,7 @@ pub use database::{report_on_query, report_on_update};
 pub use delivery::{deliver_refusal, deliver_report};
 pub use indexes::open_index;
 pub use law::an_index_opens_to_one_thing;
+pub use messages::heading;
 pub use opening::{Opening, RulesRead, open_files, open_rules};
 pub use refusal::Refusal;
 pub use report::Report;

@@ -51,8 +51,8 @@ fn push_message(alloc: Global, text: &mut Vec<u8>, message: &Message) -> Result<
     Ok(())
 }
 
-/// The code of a kind of message, and what it says.
-fn heading(kind: MessageKind) -> &'static [u8]
+/// The code of a kind of message, and what it says: `V6 bad substitution`.
+pub fn heading(kind: MessageKind) -> &'static [u8]
     ensures { result.now ≡ heading_of kind }
 {
     match kind {

@@ -1,0 +1,66 @@
+-- Which rules the texts of `--why` ask for, and what is said of a text that asks for none.
+use Rattle.std.specs.Prelude.{ℕ, Bool, true, false, not, ◌==◌, ◌||◌, ◌&&◌, List, [], ◌∷◌, ◌++◌, map, filter, find, codes, decimal, Option, Some, None, option_map}
+use Rattle.std.specs.List.{list_any}
+use Rattle.text_bytes.specs.Escapes.{escape_text}
+use Rattle.text_bytes.specs.Names.{colon, newline}
+use Rattle.text_bytes.specs.declared.message.Message.{Message}
+use Rattle.text_bytes.specs.declared.message.MessageKind.{MessageKind}
+use Rattle.text_bytes.specs.declared.message.MessageKind.TheVariants.{BadSyntax, UnknownKey, OperatorNotAllowed, WrongAttribute, BadValue, BadSubstitution, LineTooLong, BadPrefix, SetNotSupported, OpenAtEnd}
+use Rattle.text_tables.specs.Texts.{Text, same_text}
+use Rattle.rule_types.specs.Rules.{Rule}
+use Rattle.engine_courses.specs.Nearest.{Place, nearest}
+
+-- whether a text asks for a place: it is the file's name, or `FILE:LINE`
+abbrev pub asks : Text → Place → Bool
+asks text place = same_text text place.0 || same_text text (place.0 ++ colon ∷ decimal place.1)
+
+-- whether one of the texts of `--why` asks for a line of a file
+abbrev pub is_asked : List Text → Text → ℕ → Bool
+is_asked why file line = list_any (λ text. asks text (file, line)) why
+
+-- whether a kind of message says that a line of rules was not read: the V messages but V7 and V8, which leave the rule
+abbrev pub is_of_unread : MessageKind → Bool
+is_of_unread BadSyntax = true
+is_of_unread UnknownKey = true
+is_of_unread OperatorNotAllowed = true
+is_of_unread WrongAttribute = true
+is_of_unread BadValue = true
+is_of_unread BadSubstitution = true
+is_of_unread LineTooLong = true
+is_of_unread BadPrefix = true
+is_of_unread SetNotSupported = true
+is_of_unread OpenAtEnd = true
+is_of_unread _ = false
+
+-- whether one of these rules stands on a line of a file
+abbrev pub has_rule : List Rule → Text → ℕ → Bool
+has_rule rules file line = list_any (λ r. same_text r.file file && r.line == line) rules
+
+-- the messages on lines that are asked for and were not read
+unfoldable pub unread : List Text → List Message → List Rule → List Message
+unread why messages rules = filter (λ m. is_of_unread m.kind && (is_asked why m.file m.line && not (has_rule rules m.file m.line))) messages
+
+-- the places of rules and of messages
+abbrev pub places_of : List Message → List Rule → List Place
+places_of messages rules = map (λ r. (r.file, r.line)) rules ++ map (λ m. (m.file, m.line)) messages
+
+-- whether a text asks for one of these places
+abbrev pub is_known : List Place → Text → Bool
+is_known places text = list_any (asks text) places
+
+-- a place as it is told, `FILE:LINE`, the file's name escaped
+abbrev pub place_text : Place → Text
+place_text place = escape_text place.0 ++ colon ∷ decimal place.1
+
+-- what there is none of, with the nearest place where the text's file has one
+abbrev pub missing : Option Place → Text
+missing None = codes "rules file"
+missing (Some place) = codes "rule, the nearest is " ++ place_text place
+
+-- the line on a text that asks for nothing
+unfoldable pub unknown_line : List Place → Text → Text
+unknown_line places text = codes "devdry: --why " ++ escape_text text ++ codes ": no such " ++ missing (nearest text places) ++ newline ∷ []
+
+-- the line on the first text that asks for no rule and no message's place
+unfoldable pub unknown : List Text → List Message → List Rule → Option Text
+unknown why messages rules = let places = places_of messages rules in option_map (unknown_line places) (find (λ text. not (is_known places text)) why)

@@ -1,0 +1,4 @@
+pub mod Nearest
+pub mod Asked
+pub mod WhyLines
+pub mod Inner

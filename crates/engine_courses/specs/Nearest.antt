@@ -1,0 +1,44 @@
+-- Which place stands nearest to the line that a text of `--why` asks for.
+use Rattle.std.specs.Prelude.{ℕ, Bool, not, ◌==◌, ◌||◌, ◌&&◌, nat_lt, if◌then◌else◌, List, [], ◌∷◌, length, take, drop, find, filter_map, Option, Some, None, option_map, option_and_then}
+use Rattle.std.specs.Int.{abs_diff}
+use Rattle.std.specs.List.{list_any}
+use Rattle.text_bytes.specs.Messages.{capped}
+use Rattle.text_bytes.specs.Names.{colon}
+use Rattle.text_bytes.specs.Numbers.{decimal, is_decimal}
+use Rattle.text_tables.specs.Texts.{Text, same_text}
+
+-- a place: a file's name, and a line of it
+abbrev pub Place : Type 0
+Place = Text × ℕ
+
+-- what stands behind the front of a text, where it begins with that
+abbrev pub behind : Text → Text → Option Text
+behind front text = if same_text (take (length front) text) front then Some (drop (length front) text) else None
+
+-- the number of a line that decimal digits write; one over 2^32 - 1 counts as that, as it does where lines are told
+abbrev pub line_number : Text → Option ℕ
+line_number digits = if is_decimal digits then Some (capped (decimal digits)) else None
+
+-- the line of a file that a text asks for as `FILE:N`
+abbrev pub line_in : Text → Text → Option ℕ
+line_in file text = option_and_then line_number (option_and_then (behind (colon ∷ [])) (behind file text))
+
+-- a place behind how far its line is from another one
+abbrev pub Candidate : Type 0
+Candidate = ℕ × Place
+
+-- a place behind how far it is from the line of its file that a text asks for
+abbrev pub candidate_of : Text → Place → Option Candidate
+candidate_of text place = option_map (λ line. (abs_diff line place.1, place)) (line_in place.0 text)
+
+-- whether one place is nearer than another: it is less far, or as far and on a smaller line
+abbrev pub is_nearer : Candidate → Candidate → Bool
+is_nearer a b = nat_lt a.0 b.0 || (a.0 == b.0 && nat_lt a.1.1 b.1.1)
+
+-- the first of places that none of them is nearer than
+unfoldable pub least : List Candidate → Option Candidate
+least all = find (λ a. not (list_any (λ b. is_nearer b a) all)) all
+
+-- of the places in the file of a text `FILE:N` the one that is nearest to that line
+abbrev pub nearest : Text → List Place → Option Place
+nearest text places = option_map (λ found. found.1) (least (filter_map (candidate_of text) places))

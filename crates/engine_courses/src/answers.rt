@@ -1,0 +1,54 @@
+//! The lines behind the answer to an event.
+ghost use Rattle.std.specs.Prelude.{◌≡◌, ◌++◌, OnOk, map};
+ghost use Rattle.engine_courses.specs.Asked.{unread};
+ghost use Rattle.engine_courses.specs.WhyLines.{unread_lines, why_lines};
+
+use crate::lines::push_unread;
+use crate::telling::tell_event;
+use crate::unread::is_unread;
+use device_core::Event;
+use hwdb_lookup::Lookup;
+use rule_core::RuleSet;
+use rule_types::Rule;
+use std::alloc::{AllocError, Global};
+use text_bytes::Message;
+
+/// Puts the lines on messages behind others, of those on lines that are asked for and were not read.
+#[tactic(auto, unfolding(crate::specs::Asked::unread))]
+fn push_unread_lines(
+    alloc: Global,
+    lines: &mut Vec<u8>,
+    why: &[&str],
+    messages: &[Message],
+    rules: &[Rule],
+) -> Result<(), AllocError>
+    ensures { OnOk result (lines.new.items ≡ lines.old.items ++ unread_lines (unread (map (λ t. t.now) why.now) messages.now rules.now)) }
+{
+    for message in messages {
+        if is_unread(why, message, rules) {
+            push_unread(alloc, lines, message)?;
+        }
+    }
+    Ok(())
+}
+
+/// Puts the lines of `--why` behind the lines of an answer: on each line that is asked for and was not read, what the message
+/// on it says; then on each rule that is asked for, in the order of evaluation, by which rule's GOTO it is passed over, or
+/// what each of its keys met and how the rule ended, as `eval_courses` tells it. Rules that are not asked for have no line.
+///
+/// The rules are evaluated once more for this, as for the answer. The error comes where memory is refused; what was put
+/// behind the lines until then stays.
+#[tactic(auto, unfolding(crate::specs::WhyLines::why_lines))]
+pub fn push_why_lines<L: Lookup>(
+    alloc: Global,
+    lines: &mut Vec<u8>,
+    why: &[&str],
+    rules: &RuleSet,
+    event: &Event<'_>,
+    lookup: &L,
+) -> Result<(), AllocError>
+    ensures { OnOk result (lines.new.items ≡ lines.old.items ++ why_lines (map (λ t. t.now) why.now) rules.now.messages rules.now.rules (L.entries lookup.now) event.now) }
+{
+    push_unread_lines(alloc, lines, why, rules.messages(), rules.rules())?;
+    tell_event(alloc, lines, why, rules.rules(), event, lookup)
+}

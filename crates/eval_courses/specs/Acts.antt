@@ -20,7 +20,7 @@ use Rattle.eval_rendering.specs.declared.rendered.Rendered.TheVariants as render
 use Rattle.eval_state.specs.declared.scene.Scene.{Scene}
 use Rattle.eval_state.specs.declared.state.State.{State}
 use Rattle.eval_acts.specs.Acts.{act_step}
-use Rattle.eval_sources.specs.Sources.{stands}
+use Rattle.eval_effects.specs.Items.{stands}
 use Rattle.eval_effects.specs.Shown.{joined, shown}
 use Rattle.eval_courses.specs.Keys.{act_key}
 use Rattle.eval_courses.specs.Looks.{met}

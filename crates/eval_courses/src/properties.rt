@@ -1,6 +1,6 @@
 //! Which properties stand only behind an act.
 ghost use Rattle.std.specs.Prelude.{◌≡◌, ◌++◌, IfOk, OnOk, map};
-ghost use Rattle.eval_sources.specs.Sources.{stands};
+ghost use Rattle.eval_effects.specs.Items.{stands};
 ghost use Rattle.eval_courses.specs.Acts.{newly_set, property_told, set_told};
 
 use eval_effects::{push_joined, push_shown};

@@ -7,8 +7,9 @@ use Rattle.rule_types.specs.Rules.{Rule}
 use Rattle.eval_state.specs.declared.scene.Scene.{Scene}
 use Rattle.eval_rules.specs.Jumps.{is_passed, run, sought_after}
 use Rattle.eval_rules.specs.Steps.{apply}
-use Rattle.eval_sources.specs.Items.{items}
-use Rattle.eval_sources.specs.Sources.{Source, Stage, source_of, stands, stands_throughout}
+use Rattle.eval_effects.specs.Items.{items}
+use Rattle.eval_sources.specs.Sources.{Source, Stage, source_of, stands_throughout}
+use Rattle.eval_effects.specs.Items.{stands}
 use Rattle.eval_sources.specs.Told.{stages_from, stages_over}
 
 -- what stands at the last of these stages, or else what stood before them

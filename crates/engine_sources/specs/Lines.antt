@@ -5,7 +5,7 @@ use Rattle.text_tables.specs.Texts.{Text}
 use Rattle.text_tables.specs.Pairs.{Pair}
 use Rattle.rule_types.specs.Rules.{Rule}
 use Rattle.eval_rules.specs.declared.outcome.Command.{Command}
-use Rattle.eval_sources.specs.Items.{item_name, watch_word}
+use Rattle.eval_effects.specs.Items.{item_name, watch_word}
 use Rattle.eval_sources.specs.Sources.{Source}
 use Rattle.engine_ends.specs.Places.{place_of}
 use Rattle.engine_answers.specs.Lines.{is_hidden, pair_line, persist_line, priority_line, run_line, text_line, watch_line}

@@ -1,6 +1,6 @@
 //! One line of each kind, behind the rule that it comes from.
 ghost use Rattle.std.specs.Prelude.{◌≡◌, ◌++◌, None, OnOk, option_map};
-ghost use Rattle.eval_sources.specs.Items.{watch_word};
+ghost use Rattle.eval_effects.specs.Items.{watch_word};
 ghost use Rattle.eval_sources.specs.Sources.{source_in};
 ghost use Rattle.engine_sources.specs.Lines.{command_line, given_line, member_line, shown_value_line, source_part, sourced_persist, sourced_priority, sourced_watch, value_line, word_line};
 
@@ -8,7 +8,8 @@ use engine_answers::{
     is_hidden, push_pair, push_persist, push_priority, push_run, push_text, push_watch,
 };
 use engine_ends::push_place;
-use eval_sources::{SourcedCommand, Sources, item_name};
+use eval_effects::item_name;
+use eval_sources::{SourcedCommand, Sources};
 use itoa::Buffer;
 use rule_types::Rule;
 use std::alloc::{AllocError, Global};

@@ -5,7 +5,7 @@ use Rattle.std.proofs.lemmas.List.Sums.{fold-append}
 use Rattle.text_tables.specs.Texts.{Text, same_text}
 use Rattle.text_tables.specs.Pairs.{Pair, value_of, with_value, with_values}
 use Rattle.text_tables.proofs.Found.{value_set}
-use Rattle.eval_sources.specs.Sources.{is_value}
+use Rattle.eval_effects.specs.Items.{is_value}
 use Rattle.eval_effects.specs.Changes.{item_changes, removed_item, removed_text, set_item, set_text}
 use Rattle.eval_effects.specs.Inner.{table_of}
 

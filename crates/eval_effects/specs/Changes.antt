@@ -8,8 +8,8 @@ use Rattle.text_tables.specs.Pairs.{Pair, value_of}
 use Rattle.rule_types.specs.Names.{run_name}
 use Rattle.eval_state.specs.Runs.{RunValue, run_kind, same_run}
 use Rattle.eval_state.specs.declared.scene.Scene.{Scene}
-use Rattle.eval_sources.specs.Items.{items}
-use Rattle.eval_sources.specs.Sources.{stands}
+use Rattle.eval_effects.specs.Items.{items}
+use Rattle.eval_effects.specs.Items.{stands}
 use Rattle.eval_effects.specs.Shown.{shown}
 
 -- what is compared of a scene: its items, its RUNs, and how many notes it has

@@ -1,3 +1,4 @@
+pub mod Items
 pub mod Shown
 pub mod Named
 pub mod Since

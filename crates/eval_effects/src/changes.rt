@@ -1,12 +1,12 @@
 //! Items that stand only now, and names that no longer stand.
 ghost use Rattle.std.specs.Prelude.{◌≡◌, ◌++◌, IfOk, OnOk, flat_map, is_some, option_map};
 ghost use Rattle.text_tables.specs.Pairs.{value_of};
-ghost use Rattle.eval_sources.specs.Sources.{is_value, stands};
+ghost use Rattle.eval_effects.specs.Items.{is_value, stands};
 ghost use Rattle.eval_effects.specs.Inner.{table_of};
 ghost use Rattle.eval_effects.specs.Changes.{item_changes, removed_item, removed_text, set_item, set_text, value_part};
 
+use crate::items::Item;
 use crate::shown::push_shown;
-use eval_sources::Item;
 use std::alloc::{AllocError, Global};
 use text_bytes::Bytes;
 use text_tables::Pairs;

@@ -6,6 +6,7 @@ ghost use Rattle.eval_effects.specs.Changes.{changes};
 ghost use Rattle.eval_effects.specs.Named.{change_key};
 ghost use Rattle.eval_effects.specs.Effects.{changed_text, effect, effects, ending, ending_of, final_text, made_text, note_left, settled_key};
 
+use crate::items::items_of;
 use crate::changes::push_item_changes;
 use crate::named::{final_name, push_change_key, push_rule};
 use crate::runs::push_run_changes;
@@ -13,7 +14,6 @@ use crate::shown::push_joined;
 use crate::since::Since;
 use crate::standing::Standing;
 use eval_assignments::{final_key, set_one};
-use eval_sources::items_of;
 use eval_state::{FinalKey, Finals, NoteKind, Scene};
 use rule_types::{Assignment, Change, Rule};
 use std::alloc::{AllocError, Global};

@@ -7,6 +7,7 @@
 
 mod changes;
 mod effects;
+mod items;
 mod laws;
 mod named;
 mod runs;
@@ -15,6 +16,7 @@ mod since;
 mod standing;
 
 pub use effects::end_told;
+pub use items::{Item, item_name, items_of};
 pub use laws::{final_since_the_first_rule, notes_tell_what_is_left_out};
 pub use named::{push_key, push_rule};
 pub use shown::{push_joined, push_shortened, push_shown};

@@ -2,7 +2,7 @@
 ghost use Rattle.std.specs.Prelude.{◌≡◌, IfOk};
 ghost use Rattle.eval_effects.specs.Changes.{standing};
 
-use eval_sources::{Item, items_of};
+use crate::items::{Item, items_of};
 use eval_state::{Run, Scene};
 use std::alloc::{AllocError, Global};
 use std::marker::Model;

@@ -10,5 +10,5 @@ mod plain;
 mod upward;
 
 pub use holding::agrees;
-pub use plain::{plain_holds, result_holds};
-pub use upward::found_place;
+pub use plain::{is_known_constant, plain_holds, result_holds};
+pub use upward::{attribute_at, driver_at, found_place, holds_at, subsystem_at};

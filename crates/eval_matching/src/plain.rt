@@ -18,8 +18,8 @@ fn name<'s>(state: &'s State<'_>) -> &'s [u8]
     }
 }
 
-/// Whether a constant is one that CONST knows.
-fn is_known(name: &[u8]) -> bool
+/// Whether a constant is one that CONST knows, as udev(7) names them.
+pub fn is_known_constant(name: &[u8]) -> bool
     ensures { result ≡ is_known name.now }
 {
     name == b"arch".as_slice() || name == b"virt".as_slice() || name == b"cvm".as_slice()
@@ -30,7 +30,7 @@ fn is_known(name: &[u8]) -> bool
 fn named_constant_holds(wanted: &Comparison, name: &[u8], state: &State<'_>) -> bool
     ensures { result ≡ holds (named_constant name.now state.now) wanted.now }
 {
-    if is_known(name) {
+    if is_known_constant(name) {
         constant_holds(wanted, state.event.event().constants().get(name))
     } else {
         false

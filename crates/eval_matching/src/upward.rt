@@ -13,7 +13,7 @@ use eval_state::State;
 use rule_types::{Comparison, UpKey, UpMatch};
 
 /// The subsystem of the device at a place, empty where there is none.
-fn subsystem_at<'a>(state: &State<'a>, place: usize) -> &'a [u8]
+pub fn subsystem_at<'a>(state: &State<'a>, place: usize) -> &'a [u8]
     ensures { result.now ≡ or_empty (option_and_then (λ device. device.subsystem) (device_at state.now.event place)) }
 {
     match state.event.device_at(place) {
@@ -23,7 +23,7 @@ fn subsystem_at<'a>(state: &State<'a>, place: usize) -> &'a [u8]
 }
 
 /// The driver of the device at a place, empty where there is none.
-fn driver_at<'a>(state: &State<'a>, place: usize) -> &'a [u8]
+pub fn driver_at<'a>(state: &State<'a>, place: usize) -> &'a [u8]
     ensures { result.now ≡ or_empty (option_and_then (λ device. device.driver) (device_at state.now.event place)) }
 {
     match state.event.device_at(place) {
@@ -32,8 +32,8 @@ fn driver_at<'a>(state: &State<'a>, place: usize) -> &'a [u8]
     }
 }
 
-/// An attribute of the device at a place.
-fn attribute_at<'a>(state: &State<'a>, place: usize, name: &[u8]) -> Option<&'a [u8]>
+/// An attribute of the device at a place, where there is such a device and the device has it.
+pub fn attribute_at<'a>(state: &State<'a>, place: usize, name: &[u8]) -> Option<&'a [u8]>
     ensures { option_map (λ value. value.now) result ≡ option_and_then (λ device. value_of device.attrs name.now) (device_at state.now.event place) }
 {
     state.event.device_at(place)?.attrs().get(name)
@@ -52,9 +52,10 @@ fn tags_hold(wanted: &Comparison, state: &State<'_>, place: usize) -> bool
     }
 }
 
-/// Whether a match of one device holds at a place of the chain.
+/// Whether a match of one device holds at a place of the chain; at a place where no device stands it is compared with an
+/// empty text, no attribute and no tag.
 #[tactic(auto, unfolding(crate::specs::Subjects::holds_at))]
-fn holds_at(part: &UpMatch, state: &State<'_>, place: usize) -> bool
+pub fn holds_at(part: &UpMatch, state: &State<'_>, place: usize) -> bool
     ensures { result ≡ holds_at state.now place part.now }
 {
     let wanted = &part.wanted;

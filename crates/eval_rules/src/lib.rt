@@ -15,4 +15,4 @@ mod steps;
 pub use evaluating::{evaluate_plain, finish, run_text};
 pub use outcome::{Command, Commands, Outcome};
 pub use rules::{is_passed, sought_after};
-pub use steps::apply;
+pub use steps::{apply, plain_step, search};

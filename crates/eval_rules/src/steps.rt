@@ -16,9 +16,11 @@ use hwdb_lookup::Lookup;
 use rule_types::{Act, Comparison, PlainMatch, Rule, UpMatch};
 use std::alloc::{AllocError, Global};
 
-/// Reaches a match of the event, and answers whether it holds.
+/// Reaches a match of the event, and answers whether it holds. One of SYSCTL leaves its note.
+///
+/// The error comes where memory is refused; the scene then stays as it is.
 #[tactic(auto, unfolding(crate::specs::Steps::plain_step))]
-fn plain_step(
+pub fn plain_step(
     alloc: Global,
     rule: &Rule,
     part: &PlainMatch,
@@ -26,6 +28,7 @@ fn plain_step(
 ) -> Result<bool, AllocError>
     ensures scene { IfOk result (λ on. (scene.new, on) ≡ plain_step rule.now part.now scene.old) }
     ensures event { scene.new.state.event ≡ scene.old.state.event }
+    ensures refused { OnErr result (scene.new ≡ scene.old) }
 {
     let holds = plain_holds(part, &scene.state);
     reached(alloc, rule, part, scene)?;
@@ -51,8 +54,8 @@ fn match_event(
 }
 
 /// Selects the nearest device that meets all of the matches, or none, and answers whether one does.
-/// Without a match nothing is searched.
-fn search(parts: &[UpMatch], scene: &mut Scene<'_>) -> bool
+/// Without a match nothing is searched, and the selection stays.
+pub fn search(parts: &[UpMatch], scene: &mut Scene<'_>) -> bool
     ensures scene { (scene.new, result) ≡ search parts.now scene.old }
     ensures event { scene.new.state.event ≡ scene.old.state.event }
 {

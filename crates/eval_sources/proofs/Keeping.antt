@@ -6,7 +6,8 @@ use Rattle.text_tables.specs.Texts.{Text, same_text}
 use Rattle.text_tables.specs.Pairs.{Pair, named, value_of, with_value}
 use Rattle.text_tables.proofs.Found.{named_is, value_set}
 use Rattle.eval_sources.specs.Inner.{GoesOn, Keeps}
-use Rattle.eval_sources.specs.Sources.{Kept, Source, Stage, Tells, is_value, kept_behind, kept_of, source_by, source_in, source_of, stands, with_kept}
+use Rattle.eval_sources.specs.Sources.{Kept, Source, Stage, Tells, kept_behind, kept_of, source_by, source_in, source_of, with_kept}
+use Rattle.eval_effects.specs.Items.{is_value, stands}
 use Rattle.eval_sources.proofs.Standing.{source_more, source_none}
 
 is_same : (a b : Text) → same_text a b ≡ true → a ≡ b

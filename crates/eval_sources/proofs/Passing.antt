@@ -7,7 +7,7 @@ use Rattle.rule_types.specs.Rules.{Rule}
 use Rattle.eval_state.specs.declared.scene.Scene.{Scene}
 use Rattle.eval_rules.specs.Steps.{Went, apply}
 use Rattle.eval_rules.specs.Jumps.{is_passed, run, sought_after}
-use Rattle.eval_sources.specs.Items.{items}
+use Rattle.eval_effects.specs.Items.{items}
 use Rattle.eval_sources.specs.Inner.{GoesOn, Halfway, Keeps}
 use Rattle.eval_sources.specs.Sources.{Kept, Source, Stage, Tells}
 use Rattle.eval_sources.specs.Told.{stages_from, stages_over}

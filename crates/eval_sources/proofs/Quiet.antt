@@ -16,7 +16,7 @@ use Rattle.eval_acts.specs.Reaching.{reached}
 use Rattle.eval_assignments.specs.Steps.{set_step}
 use Rattle.eval_rules.specs.Steps.{Went, apply, onward, plain_step, result_step, search, set_all, walk, with_selected}
 use Rattle.eval_sources.specs.Inner.{can_change}
-use Rattle.eval_sources.specs.Items.{items, node_items}
+use Rattle.eval_effects.specs.Items.{items, node_items}
 
 -- a scene without what matches change in it: its notes, and which device is selected
 abbrev quiet : Scene → Scene

@@ -1,7 +1,8 @@
 -- Where an item comes from behind one stage more.
 use Rattle.std.proofs.Common.{◌≡◌, Bool, true, false, ◌&&◌, List, [], ◌∷◌, ◌++◌, None, cond, refl, ap, ◌∙◌}
 use Rattle.text_tables.specs.Pairs.{Pair}
-use Rattle.eval_sources.specs.Sources.{Source, Stage, source_of, stands, stands_throughout}
+use Rattle.eval_sources.specs.Sources.{Source, Stage, source_of, stands_throughout}
+use Rattle.eval_effects.specs.Items.{stands}
 
 and_false : (b : Bool) → (b && false) ≡ false
 and_false true = refl

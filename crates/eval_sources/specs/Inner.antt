@@ -7,7 +7,7 @@ use Rattle.hwdb_lookup.specs.declared.entry.Entry.{Entry}
 use Rattle.rule_types.specs.Rules.{Rule}
 use Rattle.eval_state.specs.declared.scene.Scene.{Scene}
 use Rattle.eval_rules.specs.Jumps.{run}
-use Rattle.eval_sources.specs.Items.{items}
+use Rattle.eval_effects.specs.Items.{items}
 use Rattle.eval_sources.specs.Sources.{Kept, Source, Stage, source_of}
 use Rattle.eval_sources.specs.Told.{stages_from, stages_over}
 

@@ -1,4 +1,3 @@
-pub mod Items
 pub mod Sources
 pub mod Told
 pub mod Inner

@@ -1,9 +1,10 @@
 -- Where an item comes from, told without a walk; and a table that keeps it beside each item.
-use Rattle.std.specs.Prelude.{◌≡◌, Bool, false, if◌then◌else◌, List, [], ◌∷◌, ◌++◌, fold, Option, Some, None}
+use Rattle.std.specs.Prelude.{◌≡◌, Bool, if◌then◌else◌, List, [], ◌∷◌, ◌++◌, fold, Option, Some, None}
 use Rattle.std.specs.List.{list_all}
 use Rattle.text_tables.specs.Texts.{Text, same_text}
 use Rattle.text_tables.specs.Pairs.{Pair, named, value_of, with_value}
 use Rattle.rule_types.specs.Rules.{Rule}
+use Rattle.eval_effects.specs.Items.{stands}
 
 -- a source: a rule, or none where something stood from the start
 abbrev pub Source : Type 0
@@ -12,15 +13,6 @@ Source = Option Rule
 -- a stage: a rule and the items that stand behind it, or no rule and those that stand at the start
 abbrev pub Stage : Type 0
 Stage = Source × List Pair
-
--- whether a value is there and is this text
-abbrev pub is_value : Option Text → Text → Bool
-is_value None text = false
-is_value (Some value) text = same_text value text
-
--- whether an item stands among others: its name has its value
-abbrev pub stands : Pair → List Pair → Bool
-stands item items = is_value (value_of items item.0) item.1
 
 -- whether an item stands at all of these stages
 abbrev pub stands_throughout : Pair → List Stage → Bool

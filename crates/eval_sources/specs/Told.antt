@@ -12,7 +12,7 @@ use Rattle.eval_rules.specs.Jumps.{is_passed, run, sought_after}
 use Rattle.eval_rules.specs.Outcomes.{command, run_text}
 use Rattle.eval_rules.specs.Steps.{apply}
 use Rattle.eval_rules.specs.declared.outcome.Command.{Command}
-use Rattle.eval_sources.specs.Items.{items}
+use Rattle.eval_effects.specs.Items.{items}
 use Rattle.eval_sources.specs.Sources.{Stage}
 
 -- a stage for each rule that is come to, perhaps while a label is sought, with the items that stand behind it

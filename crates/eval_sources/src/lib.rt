@@ -7,11 +7,9 @@
 
 mod commands;
 mod evaluating;
-mod items;
 mod sources;
 mod telling;
 
 pub use commands::SourcedCommand;
 pub use evaluating::{Sourced, evaluate_sources};
-pub use items::{Item, item_name, items_of};
 pub use sources::Sources;

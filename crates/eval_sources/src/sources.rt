@@ -3,7 +3,7 @@ ghost use Rattle.std.specs.Prelude.{◌≡◌, [], None, IfOk, OnOk, option_map}
 ghost use Rattle.text_tables.specs.Pairs.{named, value_of, with_value};
 ghost use Rattle.eval_sources.specs.Sources.{kept_behind, kept_of, source_by, source_in, with_kept};
 
-use crate::items::Item;
+use eval_effects::Item;
 use indexmap::IndexMap;
 use rule_types::Rule;
 use std::alloc::{AllocError, Global};

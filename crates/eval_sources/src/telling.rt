@@ -2,12 +2,12 @@
 ghost use Rattle.std.specs.Prelude.{◌≡◌, ◌∷◌, [], None, Some, IfOk, OnOk};
 ghost use Rattle.eval_rules.specs.Jumps.{run};
 ghost use Rattle.eval_rules.specs.Steps.{apply};
-ghost use Rattle.eval_sources.specs.Items.{items};
+ghost use Rattle.eval_effects.specs.Items.{items};
 ghost use Rattle.eval_sources.specs.Inner.{GoesOn, Keeps, can_change};
 ghost use Rattle.eval_sources.specs.Sources.{Tells};
 ghost use Rattle.eval_sources.specs.Told.{stages_over};
 
-use crate::items::items_of;
+use eval_effects::items_of;
 use crate::sources::Sources;
 use eval_rules::{apply, is_passed, sought_after};
 use eval_state::Scene;

@@ -1,9 +1,69 @@
-//! With which key and which attribute an assignment is written: the notes of an event name it so.
+//! With which key and which attribute a match or an assignment is written: what is told of an event names it so.
 ghost use Rattle.std.specs.Prelude.{◌≡◌, option_map};
-ghost use Rattle.rule_types.specs.Written.{attribute_of_target, key_of_target};
+ghost use Rattle.rule_types.specs.Written.{attribute_of_plain, attribute_of_target, attribute_of_up, key_of_plain, key_of_target, key_of_up};
 
 use crate::keys::Key;
-use crate::roles::Target;
+use crate::roles::{PlainKey, Target, UpKey};
+
+impl PlainKey {
+    /// Its key.
+    pub fn key(&self) -> Key
+        ensures { result ≡ key_of_plain self.now }
+    {
+        match self {
+            PlainKey::Action => Key::Action,
+            PlainKey::Devpath => Key::Devpath,
+            PlainKey::Kernel => Key::Kernel,
+            PlainKey::Subsystem => Key::Subsystem,
+            PlainKey::Driver => Key::Driver,
+            PlainKey::Name => Key::Name,
+            PlainKey::Symlink => Key::Symlink,
+            PlainKey::Tag => Key::Tag,
+            PlainKey::Attr(_) => Key::Attr,
+            PlainKey::Sysctl(_) => Key::Sysctl,
+            PlainKey::Env(_) => Key::Env,
+            PlainKey::Const(_) => Key::Const,
+        }
+    }
+
+    /// What stands in its braces, if it has them.
+    pub fn attribute(&self) -> Option<&[u8]>
+        ensures { option_map (λ text. text.now) result ≡ attribute_of_plain self.now }
+    {
+        match self {
+            PlainKey::Attr(name)
+            | PlainKey::Sysctl(name)
+            | PlainKey::Env(name)
+            | PlainKey::Const(name) => Some(name.as_slice()),
+            _ => None,
+        }
+    }
+}
+
+impl UpKey {
+    /// Its key.
+    pub fn key(&self) -> Key
+        ensures { result ≡ key_of_up self.now }
+    {
+        match self {
+            UpKey::Kernels => Key::Kernels,
+            UpKey::Subsystems => Key::Subsystems,
+            UpKey::Drivers => Key::Drivers,
+            UpKey::Tags => Key::Tags,
+            UpKey::Attrs(_) => Key::Attrs,
+        }
+    }
+
+    /// What stands in its braces, if it has them.
+    pub fn attribute(&self) -> Option<&[u8]>
+        ensures { option_map (λ text. text.now) result ≡ attribute_of_up self.now }
+    {
+        match self {
+            UpKey::Attrs(name) => Some(name.as_slice()),
+            _ => None,
+        }
+    }
+}
 
 impl Target {
     /// Its key.

@@ -1,6 +1,6 @@
 //! What stands in a scene, as items.
 ghost use Rattle.std.specs.Prelude.{◌≡◌, ◌++◌, ◌∷◌, [], IfOk, OnOk};
-ghost use Rattle.eval_sources.specs.Items.{given_item, item_name, items, node_items, pair_items, persist_item, priority_item, text_items, watch_item, watch_word};
+ghost use Rattle.eval_effects.specs.Items.{given_item, item_name, items, node_items, pair_items, persist_item, priority_item, text_items, watch_item, watch_word};
 
 use eval_state::Scene;
 use itoa::Buffer;
@@ -41,7 +41,7 @@ impl Item {
     }
 
     /// Gives up the item for its name and its value.
-    pub(crate) fn into_parts(self) -> (Bytes, Bytes)
+    pub fn into_parts(self) -> (Bytes, Bytes)
         ensures { result ≡ self }
     {
         let Item { name, value } = self;

@@ -2,8 +2,8 @@
 use Rattle.std.specs.Prelude.{ℤ, Bool, true, false, List, [], ◌∷◌, ◌++◌, map, Option, Some, None, codes}
 use Rattle.std.specs.Fmt.{signed_decimal}
 use Rattle.text_bytes.specs.Names.{space}
-use Rattle.text_tables.specs.Texts.{Text}
-use Rattle.text_tables.specs.Pairs.{Pair}
+use Rattle.text_tables.specs.Texts.{Text, same_text}
+use Rattle.text_tables.specs.Pairs.{Pair, value_of}
 use Rattle.eval_state.specs.declared.scene.Scene.{Scene}
 
 -- the name of an item that is one of several of its word: the word, and which of them it is
@@ -64,3 +64,12 @@ items s =
     ++ pair_items (codes "env") s.state.env
     ++ pair_items (codes "attr") s.attrs
     ++ pair_items (codes "sysctl") s.sysctls
+
+-- whether a value is there and is this text
+abbrev pub is_value : Option Text → Text → Bool
+is_value None text = false
+is_value (Some value) text = same_text value text
+
+-- whether an item stands among others: its name has its value
+abbrev pub stands : Pair → List Pair → Bool
+stands item items = is_value (value_of items item.0) item.1

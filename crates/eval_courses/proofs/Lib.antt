@@ -1,0 +1,5 @@
+pub mod Telling
+pub mod Copying
+pub mod Ending
+pub mod Finding
+pub mod Reaching

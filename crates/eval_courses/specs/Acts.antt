@@ -1,0 +1,83 @@
+-- What TEST, PROGRAM and IMPORT met, by the scene before them and the scene behind.
+use Rattle.std.specs.Prelude.{Bool, not, ◌||◌, if◌then◌else◌, List, [], ◌∷◌, ◌++◌, map, filter, Option, Some, None, is_some, codes, decimal}
+use Rattle.text_bytes.specs.Names.{equals, slash, space}
+use Rattle.text_bytes.specs.Texts.{begins_with, is_empty}
+use Rattle.text_bytes.specs.Escapes.{escape_text}
+use Rattle.text_tables.specs.Texts.{Text}
+use Rattle.text_tables.specs.Pairs.{Pair, value_of}
+use Rattle.hwdb_lookup.specs.declared.entry.Entry.{Entry}
+use Rattle.device_core.specs.Values.{AnswerValue}
+use Rattle.rule_types.specs.declared.part.Act.{Act}
+use Rattle.rule_types.specs.declared.part.Deed.{Deed}
+use Rattle.rule_types.specs.declared.part.Deed.TheVariants as deed
+use Rattle.rule_types.specs.declared.part.Import.{Import}
+use Rattle.rule_types.specs.declared.part.Import.TheVariants as import
+use Rattle.rule_types.specs.Rules.{Rule}
+use Rattle.eval_rendering.specs.Rendering.{render}
+use Rattle.eval_rendering.specs.declared.rendered.Mode.TheVariants.{Plain}
+use Rattle.eval_rendering.specs.declared.rendered.Rendered.{Rendered}
+use Rattle.eval_rendering.specs.declared.rendered.Rendered.TheVariants as rendered
+use Rattle.eval_state.specs.declared.scene.Scene.{Scene}
+use Rattle.eval_state.specs.declared.state.State.{State}
+use Rattle.eval_acts.specs.Acts.{act_step}
+use Rattle.eval_effects.specs.Items.{stands}
+use Rattle.eval_effects.specs.Shown.{joined, shown}
+use Rattle.eval_courses.specs.Keys.{act_key}
+use Rattle.eval_courses.specs.Looks.{met}
+
+-- what is told of a rendered text
+abbrev pub on_rendered : (Text → Text) → Rendered → Text
+on_rendered told (rendered.Text text) = told text
+on_rendered told rendered.TooLong = codes "too long"
+
+-- the path of a TEST, by whether it has a mask; with one it is not made, nor of an absolute path
+abbrev pub path_told : Bool → Text → Text
+path_told has_mask path = if has_mask || begins_with slash path then codes "not made: " ++ shown path else shown path
+
+-- a text behind a space; an empty one is left out with its space
+abbrev pub spaced : Text → Text
+spaced text = if is_empty text then [] else space ∷ shown text
+
+-- the command of a PROGRAM, and what the event's block answers to it
+abbrev pub answer_told : Text → Option AnswerValue → Text
+answer_told command None = codes "no answer for " ++ escape_text command
+answer_told command (Some answer) = escape_text command ++ codes " answers " ++ decimal answer.status ++ spaced answer.text
+
+-- a property
+unfoldable pub property_told : Pair → Text
+property_told property = shown property.0 ++ equals ∷ shown property.1
+
+-- properties that were set
+abbrev pub set_told : List Text → Text
+set_told properties = if is_empty properties then codes "sets nothing" else codes "sets " ++ joined properties
+
+-- the properties of those that stand now which did not stand so before
+abbrev pub newly_set : List Pair → List Pair → List Pair
+newly_set before now = filter (λ property. not (stands property before)) now
+
+-- what was set of properties, by those before and those now
+abbrev pub taken_told : List Pair → List Pair → Text
+taken_told before now = set_told (map property_told (newly_set before now))
+
+-- what an IMPORT met, by the properties behind it
+abbrev pub import_told : Import → State → List Pair → Text
+import_told (import.Builtin template) s env = on_rendered (λ command. shown command ++ space ∷ taken_told s.env env) (render template s Plain)
+import_told (import.Parent names value) s env = taken_told s.env env
+import_told (import.Program template) s env = codes "not run"
+import_told (import.File template) s env = codes "not run"
+import_told (import.Cmdline name) s env = codes "not run"
+import_told (import.Db name) s env = codes "not run"
+
+-- what an act met, by the properties behind it
+abbrev pub deed_told : Deed → State → List Pair → Text
+deed_told (deed.Test mask template) s env = on_rendered (path_told (is_some mask)) (render template s Plain)
+deed_told (deed.Program template) s env = on_rendered (λ command. answer_told command (value_of s.event.programs command)) (render template s Plain)
+deed_told (deed.Import from) s env = import_told from s env
+
+-- an act, whether its rule goes on, and what it met, by what it comes to
+abbrev pub act_met : Act → State → Scene × Bool → Text
+act_met act s went = act_key act ++ met went.1 ++ deed_told act.deed s went.0.state.env
+
+-- an act, and what it met
+unfoldable pub act_told : List Entry → Rule → Act → Scene → Text
+act_told entries r act s = act_met act s.state (act_step entries r act s)

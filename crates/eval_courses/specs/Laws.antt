@@ -1,0 +1,9 @@
+-- What holds of courses, said of what their rules come to.
+use Rattle.std.specs.Prelude.{List, [], ◌∷◌, Option, Some, None}
+use Rattle.text_tables.specs.Texts.{Text}
+
+-- the last of texts, if there is one
+abbrev pub last_of : List Text → Option Text
+last_of [] = None
+last_of (text ∷ []) = Some text
+last_of (text ∷ other ∷ more) = last_of (other ∷ more)

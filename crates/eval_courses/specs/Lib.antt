@@ -1,0 +1,7 @@
+pub mod Keys
+pub mod Looks
+pub mod Upward
+pub mod Acts
+pub mod Courses
+pub mod Inner
+pub mod Laws

@@ -1,0 +1,43 @@
+-- What a match met: whether it holds, and what it looked at.
+use Rattle.std.specs.Prelude.{Bool, true, false, List, [], ◌∷◌, ◌++◌, Option, Some, None, codes, flat_map}
+use Rattle.text_bytes.specs.Names.{space}
+use Rattle.text_tables.specs.Texts.{Text}
+use Rattle.rule_types.specs.declared.part.Comparison.{Comparison}
+use Rattle.rule_types.specs.declared.part.PlainMatch.{PlainMatch}
+use Rattle.eval_state.specs.declared.state.State.{State}
+use Rattle.eval_matching.specs.Holding.{Subject, one, attribute, constant, members, never, unread, holds}
+use Rattle.eval_matching.specs.Subjects.{plain_subject}
+use Rattle.eval_effects.specs.Shown.{shown}
+use Rattle.eval_courses.specs.Keys.{plain_key, result_key}
+
+-- whether a rule goes on behind a key
+abbrev pub met : Bool → Text
+met true = codes ": holds, "
+met false = codes ": fails, "
+
+-- a text that may be absent
+abbrev pub value_told : Option Text → Text
+value_told None = codes "none"
+value_told (Some text) = shown text
+
+-- texts, a space between
+abbrev pub members_told : List Text → Text
+members_told [] = codes "none"
+members_told (text ∷ others) = shown text ++ flat_map (λ other. space ∷ shown other) others
+
+-- what a match looked at
+abbrev pub looked : Subject → Text
+looked (one text) = shown text
+looked (attribute value) = value_told value
+looked (constant value) = value_told value
+looked (members texts) = members_told texts
+looked never = codes "unknown"
+looked unread = codes "not read"
+
+-- a match of the event, and what it met
+unfoldable pub plain_told : PlainMatch → State → Text
+plain_told part state = plain_key part ++ met (holds (plain_subject part.key state) part.wanted) ++ looked (plain_subject part.key state)
+
+-- a match of the result of the last program, and what it met
+unfoldable pub result_told : Comparison → State → Text
+result_told part state = result_key part ++ met (holds (one state.result) part) ++ shown state.result

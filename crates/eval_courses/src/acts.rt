@@ -1,0 +1,235 @@
+//! What acts, and what it met.
+//!
+//! What an act looks at is rendered before it is done, and what it sets is known behind it: what is told of it is made in
+//! two parts.
+ghost use Rattle.std.specs.Prelude.{◌≡◌, ◌∷◌, ◌++◌, [], IfOk, OnOk, List, option_copied};
+ghost use Rattle.text_tables.specs.Pairs.{Pair, value_of};
+ghost use Rattle.rule_types.specs.declared.part.Import.TheVariants as import;
+ghost use Rattle.eval_rendering.specs.Rendering.{render};
+ghost use Rattle.eval_rendering.specs.declared.rendered.Mode.TheVariants.{Plain};
+ghost use Rattle.eval_acts.specs.Acts.{act_step};
+ghost use Rattle.text_bytes.specs.Names.{space};
+ghost use Rattle.eval_effects.specs.Shown.{shown};
+ghost use Rattle.eval_courses.specs.Acts.{act_told, answer_told, deed_told, import_told, on_rendered, path_told, spaced};
+ghost use Rattle.eval_courses.specs.Inner.{told_behind};
+ghost use Rattle.eval_courses.specs.Keys.{act_key};
+ghost use Rattle.eval_courses.specs.Looks.{met};
+
+use crate::keys::push_act_key;
+use crate::plain::push_met;
+use crate::properties::{copied, newly_set, push_set};
+use device_core::ProgramAnswer;
+use eval_acts::act_step;
+use eval_effects::push_shown;
+use eval_rendering::{Mode, Rendered, render};
+use eval_state::{Scene, State};
+use hwdb_lookup::Lookup;
+use itoa::Buffer;
+use rule_templates::Template;
+use rule_types::{Act, Deed, Import, Rule};
+use std::alloc::{AllocError, Global};
+use text_bytes::{Bytes, begins_with, escape};
+use text_tables::OwnedPairs;
+
+/// What is told of an act before it is done.
+#[derive(Drop)]
+pub enum ToldBefore {
+    /// All that there is to tell.
+    Whole(Bytes),
+    /// The start of it, and the properties as they are before: behind that start those are told that the act sets.
+    Taking(Bytes, OwnedPairs),
+}
+
+/// What is told of the path of a TEST.
+fn path_told(alloc: Global, has_mask: bool, path: &[u8]) -> Result<Bytes, AllocError>
+    ensures { IfOk result (λ text. text ≡ path_told has_mask path.now) }
+{
+    let mut text = Vec::new(alloc);
+    if has_mask || begins_with(b'/', path) {
+        text.extend_from_slice(b"not made: ")?;
+    }
+    push_shown(alloc, &mut text, path)?;
+    Ok(Bytes::new(text))
+}
+
+/// What is told of a TEST.
+fn test_told(
+    alloc: Global,
+    has_mask: bool,
+    template: &Template,
+    state: &State<'_>,
+) -> Result<Bytes, AllocError>
+    ensures { IfOk result (λ text. text ≡ on_rendered (path_told has_mask) (render template.now state.now Plain)) }
+{
+    match render(alloc, template, state, Mode::Plain)? {
+        Rendered::Text(path) => path_told(alloc, has_mask, path.as_slice()),
+        Rendered::TooLong => Bytes::copy_of(alloc, b"too long"),
+    }
+}
+
+/// Puts what a program wrote behind a text.
+fn push_spaced(alloc: Global, text: &mut Vec<u8>, written: &[u8]) -> Result<(), AllocError>
+    ensures { OnOk result (text.new.items ≡ text.old.items ++ spaced written.now) }
+{
+    if written.is_empty() {
+        return Ok(());
+    }
+    text.push(b' ')?;
+    push_shown(alloc, text, written)
+}
+
+/// What is told of the command of a PROGRAM, by what the event's block answers to it.
+fn answer_told(
+    alloc: Global,
+    command: &[u8],
+    answer: Option<&ProgramAnswer<'_>>,
+) -> Result<Bytes, AllocError>
+    ensures { IfOk result (λ text. text ≡ answer_told command.now (option_copied answer.entry)) }
+{
+    let mut text = Vec::new(alloc);
+    match answer {
+        Some(answer) => {
+            text.extend_from_slice(&escape(alloc, command)?)?;
+            text.extend_from_slice(b" answers ")?;
+            text.extend_from_slice(Buffer::new().format(answer.status()).as_bytes())?;
+            push_spaced(alloc, &mut text, answer.text())?;
+        }
+        None => {
+            text.extend_from_slice(b"no answer for ")?;
+            text.extend_from_slice(&escape(alloc, command)?)?;
+        }
+    }
+    Ok(Bytes::new(text))
+}
+
+/// What is told of a PROGRAM.
+fn program_told(alloc: Global, template: &Template, state: &State<'_>) -> Result<Bytes, AllocError>
+    ensures { IfOk result (λ text. text ≡ on_rendered (λ command. answer_told command (value_of state.now.event.programs command)) (render template.now state.now Plain)) }
+{
+    match render(alloc, template, state, Mode::Plain)? {
+        Rendered::Text(command) => {
+            let answer = state.event.event().programs().get(command.as_slice());
+            answer_told(alloc, command.as_slice(), answer)
+        }
+        Rendered::TooLong => Bytes::copy_of(alloc, b"too long"),
+    }
+}
+
+/// The start of what is told of a builtin's command: the command itself.
+fn command_told(alloc: Global, command: &[u8]) -> Result<Bytes, AllocError>
+    ensures { IfOk result (λ text. text ≡ shown command.now ++ space ∷ []) }
+{
+    let mut text = Vec::new(alloc);
+    push_shown(alloc, &mut text, command)?;
+    text.push(b' ')?;
+    Ok(Bytes::new(text))
+}
+
+/// What is told of an IMPORT{builtin} before it is done.
+fn builtin_told_before(
+    alloc: Global,
+    template: &Template,
+    state: &State<'_>,
+) -> Result<ToldBefore, AllocError>
+    ensures { IfOk result (λ o. (env : List Pair) → told_behind o env ≡ import_told (import.Builtin template.now) state.now env) }
+{
+    match render(alloc, template, state, Mode::Plain)? {
+        Rendered::Text(command) => Ok(ToldBefore::Taking(
+            command_told(alloc, command.as_slice())?,
+            copied(alloc, &state.env)?,
+        )),
+        Rendered::TooLong => Ok(ToldBefore::Whole(Bytes::copy_of(alloc, b"too long")?)),
+    }
+}
+
+/// What is told of an IMPORT before it is done.
+fn import_told_before(
+    alloc: Global,
+    from: &Import,
+    state: &State<'_>,
+) -> Result<ToldBefore, AllocError>
+    ensures { IfOk result (λ o. (env : List Pair) → told_behind o env ≡ import_told from.now state.now env) }
+{
+    match from {
+        Import::Builtin(template) => builtin_told_before(alloc, template, state),
+        Import::Parent(_, _) => Ok(ToldBefore::Taking(
+            Bytes::new(Vec::new(alloc)),
+            copied(alloc, &state.env)?,
+        )),
+        Import::Program(_) | Import::File(_) | Import::Cmdline(_) | Import::Db(_) => {
+            Ok(ToldBefore::Whole(Bytes::copy_of(alloc, b"not run")?))
+        }
+    }
+}
+
+/// What is told of an act before it is done.
+fn told_before(alloc: Global, deed: &Deed, state: &State<'_>) -> Result<ToldBefore, AllocError>
+    ensures { IfOk result (λ o. (env : List Pair) → told_behind o env ≡ deed_told deed.now state.now env) }
+{
+    match deed {
+        Deed::Test(mask, template) => Ok(ToldBefore::Whole(test_told(
+            alloc,
+            mask.is_some(),
+            template,
+            state,
+        )?)),
+        Deed::Program(template) => Ok(ToldBefore::Whole(program_told(alloc, template, state)?)),
+        Deed::Import(from) => import_told_before(alloc, from, state),
+    }
+}
+
+/// Puts what is told of an act that was done behind a text.
+fn push_behind(
+    alloc: Global,
+    text: &mut Vec<u8>,
+    before: &ToldBefore,
+    env: &OwnedPairs,
+) -> Result<(), AllocError>
+    ensures { OnOk result (text.new.items ≡ text.old.items ++ told_behind before.now env.now) }
+{
+    match before {
+        ToldBefore::Whole(told) => text.extend_from_slice(told.as_slice()),
+        ToldBefore::Taking(told, properties) => {
+            text.extend_from_slice(told.as_slice())?;
+            push_set(text, &newly_set(alloc, properties, env)?)
+        }
+    }
+}
+
+/// An act that was done, whether its rule goes on, and what it met.
+fn act_met(
+    alloc: Global,
+    act: &Act,
+    goes_on: bool,
+    before: &ToldBefore,
+    env: &OwnedPairs,
+) -> Result<Bytes, AllocError>
+    ensures { IfOk result (λ text. text ≡ act_key act.now ++ met goes_on ++ told_behind before.now env.now) }
+{
+    let mut text = Vec::new(alloc);
+    push_act_key(alloc, &mut text, act)?;
+    push_met(&mut text, goes_on)?;
+    push_behind(alloc, &mut text, before, env)?;
+    Ok(Bytes::new(text))
+}
+
+/// Does what an act asks for, and tells what it met.
+#[tactic(auto, using(eval_rules::proofs::Staying::act_stays, crate::proofs::Telling::act_is))]
+pub(crate) fn tell_act<L: Lookup>(
+    alloc: Global,
+    rule: &Rule,
+    act: &Act,
+    lookup: &L,
+    scene: &mut Scene<'_>,
+    texts: &mut Vec<Bytes>,
+) -> Result<bool, AllocError>
+    ensures scene { IfOk result (λ on. (scene.new, on) ≡ act_step (L.entries lookup.now) rule.now act.now scene.old) }
+    ensures text { OnOk result (texts.new.items ≡ texts.old.items ++ act_told (L.entries lookup.now) rule.now act.now scene.old ∷ []) }
+    ensures event { scene.new.state.event ≡ scene.old.state.event }
+{
+    let before = told_before(alloc, &act.deed, &scene.state)?;
+    let goes_on = act_step(alloc, rule, act, lookup, scene)?;
+    let text = act_met(alloc, act, goes_on, &before, &scene.state.env)?;
+    texts.push(text)?;
+    Ok(goes_on)
+}

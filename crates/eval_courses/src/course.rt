@@ -1,0 +1,159 @@
+//! The course of a rule.
+ghost use Rattle.std.specs.Prelude.{◌≡◌, ◌++◌, IfOk, OnOk, OnErr};
+ghost use Rattle.eval_state.specs.Scenes.{blank};
+ghost use Rattle.eval_acts.specs.Acts.{act_step};
+ghost use Rattle.eval_rules.specs.Steps.{apply, plain_step, result_step, walk};
+ghost use Rattle.eval_courses.specs.Courses.{acts_told, course, event_told, keys_told, resulted, results_told};
+
+use crate::acts::tell_act;
+use crate::plain::{tell_match, tell_result};
+use crate::upward::tell_search;
+use eval_effects::{Since, end_told};
+use eval_state::Scene;
+use hwdb_lookup::Lookup;
+use rule_types::{Act, Comparison, PlainMatch, Rule};
+use std::alloc::{AllocError, Global};
+use text_bytes::Bytes;
+
+/// The course of a rule over an event.
+#[derive(Drop)]
+pub struct Course {
+    /// A text for each key that was reached, with what it met, in the order of evaluation, and one for how the rule ended.
+    pub texts: Vec<Bytes>,
+    /// Whether the rule's end was reached.
+    pub reached: bool,
+}
+
+/// Tells the matches of the event, up to the first that does not hold.
+fn tell_event(
+    alloc: Global,
+    rule: &Rule,
+    parts: &[PlainMatch],
+    scene: &mut Scene<'_>,
+    texts: &mut Vec<Bytes>,
+) -> Result<bool, AllocError>
+    ensures scene { IfOk result (λ on. (scene.new, on) ≡ walk (plain_step rule.now) parts.now scene.old) }
+    ensures texts { OnOk result (texts.new.items ≡ texts.old.items ++ event_told rule.now parts.now scene.old) }
+    ensures event { scene.new.state.event ≡ scene.old.state.event }
+{
+    for part in parts {
+        if !tell_match(alloc, rule, part, scene, texts)? {
+            return Ok(false);
+        }
+    }
+    Ok(true)
+}
+
+/// Tells what acts, up to the first that stops the rule.
+fn tell_acts<L: Lookup>(
+    alloc: Global,
+    rule: &Rule,
+    parts: &[Act],
+    lookup: &L,
+    scene: &mut Scene<'_>,
+    texts: &mut Vec<Bytes>,
+) -> Result<bool, AllocError>
+    ensures scene { IfOk result (λ on. (scene.new, on) ≡ walk (act_step (L.entries lookup.now) rule.now) parts.now scene.old) }
+    ensures texts { OnOk result (texts.new.items ≡ texts.old.items ++ acts_told (L.entries lookup.now) rule.now parts.now scene.old) }
+    ensures event { scene.new.state.event ≡ scene.old.state.event }
+{
+    for part in parts {
+        if !tell_act(alloc, rule, part, lookup, scene, texts)? {
+            return Ok(false);
+        }
+    }
+    Ok(true)
+}
+
+/// Tells the matches of the result of the last program, up to the first that does not hold.
+fn tell_results(
+    alloc: Global,
+    parts: &[Comparison],
+    scene: &Scene<'_>,
+    texts: &mut Vec<Bytes>,
+) -> Result<bool, AllocError>
+    ensures scene { IfOk result (λ on. (scene.now, on) ≡ walk result_step parts.now scene.now) }
+    ensures texts { OnOk result (texts.new.items ≡ texts.old.items ++ results_told parts.now scene.now) }
+{
+    for part in parts {
+        if !tell_result(alloc, part, scene, texts)? {
+            return Ok(false);
+        }
+    }
+    Ok(true)
+}
+
+/// Tells the keys of a rule, up to the first that stops it, and answers whether all let it go on.
+fn tell_keys<L: Lookup>(
+    alloc: Global,
+    rule: &Rule,
+    lookup: &L,
+    scene: &mut Scene<'_>,
+    texts: &mut Vec<Bytes>,
+) -> Result<bool, AllocError>
+    ensures scene { IfOk result (λ on. (scene.new, on) ≡ resulted (L.entries lookup.now) rule.now scene.old) }
+    ensures texts { OnOk result (texts.new.items ≡ texts.old.items ++ keys_told (L.entries lookup.now) rule.now scene.old) }
+    ensures event { scene.new.state.event ≡ scene.old.state.event }
+{
+    if !tell_event(alloc, rule, rule.plain(), scene, texts)? {
+        return Ok(false);
+    }
+    if !tell_search(alloc, rule.up(), scene, texts)? {
+        return Ok(false);
+    }
+    if !tell_acts(alloc, rule, rule.acts(), lookup, scene, texts)? {
+        return Ok(false);
+    }
+    tell_results(alloc, rule.results(), scene, texts)
+}
+
+/// Tells the keys of a rule and how it ends, and answers whether its end was reached.
+fn tell_steps<'a, L: Lookup>(
+    alloc: Global,
+    rule: &'a Rule,
+    lookup: &L,
+    since: &Since<'a>,
+    scene: &mut Scene<'a>,
+    texts: &mut Vec<Bytes>,
+) -> Result<bool, AllocError>
+    ensures scene { IfOk result (λ on. (scene.new, on) ≡ apply (L.entries lookup.now) rule.now scene.old) }
+    ensures texts { OnOk result (texts.new.items ≡ texts.old.items ++ course (L.entries lookup.now) since.now rule.now scene.old) }
+    ensures refused { OnErr result (scene.new.state.event ≡ scene.old.state.event) }
+{
+    if !tell_keys(alloc, rule, lookup, scene, texts)? {
+        texts.push(Bytes::copy_of(alloc, b"stops there")?)?;
+        return Ok(false);
+    }
+    texts.push(end_told(alloc, rule, since, scene)?)?;
+    Ok(true)
+}
+
+/// Evaluates a rule as `apply` does, and tells its course: a text for each key that was reached, with what it met, and one
+/// for how the rule ended. The texts are those that stand behind `why FILE:LINE: ` in an answer.
+///
+/// A match of the event and one of the result is told with whether it holds and what it looked at; a match of one device
+/// with what it met at each device of the chain, and behind all of these which device meets them all, or how many each
+/// device meets; what acts with whether the rule goes on, what was asked, and what was set. Nothing is told behind a key
+/// that stops the rule but `stops there`. `since` says since which rule each key is final.
+///
+/// The error comes where memory is refused; nothing is then left of the scene but its event.
+pub fn tell_course<'a, L: Lookup>(
+    alloc: Global,
+    rule: &'a Rule,
+    lookup: &L,
+    since: &Since<'a>,
+    scene: &mut Scene<'a>,
+) -> Result<Course, AllocError>
+    ensures scene { IfOk result (λ c. (scene.new, c.reached) ≡ apply (L.entries lookup.now) rule.now scene.old) }
+    ensures texts { IfOk result (λ c. c.texts.items ≡ course (L.entries lookup.now) since.now rule.now scene.old) }
+    ensures refused { OnErr result (scene.new ≡ blank scene.old.state.event) }
+{
+    let mut texts = Vec::new(alloc);
+    match tell_steps(alloc, rule, lookup, since, scene, &mut texts) {
+        Ok(reached) => Ok(Course { texts, reached }),
+        Err(refused) => {
+            scene.clear(alloc);
+            Err(refused)
+        }
+    }
+}

@@ -1,0 +1,29 @@
+//! What holds of courses, whatever the rule. Each function here is empty: its contract is the law.
+ghost use Rattle.std.specs.Prelude.{◌≡◌, ◌↔◌, ◌∷◌, ◌++◌, ℕ, List, Some, codes, false};
+ghost use Rattle.text_tables.specs.Texts.{Text};
+ghost use Rattle.hwdb_lookup.specs.declared.entry.Entry.{Entry};
+ghost use Rattle.rule_types.specs.declared.part.UpMatch.{UpMatch};
+ghost use Rattle.rule_types.specs.Rules as rules;
+ghost use Rattle.eval_state.specs.declared.scene.Scene.{Scene};
+ghost use Rattle.eval_state.specs.declared.state.State.{State};
+ghost use Rattle.eval_matching.specs.Laws.{IsFirstToMeet, NoneMeets};
+ghost use Rattle.eval_rules.specs.Steps.{apply};
+ghost use Rattle.eval_effects.specs.Since as finals;
+ghost use Rattle.eval_courses.specs.Courses.{course};
+ghost use Rattle.eval_courses.specs.Upward.{name_at, search_told};
+ghost use Rattle.eval_courses.specs.Laws.{last_of};
+
+/// The last text of a course is `stops there` exactly where the rule's end was not reached.
+pub fn course_ends_as_its_rule()
+    ensures { (entries : List Entry) (since : finals.Since) (r : rules.Rule) (s : Scene) → (last_of (course entries since r s) ≡ Some (codes "stops there")) ↔ ((apply entries r s).1 ≡ false) }
+{}
+
+/// What is told of a search names the nearest device that meets all of the matches.
+pub fn search_names_the_first_to_meet()
+    ensures { (part : UpMatch) (parts : List UpMatch) (state : State) (place : ℕ) → IsFirstToMeet (part ∷ parts) state place → last_of (search_told (part ∷ parts) state) ≡ Some (name_at state place ++ codes " meets all") }
+{}
+
+/// What is told of a search that finds none begins with `no device meets `.
+pub fn search_names_no_device_where_none_meets()
+    ensures { (part : UpMatch) (parts : List UpMatch) (state : State) → NoneMeets (part ∷ parts) state → (rest : Text) × (last_of (search_told (part ∷ parts) state) ≡ Some (codes "no device meets " ++ rest)) }
+{}

@@ -1,0 +1,70 @@
+//! Which properties stand only behind an act.
+ghost use Rattle.std.specs.Prelude.{◌≡◌, ◌++◌, IfOk, OnOk, map};
+ghost use Rattle.eval_effects.specs.Items.{stands};
+ghost use Rattle.eval_courses.specs.Acts.{newly_set, property_told, set_told};
+
+use eval_effects::{push_joined, push_shown};
+use std::alloc::{AllocError, Global};
+use text_bytes::Bytes;
+use text_tables::OwnedPairs;
+
+/// A copy of properties.
+pub(crate) fn copied(alloc: Global, properties: &OwnedPairs) -> Result<OwnedPairs, AllocError>
+    ensures { IfOk result (λ copy. copy ≡ properties.now) }
+{
+    let mut copy = OwnedPairs::new(alloc);
+    for (name, value) in properties.as_map().iter() {
+        copy.set(alloc, name, value.as_slice())?;
+    }
+    Ok(copy)
+}
+
+/// Whether a property stands among others with its value.
+fn stands(properties: &OwnedPairs, name: &[u8], value: &[u8]) -> bool
+    ensures { result ≡ stands (name.now, value.now) properties.now }
+{
+    match properties.get(name) {
+        Some(kept) => kept.as_slice() == value,
+        None => false,
+    }
+}
+
+/// A property.
+#[tactic(auto, unfolding(crate::specs::Acts::property_told))]
+fn property_told(alloc: Global, name: &[u8], value: &[u8]) -> Result<Bytes, AllocError>
+    ensures { IfOk result (λ text. text ≡ property_told (name.now, value.now)) }
+{
+    let mut text = Vec::new(alloc);
+    push_shown(alloc, &mut text, name)?;
+    text.push(b'=')?;
+    push_shown(alloc, &mut text, value)?;
+    Ok(Bytes::new(text))
+}
+
+/// The properties of those that stand now which did not stand so before.
+pub(crate) fn newly_set(
+    alloc: Global,
+    before: &OwnedPairs,
+    now: &OwnedPairs,
+) -> Result<Vec<Bytes>, AllocError>
+    ensures { IfOk result (λ texts. texts.items ≡ map property_told (newly_set before.now now.now)) }
+{
+    let mut texts = Vec::new(alloc);
+    for (name, value) in now.as_map().iter() {
+        if !stands(before, name, value.as_slice()) {
+            texts.push(property_told(alloc, name, value.as_slice())?)?;
+        }
+    }
+    Ok(texts)
+}
+
+/// Puts which properties were set behind a text.
+pub(crate) fn push_set(text: &mut Vec<u8>, properties: &[Bytes]) -> Result<(), AllocError>
+    ensures { OnOk result (text.new.items ≡ text.old.items ++ set_told properties.now) }
+{
+    if properties.is_empty() {
+        return text.extend_from_slice(b"sets nothing");
+    }
+    text.extend_from_slice(b"sets ")?;
+    push_joined(text, properties)
+}

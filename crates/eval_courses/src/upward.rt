@@ -1,0 +1,268 @@
+//! The matches of one device, what they met device by device, and what the search came to.
+ghost use Rattle.std.specs.Prelude.{◌≡◌, ◌++◌, IfOk, OnOk, map};
+ghost use Rattle.std.specs.List.{list_any};
+ghost use Rattle.eval_matching.specs.Subjects.{found_place, holds_at, tags_at, up_subject};
+ghost use Rattle.eval_rules.specs.Steps.{search};
+ghost use Rattle.eval_courses.specs.Looks.{looked, members_told};
+ghost use Rattle.eval_courses.specs.Upward.{device_told, found_told, hits, is_absent, met_at, name_at, partly, partly_told, places, search_told, unmet, up_told};
+
+use crate::keys::push_up_key;
+use crate::plain::{push_members, push_value};
+use eval_effects::{push_joined, push_shown};
+use eval_matching::{attribute_at, driver_at, found_place, holds_at, subsystem_at};
+use eval_rules::search;
+use eval_state::{Scene, State};
+use itoa::Buffer;
+use rule_types::{UpKey, UpMatch};
+use std::alloc::{AllocError, Global};
+use text_bytes::Bytes;
+
+/// Puts the kernel's name of the device at a place behind a text.
+fn push_name(
+    alloc: Global,
+    text: &mut Vec<u8>,
+    state: &State<'_>,
+    place: usize,
+) -> Result<(), AllocError>
+    ensures { OnOk result (text.new.items ≡ text.old.items ++ name_at state.now place) }
+{
+    push_shown(alloc, text, state.event.kernel_at(place).unwrap_or(b""))
+}
+
+/// Puts texts as the event gave them behind a text, a space between.
+fn push_given(alloc: Global, text: &mut Vec<u8>, members: &[&[u8]]) -> Result<(), AllocError>
+    ensures { OnOk result (text.new.items ≡ text.old.items ++ members_told (map (λ t. t.now) members.now)) }
+{
+    let Some((first, others)) = members.split_first() else {
+        return text.extend_from_slice(b"none");
+    };
+    push_shown(alloc, text, first)?;
+    for other in others {
+        text.push(b' ')?;
+        push_shown(alloc, text, other)?;
+    }
+    Ok(())
+}
+
+/// Puts the tags of the device at a place behind a text.
+fn push_tags(
+    alloc: Global,
+    text: &mut Vec<u8>,
+    state: &State<'_>,
+    place: usize,
+) -> Result<(), AllocError>
+    ensures { OnOk result (text.new.items ≡ text.old.items ++ members_told (tags_at state.now place)) }
+{
+    if place == 0 {
+        return push_members(alloc, text, state.tags.as_slice());
+    }
+    match state.event.device_at(place) {
+        Some(device) => push_given(alloc, text, device.tags().as_slice()),
+        None => push_given(alloc, text, &[]),
+    }
+}
+
+/// Puts what a match of one device looked at at a place behind a text.
+fn push_looked(
+    alloc: Global,
+    text: &mut Vec<u8>,
+    key: &UpKey,
+    state: &State<'_>,
+    place: usize,
+) -> Result<(), AllocError>
+    ensures { OnOk result (text.new.items ≡ text.old.items ++ looked (up_subject key.now state.now place)) }
+{
+    match key {
+        UpKey::Kernels => push_name(alloc, text, state, place),
+        UpKey::Subsystems => push_shown(alloc, text, subsystem_at(state, place)),
+        UpKey::Drivers => push_shown(alloc, text, driver_at(state, place)),
+        UpKey::Tags => push_tags(alloc, text, state, place),
+        UpKey::Attrs(name) => push_value(alloc, text, attribute_at(state, place, name.as_slice())),
+    }
+}
+
+/// Whether a match looked at an attribute that the device at a place lacks.
+fn is_absent(key: &UpKey, state: &State<'_>, place: usize) -> bool
+    ensures { result ≡ is_absent (up_subject key.now state.now place) }
+{
+    match key {
+        UpKey::Attrs(name) => attribute_at(state, place, name.as_slice()).is_none(),
+        _ => false,
+    }
+}
+
+/// Puts what a match met at the device at a place behind a text.
+fn push_met_at(
+    alloc: Global,
+    text: &mut Vec<u8>,
+    part: &UpMatch,
+    state: &State<'_>,
+    place: usize,
+) -> Result<(), AllocError>
+    ensures { OnOk result (text.new.items ≡ text.old.items ++ met_at (holds_at state.now place part.now) (up_subject part.now.key state.now place)) }
+{
+    if holds_at(part, state, place) {
+        return text.extend_from_slice(b" holds");
+    }
+    if is_absent(&part.key, state, place) {
+        return text.extend_from_slice(b" has none");
+    }
+    text.extend_from_slice(b" fails, ")?;
+    push_looked(alloc, text, &part.key, state, place)
+}
+
+/// The device at a place, and what a match met at it.
+#[tactic(auto, unfolding(crate::specs::Upward::device_told))]
+fn device_told(
+    alloc: Global,
+    part: &UpMatch,
+    state: &State<'_>,
+    place: usize,
+) -> Result<Bytes, AllocError>
+    ensures { IfOk result (λ text. text ≡ device_told part.now state.now place) }
+{
+    let mut text = Vec::new(alloc);
+    push_name(alloc, &mut text, state, place)?;
+    push_met_at(alloc, &mut text, part, state, place)?;
+    Ok(Bytes::new(text))
+}
+
+/// Each device of the chain, and what a match met at it.
+fn devices_told(alloc: Global, part: &UpMatch, state: &State<'_>) -> Result<Vec<Bytes>, AllocError>
+    ensures { IfOk result (λ texts. texts.items ≡ map (device_told part.now state.now) (places state.now)) }
+{
+    let mut texts = Vec::new(alloc);
+    for place in 0..state.event.event().device_count() {
+        texts.push(device_told(alloc, part, state, place)?)?;
+    }
+    Ok(texts)
+}
+
+/// A match of one device, and what it met.
+#[tactic(auto, unfolding(crate::specs::Upward::up_told))]
+fn up_told(alloc: Global, part: &UpMatch, state: &State<'_>) -> Result<Bytes, AllocError>
+    ensures { IfOk result (λ text. text ≡ up_told part.now state.now) }
+{
+    let mut text = Vec::new(alloc);
+    push_up_key(alloc, &mut text, part)?;
+    text.extend_from_slice(b": ")?;
+    push_joined(&mut text, &devices_told(alloc, part, state)?)?;
+    Ok(Bytes::new(text))
+}
+
+/// How many of the matches hold at a place.
+fn hits(parts: &[UpMatch], state: &State<'_>, place: usize) -> usize
+    ensures { result ≡ hits parts.now state.now place }
+{
+    parts
+        .iter()
+        .filter(|part| holds_at(part, state, place))
+        .count()
+}
+
+/// The device at a place, and how many of the matches it meets.
+#[tactic(auto, unfolding(crate::specs::Upward::partly_told))]
+fn partly_told(
+    alloc: Global,
+    parts: &[UpMatch],
+    state: &State<'_>,
+    place: usize,
+) -> Result<Bytes, AllocError>
+    ensures { IfOk result (λ text. text ≡ partly_told parts.now state.now place) }
+{
+    let mut text = Vec::new(alloc);
+    push_name(alloc, &mut text, state, place)?;
+    text.extend_from_slice(b" meets ")?;
+    text.extend_from_slice(Buffer::new().format(hits(parts, state, place)).as_bytes())?;
+    text.extend_from_slice(b" of ")?;
+    text.extend_from_slice(Buffer::new().format(parts.len()).as_bytes())?;
+    Ok(Bytes::new(text))
+}
+
+/// Whether at least one of the matches holds at a place.
+fn some_hold(parts: &[UpMatch], state: &State<'_>, place: usize) -> bool
+    ensures { result ≡ list_any (holds_at state.now place) parts.now }
+{
+    parts.iter().any(|part| holds_at(part, state, place))
+}
+
+/// The devices that meet some of the matches, from the farthest on.
+fn partly_all_told(
+    alloc: Global,
+    parts: &[UpMatch],
+    state: &State<'_>,
+) -> Result<Vec<Bytes>, AllocError>
+    ensures { IfOk result (λ texts. texts.items ≡ map (partly_told parts.now state.now) (partly parts.now state.now)) }
+{
+    let mut texts = Vec::new(alloc);
+    for place in (0..state.event.event().device_count()).rev() {
+        if some_hold(parts, state, place) {
+            texts.push(partly_told(alloc, parts, state, place)?)?;
+        }
+    }
+    Ok(texts)
+}
+
+/// Puts what no device meets behind a text: any of the matches, or all of them, with the devices that meet some.
+fn push_unmet(text: &mut Vec<u8>, devices: &[Bytes]) -> Result<(), AllocError>
+    ensures { OnOk result (text.new.items ≡ text.old.items ++ unmet devices.now) }
+{
+    if devices.is_empty() {
+        return text.extend_from_slice(b"any");
+    }
+    text.extend_from_slice(b"all: ")?;
+    push_joined(text, devices)
+}
+
+/// What the search came to.
+fn found_told(alloc: Global, parts: &[UpMatch], state: &State<'_>) -> Result<Bytes, AllocError>
+    ensures { IfOk result (λ text. text ≡ found_told parts.now state.now (found_place parts.now state.now)) }
+{
+    let mut text = Vec::new(alloc);
+    match found_place(parts, state) {
+        Some(place) => {
+            push_name(alloc, &mut text, state, place)?;
+            text.extend_from_slice(b" meets all")?;
+        }
+        None => {
+            text.extend_from_slice(b"no device meets ")?;
+            push_unmet(&mut text, &partly_all_told(alloc, parts, state)?)?;
+        }
+    }
+    Ok(Bytes::new(text))
+}
+
+/// Tells each match of one device.
+fn tell_each(
+    alloc: Global,
+    parts: &[UpMatch],
+    state: &State<'_>,
+    texts: &mut Vec<Bytes>,
+) -> Result<(), AllocError>
+    ensures { OnOk result (texts.new.items ≡ texts.old.items ++ map (λ part. up_told part state.now) parts.now) }
+{
+    for part in parts {
+        texts.push(up_told(alloc, part, state)?)?;
+    }
+    Ok(())
+}
+
+/// Tells the search for one device, and makes it: each of its matches, and what it came to.
+#[tactic(auto, unfolding(crate::specs::Upward::search_told))]
+pub(crate) fn tell_search(
+    alloc: Global,
+    parts: &[UpMatch],
+    scene: &mut Scene<'_>,
+    texts: &mut Vec<Bytes>,
+) -> Result<bool, AllocError>
+    ensures scene { IfOk result (λ on. (scene.new, on) ≡ search parts.now scene.old) }
+    ensures texts { OnOk result (texts.new.items ≡ texts.old.items ++ search_told parts.now scene.old.state) }
+    ensures event { scene.new.state.event ≡ scene.old.state.event }
+{
+    if parts.is_empty() {
+        return Ok(true);
+    }
+    tell_each(alloc, parts, &scene.state, texts)?;
+    texts.push(found_told(alloc, parts, &scene.state)?)?;
+    Ok(search(parts, scene))
+}

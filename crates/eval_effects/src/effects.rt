@@ -6,8 +6,8 @@ ghost use Rattle.eval_effects.specs.Changes.{changes};
 ghost use Rattle.eval_effects.specs.Named.{change_key};
 ghost use Rattle.eval_effects.specs.Effects.{changed_text, effect, effects, ending, ending_of, final_text, made_text, note_left, settled_key};
 
-use crate::items::items_of;
 use crate::changes::push_item_changes;
+use crate::items::items_of;
 use crate::named::{final_name, push_change_key, push_rule};
 use crate::runs::push_run_changes;
 use crate::shown::push_joined;

@@ -7,8 +7,8 @@ ghost use Rattle.eval_sources.specs.Inner.{GoesOn, Keeps, can_change};
 ghost use Rattle.eval_sources.specs.Sources.{Tells};
 ghost use Rattle.eval_sources.specs.Told.{stages_over};
 
-use eval_effects::items_of;
 use crate::sources::Sources;
+use eval_effects::items_of;
 use eval_rules::{apply, is_passed, sought_after};
 use eval_state::Scene;
 use hwdb_lookup::Lookup;

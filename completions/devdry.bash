@@ -17,6 +17,15 @@ _devdry_words() {
     mapfile -t COMPREPLY < <(compgen -W "$*" -- "$word")
 }
 
+_devdry_codes='V1 V2 V3 V4 V5 V6 V7 V8 V9 V10 V11 V12 S1 S2 S3 S4 H1 H2 H3 H4 H5 H6'
+
+# _devdry_code_list: the current word may become codes with commas between them, with `comments` among them.
+_devdry_code_list() {
+    local front=
+    case $word in *,*) front=${word%,*}, ;; esac
+    mapfile -t COMPREPLY < <(compgen -P "$front" -W "$_devdry_codes comments" -- "${word##*,}")
+}
+
 # Whether query takes a database file as the current word: behind a modalias, a word that is neither an option nor the
 # folder of one, and not beside an index.
 _devdry_takes_database() {
@@ -32,21 +41,33 @@ _devdry_takes_database() {
     return $takes
 }
 
+# _devdry_arguments: the current word is no option of the command, nor the value of one.
+_devdry_arguments() {
+    case $command in
+        files) ;;
+        explain) _devdry_words "$_devdry_codes I1 I2" ;;
+        *) if [ "$command" != query ] || _devdry_takes_database; then _devdry_files "$suffix"; fi ;;
+    esac
+}
+
 _devdry() {
     local word=${COMP_WORDS[COMP_CWORD]} before=${COMP_WORDS[COMP_CWORD - 1]} command=${COMP_WORDS[1]}
     local options suffix
     COMPREPLY=()
     if [ "$COMP_CWORD" -eq 1 ]; then
-        _devdry_words verify query update events help --help --version -h -V
+        _devdry_words verify query update events files compare explain help --help --version -h -V
         return
     fi
     case $command in
-        verify) suffix=.rules options='-r --root --no-summary --no-style -h --help -V --version' ;;
+        verify) suffix=.rules options='-r --root --all --format --ignore --no-summary --no-style -h --help -V --version' ;;
         query) suffix=.hwdb options='-r --root --sources --index -h --help -V --version' ;;
-        update) suffix=.hwdb options='-r --root -s --strict -h --help -V --version' ;;
+        update) suffix=.hwdb options='-r --root -s --strict --all --format --ignore -h --help -V --version' ;;
         events) suffix=.rules options='-r --root --sources --why --index -h --help -V --version' ;;
+        files) suffix='' options='-r --root -h --help -V --version' ;;
+        compare) suffix='' options='--index -h --help -V --version' ;;
+        explain) suffix='' options='-h --help -V --version' ;;
         help)
-            [ "$COMP_CWORD" -gt 2 ] || _devdry_words verify query update events help
+            [ "$COMP_CWORD" -gt 2 ] || _devdry_words verify query update events files compare explain help
             return
             ;;
         *) return ;;
@@ -55,8 +76,10 @@ _devdry() {
         -r:* | --root:*) _devdry_files '' ;;
         --index:*) _devdry_any_files ;;
         --why:*) _devdry_files .rules ;;
+        --format:*) _devdry_words plain gcc github gitlab json human ;;
+        --ignore:*) _devdry_code_list ;;
         *:-*) _devdry_words "$options" ;;
-        *) if [ "$command" != query ] || _devdry_takes_database; then _devdry_files "$suffix"; fi ;;
+        *) _devdry_arguments ;;
     esac
 }
 

@@ -8,12 +8,22 @@ complete -c devdry -n __fish_use_subcommand -a verify -d 'Check rules files'
 complete -c devdry -n __fish_use_subcommand -a query -d 'Print what the hardware database has for a device'
 complete -c devdry -n __fish_use_subcommand -a update -d 'Check the files of the hardware database and write its index'
 complete -c devdry -n __fish_use_subcommand -a events -d 'Answer the event blocks of the standard input'
+complete -c devdry -n __fish_use_subcommand -a files -d 'List the files of the folders, and say which of them are read'
+complete -c devdry -n __fish_use_subcommand -a compare -d 'Tell where two systems answer the event blocks of the standard input differently'
+complete -c devdry -n __fish_use_subcommand -a explain -d 'Explain a message by its code'
 complete -c devdry -n __fish_use_subcommand -a help -d 'Print help'
-complete -c devdry -n '__fish_seen_subcommand_from help' -a 'verify query update events help'
+complete -c devdry -n '__fish_seen_subcommand_from help' -a 'verify query update events files compare explain help'
 
-complete -c devdry -n '__fish_seen_subcommand_from verify query update events' -s r -l root -r -a '(__fish_complete_directories)' -d 'Folder to put before each folder that is read'
+complete -c devdry -n '__fish_seen_subcommand_from verify query update events files' -s r -l root -r -a '(__fish_complete_directories)' -d 'Folder to put before each folder that is read'
 
-complete -c devdry -n '__fish_seen_subcommand_from query events' -l index -r -F -d 'Index to read in place of the database\'s folders'
+complete -c devdry -n '__fish_seen_subcommand_from query events compare' -l index -r -F -d 'Index to read in place of the database\'s folders'
+
+set -l codes V1 V2 V3 V4 V5 V6 V7 V8 V9 V10 V11 V12 S1 S2 S3 S4 H1 H2 H3 H4 H5 H6
+complete -c devdry -n '__fish_seen_subcommand_from verify update' -l all -d 'Go on where a file can\'t be read, and fail where there is none'
+complete -c devdry -n '__fish_seen_subcommand_from verify update' -l format -x -a 'plain gcc github gitlab json human' -d 'How messages are written'
+complete -c devdry -n '__fish_seen_subcommand_from verify update' -l ignore -x -a "$codes comments" -d 'Leave out the messages of these codes'
+complete -c devdry -n '__fish_seen_subcommand_from compare' -a '(__fish_complete_directories)'
+complete -c devdry -n '__fish_seen_subcommand_from explain' -a "$codes I1 I2"
 
 complete -c devdry -n '__fish_seen_subcommand_from verify' -l no-summary -d 'Do not count the good and the bad files'
 complete -c devdry -n '__fish_seen_subcommand_from verify' -l no-style -d 'Give no messages about style'

@@ -6,8 +6,10 @@ one line, `ok TABLE: NAME`, or `not ok TABLE: NAME` with what differs below it.
 
 usage: tests/rows.py PROGRAM [TABLE..]    without TABLE all of them
 """
+import contextlib
 import importlib
 import os
+import shutil
 import subprocess
 import sys
 import tempfile
@@ -16,44 +18,84 @@ from pathlib import Path
 
 HERE = Path(__file__).resolve().parent
 sys.path.insert(0, str(HERE))
-from tables.kinds.row import FOLDER, Begins, Link, as_bytes  # noqa: E402
+from tables.kinds.row import FOLDER, PIPE, Begins, Link, Moded, Read, as_bytes  # noqa: E402
 
 SECONDS = 60
 
+# a user for whom permissions count, where the rows are root's
+PLAIN_USER = ["setpriv", "--reuid=65534", "--regid=65534", "--clear-groups"]
+
 
 def make_files(folder, files):
-    """Writes the files of a row below a folder."""
+    """Writes the files of a row below a folder; their permissions last, so that none is in the way of another."""
+    moded = []
     for name, text in files.items():
         path = Path(folder, os.fsdecode(name))
         path.parent.mkdir(parents=True, exist_ok=True)
+        if isinstance(text, Moded):
+            moded.append((path, text.mode))
+            text = text.content
         if text is FOLDER:
             path.mkdir()
+        elif text is PIPE:
+            os.mkfifo(path)
         elif isinstance(text, Link):
             path.symlink_to(text)
         else:
             path.write_bytes(as_bytes(text))
+    for path, mode in moded:
+        path.chmod(mode)
+
+
+@contextlib.contextmanager
+def as_plain_user(program, folder):
+    """How the program is started by a user for whom permissions count, who has to reach it; None where it can't be."""
+    if os.geteuid() != 0:
+        yield [program]
+    elif not shutil.which(PLAIN_USER[0]):
+        yield None
+    else:
+        os.chmod(folder, 0o755)
+        with tempfile.TemporaryDirectory() as reached:
+            os.chmod(reached, 0o755)
+            yield [*PLAIN_USER, shutil.copy(program, reached)]
 
 
 def differences(what, wanted, got):
     """The lines that tell where an output is not the wanted one; none where it is."""
+    if isinstance(wanted, Read):
+        try:
+            read = wanted.reader(got)
+        except (KeyError, TypeError, ValueError) as fault:
+            read = f"{fault!r} of {got[:2000]!r}"
+        return [] if read == wanted.wanted else [f"    {what} wanted: {wanted.wanted!r}", f"    {what} read:   {read!r}"]
     wanted = wanted if isinstance(wanted, Begins) else as_bytes(wanted)
     if got.startswith(wanted) if isinstance(wanted, Begins) else got == wanted:
         return []
     return [f"    {what} wanted: {wanted[:2000]!r}", f"    {what} got:    {got[:2000]!r}"]
 
 
+def run(program, row, folder):
+    """What comes of the run of a row in a folder that has its files; None where no plain user can be had for it."""
+    words = row.words.split() if isinstance(row.words, str) else row.words
+    with as_plain_user(program, folder) if row.plain else contextlib.nullcontext([program]) as started:
+        return started and subprocess.run(
+            [*started, *words], input=as_bytes(row.input), capture_output=True, cwd=folder, timeout=SECONDS)
+
+
 def run_row(program, table, row):
     """Runs one row, and gives the lines that tell how it went."""
-    words = row.words.split() if isinstance(row.words, str) else row.words
     with tempfile.TemporaryDirectory() as folder:
         make_files(folder, row.files)
         try:
-            run = subprocess.run([program, *words], input=as_bytes(row.input), capture_output=True, cwd=folder, timeout=SECONDS)
+            came = run(program, row, folder)
         except subprocess.TimeoutExpired:
             return [f"not ok {table}: {row.name}", f"    no end within {SECONDS} seconds"]
-    wrong = differences("output", row.output, run.stdout) + differences("messages", row.messages, run.stderr)
-    if run.returncode != row.status:
-        wrong.append(f"    status wanted: {row.status}, got: {run.returncode}")
+    if came is None:
+        return [f"skipped {table}: {row.name}: as root it takes setpriv"]
+    wrong = differences("output", row.output, came.stdout) + differences("messages", row.messages, came.stderr)
+    if came.returncode != row.status:
+        wrong.append(f"    status wanted: {row.status}, got: {came.returncode}")
     return [f"{'not ok' if wrong else 'ok'} {table}: {row.name}", *wrong]
 
 
@@ -69,7 +111,7 @@ def main(program, tables):
         told = list(pool.map(lambda pair: run_row(program, *pair), rows))
     for lines in told:
         print("\n".join(lines))
-    return not twice and all(lines[0].startswith("ok ") for lines in told)
+    return not twice and not any(lines[0].startswith("not ok ") for lines in told)
 
 
 if __name__ == "__main__":

@@ -1,7 +1,7 @@
 #!/usr/bin/env bash
 # What a user meets beside the proofs: the runs of tests/tables/, options in the pages and completions, installing, what
-# docs/ and README.md show, the recipes, devdry-capture, damaged indexes, and the program where its system refuses
-# something; and that each wrong body still fits its file. About a minute. The last line is `N passed, M failed`.
+# docs/ and README.md show, the recipes, devdry-capture, terminals, damaged indexes, and the program where its system
+# refuses something; and that each wrong body still fits its file. About a minute. The last line is `N passed, M failed`.
 # usage: tests/run.sh [PROGRAM]    PROGRAM is build/devdry unless one is given
 set -uo pipefail
 cd "$(dirname "$0")/.." || exit 1

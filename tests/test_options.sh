@@ -14,6 +14,9 @@ helps() {
 commands=$("$program" --help | sed -n '/^Commands:/,/^$/s/^  \([a-z]*\) .*/\1/p' | sort)
 verbs=$(grep -vx help <<< "$commands")
 
+# The codes, by what is said of another.
+codes=$("$program" explain none 2>&1 | sed -n 's/.*possible values: \(.*\)\]$/\1/p' | tr -d , | tr ' ' '\n' | LC_ALL=C sort)
+
 # The options that the section OPTIONS of a page lists.
 pages() {
     sed -n '/^\.Sh OPTIONS/,/^\.Sh EXIT\|^\.Sh FILES/s/^\.It \(Fl.*\)/\1/p' "$1" \
@@ -74,12 +77,20 @@ done
     same "bash offers database files behind a modalias" "b.hwdb folder" "$(bash_offers devdry query -r folder m '' | paste -s -d " " -)"
     same "bash offers all files behind --index" "a.rules b.hwdb c.txt folder" "$(bash_offers devdry query --index '' | paste -s -d " " -)"
     same "bash offers rules files behind --why" "a.rules folder" "$(bash_offers devdry events --why '' | paste -s -d " " -)"
+    same "bash offers codes to explain" "V1 V10 V11 V12" "$(bash_offers devdry explain V1 | paste -s -d " " -)"
+    same "bash offers folders to compare" "folder" "$(bash_offers devdry compare folder '' | paste -s -d " " -)"
+    same "bash offers no file to files" "" "$(bash_offers devdry files '' | paste -s -d " " -)"
     same "bash offers no database file beside an index" "" "$(bash_offers devdry query --index c.txt m '' | paste -s -d " " -)"
     same "bash offers rules files beside an index" "a.rules folder" "$(bash_offers devdry events --index c.txt '' | paste -s -d " " -)"
     same "bash offers all files to devdry-capture" "a.rules b.hwdb c.txt folder" "$(bash_offers devdry-capture '' | paste -s -d " " -)"
     same "bash offers all files behind --from" "c.txt" "$(bash_offers devdry-capture --from c)"
     same "bash offers folders behind --sysfs" "folder" "$(bash_offers devdry-capture --sysfs '')"
 )
+same "bash offers formats behind --format" "gcc github gitlab" "$(bash_offers devdry verify --format g | paste -s -d " " -)"
+same "bash offers codes behind --ignore" "H1 H2 H3 H4 H5 H6" "$(bash_offers devdry update --ignore H | paste -s -d " " -)"
+same "bash offers codes behind a comma" "V6,S1 V6,S2 V6,S3 V6,S4" "$(bash_offers devdry verify --ignore V6,S | paste -s -d " " -)"
+same "bash offers the codes to explain" "$codes" "$(bash_offers devdry explain '' | LC_ALL=C sort)"
+same "docs/messages.md has these codes" "$codes" "$(sed -nE 's/^### ([A-Z][0-9]+) .*/\1/p' "$top/docs/messages.md" | LC_ALL=C sort)"
 same "bash offers the options of devdry-capture" "$captures" "$(bash_offers devdry-capture --kernel -)"
 same "bash offers actions behind --action" "change" "$(bash_offers devdry-capture --action c)"
 

@@ -20,6 +20,20 @@ ends "a bad file" 1 "1 files checked, 0 good, 1 bad" "mistakes.rules:2: V2 unkno
 ends "messages of the database" 0 "" "mistakes.hwdb:1: H1 property without a match: A=1" query none mistakes.hwdb
 ends "a query without a match" 0 "" "" query none trackball.hwdb
 
+# With --all, /dev/stdin is read where it is a file, and not behind a pipe.
+status=0
+"$program" verify --all /dev/stdin < disk.rules > out 2> err || status=$?
+same "--all and /dev/stdin that is a file" "0|1 files checked, 1 good, 0 bad|" "$status|$(cat out)|$(cat err)"
+for verb in verify update; do
+    status=0
+    echo 'TAG="t"' | "$program" "$verb" --all /dev/stdin > out 2> err || status=$?
+    same "$verb --all and /dev/stdin behind a pipe" "3|devdry: cannot read /dev/stdin: not a regular file|devdry: no files" \
+        "$status|$(paste -s -d "|" err)"
+done
+status=0
+echo 'TAG="t"' | "$program" verify /dev/stdin > out 2> err || status=$?
+same "/dev/stdin behind a pipe without --all" "0|1 files checked, 1 good, 0 bad|" "$status|$(cat out)|$(cat err)"
+
 # A block is answered before the next one is there.
 block=$'C: add\nP: /devices/x\nU: block\nN: sda\n'
 mkfifo blocks answers

@@ -103,81 +103,137 @@ else
     skipped "pre-commit" "there is no pre-commit"
 fi
 
-# The messages of the bad project, as a build writes them.
-in_project bad sh -c 'devdry verify --no-summary rules/*.rules; devdry update --strict hwdb/*.hwdb > /dev/null' 2> "$work/messages"
-# (and odd ones: of a file whose name has a colon, two alike, and one that cuts its word inside a character)
-{
-    printf '%s\n' 'a:1\x09".rules:7: V1 bad syntax: "\x5C:1: V2 b' 'b.rules:3: S2 blank after a comma expected: TAG'
-    printf 'b.rules:3: S2 blank after a comma expected: TAG\nc.rules:4: V5 bad value: %031d\303\n' 0
-} >> "$work/messages"
-count=$(wc -l < "$work/messages")
-
-# report FILE: what GitLab's job makes of the messages in the file
-report() {
-    (
-        mkdir -p "$work/job/ci" && cp "$ci/codequality.awk" "$work/job/ci" && cp "$1" "$work/job/messages"
-        cd "$work/job" && sed -n 's/^    - \(iconv .*\) > report.json$/\1/p' "$ci/gitlab.yml" | sh
-    )
-}
+# steps FILE LINES: the commands of a recipe that these lines of it hold, each on a line of its own
+steps() { sed -nE "$2" "$ci/$1"; }
+github=$(steps github.yml 's/^ *run: (devdry .*)/\1/p')
+gitlab=$(steps gitlab.yml '/^  script:/,/^  artifacts:/s/^    - //p')
+# runs_job PROJECT [LINES]: GitLab's job, or these lines of it, as a runner starts them; the status is that of the job
+runs_job() { in_project "$1" bash -eo pipefail -c "${2:-$gitlab}"; }
+bad_messages='rules/60-mine.rules 2 V2 error unknown key: SUBSYSTEMM
+rules/60-mine.rules 4 V7 error no later label: end
+rules/60-mine.rules 6 S2 warning blank after a comma expected: TAG
+hwdb/60-mine.hwdb 1 H1 error property without a match: A=1
+hwdb/60-mine.hwdb 3 H2 error match without a property: m1
+hwdb/60-mine.hwdb 6 H5 error empty key: =x
+hwdb/60-mine.hwdb 7 H4 error no =: B
+hwdb/60-mine.hwdb 8 H3 error unindented line after properties: m3
+hwdb/60-mine.hwdb 11 H6 error pattern not supported: [[.a.]]'
 if has python3; then
-    said=$(python3 - "$ci/devdry-matcher.json" "$work/messages" << 'END'
-import json, re, sys
-matchers = json.load(open(sys.argv[1]))["problemMatcher"]
-for line in open(sys.argv[2], encoding="utf-8", errors="replace"):
-    for matcher in matchers:
-        pattern = matcher["pattern"][0]
-        found = re.search(pattern["regexp"], line.rstrip("\n"))
-        if found:
-            print(matcher["severity"], *[found[pattern[key]] for key in ("file", "line", "code", "message")])
-END
-    )
-    same "GitHub's matcher takes each message" "$count" "$(wc -l <<< "$said")"
-    same "and its parts" 'error rules/60-mine.rules 2 V2 unknown key: SUBSYSTEMM
-warning rules/60-mine.rules 6 S2 blank after a comma expected: TAG
-error a:1\x09".rules 7 V1 bad syntax: "\x5C:1: V2 b' "$(grep -e 'SUBSYSTEMM$' -e '^warning rules' -e '^error a:1' <<< "$said")"
+    # reads FORMAT: what is read of messages in this format, as tests/read_formats.py reads them
+    reads() {
+        PYTHONDONTWRITEBYTECODE=1 PYTHONPATH=$top/tests python3 -c '
+import sys
+from read_formats import READERS
+for path, line, _, _, code, severity, said in READERS[sys.argv[1]](sys.stdin.buffer.read()):
+    print(path, line, code, severity, said)' "$1" 2>&1
+    }
+    same "GitHub's steps" 2 "$(wc -l <<< "$github")"
+    same "GitHub's annotations" "$bad_messages" "$(in_project bad sh -c "$github" 2>&1 > /dev/null | reads github)"
+    goes_well "GitHub's steps: good files" in_project good sh -ec "$github"
+    if has jq; then
+        goes_well "GitLab's job: good files" runs_job good
+        same "GitLab's report without a message" "[]" "$(jq --compact-output . "$work/good/report.json")"
+        # job_ends CASE PROJECT STATUS MESSAGES TEXT [LINES]: the job ends so, says the text, and its report has the messages
+        job_ends() {
+            local said status=0
+            rm -f "$work/$2/report.json"
+            said=$(runs_job "$2" "${6:-}" 2>&1) || status=$?
+            same "GitLab's job, $1: its end" "$3" "$status"
+            same "GitLab's job, $1: its report" "$(grep -c . <<< "$4"): $4" \
+                "$(jq length "$work/$2/report.json" 2>&1): $(reads gitlab < "$work/$2/report.json")"
+            goes_well "GitLab's job, $1: what it says" grep -qF "$5" <<< "$said"
+        }
+        of_rules=$(grep '^rules/' <<< "$bad_messages")
+        job_ends "mistakes" bad 1 "$bad_messages" '"check_name":"V2"'
+        for project in good bad; do
+            cp -r "$work/$project" "$work/$project-rules" && rm -r "$work/$project-rules/hwdb"
+            job_ends "no database, $project rules" "$project-rules" 3 "$([ $project = good ] || echo "$of_rules")" \
+                "devdry: cannot read hwdb/*.hwdb"
+        done
+        job_ends "no database and no line on it" bad-rules 1 "$of_rules" '"check_name":"V2"' "$(grep -v 'devdry update' <<< "$gitlab")"
+        rm -r "$work/good-rules/rules"
+        job_ends "no file at all" good-rules 3 "" "devdry: cannot read rules/*.rules"
+    else
+        skipped "GitLab's report" "there is no jq"
+    fi
     python3 -c 'import yaml' 2> /dev/null && for file in "$top/.pre-commit-hooks.yaml" "$ci"/*.yml "$ci"/*.yaml; do
         goes_well "${file##*/} is YAML" python3 -c 'import sys, yaml; yaml.safe_load(open(sys.argv[1]))' "$file"
     done
-    for locale in C C.UTF-8; do
-        said=$(LC_ALL=$locale report "$work/messages" | python3 -c '
-import json, sys
-found = json.loads(sys.stdin.buffer.read().decode("utf-8"))
-for it in found:
-    print(it["location"]["path"], it["location"]["lines"]["begin"], it["severity"], it["description"])
-assert len({it["fingerprint"] for it in found}) == len(found)' 2>&1)
-        same "GitLab's report has each message, in $locale" "$count" "$(wc -l <<< "$said")"
-        same "and their parts, in $locale" 'rules/60-mine.rules 2 major V2 unknown key: SUBSYSTEMM
-rules/60-mine.rules 6 minor S2 blank after a comma expected: TAG
-a:1\x09".rules 7 major V1 bad syntax: "\x5C:1: V2 b
-b.rules 3 minor S2 blank after a comma expected: TAG
-b.rules 3 minor S2 blank after a comma expected: TAG
-c.rules 4 major V5 bad value: 0000000000000000000000000000000' "$(sed -n '1p;3p' <<< "$said"; tail -n 4 <<< "$said")"
-    done
-    same "without a message it is empty" "[]" "$(report /dev/null | python3 -c 'import json, sys; print(json.load(sys.stdin))')"
 else
-    skipped "GitHub's matcher and GitLab's report" "there is no python3"
+    skipped "GitHub's annotations and GitLab's report" "there is no python3"
 fi
+
+# An image of the project's files, and one that has none.
+for it in good bad; do
+    mkdir -p "$work/$it/root/usr/lib/udev/rules.d" "$work/$it/root/usr/lib/udev/hwdb.d"
+    cp "$work/$it/rules/"* "$work/$it/root/usr/lib/udev/rules.d"
+    cp "$work/$it/hwdb/"* "$work/$it/root/usr/lib/udev/hwdb.d"
+done
+goes_well "image.sh: good files" "$ci/image.sh" "$work/good/root"
+refused "image.sh: mistakes" "root/usr/lib/udev/rules.d/60-mine.rules:2:1: error: unknown key: SUBSYSTEMM [V2]" "$ci/image.sh" "$work/bad/root"
+refused "image.sh: no file at all" "rules.d: absent" "$ci/image.sh" "$work/none"
+refused "image.sh: no root" "1" "$ci/image.sh" ""
+# image_ends CASE STATUS COMMAND..: image.sh ends so over a copy of the good image, in whose /usr/lib/udev the command was run
+image_ends() {
+    local case=$1 wanted=$2 status=0
+    shift 2
+    rm -rf "$work/image" && cp -r "$work/good/root" "$work/image" && (cd "$work/image/usr/lib/udev" && "$@")
+    "$ci/image.sh" "$work/image" > /dev/null 2>&1 || status=$?
+    same "image.sh: the status of $case" "$wanted" "$status"
+}
+# lost FOLDER [BAD]: a link to nothing in this folder, and mistakes in the other
+lost() { ln -s nothing "$1/90-lost.${1%.d}" && if [ $# = 2 ]; then cp "$top/examples/mistakes.${2%.d}" "$2"; fi; }
+image_ends "mistakes in rules" 1 cp "$top/examples/mistakes.rules" rules.d
+image_ends "mistakes in the database" 1 cp "$top/examples/mistakes.hwdb" hwdb.d
+image_ends "a substitution that no manual has" 0 sh -c "echo 'ENV{NODE}=\"\$tempnode\"' > rules.d/50-old.rules"
+image_ends "rules that can't be read" 3 lost rules.d
+image_ends "rules that can't be read, and mistakes in the database" 3 lost rules.d hwdb.d
+image_ends "a database that can't be read, and mistakes in rules" 3 lost hwdb.d rules.d
+image_ends "no database" 1 rm -r hwdb.d
+image_ends "rules that can't be read, and no database" 3 sh -c 'ln -s nothing rules.d/90-lost.rules; rm -r hwdb.d'
 
 if has vim; then
     mkdir -p "$work/vim/compiler" && cp "$ci/devdry.vim" "$work/vim/compiler"
     said=$(in_project bad vim -u NONE -i NONE -es -N -c "set runtimepath^=$work/vim" -c 'edit rules/60-mine.rules' \
         -c 'compiler devdry' -c 'silent make!' \
-        -c 'call writefile(map(getqflist(), "bufname(v:val.bufnr).\" \".v:val.lnum.\" \".v:val.type.v:val.nr.\" \".v:val.text"), "list")' \
+        -c 'call writefile(map(getqflist(), "bufname(v:val.bufnr).\" \".v:val.lnum.\" \".v:val.col.\" \".v:val.type.\" \".v:val.text"), "list")' \
         -c 'qall!' 2>&1 > /dev/null; cat "$work/bad/list")
-    same "vim's list of messages" "rules/60-mine.rules 2 V2 unknown key: SUBSYSTEMM
-rules/60-mine.rules 4 V7 no later label: end
-rules/60-mine.rules 6 S2 blank after a comma expected: TAG" "$said"
+    same "vim's list of messages" "rules/60-mine.rules 2 1 e unknown key: SUBSYSTEMM [V2]
+rules/60-mine.rules 4 22 e no later label: end [V7]
+rules/60-mine.rules 6 15 w blank after a comma expected: TAG [S2]" "$said"
 else
     skipped "vim" "there is no vim"
 fi
 if has emacs; then
-    said=$(in_project bad emacs --batch -Q -l "$ci/devdry.el" --eval '
-        (with-temp-buffer
-          (insert-file-contents (expand-file-name "../messages"))
-          (compilation-mode)
-          (compilation--ensure-parse (point-max))
-          (princ (format "%d errors, %d warnings" compilation-num-errors-found compilation-num-warnings-found)))' 2> /dev/null)
-    same "emacs' counts of messages" "$((count - 3)) errors, 3 warnings" "$said"
+    # emacs_reads FILE: what M-x devdry makes of a file: each message by line, column and whether it is an error (2)
+    emacs_reads() {
+        in_project bad emacs --batch -Q -l "$ci/devdry.el" "$1" --eval '
+            (let (done)
+              (add-hook (quote compilation-finish-functions) (lambda (&rest _) (setq done t)))
+              (devdry)
+              (while (not done) (accept-process-output nil 0.1))
+              (set-buffer "*compilation*")
+              (compilation--ensure-parse (point-max))
+              (goto-char (point-min))
+              (while (not (eobp))
+                (let* ((message (get-text-property (point) (quote compilation-message)))
+                       (place (and message (compilation--message->loc message))))
+                  (when place
+                    (princ (format "%s %d %d %d\n"
+                                   (file-relative-name (caar (compilation--loc->file-struct place)))
+                                   (compilation--loc->line place) (compilation--loc->col place)
+                                   (compilation--message->type message)))))
+                (forward-line)))' 2> /dev/null
+    }
+    same "what emacs reads of messages on rules" "60-mine.rules 2 1 2
+60-mine.rules 4 22 2
+60-mine.rules 6 15 1" "$(emacs_reads rules/60-mine.rules)"
+    same "what emacs reads of messages on the database" "60-mine.hwdb 1 2 2
+60-mine.hwdb 3 1 2
+60-mine.hwdb 6 2 2
+60-mine.hwdb 7 2 2
+60-mine.hwdb 8 1 2
+60-mine.hwdb 11 1 2" "$(emacs_reads hwdb/60-mine.hwdb)"
 else
     skipped "emacs" "there is no emacs"
 fi

@@ -4,5 +4,3 @@ set -uo pipefail
 # shellcheck source=lib.sh
 . "$(dirname "$0")/lib.sh"
 PYTHONDONTWRITEBYTECODE=1 python3 "$top/tests/rows.py" "$program"
-# (each row has its own line)
-exit 0

@@ -5,13 +5,18 @@ set -uo pipefail
 . "$(dirname "$0")/lib.sh"
 cd "$top" || exit 1
 if has python3; then
-    python3 tests/typed.py "$program" README.md docs/*.md
+    # (each session has its own line)
+    python3 tests/typed.py "$program" README.md docs/*.md || not_ok "all that the documents show is typed" "$?"
 else
     skipped "what the documents show" "there is no python3"
 fi
 
-# Each code with its text stands in the reference, in the examples and in the pages.
-codes() { grep -oE '[VSH][0-9]+ [a-z][^|]*' | sed 's/ *$//' | LC_ALL=C sort; }
-reference=$(sed -nE 's/^\| ([VSH][0-9]+) \| ([^|]*[^| ]) *\|.*/\1 \2/p' docs/behaviour.md | codes)
+# Each code with its text stands in the reference and in the examples, and in each page those of its command: V and S of
+# rules, H of the database, I of comments in both.
+codes() { grep -oE '[VSHI][0-9]+ [a-z][^|]*' | sed 's/ *$//' | LC_ALL=C sort; }
+reference=$(sed -nE 's/^\| ([VSHI][0-9]+) \| ([^|]*[^| ]) *\|.*/\1 \2/p' docs/behaviour.md | codes)
+same "the reference has each code once" "" "$(cut -d ' ' -f 1 <<< "$reference" | uniq -d)"
 same "docs/messages.md has each message" "$reference" "$(sed -n 's/^### //p' docs/messages.md | codes)"
-same "the pages have each message" "$reference" "$(sed -nE 's/^\.It ([VSH][0-9]+ .*)/\1/p' man/devdry-verify.1 man/devdry-update.1 | codes)"
+listed() { sed -nE 's/^\.It ([VSHI][0-9]+ .*)/\1/p' "man/$1.1" | codes; }
+same "devdry-verify(1) has each message on rules" "$(grep '^[VSI]' <<< "$reference")" "$(listed devdry-verify)"
+same "devdry-update(1) has each message on the database" "$(grep '^[HI]' <<< "$reference")" "$(listed devdry-update)"

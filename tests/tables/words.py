@@ -10,11 +10,14 @@ A dry run of udev's rules and hardware database
 Usage: devdry <COMMAND>
 
 Commands:
-  verify  Checks rules files
-  query   Prints the properties that the hardware database has for a device
-  update  Checks the files of the hardware database and writes its index
-  events  Answers the event blocks of the standard input
-  help    Print this message or the help of the given subcommand(s)
+  verify   Checks rules files
+  query    Prints the properties that the hardware database has for a device
+  update   Checks the files of the hardware database and writes its index
+  events   Answers the event blocks of the standard input
+  files    Lists the files of the folders, and says which of them are read
+  compare  Tells where two systems answer the event blocks of the standard input differently
+  explain  Explains a message by its code, with a faulty file and the mended one
+  help     Print this message or the help of the given subcommand(s)
 
 Options:
   -h, --help     Print help
@@ -24,7 +27,8 @@ Status:
   0  all went well, or help was asked for
   1  verify found a bad file, or there was a message and
      --strict was given, or an event block is faulty, or there
-     are too many rules or entries, or the index is refused
+     are too many rules or entries, or the index is refused,
+     or compare found a difference, or files or --all no file
   2  the words of the command are not understood
   3  a file, a folder, the input or an output failed
   4  out of memory
@@ -35,6 +39,8 @@ Examples:
   devdry events 60-mine.rules < disk.block
   devdry update 20-usb.hwdb > hwdb.index
   devdry query --index hwdb.index usb:v1D6Bp0002
+  devdry compare /mnt/old /mnt/new < disk.block
+  devdry explain V6
 """
 
 UPDATE_HELP = """\
@@ -46,10 +52,13 @@ Arguments:
   [FILE]...  Database files to read in place of the folders
 
 Options:
-  -r, --root <DIR>  Folder to put before each folder that is read
-  -s, --strict      Exit with status 1 if there is a message
-  -h, --help        Print help
-  -V, --version     Print version
+  -r, --root <DIR>       Folder to put before each folder that is read
+  -s, --strict           Exit with status 1 if there is a message
+      --all              Go on where a file can't be read, and fail where there is none
+      --format <FORMAT>  How messages are written: plain, gcc, github, gitlab, json or human
+      --ignore <CODES>   Leave out the messages of these codes, as V6,S2; comments: as the files say
+  -h, --help             Print help
+  -V, --version          Print version
 """
 
 QUERY_HELP = """\
@@ -78,11 +87,14 @@ Arguments:
   [FILE]...  Rules files to read in place of the folders
 
 Options:
-  -r, --root <DIR>  Folder to put before each folder that is read
-      --no-summary  Do not count the good and the bad files
-      --no-style    Give no messages about style
-  -h, --help        Print help
-  -V, --version     Print version
+  -r, --root <DIR>       Folder to put before each folder that is read
+      --all              Go on where a file can't be read, and fail where there is none
+      --format <FORMAT>  How messages are written: plain, gcc, github, gitlab, json or human
+      --ignore <CODES>   Leave out the messages of these codes, as V6,S2; comments: as the files say
+      --no-summary       Do not count the good and the bad files
+      --no-style         Give no messages about style
+  -h, --help             Print help
+  -V, --version          Print version
 """
 
 EVENTS_HELP = """\
@@ -102,6 +114,62 @@ Options:
   -V, --version            Print version
 """
 
+FILES_HELP = """\
+Lists the files of the folders, and says which of them are read
+
+Usage: devdry files [OPTIONS]
+
+Options:
+  -r, --root <DIR>  Folder to put before each folder that is read
+  -h, --help        Print help
+  -V, --version     Print version
+"""
+
+COMPARE_HELP = """\
+Tells where two systems answer the event blocks of the standard input differently
+
+Usage: devdry compare [OPTIONS] <OLD> <NEW>
+
+Arguments:
+  <OLD>  Root of the system before
+  <NEW>  Root of the system after
+
+Options:
+      --index <FILE>  Index to read in place of the database's folders
+  -h, --help          Print help
+  -V, --version       Print version
+"""
+
+EXPLAIN_HELP = """\
+Explains a message by its code, with a faulty file and the mended one
+
+Usage: devdry explain <CODE>
+
+Arguments:
+  <CODE>  Code of a message, as V6
+
+Options:
+  -h, --help     Print help
+  -V, --version  Print version
+"""
+
+# what is said of S2; tests/test_explain.sh has the others
+EXPLAINED = """\
+S2 blank after a comma expected
+
+Put a space after the comma.
+
+    $ cat s2.rules
+    KERNEL=="sda",TAG+="disk"
+    $ devdry verify s2.rules
+    s2.rules:1: S2 blank after a comma expected: TAG
+    1 files checked, 0 good, 1 bad
+    $ cat s2-mended.rules
+    KERNEL=="sda", TAG+="disk"
+    $ devdry verify s2-mended.rules
+    1 files checked, 1 good, 0 bad
+"""
+
 TWO_DATABASES = """\
 error: the argument '--index <FILE>' cannot be used with '[FILE]...'
 
@@ -117,6 +185,39 @@ error: the following required arguments were not provided:
 Usage: devdry query [OPTIONS] <MODALIAS> [FILE]...
 """
 
+NO_NEW = """\
+error: the following required arguments were not provided:
+  <NEW>
+
+Usage: devdry compare <OLD> <NEW>
+"""
+
+EMPTY_ROOT = """\
+error: an empty value of '--root <DIR>' names no folder
+
+For more information, try '--help'.
+"""
+
+EMPTY_SIDE = """\
+error: an empty value of '<OLD>' or '<NEW>' names no folder; '/' is that of the running system
+
+For more information, try '--help'.
+"""
+
+NO_SUCH_FORMAT = """\
+error: invalid value 'xml' for '--format <FORMAT>'
+  [possible values: plain, gcc, github, gitlab, json, human]
+
+For more information, try '--help'.
+"""
+
+NO_SUCH_CODE = """\
+error: invalid value 'V13' for '<CODE>'
+  [possible values: V1, V2, V3, V4, V5, V6, V7, V8, V9, V10, V11, V12, S1, S2, S3, S4, H1, H2, H3, H4, H5, H6, I1, I2]
+
+For more information, try '--help'.
+"""
+
 # (words, what is answered)
 ASKED = [
     ("--help", HELP),
@@ -129,6 +230,11 @@ ASKED = [
     ("verify -h", VERIFY_HELP),
     ("verify --help", VERIFY_HELP),
     ("events --help", EVENTS_HELP),
+    ("files --help", FILES_HELP),
+    ("compare -h", COMPARE_HELP),
+    ("help explain", EXPLAIN_HELP),
+    ("explain S2", EXPLAINED),
+    ("explain s2", EXPLAINED),
     ("--version", "devdry 0.1.0\n"),
     ("-V", "devdry 0.1.0\n"),
     ("query --version", "devdry-query 0.1.0\n"),
@@ -155,6 +261,28 @@ NOT_UNDERSTOOD = [
     ("query m --index", "error: a value is required for '--index <FILE>' but none was supplied\n"),
     ("query --index a.index m a.hwdb", TWO_DATABASES),
     ("query m a.hwdb b.hwdb --index=a.index", TWO_DATABASES),
+    ("compare a", NO_NEW),
+    ("compare a b c", "error: unexpected argument 'c' found\n"),
+    ("compare -r a b c", "error: unexpected argument '-r' found\n"),
+    ("files a.rules", "error: unexpected argument 'a.rules' found\n"),
+    ("explain", "error: the following required arguments were not provided:\n  <CODE>\n"),
+    ("explain V1 V2", "error: unexpected argument 'V2' found\n"),
+    ("explain V13", NO_SUCH_CODE),
+    ("query m --all", "error: unexpected argument '--all' found\n"),
+    ("events --format gcc", "error: unexpected argument '--format' found\n"),
+    ("events --ignore V6", "error: unexpected argument '--ignore' found\n"),
+    ("verify --format", "error: a value is required for '--format <FORMAT>' but none was supplied\n"),
+    ("verify --format gcc --format json", "error: the argument '--format <FORMAT>' cannot be used multiple times\n"),
+    ("update --ignore", "error: a value is required for '--ignore <CODES>' but none was supplied\n"),
+    ("update --format=xml a.hwdb", NO_SUCH_FORMAT),
+    ("verify --all --root=", EMPTY_ROOT),
+    (["update", "-r", "", "--all"], EMPTY_ROOT),
+    (["files", "-r", ""], EMPTY_ROOT),
+    ("files --root=", EMPTY_ROOT),
+    (["compare", "", "new"], EMPTY_SIDE),
+    (["compare", "old", ""], EMPTY_SIDE),
+    (["compare", "", ""], EMPTY_SIDE),
+    (["compare", "--index", "none", "old", ""], EMPTY_SIDE),
     (["verify", b"\xff"], "error: an argument is not UTF-8\n"),
 ]
 
@@ -222,7 +350,9 @@ UNDERSTOOD = [
 
 def named(words):
     """The words as the name of a row."""
-    return "no words" if not words else words if isinstance(words, str) else "a word that is not UTF-8"
+    if isinstance(words, str):
+        return words or "no words"
+    return " ".join("a word that is not UTF-8" if isinstance(word, bytes) else word or "''" for word in words)
 
 
 ROWS = [

@@ -2,7 +2,7 @@
 //!
 //! What owns the devices and what they took stands here alone: a test that owns none of them, and only
 //! says what is to come of a run, is quick to check.
-use engine_core::{Line, MemorySink, MemorySource, Verb, serve};
+use engine_core::{Format, Line, MemorySink, MemorySource, Verb, serve};
 use std::alloc::{AllocError, Global};
 use std::process::Abort;
 use std::test::Fail;
@@ -86,6 +86,9 @@ pub(crate) fn line<'a>(alloc: Global, verb: Verb, modalias: &'a str) -> Line<'a>
         modalias,
         summary: true,
         style: true,
+        format: Format::Plain,
+        all: false,
+        ignored: Vec::new(alloc),
     }
 }
 

@@ -1,2 +1,6 @@
+pub mod GoingOn
+pub mod Reading
+pub mod Comparing
+pub mod Terminals
 pub mod Runs
 pub mod Telling

@@ -8,16 +8,21 @@
 
 ghost use Rattle.std.specs.Prelude.{◌≡◌, drop};
 
+mod comparing;
+mod going_on;
 mod running;
 mod telling;
+mod terminals;
 
 use crate::running::run_words;
 use crate::telling::tell_arguments_fault;
+use crate::terminals::Terminals;
 use devdry_files::RealDisk;
 use engine_ends::{SinkOver, SourceOver};
+use std::env::{self, VarError};
+use std::io::{self, IsTerminal};
 use std::process::ExitCode;
 use std::rt::Env;
-use std::{env, io};
 
 // The words of a command line behind the first, which is the program's name.
 fn words_of(mut all: Vec<String>) -> Vec<String>
@@ -34,7 +39,20 @@ fn arguments<R: Env + AllocGlobal>(rt: &R) -> io::Result<Vec<String>> {
     Ok(words_of(env::args(rt)?.collect(rt.alloc())?))
 }
 
+// Whether the environment refuses colors, by a text in `NO_COLOR`.
+fn refuses_colors<R: Env + AllocGlobal>(rt: &R) -> bool {
+    match env::var(rt, "NO_COLOR") {
+        Ok(text) => !text.is_empty(),
+        Err(VarError::NotPresent) => false,
+        Err(_) => true,
+    }
+}
+
 fn main(rt: HostRuntime) -> ExitCode {
+    let terminals = Terminals {
+        input: rt.stdin().is_terminal(),
+        colors: rt.stderr().is_terminal() && !refuses_colors(&rt),
+    };
     let mut input = SourceOver::new(rt.stdin());
     let mut output = SinkOver::new(rt.stdout());
     let mut error = SinkOver::new(rt.stderr());
@@ -44,6 +62,7 @@ fn main(rt: HostRuntime) -> ExitCode {
             rt.alloc(),
             &disk,
             &words,
+            terminals,
             &mut input,
             &mut output,
             &mut error,

@@ -1,48 +1,115 @@
 //! The way from words to a status.
-ghost use Rattle.std.specs.Prelude.{IfErr, IfOk, map, string_bytes};
-ghost use Rattle.devdry.specs.Runs.{AreReadFor, IsFaultOf, Runs, RunsLine};
+ghost use Rattle.std.specs.Prelude.{◌≡◌, IfErr, IfOk, map, string_bytes};
+ghost use Rattle.devdry.specs.Reading.{AreReadFor, IsFaultOf};
+ghost use Rattle.devdry.specs.Runs.{DoesRequest, Runs, RunsLine, RunsRequest, RunsWanted, takes_blocks};
 
+use crate::comparing::run_compare;
+use crate::going_on::{run_files, run_some};
 use crate::telling::{tell_line_fault, tell_read_fault};
+use crate::terminals::{Terminals, shown_request};
 use devdry_files::{Disk, ReadFault, read_all, read_index, wanted};
 use devdry_words::parse_line;
 use engine_core::serve;
-use engine_ends::{Line, Sink, Source};
+use engine_ends::{DeviceFault, Line, Request, Sink, Source, Verb, hand_on};
 use std::alloc::Global;
 use text_bytes::{Bytes, SourceFile};
 
+/// What is told before event blocks are read from a terminal.
+const WAITING: &[u8] =
+    b"devdry: waiting for event blocks, each ended by an empty line; devdry-capture DEVICE prints them\n";
+
 /// What a line asks for, as it was read.
 #[derive(Drop)]
-struct Inputs {
+pub(crate) struct Inputs {
     /// The files.
-    files: Vec<SourceFile>,
+    pub(crate) files: Vec<SourceFile>,
     /// The bytes of the index, if the line names one.
-    index: Option<Bytes>,
+    pub(crate) index: Option<Bytes>,
 }
 
 /// Runs the words that stand behind the program's name, and gives the status to exit with.
 ///
-/// Words that are a line are run over the files that the line asks for. Else help goes to `output`
+/// Words that ask for something are run over the files that this takes. Else help goes to `output`
 /// with status 0, or what is wrong with the words to `error` with status 2.
 pub(crate) fn run_words<D: Disk, I: Source, W: Sink, E: Sink>(
     alloc: Global,
     disk: &D,
     words: &[String],
+    terminals: Terminals,
     input: &mut I,
     output: &mut W,
     error: &mut E,
 ) -> u8
-    ensures { Runs (D.may_answer disk.now) (map string_bytes words.now) result
+    ensures { Runs terminals (D.may_answer disk.now) (map string_bytes words.now) result
         (record { input = I.shown input.old; out = W.shown output.old; err = E.shown error.old })
         (record { input = I.shown input.new; out = W.shown output.new; err = E.shown error.new }) }
 {
     match parse_line(alloc, words) {
-        Ok(line) => run_line(alloc, disk, &line, input, output, error),
+        Ok(request) => {
+            let request = shown_request(request, terminals.colors);
+            run_request(alloc, disk, &request, terminals.input, input, output, error)
+        }
         Err(fault) => tell_line_fault(&fault, output, error),
     }
 }
 
-/// Runs a line over the files and the index that it asks for. What can't be read of them is told of
-/// on `error`, and the status is 3.
+/// Runs what words ask for. Where that takes event blocks and the input is a terminal, it first says
+/// that it waits for them.
+fn run_request<D: Disk, I: Source, W: Sink, E: Sink>(
+    alloc: Global,
+    disk: &D,
+    request: &Request<'_>,
+    from_terminal: bool,
+    input: &mut I,
+    output: &mut W,
+    error: &mut E,
+) -> u8
+    ensures { RunsRequest from_terminal (D.may_answer disk.now) request.now result
+        (record { input = I.shown input.old; out = W.shown output.old; err = E.shown error.old })
+        (record { input = I.shown input.new; out = W.shown output.new; err = E.shown error.new }) }
+{
+    if from_terminal & takes_blocks(request) {
+        match hand_on(error, WAITING) {
+            Ok(()) => do_request(alloc, disk, request, input, output, error),
+            Err(DeviceFault) => 3,
+        }
+    } else {
+        do_request(alloc, disk, request, input, output, error)
+    }
+}
+
+/// Whether a request answers event blocks.
+fn takes_blocks(request: &Request<'_>) -> bool
+    ensures { result ≡ takes_blocks request.now }
+{
+    match request {
+        Request::Run(line) => line.verb == Verb::Events,
+        Request::Files(_) => false,
+        Request::Compare(_, _) => true,
+    }
+}
+
+/// Runs a request.
+fn do_request<D: Disk, I: Source, W: Sink, E: Sink>(
+    alloc: Global,
+    disk: &D,
+    request: &Request<'_>,
+    input: &mut I,
+    output: &mut W,
+    error: &mut E,
+) -> u8
+    ensures { DoesRequest (D.may_answer disk.now) request.now result
+        (record { input = I.shown input.old; out = W.shown output.old; err = E.shown error.old })
+        (record { input = I.shown input.new; out = W.shown output.new; err = E.shown error.new }) }
+{
+    match request {
+        Request::Run(line) => run_line(alloc, disk, line, input, output, error),
+        Request::Files(line) => run_files(alloc, disk, line, output, error),
+        Request::Compare(old, new) => run_compare(alloc, disk, old, new, input, output, error),
+    }
+}
+
+/// Runs a line over what it asks for, or with `--all` over what can be read of that.
 fn run_line<D: Disk, I: Source, W: Sink, E: Sink>(
     alloc: Global,
     disk: &D,
@@ -52,6 +119,27 @@ fn run_line<D: Disk, I: Source, W: Sink, E: Sink>(
     error: &mut E,
 ) -> u8
     ensures { RunsLine (D.may_answer disk.now) line.now result
+        (record { input = I.shown input.old; out = W.shown output.old; err = E.shown error.old })
+        (record { input = I.shown input.new; out = W.shown output.new; err = E.shown error.new }) }
+{
+    if line.all {
+        run_some(alloc, disk, line, input, output, error)
+    } else {
+        run_wanted(alloc, disk, line, input, output, error)
+    }
+}
+
+/// Runs a line over the files and the index that it asks for. What can't be read of them is told of
+/// on `error`, and the status is 3.
+fn run_wanted<D: Disk, I: Source, W: Sink, E: Sink>(
+    alloc: Global,
+    disk: &D,
+    line: &Line<'_>,
+    input: &mut I,
+    output: &mut W,
+    error: &mut E,
+) -> u8
+    ensures { RunsWanted (D.may_answer disk.now) line.now result
         (record { input = I.shown input.old; out = W.shown output.old; err = E.shown error.old })
         (record { input = I.shown input.new; out = W.shown output.new; err = E.shown error.new }) }
 {
@@ -65,7 +153,11 @@ fn run_line<D: Disk, I: Source, W: Sink, E: Sink>(
 }
 
 /// Reads the files that a line asks for, and last its index.
-fn read_wanted<D: Disk>(alloc: Global, disk: &D, line: &Line<'_>) -> Result<Inputs, ReadFault>
+pub(crate) fn read_wanted<D: Disk>(
+    alloc: Global,
+    disk: &D,
+    line: &Line<'_>,
+) -> Result<Inputs, ReadFault>
     ensures inputs { IfOk result (λ inputs.
         AreReadFor (D.may_answer disk.now) line.now inputs.files.items inputs.index) }
     ensures fault { IfErr result (λ fault. IsFaultOf (D.may_answer disk.now) line.now fault) }

@@ -1,12 +1,15 @@
 -- What a disk may answer.
-use Rattle.std.specs.Prelude.{ℕ, List}
+use Rattle.std.specs.Prelude.{ℕ, List, Option}
 use Rattle.devdry_files.specs.declared.disk.Entry.{Entry}
 use Rattle.devdry_files.specs.declared.disk.DiskFault.{DiskFault}
+use Rattle.devdry_files.specs.declared.look.Look.{Look}
 
 -- An answer about a path: the entries of the folder there, or why they can't be told; the bytes of the file there, or why
--- they can't be told.
+-- they can't be told; what stands there, symlinks followed; and where the symlink there leads, if one is there.
 pub data Answer : Type 0 where
   Listing : List ℕ → List Entry → Answer
   NoListing : List ℕ → DiskFault → Answer
   Content : List ℕ → List ℕ → Answer
   NoContent : List ℕ → DiskFault → Answer
+  Looked : List ℕ → Look → Answer
+  Target : List ℕ → Option (List ℕ) → Answer

@@ -1,11 +1,37 @@
 -- What an error of the system means for a disk.
+use Rattle.std.specs.Prelude.{ℕ, List, None, Option, Some, Result, Ok, Err, alloc_error, codes}
+use Rattle.std.specs.declared.alloc.AllocError.{AllocError}
 use Rattle.std.specs.declared.io.ErrorKind.{ErrorKind}
 use Rattle.std.specs.declared.io.ErrorKind.TheVariants as kind
 use Rattle.devdry_files.specs.declared.disk.DiskFault.{DiskFault}
-use Rattle.devdry_files.specs.declared.disk.DiskFault.TheVariants.{Absent, Unreadable, OutOfMemory}
+use Rattle.devdry_files.specs.declared.disk.DiskFault.TheVariants.{Absent, Unreadable, NotUtf8, OutOfMemory}
+use Rattle.devdry_files.specs.declared.look.Look.{Look}
+use Rattle.devdry_files.specs.declared.look.Look.TheVariants as look
 
 -- nothing is there, memory was refused, or what is there can't be read
 abbrev pub fault_from : ErrorKind → DiskFault
 fault_from kind.NotFound = Absent
 fault_from kind.OutOfMemory = OutOfMemory
 fault_from _ = Unreadable
+
+-- what an entry means that could not be taken from a folder's listing: a name that is not UTF-8, or what an error of the folder means
+abbrev pub entry_fault_from : ErrorKind → DiskFault
+entry_fault_from kind.InvalidFilename = NotUtf8
+entry_fault_from kind.NotFound = Absent
+entry_fault_from kind.OutOfMemory = OutOfMemory
+entry_fault_from _ = Unreadable
+
+-- What a look shows that failed, and nothing where memory was refused. Nothing that can be read is below a file, and links that lead
+-- to one another lead nowhere: neither is an absence.
+abbrev pub look_from : ErrorKind → Option Look
+look_from kind.NotFound = Some look.Absent
+look_from kind.NotADirectory = Some look.Other
+look_from kind.PermissionDenied = Some look.Forbidden
+look_from kind.OutOfMemory = None
+look_from _ = Some look.Failed
+
+-- what is told of a symlink that can't be read: a question mark for a target that is not UTF-8, no target, or that memory was refused
+abbrev pub target_unread : ErrorKind → Result (Option (List ℕ)) AllocError
+target_unread kind.OutOfMemory = Err alloc_error
+target_unread kind.InvalidFilename = Ok (Some (codes "?"))
+target_unread _ = Ok None

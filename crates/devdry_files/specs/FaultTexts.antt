@@ -1,7 +1,7 @@
 -- What is said of a disk that did not answer, and of files that could not be read.
 use Rattle.std.specs.Prelude.{ℕ, List, ◌++◌, codes, string_bytes}
 use Rattle.devdry_files.specs.declared.disk.DiskFault.{DiskFault}
-use Rattle.devdry_files.specs.declared.disk.DiskFault.TheVariants.{Absent, Unreadable, OutOfMemory}
+use Rattle.devdry_files.specs.declared.disk.DiskFault.TheVariants.{Absent, Unreadable, NotUtf8, OutOfMemory}
 use Rattle.devdry_files.specs.declared.fault.ReadFault.{ReadFault}
 use Rattle.devdry_files.specs.declared.fault.ReadFault.TheVariants.{Path, Memory}
 
@@ -9,6 +9,7 @@ use Rattle.devdry_files.specs.declared.fault.ReadFault.TheVariants.{Path, Memory
 abbrev pub disk_text : DiskFault → List ℕ
 disk_text Absent = codes "not found"
 disk_text Unreadable = codes "cannot be read"
+disk_text NotUtf8 = codes "a name is not UTF-8"
 disk_text OutOfMemory = codes "out of memory"
 
 -- why files could not be read, in words

@@ -8,7 +8,7 @@ use Rattle.devdry_files.specs.Answers.{Answer}
 use Rattle.devdry_files.specs.Answers.Answer.{NoContent, NoListing}
 use Rattle.devdry_files.specs.Found.{AreFilesAt, AreInFolders, AreNamed, AreNamesIn, path_in}
 use Rattle.devdry_files.specs.declared.disk.DiskFault.{DiskFault}
-use Rattle.devdry_files.specs.declared.disk.DiskFault.TheVariants.{Absent, Unreadable, OutOfMemory}
+use Rattle.devdry_files.specs.declared.disk.DiskFault.TheVariants.{Absent, Unreadable, NotUtf8, OutOfMemory}
 use Rattle.devdry_files.specs.declared.fault.ReadFault.{ReadFault}
 use Rattle.devdry_files.specs.declared.fault.ReadFault.TheVariants.{Path, Memory}
 use Rattle.devdry_files.specs.declared.places.Folder.{Folder}
@@ -18,6 +18,7 @@ use Rattle.devdry_files.specs.declared.places.Wanted.{Wanted}
 abbrev pub fault_of : String Global → DiskFault → ReadFault
 fault_of path Absent = Path path
 fault_of path Unreadable = Path path
+fault_of path NotUtf8 = Path path
 fault_of path OutOfMemory = Memory
 
 -- the fault has a path of which this holds, or memory ran out
@@ -25,13 +26,13 @@ abbrev pub HasPath : (List ℕ → Type 0) → ReadFault → Type 0
 HasPath P (Path path) = P (string_bytes path)
 HasPath P Memory = ⊤
 
--- the disk may say that it can't list the folder at the path
+-- the disk may say that it can't list the folder at the path, or that a name in it is not UTF-8
 abbrev pub IsUnlisted : (Answer → Type 0) → List ℕ → Type 0
-IsUnlisted may path = may (NoListing path Unreadable)
+IsUnlisted may path = may (NoListing path Unreadable) ⊎ may (NoListing path NotUtf8)
 
--- the disk may say that nothing is at the path, or that it can't read what is there
+-- the disk may say that nothing is at the path, or that it can't read what is there, for one reason or the other
 abbrev pub IsUnread : (Answer → Type 0) → List ℕ → Type 0
-IsUnread may path = may (NoContent path Absent) ⊎ may (NoContent path Unreadable)
+IsUnread may path = may (NoContent path Absent) ⊎ (may (NoContent path Unreadable) ⊎ may (NoContent path NotUtf8))
 
 -- the path is that of a named file, which the disk may say that it can't read; those named before it were read
 pub record IsFaultyNamed (may : Answer → Type 0) (kind : FileKind) (paths : List (List ℕ)) (path : List ℕ) : Type 0 where

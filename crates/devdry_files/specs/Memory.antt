@@ -3,10 +3,12 @@ use Rattle.std.specs.Prelude.{◌≡◌, ℕ, Bool, List, Option, Some, None, fi
 use Rattle.std.specs.Option.{option_map}
 use Rattle.std.specs.Str.{bytes_eq}
 use Rattle.devdry_files.specs.Answers.{Answer}
-use Rattle.devdry_files.specs.Answers.Answer.{Content, Listing, NoContent, NoListing}
+use Rattle.devdry_files.specs.Answers.Answer.{Content, Listing, Looked, NoContent, NoListing, Target}
 use Rattle.devdry_files.specs.declared.disk.DiskFault.{DiskFault}
 use Rattle.devdry_files.specs.declared.disk.DiskFault.TheVariants.{Absent, Unreadable, OutOfMemory}
 use Rattle.devdry_files.specs.declared.disk.Entry.{Entry}
+use Rattle.devdry_files.specs.declared.look.Look.{Look}
+use Rattle.devdry_files.specs.declared.look.Look.TheVariants as look
 use Rattle.devdry_files.specs.declared.memory_disk.MemoryDisk.{MemoryDisk}
 use Rattle.devdry_files.specs.declared.memory_disk.MemoryEntry.{MemoryEntry}
 use Rattle.devdry_files.specs.declared.memory_disk.Stands.{Stands}
@@ -57,9 +59,18 @@ ReadsNot (Some (stands.File bytes)) fault = fault ≡ OutOfMemory
 ReadsNot (Some stands.Unreadable) fault = fault ≡ Unreadable
 ReadsNot None fault = fault ≡ Absent
 
+-- what a look at what stands there shows
+abbrev pub look_of : Option Stands → Look
+look_of (Some (stands.Folder own)) = look.Folder
+look_of (Some (stands.File bytes)) = look.File
+look_of (Some stands.Unreadable) = look.Failed
+look_of None = look.Absent
+
 -- the answers that a disk over memory gives: to each question one, or want of memory in place of a text
 abbrev pub MayAnswer : MemoryDisk → Answer → Type 0
 MayAnswer disk (Listing path entries) = ListsAs (stands_at disk path) entries
 MayAnswer disk (NoListing path fault) = ListsNot (stands_at disk path) fault
 MayAnswer disk (Content path bytes) = ReadsAs (stands_at disk path) bytes
 MayAnswer disk (NoContent path fault) = ReadsNot (stands_at disk path) fault
+MayAnswer disk (Looked path shown) = shown ≡ look_of (stands_at disk path)
+MayAnswer disk (Target path target) = target ≡ None

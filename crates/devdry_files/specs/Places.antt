@@ -1,7 +1,8 @@
 -- The files, the folders and the index that a line asks for.
-use Rattle.std.specs.Prelude.{◌≡◌, ◌++◌, ℕ, List, [], ◌∷◌, codes, if◌then◌else◌, map, string_bytes}
+use Rattle.std.specs.Prelude.{◌≡◌, ◌++◌, ℕ, List, [], ◌∷◌, if◌then◌else◌, map, string_bytes}
 use Rattle.std.specs.List.{flat_map}
 use Rattle.std.specs.Option.{option_copied}
+use Rattle.engine_ends.specs.Folders.{folder_path}
 use Rattle.engine_ends.specs.Kinds.{kind_named, kinds_read, reads_folders_of}
 use Rattle.engine_ends.specs.declared.line.Line.{Line}
 use Rattle.text_bytes.specs.declared.source_file.FileKind.{FileKind}
@@ -15,9 +16,9 @@ pub record Place : Type 0 where
   pub rank : ℕ
   pub path : List ℕ
 
--- the place of this kind and rank whose path is the second text behind the first
-abbrev pub place : FileKind → ℕ → List ℕ → List ℕ → Place
-place kind rank root path = record { kind = kind; rank = rank; path = root ++ path }
+-- the place of this kind and rank: the folder's path behind the text that stands before it
+abbrev pub place : FileKind → ℕ → List ℕ → Place
+place kind rank root = record { kind = kind; rank = rank; path = root ++ folder_path kind rank }
 
 -- what a contract sees of a folder
 abbrev pub place_of : Folder → Place
@@ -29,12 +30,8 @@ places_of folders = map place_of folders
 
 -- the folders of a kind by rank, each behind the text that stands before it
 abbrev pub folders_of : FileKind → List ℕ → List Place
-folders_of Hwdb root = place Hwdb 0 root (codes "/etc/udev/hwdb.d")
-    ∷ place Hwdb 1 root (codes "/usr/lib/udev/hwdb.d") ∷ []
-folders_of Rules root = place Rules 0 root (codes "/etc/udev/rules.d")
-    ∷ place Rules 1 root (codes "/run/udev/rules.d")
-    ∷ place Rules 2 root (codes "/usr/local/lib/udev/rules.d")
-    ∷ place Rules 3 root (codes "/usr/lib/udev/rules.d") ∷ []
+folders_of Hwdb root = place Hwdb 0 root ∷ place Hwdb 1 root ∷ []
+folders_of Rules root = place Rules 0 root ∷ place Rules 1 root ∷ place Rules 2 root ∷ place Rules 3 root ∷ []
 
 -- the folders of a kind that a line asks for: none where it names what stands in their place
 abbrev pub folders_of_kind : Line → FileKind → List Place

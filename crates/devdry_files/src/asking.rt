@@ -3,21 +3,15 @@ ghost use Rattle.std.specs.Prelude.{◌≡◌, IfOk};
 ghost use Rattle.devdry_files.specs.Places.{Wants, folders_for, folders_of, place, place_of, places_of};
 
 use crate::places::{Folder, Wanted};
-use engine_ends::Line;
+use engine_ends::{Line, folder_path};
 use std::alloc::{AllocError, Global};
 use text_bytes::FileKind;
 
-fn folder(
-    alloc: Global,
-    kind: FileKind,
-    rank: u8,
-    root: &str,
-    path: &str,
-) -> Result<Folder, AllocError>
-    ensures { IfOk result (λ f. place_of f ≡ place kind rank root.now path.now) }
+fn folder(alloc: Global, kind: FileKind, rank: u8, root: &str) -> Result<Folder, AllocError>
+    ensures { IfOk result (λ f. place_of f ≡ place kind rank root.now) }
 {
     let mut whole = String::from_str(alloc, root)?;
-    whole.push_str(path)?;
+    whole.push_str(folder_path(kind, rank))?;
     Ok(Folder {
         kind,
         rank,
@@ -30,8 +24,8 @@ fn hwdb_folders(alloc: Global, root: &str) -> Result<Vec<Folder>, AllocError>
 {
     let kind = FileKind::Hwdb;
     let mut folders = Vec::new(alloc);
-    folders.push(folder(alloc, kind, 0, root, "/etc/udev/hwdb.d")?)?;
-    folders.push(folder(alloc, kind, 1, root, "/usr/lib/udev/hwdb.d")?)?;
+    folders.push(folder(alloc, kind, 0, root)?)?;
+    folders.push(folder(alloc, kind, 1, root)?)?;
     Ok(folders)
 }
 
@@ -40,10 +34,10 @@ fn rules_folders(alloc: Global, root: &str) -> Result<Vec<Folder>, AllocError>
 {
     let kind = FileKind::Rules;
     let mut folders = Vec::new(alloc);
-    folders.push(folder(alloc, kind, 0, root, "/etc/udev/rules.d")?)?;
-    folders.push(folder(alloc, kind, 1, root, "/run/udev/rules.d")?)?;
-    folders.push(folder(alloc, kind, 2, root, "/usr/local/lib/udev/rules.d")?)?;
-    folders.push(folder(alloc, kind, 3, root, "/usr/lib/udev/rules.d")?)?;
+    folders.push(folder(alloc, kind, 0, root)?)?;
+    folders.push(folder(alloc, kind, 1, root)?)?;
+    folders.push(folder(alloc, kind, 2, root)?)?;
+    folders.push(folder(alloc, kind, 3, root)?)?;
     Ok(folders)
 }
 

@@ -7,10 +7,11 @@
 ghost use Rattle.std.specs.IoError.{error_kind};
 ghost use Rattle.std.specs.Prelude.{◌≡◌, IfErr, IfOk};
 ghost use Rattle.devdry_files.specs.Answers.{Answer};
-ghost use Rattle.devdry_files.specs.Answers.Answer.{Content, Listing, NoContent, NoListing};
+ghost use Rattle.devdry_files.specs.Answers.Answer.{Content, Listing, Looked, NoContent, NoListing, Target};
 ghost use Rattle.devdry_files.specs.Errors.{fault_from};
 ghost use Rattle.devdry_files.specs.declared.disk.DiskFault.TheVariants.{OutOfMemory};
 
+use crate::look::Look;
 use std::alloc::{AllocError, AllocFailed, Global};
 use std::io;
 use text_bytes::Bytes;
@@ -31,7 +32,9 @@ pub enum DiskFault {
     Absent,
     /// 2: what is at the path can't be read.
     Unreadable,
-    /// 3: memory was refused.
+    /// 3: the folder at the path has a name that is not UTF-8.
+    NotUtf8,
+    /// 4: memory was refused.
     OutOfMemory,
 }
 
@@ -70,8 +73,8 @@ pub trait Disk {
 
     /// All entries of the folder at a path but `.` and `..`, in any order.
     ///
-    /// `DiskFault::Unreadable` comes where no folder is at the path, where the listing fails, and
-    /// where a name in it is not UTF-8.
+    /// `DiskFault::Unreadable` comes where no folder is at the path and where the listing fails,
+    /// `DiskFault::NotUtf8` where a name in it is not UTF-8.
     fn list(&self, alloc: Global, path: &str) -> Result<Vec<Entry>, DiskFault>
         ensures listed { IfOk result (λ entries.
             may_answer self.now (Listing path.now entries.items)) }
@@ -83,4 +86,18 @@ pub trait Disk {
     fn read(&self, alloc: Global, path: &str) -> Result<Bytes, DiskFault>
         ensures read { IfOk result (λ bytes. may_answer self.now (Content path.now bytes)) }
         ensures fault { IfErr result (λ fault. may_answer self.now (NoContent path.now fault)) };
+
+    /// What stands at a path. A symlink is followed, and nothing is read: a FIFO is not opened, so that a
+    /// look never waits.
+    ///
+    /// The error comes where memory is refused.
+    fn look(&self, path: &str) -> Result<Look, AllocError>
+        ensures { IfOk result (λ look. may_answer self.now (Looked path.now look)) };
+
+    /// Where the symlink at a path leads, as it is written, or `?` where that is not UTF-8; `None` where
+    /// no symlink is at the path, or where it can't be read.
+    ///
+    /// The error comes where memory is refused.
+    fn target(&self, alloc: Global, path: &str) -> Result<Option<Bytes>, AllocError>
+        ensures { IfOk result (λ target. may_answer self.now (Target path.now target)) };
 }

@@ -43,6 +43,7 @@ impl fmt::Display for DiskFault {
         f.write_str(match self {
             DiskFault::Absent => "not found",
             DiskFault::Unreadable => "cannot be read",
+            DiskFault::NotUtf8 => "a name is not UTF-8",
             DiskFault::OutOfMemory => "out of memory",
         })
     }
@@ -71,7 +72,7 @@ pub(crate) fn fault_at(path: String, fault: DiskFault) -> ReadFault
     ensures { result ≡ fault_of path fault }
 {
     match fault {
-        DiskFault::Absent | DiskFault::Unreadable => ReadFault::Path(path),
+        DiskFault::Absent | DiskFault::Unreadable | DiskFault::NotUtf8 => ReadFault::Path(path),
         DiskFault::OutOfMemory => ReadFault::Memory,
     }
 }

@@ -9,14 +9,18 @@ mod asking;
 mod disk;
 mod fault;
 mod listing;
+mod look;
 mod memory_disk;
 mod places;
 mod reading;
 mod real_disk;
+mod real_looks;
 
 pub use asking::wanted;
 pub use disk::{Disk, DiskFault, Entry};
 pub use fault::ReadFault;
+pub use listing::counts;
+pub use look::Look;
 pub use memory_disk::{MemoryDisk, MemoryEntry, MemoryPlace, Stands};
 pub use places::{Folder, Wanted};
 pub use reading::{read_all, read_index};

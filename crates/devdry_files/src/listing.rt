@@ -10,8 +10,9 @@ use crate::places::Folder;
 use std::alloc::{AllocError, Global};
 use text_bytes::FileKind;
 
-// Whether an entry is a file of the kind.
-fn counts(kind: FileKind, entry: &Entry) -> bool
+/// Whether an entry of a folder is a file of a kind: its name ends in the kind's suffix, and it is no
+/// folder.
+pub fn counts(kind: FileKind, entry: &Entry) -> bool
     ensures { result ≡ counts kind entry.now }
 {
     let is_named_so = entry.name.as_bytes().ends_with(kind.suffix().as_bytes());

@@ -2,9 +2,10 @@
 //!
 //! It shows that the contract of `Disk` can be met, and serves tests that need odd folders.
 ghost use Rattle.std.specs.Prelude.{◌≡◌, IfOk, map};
-ghost use Rattle.devdry_files.specs.Memory.{MayAnswer, seen, seen_in_memory, stands_at};
+ghost use Rattle.devdry_files.specs.Memory.{MayAnswer, look_of, seen, seen_in_memory, stands_at};
 
 use crate::disk::{Disk, DiskFault, Entry};
+use crate::look::Look;
 use std::alloc::{AllocError, Global};
 use text_bytes::Bytes;
 
@@ -37,7 +38,8 @@ pub struct MemoryPlace<'a> {
     pub stands: Stands<'a>,
 }
 
-/// A disk over memory. Of places with one path the first counts; at any other path is nothing.
+/// A disk over memory. Of places with one path the first counts; at any other path is nothing. It has
+/// no symlinks.
 #[derive(Clone, Copy, Debug)]
 pub struct MemoryDisk<'a> {
     /// All places.
@@ -50,6 +52,18 @@ fn stands_at<'a>(disk: &MemoryDisk<'a>, path: &str) -> Option<Stands<'a>>
 {
     let place = disk.places.iter().find(|place| place.path == path)?;
     Some(place.stands)
+}
+
+// What a look at what stands at a path shows.
+fn look_of(stands: Option<Stands<'_>>) -> Look
+    ensures { result ≡ look_of stands.entry }
+{
+    match stands {
+        Some(Stands::Folder(_)) => Look::Folder,
+        Some(Stands::File(_)) => Look::File,
+        Some(Stands::Unreadable) => Look::Failed,
+        None => Look::Absent,
+    }
 }
 
 fn copy_of(alloc: Global, entry: &MemoryEntry<'_>) -> Result<Entry, AllocError>
@@ -89,5 +103,13 @@ impl Disk for MemoryDisk<'_> {
             Some(_) => Err(DiskFault::Unreadable),
             None => Err(DiskFault::Absent),
         }
+    }
+
+    fn look(&self, path: &str) -> Result<Look, AllocError> {
+        Ok(look_of(stands_at(self, path)))
+    }
+
+    fn target(&self, _alloc: Global, _path: &str) -> Result<Option<Bytes>, AllocError> {
+        Ok(None)
     }
 }

@@ -9,12 +9,14 @@ ghost use Rattle.std.specs.IoError.{error_kind};
 ghost use Rattle.std.specs.Iterator.{Drains, IsFinite};
 ghost use Rattle.std.specs.declared.alloc.Global.{Global};
 ghost use Rattle.std.specs.declared.fs.DirEntry.{DirEntry};
-ghost use Rattle.std.specs.Prelude.{◌≡◌, ⊤, Err, IfOk, IfSome, List, MatchResult, Ok, false, map, string_bytes};
-ghost use Rattle.devdry_files.specs.Errors.{fault_from};
+ghost use Rattle.std.specs.Prelude.{◌≡◌, ⊤, Err, IfErr, IfOk, IfSome, List, MatchResult, Ok, false, map, string_bytes};
+ghost use Rattle.devdry_files.specs.Errors.{entry_fault_from, fault_from};
 ghost use Rattle.devdry_files.specs.declared.disk.DiskFault.TheVariants.{OutOfMemory};
 
 use crate::disk::{Disk, DiskFault, Entry};
-use std::alloc::Global;
+use crate::look::Look;
+use crate::real_looks::{look_at, target_from};
+use std::alloc::{AllocError, Global};
 use std::fs;
 use std::fs::{DirEntry, File};
 use std::io::{self, Read};
@@ -65,6 +67,32 @@ fn entry_of<R: Files>(alloc: Global, rt: &R, found: &DirEntry<R>) -> Result<Entr
     })
 }
 
+// Why an entry could not be taken from a listing.
+fn entry_fault(error: io::Error) -> DiskFault
+    ensures { result ≡ entry_fault_from (error_kind error) }
+{
+    match error.kind() {
+        io::ErrorKind::InvalidFilename => DiskFault::NotUtf8,
+        _ => DiskFault::from(error),
+    }
+}
+
+// An entry that may not have been taken from a listing.
+fn entry_from<R: Files + Drop>(
+    alloc: Global,
+    rt: &R,
+    taken: io::Result<DirEntry<R>>,
+) -> Result<Entry, DiskFault>
+    ensures entry { IfOk result (λ e. (found : DirEntry R Global R.File R.Dir) × (taken ≡ Ok found)
+        × (string_bytes e.name ≡ dir_entry_name found)) }
+    ensures fault { IfErr taken (λ error. result ≡ Err (entry_fault_from (error_kind error))) }
+{
+    match taken {
+        Ok(found) => entry_of(alloc, rt, &found),
+        Err(error) => Err(entry_fault(error)),
+    }
+}
+
 // All entries of a listing, in its order, none of which failed.
 fn entries_of<R: Files + Drop, I: Iterator<Item = io::Result<DirEntry<R>>> + Drop>(
     alloc: Global,
@@ -79,7 +107,7 @@ fn entries_of<R: Files + Drop, I: Iterator<Item = io::Result<DirEntry<R>>> + Dro
 {
     let mut entries = Vec::new(alloc);
     for found in listing {
-        entries.push(entry_of(alloc, rt, &found?)?)?;
+        entries.push(entry_from(alloc, rt, found)?)?;
     }
     Ok(entries)
 }
@@ -134,5 +162,13 @@ impl<R: Files + AllocGlobal + Clone + Drop> Disk for RealDisk<'_, R> {
 
     fn read(&self, alloc: Global, path: &str) -> Result<Bytes, DiskFault> {
         bytes_from(alloc, File::open(self.rt, path))
+    }
+
+    fn look(&self, path: &str) -> Result<Look, AllocError> {
+        look_at(self.rt, path)
+    }
+
+    fn target(&self, alloc: Global, path: &str) -> Result<Option<Bytes>, AllocError> {
+        target_from(alloc, fs::read_link(self.rt, path))
     }
 }

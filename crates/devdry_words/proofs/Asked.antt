@@ -1,4 +1,4 @@
--- Words that are not at fault name the subcommand of a verb.
+-- Words that are not at fault name a subcommand.
 use Rattle.std.proofs.Common.{◌≡◌, ◌&&◌, ◌||◌, Bool, true, false, refl, sym, List, [], ◌∷◌, Option, Some, None, codes, true≢false, not, is_some, cond, find, option_map, subst}
 use Rattle.std.specs.Prelude.{⊤}
 use Rattle.std.specs.List.{list_any}
@@ -11,7 +11,8 @@ use Rattle.clap.specs.Takes.{is_given}
 use Rattle.clap.specs.Walk.{Held, Names, Row, Text, answers_to, finished, nothing_held, settled, stop_after, walk, walk_from}
 use Rattle.clap.specs.Simple.{Shape, built, entered, is_simple, label_of, names_of, rows_at, subcommand_of}
 use Rattle.devdry_words.specs.Commands.{devdry}
-use Rattle.devdry_words.specs.Lines.{IsVerbName, NamesVerb}
+use Rattle.devdry_words.specs.Requests.{IsSubcommandName, NamesSubcommand}
+use Rattle.devdry_words.specs.declared.subcommands.Subcommand.TheVariants.{Run, Files, Compare, Explain}
 use Rattle.engine_ends.specs.declared.line.Verb.TheVariants.{Update, Query, Verify, Events}
 use Rattle.devdry_words.proofs.Stops.{StopsWell, neither, walk_stops}
 
@@ -58,16 +59,16 @@ abbrev AllOf : (Shape → Type 0) → List Shape → Type 0
 AllOf P [] = ⊤
 AllOf P (s ∷ rest) = P s × AllOf P rest
 
-found_named : (t : Text) (words : List Text) (subs : List Shape) → AllOf (λ s. answers_to t (label_of s) ≡ true → IsVerbName s.name) subs
+found_named : (t : Text) (words : List Text) (subs : List Shape) → AllOf (λ s. answers_to t (label_of s) ≡ true → IsSubcommandName s.name) subs
     → is_some (option_map (λ s. rows_at s words) (find (λ s. answers_to t (label_of s)) subs)) ≡ true
-    → NamesVerb (option_map (λ s. rows_at s words) (find (λ s. answers_to t (label_of s)) subs))
+    → NamesSubcommand (option_map (λ s. rows_at s words) (find (λ s. answers_to t (label_of s)) subs))
 found_named t words [] all e = absurd (cc)
 found_named t words (s ∷ rest) all e = go (found_named t words rest all.1) (answers_to t (label_of s)) refl e
   where
     go : (is_some (option_map (λ s. rows_at s words) (find (λ s. answers_to t (label_of s)) rest)) ≡ true
-        → NamesVerb (option_map (λ s. rows_at s words) (find (λ s. answers_to t (label_of s)) rest))) → (b : Bool) → answers_to t (label_of s) ≡ b
+        → NamesSubcommand (option_map (λ s. rows_at s words) (find (λ s. answers_to t (label_of s)) rest))) → (b : Bool) → answers_to t (label_of s) ≡ b
         → is_some (option_map (λ s. rows_at s words) (cond b (Some s) (find (λ s. answers_to t (label_of s)) rest))) ≡ true
-        → NamesVerb (option_map (λ s. rows_at s words) (cond b (Some s) (find (λ s. answers_to t (label_of s)) rest)))
+        → NamesSubcommand (option_map (λ s. rows_at s words) (cond b (Some s) (find (λ s. answers_to t (label_of s)) rest)))
     go later true is f = all.0 is
     go later false is f = later f
 
@@ -75,14 +76,14 @@ first_holds : (b : Bool) → (b || false) ≡ true → b ≡ true
 first_holds true e = refl
 first_holds false e = e
 
-not_help : (t : Text) → bytes_eq t (codes "help") ≡ false → answers_to t (codes "help", []) ≡ true → IsVerbName (codes "help")
+not_help : (t : Text) → bytes_eq t (codes "help") ≡ false → answers_to t (codes "help", []) ≡ true → IsSubcommandName (codes "help")
 not_help t differs answers =
     let same : codes "help" ≡ t = (bytes_eq-Decides (codes "help") t).0 (first_holds _ answers) in
     absurd (true≢false (subst (λ u. bytes_eq u (codes "help") ≡ false) (sym same) differs))
 
-pub names_a_verb : (words : List Text) → fault_of devdry words ≡ [] → NamesVerb (subcommand_of devdry words)
+pub names_a_subcommand : (words : List Text) → fault_of devdry words ≡ [] → NamesSubcommand (subcommand_of devdry words)
 unfolding devdry
-names_a_verb words e =
+names_a_subcommand words e =
     let top = (built devdry).top in
     let names = names_of (built devdry) in
     let met = stop_after top.rules names words in
@@ -90,7 +91,21 @@ names_a_verb words e =
     let well : StopsWell met = walk_stops top names (walk_from nothing_held) words refl parts.0 tt in
     go met well (checks_pass top (finished top.rules (walk top.rules names nothing_held words).held) (is_some (entered (built devdry) met)) refl parts.1)
   where
-    go : (stop : Option (Text × List Text)) → StopsWell stop → is_some (entered (built devdry) stop) ≡ true → NamesVerb (entered (built devdry) stop)
+    go : (stop : Option (Text × List Text)) → StopsWell stop → is_some (entered (built devdry) stop) ≡ true → NamesSubcommand (entered (built devdry) stop)
     go None well f = absurd (cc)
-    go (Some p) well f = found_named p.0 p.1 (built devdry).subs
-        ((λ _. (Verify, refl)), ((λ _. (Query, refl)), ((λ _. (Update, refl)), ((λ _. (Events, refl)), (not_help p.0 well, tt))))) f
+    go (Some p) well f = found_named p.0 p.1 (built devdry).subs (
+      (λ _. (Run Verify, refl)),
+      (
+        (λ _. (Run Query, refl)),
+        (
+          (λ _. (Run Update, refl)),
+          (
+            (λ _. (Run Events, refl)),
+            (
+              (λ _. (Files, refl)),
+              ((λ _. (Compare, refl)), ((λ _. (Explain, refl)), (not_help p.0 well, tt))),
+            ),
+          ),
+        ),
+      ),
+    ) f

@@ -1,5 +1,6 @@
 -- What the definitions say of words that are written out.
-use Rattle.std.proofs.Common.{◌≡◌, Bool, refl, true, false, List, [], ◌∷◌, Option, Some, codes, option_map}
+use Rattle.std.proofs.Common.{◌≡◌, ◌++◌, Bool, refl, true, false, List, [], ◌∷◌, Option, Some, None, codes, map, option_map}
+use Rattle.std.specs.List.{flat_map}
 use Rattle.clap.specs.Walk.{Text}
 use Rattle.clap.specs.Words.{first_of}
 use Rattle.clap.specs.Simple.{subcommand_of}
@@ -8,7 +9,16 @@ use Rattle.clap.specs.Faults.{fault_of}
 use Rattle.clap.specs.declared.error.kind.ErrorKind.TheVariants as kind
 use Rattle.clap.proofs.OnLiterals.{clap_on_literals}
 use Rattle.devdry_words.specs.Commands.{devdry}
-use Rattle.devdry_words.specs.Lines.{is_set, texts_of, text_of}
+use Rattle.engine_ends.specs.declared.line.Format.{Format}
+use Rattle.engine_ends.specs.declared.line.Format.TheVariants.{Plain, Gcc, Github, Gitlab, Json, Human, HumanInColor}
+use Rattle.devdry_words.specs.declared.refusals.Refusal.{Refusal}
+use Rattle.devdry_words.specs.declared.refusals.Refusal.TheVariants.{TwoDatabases, EmptyRoot, EmptySide, UnknownFormat, UnknownPart}
+use Rattle.devdry_words.specs.Lines.{format_name, format_named, format_of}
+use Rattle.text_bytes.specs.Texts.{split_once}
+use Rattle.engine_formats.specs.Codes.{remark_of, remarks}
+use Rattle.engine_formats.specs.Remarks.{code_of, heading_parts}
+use Rattle.devdry_words.specs.Refusals.{known_codes, refusal_of, unknown_part}
+use Rattle.devdry_words.specs.Values.{cut_at_commas, is_set, texts_of, text_of}
 
 abbrev query_words : List Text
 query_words = codes "query" ∷ codes "-r" ∷ codes "/mnt" ∷ codes "usb:v1" ∷ codes "--sources" ∷ codes "a.hwdb" ∷ codes "--" ∷ codes "-b" ∷ []
@@ -65,3 +75,119 @@ version = refl
 version_of_query : fault_of devdry (codes "query" ∷ codes "--version" ∷ []) ≡ kind.DisplayVersion ∷ []
 unfolding clap_on_literals devdry
 version_of_query = refl
+
+abbrev verify_words : List Text
+verify_words = codes "verify" ∷ codes "--all" ∷ codes "--format" ∷ codes "gcc" ∷ codes "--ignore" ∷ codes "V6,S2" ∷ codes "--ignore=comments" ∷ codes "a.rules" ∷ []
+
+verify_is_asked : option_map {U = Option Format × (Bool × List Text)} (λ p. (format_of p.1, (is_set (codes "all") p.1, flat_map cut_at_commas (texts_of (codes "ignore") p.1)))) (subcommand_of devdry verify_words)
+    ≡ Some (Some Gcc, (true, codes "V6" ∷ codes "S2" ∷ codes "comments" ∷ []))
+unfolding clap_on_literals devdry
+verify_is_asked = refl
+
+files_are_taken : takes devdry (codes "files" ∷ codes "--root=/mnt" ∷ []) ≡ true
+unfolding clap_on_literals devdry
+files_are_taken = refl
+
+abbrev compare_words : List Text
+compare_words = codes "compare" ∷ codes "/old" ∷ codes "--index" ∷ codes "hwdb.index" ∷ codes "/new" ∷ []
+
+compare_has_its_roots : option_map {U = Text × (Text × Text)} (λ p. (p.0, (text_of (codes "OLD") p.1, text_of (codes "NEW") p.1))) (subcommand_of devdry compare_words)
+    ≡ Some (codes "compare", (codes "/old", codes "/new"))
+unfolding clap_on_literals devdry
+compare_has_its_roots = refl
+
+compare_with_one_root : fault_of devdry (codes "compare" ∷ codes "/old" ∷ []) ≡ kind.MissingRequiredArgument ∷ []
+unfolding clap_on_literals devdry
+compare_with_one_root = refl
+
+explain_has_its_code : option_map {U = Text × (Text × Option Refusal)} (λ p. (p.0, (text_of (codes "CODE") p.1, refusal_of p.0 p.1))) (subcommand_of devdry (codes "explain" ∷ codes "V6" ∷ []))
+    ≡ Some (codes "explain", (codes "V6", None))
+unfolding clap_on_literals devdry
+explain_has_its_code = refl
+
+format_of_events : fault_of devdry (codes "events" ∷ codes "--format" ∷ codes "gcc" ∷ []) ≡ kind.UnknownArgument ∷ []
+unfolding clap_on_literals devdry
+format_of_events = refl
+
+-- what is refused of words that clap takes
+abbrev refused : List Text → Option (Option Refusal)
+refused words = option_map (λ p. refusal_of p.0 p.1) (subcommand_of devdry words)
+
+two_databases_are_refused : refused (codes "query" ∷ codes "--index=a" ∷ codes "m" ∷ codes "b" ∷ []) ≡ Some (Some TwoDatabases)
+unfolding clap_on_literals devdry
+two_databases_are_refused = refl
+
+empty_root_is_refused : refused (codes "verify" ∷ codes "--all" ∷ codes "-r" ∷ [] ∷ []) ≡ Some (Some EmptyRoot)
+unfolding clap_on_literals devdry
+empty_root_is_refused = refl
+
+unknown_format_is_refused : refused (codes "update" ∷ codes "--format=xml" ∷ []) ≡ Some (Some UnknownFormat)
+unfolding clap_on_literals devdry
+unknown_format_is_refused = refl
+
+empty_root_of_files_is_refused : refused (codes "files" ∷ codes "-r" ∷ [] ∷ []) ≡ Some (Some EmptyRoot)
+unfolding clap_on_literals devdry
+empty_root_of_files_is_refused = refl
+
+empty_root_of_events_is_taken : refused (codes "events" ∷ codes "-r" ∷ [] ∷ []) ≡ Some None
+unfolding clap_on_literals devdry
+empty_root_of_events_is_taken = refl
+
+empty_old_root_is_refused : refused (codes "compare" ∷ [] ∷ codes "/new" ∷ []) ≡ Some (Some EmptySide)
+unfolding clap_on_literals devdry
+empty_old_root_is_refused = refl
+
+empty_new_root_is_refused : refused (codes "compare" ∷ codes "/old" ∷ [] ∷ []) ≡ Some (Some EmptySide)
+unfolding clap_on_literals devdry
+empty_new_root_is_refused = refl
+
+two_roots_are_taken : refused (codes "compare" ∷ codes "/old" ∷ codes "/new" ∷ []) ≡ Some None
+unfolding clap_on_literals devdry
+two_roots_are_taken = refl
+
+abbrev unknown : List Text → Option (Option Text)
+unknown words = option_map (λ p. unknown_part p.1) (subcommand_of devdry words)
+
+first_unknown_is_found : unknown (codes "verify" ∷ codes "--ignore" ∷ codes "V6,comments" ∷ codes "--ignore=S2,X6,v6" ∷ []) ≡ Some (Some (codes "X6"))
+unfolding clap_on_literals devdry remark_of heading_parts split_once
+first_unknown_is_found = refl
+
+known_codes_are_taken : refused (codes "update" ∷ codes "--ignore" ∷ codes "H1,I1" ∷ codes "--ignore=comments" ∷ []) ≡ Some None
+unfolding clap_on_literals devdry remark_of heading_parts split_once
+known_codes_are_taken = refl
+
+small_letter_is_refused : refused (codes "verify" ∷ codes "--ignore=v6" ∷ []) ≡ Some (Some UnknownPart)
+unfolding clap_on_literals devdry remark_of heading_parts split_once
+small_letter_is_refused = refl
+
+no_code_is_refused : refused (codes "verify" ∷ codes "--ignore=" ∷ []) ≡ Some (Some UnknownPart)
+unfolding clap_on_literals devdry remark_of heading_parts split_once
+no_code_is_refused = refl
+
+no_root_is_taken : refused (codes "verify" ∷ codes "--all" ∷ []) ≡ Some None
+unfolding clap_on_literals devdry
+no_root_is_taken = refl
+
+-- the format that words name it by
+abbrev uncolored : Format → Format
+uncolored HumanInColor = Human
+uncolored f = f
+
+each_format_is_found : (f : Format) → format_named (format_name f) ≡ Some (uncolored f)
+each_format_is_found Plain = refl
+each_format_is_found Gcc = refl
+each_format_is_found Github = refl
+each_format_is_found Gitlab = refl
+each_format_is_found Json = refl
+each_format_is_found Human = refl
+each_format_is_found HumanInColor = refl
+
+-- texts, a comma and a blank between two
+abbrev listed : List Text → Text
+listed [] = []
+listed (text ∷ []) = text
+listed (text ∷ next ∷ others) = text ++ codes ", " ++ listed (next ∷ others)
+
+each_code_is_listed : known_codes ≡ listed (map code_of remarks)
+unfolding heading_parts split_once
+each_code_is_listed = refl

@@ -42,10 +42,6 @@ why_rule = record (new_rule (codes "why")) { long = Some (codes "why"); action =
 abbrev pub index_rule : Rule
 index_rule = record (new_rule (codes "index")) { long = Some (codes "index"); value_names = 1 }
 
--- `MODALIAS`, which has to be there
-abbrev pub modalias_rule : Rule
-modalias_rule = record (new_rule (codes "MODALIAS")) { required = true }
-
 -- `[FILE]..`, any number of them
 abbrev pub files_rule : Rule
 files_rule = record (new_rule (codes "FILE")) { action = Some Append }
@@ -58,28 +54,73 @@ no_summary_rule = flag_rule (codes "no-summary")
 abbrev pub no_style_rule : Rule
 no_style_rule = flag_rule (codes "no-style")
 
+-- `--all`
+abbrev pub all_rule : Rule
+all_rule = flag_rule (codes "all")
+
+-- `--format FORMAT`
+abbrev pub format_rule : Rule
+format_rule = record (new_rule (codes "format")) { long = Some (codes "format"); value_names = 1 }
+
+-- `--ignore CODES`, any number of times
+abbrev pub ignore_rule : Rule
+ignore_rule = record (new_rule (codes "ignore")) { long = Some (codes "ignore"); action = Some Append; value_names = 1 }
+
+-- a word without an option, which has to be there
+abbrev pub required_rule : Text → Rule
+required_rule name = record (new_rule name) { required = true }
+
+-- `MODALIAS`
+abbrev pub modalias_rule : Rule
+modalias_rule = required_rule (codes "MODALIAS")
+
+-- `OLD`
+abbrev pub old_rule : Rule
+old_rule = required_rule (codes "OLD")
+
+-- `NEW`
+abbrev pub new_root_rule : Rule
+new_root_rule = required_rule (codes "NEW")
+
+-- `CODE`
+abbrev pub code_rule : Rule
+code_rule = required_rule (codes "CODE")
+
 -- a command of this name with these arguments
 abbrev pub with_rules : Text → List Rule → Shape
 with_rules name rules = record (new_shape name) { rules = rules }
 
--- `update [-r DIR] [-s] [FILE]..`
+-- `update [-r DIR] [-s] [--all] [--format FORMAT] [--ignore CODES].. [FILE]..`
 abbrev pub update_shape : Shape
-update_shape = with_rules (codes "update") (root_rule ∷ strict_rule ∷ files_rule ∷ [])
+update_shape = with_rules (codes "update")
+    (root_rule ∷ strict_rule ∷ all_rule ∷ format_rule ∷ ignore_rule ∷ files_rule ∷ [])
 
 -- `query [-r DIR] [--sources] [--index FILE] MODALIAS [FILE]..`
 abbrev pub query_shape : Shape
 query_shape = with_rules (codes "query")
     (root_rule ∷ sources_rule ∷ index_rule ∷ modalias_rule ∷ files_rule ∷ [])
 
--- `verify [-r DIR] [--no-summary] [--no-style] [FILE]..`
+-- `verify [-r DIR] [--all] [--format FORMAT] [--ignore CODES].. [--no-summary] [--no-style] [FILE]..`
 abbrev pub verify_shape : Shape
 verify_shape = with_rules (codes "verify")
-    (root_rule ∷ no_summary_rule ∷ no_style_rule ∷ files_rule ∷ [])
+    (root_rule ∷ all_rule ∷ format_rule ∷ ignore_rule ∷ no_summary_rule ∷ no_style_rule ∷ files_rule ∷ [])
 
 -- `events [-r DIR] [--sources] [--why FILE[:LINE]].. [--index FILE] [FILE]..`
 abbrev pub events_shape : Shape
 events_shape = with_rules (codes "events")
     (root_rule ∷ sources_rule ∷ why_rule ∷ index_rule ∷ files_rule ∷ [])
+
+-- `files [-r DIR]`
+abbrev pub files_shape : Shape
+files_shape = with_rules (codes "files") (root_rule ∷ [])
+
+-- `compare [--index FILE] OLD NEW`
+abbrev pub compare_shape : Shape
+compare_shape = with_rules (codes "compare") (index_rule ∷ old_rule ∷ new_root_rule ∷ [])
+
+-- `explain CODE`
+abbrev pub explain_shape : Shape
+explain_shape = with_rules (codes "explain") (code_rule ∷ [])
 
 -- the program without its subcommands: the words come without its name, one subcommand has to be
 -- there, and each has the program's version
@@ -97,8 +138,8 @@ program = record {
 
 -- `devdry` with its subcommands
 unfoldable pub devdry : App
-devdry = with_subcommand (with_subcommand (with_subcommand (with_subcommand program verify_shape) query_shape) update_shape)
-    events_shape
+devdry = with_subcommand (with_subcommand (with_subcommand (with_subcommand (with_subcommand (with_subcommand (with_subcommand program
+    verify_shape) query_shape) update_shape) events_shape) files_shape) compare_shape) explain_shape
 
 -- the command has this shape, and none of its arguments is global
 pub record IsCommand (shape : Shape) (c : Command) : Type 0 where

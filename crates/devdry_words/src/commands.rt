@@ -4,10 +4,12 @@
 //! in each. `clap` wraps no text here, so that the texts of the help are broken by hand.
 ghost use Rattle.std.specs.Prelude.{◌≡◌, IfOk, false};
 ghost use Rattle.clap.specs.Words.{app_of, rule_of};
-ghost use Rattle.devdry_words.specs.Commands.{IsCommand, devdry, events_shape, files_rule, flag_rule, index_rule};
-ghost use Rattle.devdry_words.specs.Commands.{modalias_rule, no_style_rule, no_summary_rule, program as program_app};
-ghost use Rattle.devdry_words.specs.Commands.{query_shape, root_rule, sources_rule, strict_rule};
-ghost use Rattle.devdry_words.specs.Commands.{update_shape, verify_shape, why_rule};
+ghost use Rattle.devdry_words.specs.Commands.{IsCommand, all_rule, code_rule, compare_shape, devdry, events_shape};
+ghost use Rattle.devdry_words.specs.Commands.{explain_shape, files_rule, files_shape, flag_rule, format_rule};
+ghost use Rattle.devdry_words.specs.Commands.{ignore_rule, index_rule, modalias_rule, new_root_rule, no_style_rule};
+ghost use Rattle.devdry_words.specs.Commands.{no_summary_rule, old_rule, program as program_app, query_shape};
+ghost use Rattle.devdry_words.specs.Commands.{required_rule, root_rule, sources_rule, strict_rule, update_shape};
+ghost use Rattle.devdry_words.specs.Commands.{verify_shape, why_rule};
 
 use clap::{Arg, ArgAction, Command};
 use std::alloc::{AllocError, Global};
@@ -16,7 +18,8 @@ const STATUSES: &str = "Status:
   0  all went well, or help was asked for
   1  verify found a bad file, or there was a message and
      --strict was given, or an event block is faulty, or there
-     are too many rules or entries, or the index is refused
+     are too many rules or entries, or the index is refused,
+     or compare found a difference, or files or --all no file
   2  the words of the command are not understood
   3  a file, a folder, the input or an output failed
   4  out of memory
@@ -27,6 +30,8 @@ Examples:
   devdry events 60-mine.rules < disk.block
   devdry update 20-usb.hwdb > hwdb.index
   devdry query --index hwdb.index usb:v1D6Bp0002
+  devdry compare /mnt/old /mnt/new < disk.block
+  devdry explain V6
 ";
 
 const DATABASE_FILES: &str = "Database files to read in place of the folders";
@@ -99,12 +104,63 @@ fn no_style_flag<'a>(alloc: Global) -> Arg<'a>
     flag(alloc, "no-style", "Give no messages about style")
 }
 
+fn all_flag<'a>(alloc: Global) -> Arg<'a>
+    ensures { (rule_of result ≡ all_rule) × (result.global ≡ false) }
+{
+    flag(
+        alloc,
+        "all",
+        "Go on where a file can't be read, and fail where there is none",
+    )
+}
+
+fn format_option<'a>(alloc: Global) -> Arg<'a>
+    ensures { (rule_of result ≡ format_rule) × (result.global ≡ false) }
+{
+    Arg::new(alloc, "format")
+        .long("format")
+        .value_name("FORMAT")
+        .help("How messages are written: plain, gcc, github, gitlab, json or human")
+}
+
+fn ignore_option<'a>(alloc: Global) -> Arg<'a>
+    ensures { (rule_of result ≡ ignore_rule) × (result.global ≡ false) }
+{
+    Arg::new(alloc, "ignore")
+        .long("ignore")
+        .value_name("CODES")
+        .action(ArgAction::Append)
+        .help("Leave out the messages of these codes, as V6,S2; comments: as the files say")
+}
+
+fn required_argument<'a>(alloc: Global, name: &'a str, help: &'a str) -> Arg<'a>
+    ensures { (rule_of result ≡ required_rule name.entry.now) × (result.global ≡ false) }
+{
+    Arg::new(alloc, name).required(true).help(help)
+}
+
 fn modalias_argument<'a>(alloc: Global) -> Arg<'a>
     ensures { (rule_of result ≡ modalias_rule) × (result.global ≡ false) }
 {
-    Arg::new(alloc, "MODALIAS")
-        .required(true)
-        .help("Device to look up, by its modalias")
+    required_argument(alloc, "MODALIAS", "Device to look up, by its modalias")
+}
+
+fn old_argument<'a>(alloc: Global) -> Arg<'a>
+    ensures { (rule_of result ≡ old_rule) × (result.global ≡ false) }
+{
+    required_argument(alloc, "OLD", "Root of the system before")
+}
+
+fn new_argument<'a>(alloc: Global) -> Arg<'a>
+    ensures { (rule_of result ≡ new_root_rule) × (result.global ≡ false) }
+{
+    required_argument(alloc, "NEW", "Root of the system after")
+}
+
+fn code_argument<'a>(alloc: Global) -> Arg<'a>
+    ensures { (rule_of result ≡ code_rule) × (result.global ≡ false) }
+{
+    required_argument(alloc, "CODE", "Code of a message, as V6")
 }
 
 fn files_argument<'a>(alloc: Global, help: &'a str) -> Arg<'a>
@@ -120,6 +176,9 @@ fn update_command<'a>(alloc: Global) -> Result<Command<'a>, AllocError>
         .about("Checks the files of the hardware database and writes its index")
         .arg(root_option(alloc))?
         .arg(strict_flag(alloc))?
+        .arg(all_flag(alloc))?
+        .arg(format_option(alloc))?
+        .arg(ignore_option(alloc))?
         .arg(files_argument(alloc, DATABASE_FILES))
 }
 
@@ -142,6 +201,9 @@ fn verify_command<'a>(alloc: Global) -> Result<Command<'a>, AllocError>
     Command::new(alloc, "verify")
         .about("Checks rules files")
         .arg(root_option(alloc))?
+        .arg(all_flag(alloc))?
+        .arg(format_option(alloc))?
+        .arg(ignore_option(alloc))?
         .arg(no_summary_flag(alloc))?
         .arg(no_style_flag(alloc))?
         .arg(files_argument(alloc, RULES_FILES))
@@ -157,6 +219,32 @@ fn events_command<'a>(alloc: Global) -> Result<Command<'a>, AllocError>
         .arg(why_option(alloc))?
         .arg(index_option(alloc))?
         .arg(files_argument(alloc, RULES_FILES))
+}
+
+fn files_command<'a>(alloc: Global) -> Result<Command<'a>, AllocError>
+    ensures { IfOk result (IsCommand files_shape) }
+{
+    Command::new(alloc, "files")
+        .about("Lists the files of the folders, and says which of them are read")
+        .arg(root_option(alloc))
+}
+
+fn compare_command<'a>(alloc: Global) -> Result<Command<'a>, AllocError>
+    ensures { IfOk result (IsCommand compare_shape) }
+{
+    Command::new(alloc, "compare")
+        .about("Tells where two systems answer the event blocks of the standard input differently")
+        .arg(index_option(alloc))?
+        .arg(old_argument(alloc))?
+        .arg(new_argument(alloc))
+}
+
+fn explain_command<'a>(alloc: Global) -> Result<Command<'a>, AllocError>
+    ensures { IfOk result (IsCommand explain_shape) }
+{
+    Command::new(alloc, "explain")
+        .about("Explains a message by its code, with a faulty file and the mended one")
+        .arg(code_argument(alloc))
 }
 
 fn program<'a>(alloc: Global) -> Result<Command<'a>, AllocError>
@@ -181,5 +269,8 @@ pub fn devdry_command<'a>(alloc: Global) -> Result<Command<'a>, AllocError>
         .subcommand(verify_command(alloc)?)?
         .subcommand(query_command(alloc)?)?
         .subcommand(update_command(alloc)?)?
-        .subcommand(events_command(alloc)?)
+        .subcommand(events_command(alloc)?)?
+        .subcommand(files_command(alloc)?)?
+        .subcommand(compare_command(alloc)?)?
+        .subcommand(explain_command(alloc)?)
 }

@@ -5,8 +5,12 @@
 #![tactic(auto)]
 
 mod commands;
+mod ignored;
 mod line_reading;
 mod parse;
+mod refusals;
+mod subcommands;
+mod telling;
 mod values;
 
 pub use parse::parse_line;

@@ -1,38 +1,50 @@
 //! The line that the matches of a parse stand for.
 ghost use Rattle.std.specs.Prelude.{◌≡◌, IfOk};
 ghost use Rattle.clap.specs.Words.{found_of, rows_of};
-ghost use Rattle.devdry_words.specs.Lines.{IsVerbName, Reads, name_of};
+ghost use Rattle.devdry_words.specs.Lines.{Reads, format_named, format_of};
 
-use crate::values::{is_given, text, texts, value};
+use crate::values::{is_given, parts, text, texts, value};
 use clap::ArgMatches;
-use engine_ends::{Line, Verb};
+use engine_ends::{Format, Line, Verb};
 use std::alloc::{AllocError, Global};
 
-/// The verb of a subcommand.
-pub fn verb_of(name: &str) -> Verb
-    requires { IsVerbName name.now }
-    ensures { name_of result ≡ name.now }
+/// The format of a name.
+fn format_named(name: &str) -> Option<Format>
+    ensures { result ≡ format_named name.now }
 {
     match name {
-        "update" => Verb::Update,
-        "query" => Verb::Query,
-        "verify" => Verb::Verify,
-        _ => Verb::Events,
+        "plain" => Some(Format::Plain),
+        "gcc" => Some(Format::Gcc),
+        "github" => Some(Format::Github),
+        "gitlab" => Some(Format::Gitlab),
+        "json" => Some(Format::Json),
+        "human" => Some(Format::Human),
+        _ => None,
     }
 }
 
-/// The line of a verb with these matches. `Err` is want of memory.
-pub fn line_with<'a>(
+/// The format that matches ask for, plain where they ask for none; an unknown name is none.
+pub(crate) fn format_of(matches: &ArgMatches<'_>) -> Option<Format>
+    ensures { result ≡ format_of (rows_of (found_of matches.now)) }
+{
+    match value(matches, "format") {
+        Some(name) => format_named(name),
+        None => Some(Format::Plain),
+    }
+}
+
+/// The line of a verb below a root, with these matches. `Err` is want of memory.
+pub(crate) fn line_with<'a>(
     alloc: Global,
     verb: Verb,
+    root: &'a str,
     matches: &ArgMatches<'a>,
 ) -> Result<Line<'a>, AllocError>
-    ensures { IfOk result (λ line. (line.verb ≡ verb)
-        × Reads (rows_of (found_of matches.now)) line) }
+    ensures { IfOk result (Reads verb root.entry.now (rows_of (found_of matches.now))) }
 {
     Ok(Line {
         verb,
-        root: text(matches, "root"),
+        root,
         files: texts(alloc, matches, "FILE")?,
         index: value(matches, "index"),
         strict: is_given(matches, "strict"),
@@ -41,5 +53,8 @@ pub fn line_with<'a>(
         modalias: text(matches, "MODALIAS"),
         summary: !is_given(matches, "no-summary"),
         style: !is_given(matches, "no-style"),
+        format: format_of(matches).unwrap_or(Format::Plain),
+        all: is_given(matches, "all"),
+        ignored: parts(alloc, matches, "ignore")?,
     })
 }

@@ -1,30 +1,27 @@
 //! Reads the words of a command line.
 //!
-//! `clap` decides which words it takes and what it says of others; here its matches become a line,
+//! `clap` decides which words it takes and what it says of others; here its matches become a request,
 //! and its errors the faults that the program tells apart by their status.
-ghost use Rattle.std.specs.Prelude.{◌≡◌, ◌↔◌, ◌⊎◌, IsTrue, IfErr, IfOk, [], false, map, string_bytes, true};
-ghost use Rattle.clap.specs.Words.{fault_of, kind_of, subcommand_of, subcommand_rows_of, takes};
+ghost use Rattle.std.specs.Prelude.{◌≡◌, ◌↔◌, ◌⊎◌, IsTrue, IfErr, IfOk, MatchResult, None, Ok, Err, [], map, string_bytes, true};
+ghost use Rattle.clap.specs.Words.{fault_of, found_of, kind_of, rows_of, subcommand_of, subcommand_rows_of, takes};
+ghost use Rattle.devdry_words.specs.Answers.{AnswersMatches, AnswersSubcommand, AnswersWords, AsksForHelp, IsAnswer};
 ghost use Rattle.devdry_words.specs.Commands.{devdry};
-ghost use Rattle.devdry_words.specs.Lines.{AnswersWords, IsAnswer, IsLineOf, IsRequest, IsUsageOf, NamesVerb};
-ghost use Rattle.devdry_words.specs.Lines.{NamesTwo, names_two, two_databases};
+ghost use Rattle.devdry_words.specs.Refusals.{refusal_of};
+ghost use Rattle.devdry_words.specs.Requests.{AsksFor, IsRequestOf, IsSubcommandName, NamesSubcommand};
 
 use crate::commands::devdry_command;
-use crate::line_reading::{line_with, verb_of};
+use crate::refusals::{refusal_of, usage_of};
+use crate::subcommands::{Subcommand, compare_request, files_request, run_request, subcommand_of};
+use crate::telling::explained;
+use crate::values::text;
 use clap::error::ErrorKind;
 use clap::{ArgMatches, Error};
-use engine_ends::{Line, LineFault, Verb};
-use std::alloc::Global;
-
-const TWO_DATABASES: &str = "error: the argument '--index <FILE>' cannot be used with '[FILE]...'
-
-Usage: devdry query --index <FILE> <MODALIAS>
-
-For more information, try '--help'.
-";
+use engine_ends::{LineFault, Request};
+use std::alloc::{AllocError, Global};
 
 // Whether help or the version was asked for.
-fn is_request(kind: ErrorKind) -> bool
-    ensures { IsTrue result ↔ IsRequest kind }
+fn asks_for_help(kind: ErrorKind) -> bool
+    ensures { IsTrue result ↔ AsksForHelp kind }
 {
     matches!(kind, ErrorKind::DisplayHelp | ErrorKind::DisplayVersion)
 }
@@ -39,7 +36,7 @@ fn fault_from(alloc: Global, error: &Error) -> LineFault
     }
     match error.to_string(alloc) {
         Ok(text) => {
-            if is_request(error.kind()) {
+            if asks_for_help(error.kind()) {
                 LineFault::Help(text)
             } else {
                 LineFault::Usage(text)
@@ -49,74 +46,86 @@ fn fault_from(alloc: Global, error: &Error) -> LineFault
     }
 }
 
-// Whether a line is a query that names two databases: files and an index.
-fn names_two(line: &Line<'_>) -> bool
-    ensures { result ≡ names_two line.now }
+// A request, where want of memory is a fault.
+fn or_memory<'a>(request: Result<Request<'a>, AllocError>) -> Result<Request<'a>, LineFault>
+    ensures { MatchResult request.entry (λ r. result ≡ Ok r) (λ _. result ≡ Err LineFault.Memory) }
 {
-    (line.verb == Verb::Query) & line.index.is_some() & !line.files.is_empty()
-}
-
-// What is said of a query that names two databases.
-fn fault_of_two(alloc: Global) -> LineFault
-    ensures { IsUsageOf two_databases result }
-{
-    match String::from_str(alloc, TWO_DATABASES) {
-        Ok(text) => LineFault::Usage(text),
-        Err(_) => LineFault::Memory,
+    match request {
+        Ok(request) => Ok(request),
+        Err(_) => Err(LineFault::Memory),
     }
 }
 
-// The line of the matches, which name a subcommand.
-fn line_of<'a>(alloc: Global, matches: &ArgMatches<'a>) -> Result<Line<'a>, LineFault>
-    requires { NamesVerb (subcommand_rows_of matches.now) }
-    ensures line { IfOk result (IsLineOf (subcommand_rows_of matches.now)) }
-    ensures one { IfOk result (λ line. names_two line ≡ false) }
-    ensures refusal { IfErr result (λ fault. (fault ≡ LineFault.Memory)
-        ⊎ NamesTwo (subcommand_rows_of matches.now) fault) }
+// What the matches of a subcommand ask for where they are not refused.
+fn taken<'a>(alloc: Global, name: &str, matches: &ArgMatches<'a>) -> Result<Request<'a>, LineFault>
+    requires name { IsSubcommandName name.now }
+    requires free { refusal_of name.now (rows_of (found_of matches.now)) ≡ None }
+    ensures request { IfOk result (AsksFor name.now (rows_of (found_of matches.now))) }
+    ensures fault { IfErr result (λ fault. (fault ≡ LineFault.Memory)
+        ⊎ AnswersMatches name.now (rows_of (found_of matches.now)) fault) }
+{
+    match subcommand_of(name) {
+        Subcommand::Run(verb) => or_memory(run_request(alloc, verb, matches)),
+        Subcommand::Files => or_memory(files_request(alloc, matches)),
+        Subcommand::Compare => or_memory(compare_request(alloc, matches)),
+        Subcommand::Explain => Err(explained(alloc, text(matches, "CODE"))),
+    }
+}
+
+// What the matches, which name a subcommand, come to.
+fn request_of<'a>(alloc: Global, matches: &ArgMatches<'a>) -> Result<Request<'a>, LineFault>
+    requires { NamesSubcommand (subcommand_rows_of matches.now) }
+    ensures request { IfOk result (IsRequestOf (subcommand_rows_of matches.now)) }
+    ensures fault { IfErr result (λ fault. (fault ≡ LineFault.Memory)
+        ⊎ AnswersSubcommand (subcommand_rows_of matches.now) fault) }
 {
     let Some((name, inner)) = matches.subcommand() else {
         prove!(false);
         return Err(LineFault::Memory);
     };
-    match line_with(alloc, verb_of(name), inner) {
-        Ok(line) if names_two(&line) => Err(fault_of_two(alloc)),
-        Ok(line) => Ok(line),
-        Err(_) => Err(LineFault::Memory),
+    match refusal_of(name, inner) {
+        Some(refusal) => Err(usage_of(alloc, refusal, inner)),
+        None => taken(alloc, name, inner),
     }
 }
 
 /// Reads the words after the program's name.
 ///
 /// The subcommands and their options are those of `systemd-hwdb(8)` and `udevadm(8)` as far as
-/// `devdry` has them: `update [-s] [-r DIR] [FILE]..`, `query [-r DIR] [--sources] [--index FILE]
-/// MODALIAS [FILE]..`, `verify [-r DIR] [--no-summary] [--no-style] [FILE]..` and
-/// `events [-r DIR] [--sources] [--why FILE[:LINE]].. [--index FILE] [FILE]..`.
+/// `devdry` has them, and its own:
+/// `verify [-r DIR] [--all] [--format FORMAT] [--ignore CODES].. [--no-summary] [--no-style] [FILE]..`,
+/// `query [-r DIR] [--sources] [--index FILE] MODALIAS [FILE]..`,
+/// `update [-r DIR] [-s] [--all] [--format FORMAT] [--ignore CODES].. [FILE]..`,
+/// `events [-r DIR] [--sources] [--why FILE[:LINE]].. [--index FILE] [FILE]..`,
+/// `files [-r DIR]`, `compare [--index FILE] OLD NEW` and `explain CODE`.
 ///
 /// `LineFault::Help` comes for `--help`, `-h`, `help`, `--version` and `-V`, also after a
-/// subcommand; `LineFault::Usage` for all else that `clap` does not take, no words at all among
-/// it, and for a `query` with both files and an index; `LineFault::Memory` where an allocation was
-/// refused.
-pub fn parse_line<'a>(alloc: Global, words: &'a [String]) -> Result<Line<'a>, LineFault>
-    // A line is that of the subcommand which the words name, with the values that they give.
-    ensures line { IfOk result (IsLineOf (subcommand_of devdry (map string_bytes words.now))) }
-    // No query has both files and an index.
-    ensures one { IfOk result (λ line. names_two line ≡ false) }
-    // No line comes from words that are at fault.
-    ensures faultless { IfOk result (λ line. fault_of devdry (map string_bytes words.now) ≡ []) }
-    // A fault answers what is wrong with the words: help, or usage.
+/// subcommand, and for `explain` with a code, whose text is then the section on its message.
+/// `LineFault::Usage` comes for all else that `clap` does not take, no words at all among it; for a
+/// `query` with both files and an index; for `--all`, `files` or `compare` with a root that is given
+/// and empty; for a format that there is not; for a part of `--ignore` that is neither a code nor the
+/// word `comments`; and for `explain` with a code that there is not. `LineFault::Memory` comes where
+/// an allocation was refused.
+pub fn parse_line<'a>(alloc: Global, words: &'a [String]) -> Result<Request<'a>, LineFault>
+    // A request is that of the subcommand which the words name, with the values that they give, and
+    // nothing of them is refused.
+    ensures request { IfOk result (IsRequestOf (subcommand_of devdry (map string_bytes words.now))) }
+    // No request comes from words that are at fault.
+    ensures faultless { IfOk result (λ request. fault_of devdry (map string_bytes words.now) ≡ []) }
+    // A fault answers what is wrong with the words, or what they ask for: help, or usage.
     ensures fault { IfErr result (AnswersWords (fault_of devdry (map string_bytes words.now))
         (subcommand_of devdry (map string_bytes words.now))) }
-    // Words that are taken are refused for want of memory, or as a query with both.
+    // Words that are taken give no request for want of memory, or where they are refused or explained.
     ensures refusal { takes devdry (map string_bytes words.now) ≡ true
         → IfErr result (λ fault. (fault ≡ LineFault.Memory)
-        ⊎ NamesTwo (subcommand_of devdry (map string_bytes words.now)) fault) }
+        ⊎ AnswersSubcommand (subcommand_of devdry (map string_bytes words.now)) fault) }
 {
     let command = match devdry_command(alloc) {
         Ok(command) => command,
         Err(_) => return Err(LineFault::Memory),
     };
     match command.try_get_matches_from(words) {
-        Ok(matches) => line_of(alloc, &matches),
+        Ok(matches) => request_of(alloc, &matches),
         Err(error) => Err(fault_from(alloc, &error)),
     }
 }

@@ -2,7 +2,6 @@
 use Rattle.std.specs.Prelude.{Bool, not, ◌||◌, ◌==◌, if◌then◌else◌, List, map, Option, Some, None, Result, Ok, Err, vec_len}
 use Rattle.text_tables.specs.Texts.{Text}
 use Rattle.text_bytes.specs.declared.source_file.SourceFile.{SourceFile}
-use Rattle.text_bytes.specs.declared.source_file.FileKind.TheVariants.{Hwdb}
 use Rattle.index_reading.specs.declared.fault.IndexFault.{IndexFault}
 use Rattle.index_reading.specs.Contents.{Contents}
 use Rattle.device_core.specs.Values.{EventValue}
@@ -10,11 +9,11 @@ use Rattle.engine_ends.specs.declared.line.Line.{Line}
 use Rattle.engine_ends.specs.declared.line.Verb.{Verb}
 use Rattle.engine_ends.specs.declared.line.Verb.TheVariants.{Update, Query, Verify, Events}
 use Rattle.engine_ends.specs.Delivery.{Outcome}
-use Rattle.engine_reports.specs.FilesRead.{files_read}
 use Rattle.engine_reports.specs.Openings.{OpeningValue, opening}
-use Rattle.engine_reports.specs.Outcomes.{database_outcome, query_over, update_outcome, usage_error, verify_outcome}
+use Rattle.engine_reports.specs.Outcomes.{query_over, usage_error}
 use Rattle.engine_courses.specs.Asked.{unknown}
 use Rattle.engine_core.specs.Answering.{TablesValue, answer_by}
+use Rattle.engine_core.specs.Checking.{update_said, verify_said}
 use Rattle.engine_core.specs.Told.{ToldValue, told_by}
 use Rattle.engine_sessions.specs.Outcomes.{input_outcome}
 
@@ -52,8 +51,8 @@ asked_of why (Err said) = Err said
 -- of that; any other command to what it says. At an index `query` and `events` alone look.
 abbrev pub before_input : Verb → Line → List SourceFile → Option (Result Contents IndexFault) → Result OpeningValue Outcome
 before_input Query line files opened = Err (query_over line files opened)
-before_input Update line files opened = Err (database_outcome (update_outcome line) (files_read Hwdb line files))
-before_input Verify line files opened = Err (verify_outcome line files)
+before_input Update line files opened = Err (update_said line files)
+before_input Verify line files opened = Err (verify_said line files)
 before_input Events line files opened = asked_of (why_of line) (opening line files opened)
 
 -- the outcome of a run over an input: the messages of its opening and the answers to the blocks of the input, or what is said without

@@ -121,8 +121,11 @@ fn answer_by_rules<L: Lookup + Drop, R: Source, W: Sink, E: Sink>(
     }
 }
 
-/// The rules and the messages about the files, and the database that these hold.
-fn open_with_database(
+/// The rules and the messages about the files handed in, and the database that these hold.
+///
+/// `TooManyEntries` comes exactly where the files of the database hold more than they may, else
+/// `TooManyRules` exactly where the rules have more than 2^24 tokens; `Memory` where memory is refused.
+pub fn open_with_database(
     alloc: Global,
     line: &Line<'_>,
     files: Vec<SourceFile>,

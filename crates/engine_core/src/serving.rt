@@ -3,18 +3,18 @@ ghost use Rattle.std.specs.Prelude.{◌≡◌, option_map};
 ghost use Rattle.engine_core.specs.Outcomes.{before_input};
 ghost use Rattle.engine_core.specs.Runs.{RunsBy, RunsOver};
 
+use crate::checking::{report_on_index, report_on_verify};
 use crate::events::serve_events;
 use engine_ends::{Line, Sink, Source, Verb};
-use engine_reports::{
-    deliver_report, open_index, report_on_query, report_on_rules, report_on_update,
-};
+use engine_reports::{deliver_report, open_index, report_on_query};
 use index_reading::{Index, IndexFault};
 use std::alloc::Global;
 use text_bytes::SourceFile;
 
 /// Runs a command over files that were read, writes what it says, and gives the status to exit with.
 ///
-/// Messages about the files go to `error`; the answer to `output`: for `query` the lines of the
+/// Messages about the files go to `error`, for `verify` and `update` in the format of `line` and without
+/// those that it ignores; the answer to `output`: for `query` the lines of the
 /// properties as systemd-hwdb(8) gives them, for `update` the index of the database, messages or not,
 /// for `verify`, as in udevadm(8), how many files are bad, and for `events` the answer to each block of
 /// `input`, written and flushed before the next read, with the rule before each line that it comes from
@@ -26,8 +26,8 @@ use text_bytes::SourceFile;
 ///
 /// The status is 0; 1 where `update` is strict and there is a message, where `verify` finds a bad file,
 /// where a block is faulty, where the files hold more than they may, or where `query` or `events` is
-/// handed an index that fails a check; 2 where a text of `why` asks for no rule and for no message's
-/// place, and then no input is read; 3 where the input or an output failed, or the input did not end
+/// handed an index that fails a check; 2 where a text of `ignored` is no code, and where a text of `why`
+/// asks for no rule and for no message's place, and then no input is read; 3 where the input or an output failed, or the input did not end
 /// within 2^48 reads, and only there; 4 where memory was refused. Under 3 all was written and flushed.
 pub fn serve<R: Source, W: Sink, E: Sink>(
     alloc: Global,
@@ -64,8 +64,8 @@ fn serve_opened<R: Source, W: Sink, E: Sink>(
 {
     match line.verb {
         Verb::Query => deliver_report(report_on_query(alloc, line, files, opened), output, error),
-        Verb::Update => deliver_report(report_on_update(alloc, line, files), output, error),
-        Verb::Verify => deliver_report(report_on_rules(alloc, line, files), output, error),
+        Verb::Update => deliver_report(report_on_index(alloc, line, files), output, error),
+        Verb::Verify => deliver_report(report_on_verify(alloc, line, files), output, error),
         Verb::Events => serve_events(alloc, line, files, opened, input, output, error),
     }
 }

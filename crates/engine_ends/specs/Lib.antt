@@ -1,4 +1,5 @@
 pub mod Kinds
+pub mod Folders
 pub mod Told
 pub mod Cuts
 pub mod Sinks

@@ -5,6 +5,7 @@
 
 mod delivery;
 mod device;
+mod folders;
 mod kinds;
 mod line;
 mod memory_sink;
@@ -17,8 +18,9 @@ pub use delivery::{
     deliver, deliver_in_pieces, tell, tell_in_pieces, tell_out_of_memory, tell_word,
 };
 pub use device::{DeviceFault, Sink, Source};
+pub use folders::folder_path;
 pub use kinds::same_kind;
-pub use line::{Line, LineFault, Verb};
+pub use line::{Format, Line, LineFault, Request, Verb};
 pub use memory_sink::MemorySink;
 pub use memory_source::MemorySource;
 pub use places::{push_place, push_word};

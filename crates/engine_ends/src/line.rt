@@ -20,6 +20,25 @@ pub enum Verb {
     Events,
 }
 
+/// How messages about files are written.
+#[derive(Clone, Copy, Debug, PartialEq, Eq)]
+pub enum Format {
+    /// `FILE:LINE: CODE TEXT: WORD`, the word cut after 32 bytes.
+    Plain,
+    /// `PATH:LINE:COLUMN: error: TEXT: WORD [CODE]`, as compilers write it.
+    Gcc,
+    /// Commands of a workflow, as GitHub reads them.
+    Github,
+    /// A report on code quality, as GitLab reads it.
+    Gitlab,
+    /// One JSON object a line.
+    Json,
+    /// For people: the line with its place marked, and how to mend it.
+    Human,
+    /// The same in colors, for a terminal. No word names it.
+    HumanInColor,
+}
+
 /// What a command line asks for.
 #[derive(Debug, Drop)]
 pub struct Line<'a> {
@@ -44,6 +63,25 @@ pub struct Line<'a> {
     pub summary: bool,
     /// Whether `verify` gives messages about style; true for the other subcommands.
     pub style: bool,
+    /// How `verify` and `update` write messages; plain for the other subcommands.
+    pub format: Format,
+    /// Whether `verify` and `update` go on behind what can't be read.
+    pub all: bool,
+    /// The codes of the messages that `verify` and `update` leave out, in the order given; `comments`
+    /// among them says that comments in the files are asked, too.
+    pub ignored: Vec<&'a str>,
+}
+
+/// What the words of a command line ask for.
+#[derive(Debug, Drop)]
+pub enum Request<'a> {
+    /// A run of one of the four subcommands over the files that it reads.
+    Run(Line<'a>),
+    /// `files`: which files of the folders count, for the line of `events` that reads them.
+    Files(Line<'a>),
+    /// `compare`: what comes or goes in the answers to events between two lines of `events`, the
+    /// old one and the new one.
+    Compare(Line<'a>, Line<'a>),
 }
 
 /// Why words are no line.

@@ -1,1 +1,1 @@
-mod Bounds
+pub mod Bounds

@@ -6,7 +6,7 @@ ghost use Rattle.engine_reports.specs.Outcomes.{rules_outcome, verify_outcome};
 ghost use Rattle.engine_reports.specs.Reports.{IsSaid, said};
 ghost use Rattle.text_tables.specs.Texts.{is_among};
 
-use crate::files_read::files_read;
+use crate::file_choice::files_read;
 use crate::messages::message_lines;
 use crate::refusal::Refusal;
 use crate::report::Report;
@@ -64,8 +64,9 @@ fn checked(
     })
 }
 
-/// The line that counts files, where it is asked for.
-fn counted(alloc: Global, summary: bool, all: usize, bad: usize) -> Result<Vec<u8>, AllocError>
+/// The line that counts files, where it is asked for: all of them, and how many are bad. The error
+/// comes where memory is refused.
+pub fn counted(alloc: Global, summary: bool, all: usize, bad: usize) -> Result<Vec<u8>, AllocError>
     requires { bad ≤ all }
     ensures { IfOk result (λ text. text.items ≡ (if summary then summary_line all bad else [])) }
 {
@@ -88,7 +89,7 @@ fn told(style: bool, mut messages: Vec<Message>) -> Vec<Message>
 }
 
 /// Whether a kind of message is about style.
-pub(crate) fn is_style(kind: MessageKind) -> bool
+pub fn is_style(kind: MessageKind) -> bool
     ensures { result ≡ is_style kind }
 {
     match kind {

@@ -11,7 +11,7 @@ ghost use Rattle.engine_reports.specs.FilesRead.{files_read};
 ghost use Rattle.engine_reports.specs.Reports.{IsSaid, said};
 
 use crate::answers::answer_lines;
-use crate::files_read::files_read;
+use crate::file_choice::files_read;
 use crate::messages::message_lines;
 use crate::refusal::Refusal;
 use crate::report::Report;

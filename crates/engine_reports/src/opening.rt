@@ -7,7 +7,7 @@ ghost use Rattle.engine_reports.specs.FilesRead.{files_read};
 ghost use Rattle.engine_reports.specs.Openings.{opening, opening_by, opening_messages, opening_within};
 ghost use Rattle.engine_reports.specs.Reports.{IsRefused, shown_opening, shown_rules};
 
-use crate::files_read::{both_read, files_read};
+use crate::file_choice::{both_read, files_read};
 use crate::messages::{message_lines, plain_message_lines};
 use crate::refusal::Refusal;
 use engine_ends::Line;

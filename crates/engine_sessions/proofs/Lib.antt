@@ -5,4 +5,6 @@ pub mod SendLemmas
 pub mod Failing
 pub mod KnownLemmas
 pub mod Turns
+pub mod FindingLemmas
+pub mod FindServing
 pub mod Serving

@@ -121,7 +121,7 @@ opening_first messages output count None err told e = begun-taken err told messa
 opening_first messages output count (Some fault) err told e = begun-first err told messages (block_line (number_behind count) fault) (begun-taken err told messages e)
 
 -- the outcome, where the answers are known
-outcome_well : (messages : Text) (answer : EventValue → Text) (text : Text) (sent : List Text) → answers_of answer text ≡ well sent → input_outcome messages answer text ≡ record { output = joined sent; messages = messages; status = 0 }
+pub outcome_well : (messages : Text) (answer : EventValue → Text) (text : Text) (sent : List Text) → answers_of answer text ≡ well sent → input_outcome messages answer text ≡ record { output = joined sent; messages = messages; status = 0 }
 outcome_well messages answer text sent e = ap (answered messages) e
 
 outcome_faulty : (messages : Text) (answer : EventValue → Text) (text : Text) (sent : List Text) (number : ℕ) (fault : BlockFault) → answers_of answer text ≡ until sent fault → number ≡ number_behind (length sent)
@@ -129,14 +129,14 @@ outcome_faulty : (messages : Text) (answer : EventValue → Text) (text : Text) 
 outcome_faulty messages answer text sent number fault e n = ap (answered messages) e ∙ ap (λ k. record { output = joined sent; messages = messages ++ block_line k fault; status = 1 }) (sym n)
 
 -- a text that is told of, by what was read of it and what is left
-rest_told : (text first : Text) (left : Option Text) → Some text ≡ led_by first left → (rest : Text) × (left ≡ Some rest) × (text ≡ first ++ rest)
+pub rest_told : (text first : Text) (left : Option Text) → Some text ≡ led_by first left → (rest : Text) × (left ≡ Some rest) × (text ≡ first ++ rest)
 rest_told text first None e = absurd cc
 rest_told text first (Some rest) e = (rest, refl, some_is text (first ++ rest) e)
   where
     some_is : (a b : Text) → Some a ≡ Some b → a ≡ b
     some_is a b e = cc
 
-none_is : (left : Option Text) (rest : Text) → NoneLeft left → left ≡ Some rest → rest ≡ []
+pub none_is : (left : Option Text) (rest : Text) → NoneLeft left → left ≡ Some rest → rest ≡ []
 none_is None rest h e = absurd cc
 none_is (Some other) rest h e = let same : other ≡ rest = some_is other rest e in sym same ∙ h
   where
@@ -148,7 +148,7 @@ sent_flushed : (out told : SinkState) (sent : List Text) → told.flushed ≡ fl
 sent_flushed out told [] e = inr (refl, e)
 sent_flushed out told (text ∷ sent) e = inl e
 
-sends_output : (out told out_now : SinkState) (sent : List Text) → Sends out sent told → out_now ≡ told → WritesOut out (joined sent) out_now
+pub sends_output : (out told out_now : SinkState) (sent : List Text) → Sends out sent told → out_now ≡ told → WritesOut out (joined sent) out_now
 sends_output out told out_now sent s e = rw e (record { taken = s.taken; flushed = sent_flushed out told sent s.flushed; well = s.well })
 
 hands_behind : (err told err_now : SinkState) (first second : Text) → HandsOn err first told → HandsOn told second err_now → HandsOn err (first ++ second) err_now

@@ -81,6 +81,16 @@ sent-more answer old now next part piece step before sink later s t k =
       leaves = t.leaves ∙ rw (answering, rest, count) refl;
     }
 
+pub sent-none_texts : {A : Type 0} (answer : EventValue → Text) (old : Held A) (sink : SinkState) (going : IsGoing old) → (sent-none answer old sink going).texts ≡ []
+unfolding sent-none
+sent-none_texts answer old sink going = refl
+
+pub sent-more_texts : {A : Type 0} (answer : EventValue → Text) (old now next : Held A) (part piece : Text) (step : Step) (before sink later : SinkState)
+    → (s : Sent answer old part now before sink) (t : Takes answer now piece step next) (k : Sends sink (option_to_list step.answer) later)
+    → (sent-more answer old now next part piece step before sink later s t k).texts ≡ s.texts ++ option_to_list step.answer
+unfolding sent-more
+sent-more_texts answer old now next part piece step before sink later s t k = refl
+
 -- the answers due are those sent and those to what stands behind
 due_more : {A : Type 0} (answer : EventValue → Text) (more : Bool) (old now : Held A) (part piece : Text) (before sink : SinkState) (s : Sent answer old part now before sink)
     → due answer more old.pending (part ++ piece) ≡ with_texts s.texts (due answer more now.pending piece)
@@ -96,6 +106,10 @@ sent-all answer old now piece before sink s = record {
   sends = s.sends;
   leaves = s.leaves;
 }
+
+pub sent-all_texts : {A : Type 0} (answer : EventValue → Text) (old now : Held A) (piece : Text) (before sink : SinkState) (s : Sent answer old piece now before sink) → (sent-all answer old now piece before sink s).texts ≡ s.texts
+unfolding sent-all
+sent-all_texts answer old now piece before sink s = refl
 
 -- a later call of the session fails
 pub sent-fails : {A : Type 0} (answer : EventValue → Text) (more : Bool) (fault : SessionFault) (old now next : Held A) (part piece : Text) (before sink : SinkState)

@@ -7,5 +7,6 @@ pub mod Answers
 pub mod Outcomes
 pub mod Inputs
 pub mod Serves
+pub mod Findings
 pub mod BlockFaults
 pub mod FaultTexts

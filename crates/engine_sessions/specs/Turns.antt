@@ -1,5 +1,5 @@
 -- What a turn reads and sends.
-use Rattle.std.specs.Prelude.{◌≡◌, ◌↔◌, ℕ, ◌+◌, ◌≤◌, Bool, true, false, not, List, [], ◌∷◌, ◌++◌, Option, Some, length, flat_map, if◌then◌else◌}
+use Rattle.std.specs.Prelude.{◌≡◌, ◌↔◌, ◌==◌, ℕ, ◌+◌, ◌≤◌, Bool, true, false, not, List, [], ◌∷◌, ◌++◌, Option, Some, length, flat_map, if◌then◌else◌}
 use Rattle.text_tables.specs.Texts.{Text}
 use Rattle.device_core.specs.Runs.{rest_of}
 use Rattle.device_core.specs.Values.{EventValue}
@@ -17,6 +17,10 @@ use Rattle.engine_sessions.specs.declared.turning.TurnFault.TheVariants.{Read, W
 -- answers, one behind another
 abbrev pub joined : List Text → Text
 joined texts = flat_map (λ text. text) texts
+
+-- whether any of these answers has a byte
+abbrev pub say_something : List Text → Bool
+say_something texts = not (length (joined texts) == 0)
 
 -- what a sink has flushed that took these answers: all that it took, or what it had flushed before where there is no answer
 abbrev pub flushed_behind : SinkState → List Text → SinkState → Option Text

@@ -1,5 +1,6 @@
 //! Messages, and the answers to an input behind them.
 ghost use Rattle.std.specs.Prelude.{◌≡◌, Err};
+ghost use Rattle.engine_sessions.specs.Findings.{FindsAll, found};
 ghost use Rattle.engine_sessions.specs.Outcomes.{input_outcome};
 ghost use Rattle.engine_sessions.specs.Serves.{AnswersAll, Concludes, Serves};
 
@@ -55,25 +56,72 @@ fn answer_in_steps<A: Answering, R: Source, W: Sink, E: Sink>(
     if hand_on(error, messages).is_err() {
         return 3;
     }
-    let end = answer_input(alloc, answering, input, output);
-    conclude(end, error)
+    match answer_input(alloc, answering, input, output) {
+        Ok(_) => 0,
+        Err(fault) => conclude(fault, error),
+    }
 }
 
-/// Tells how the answering of an input ended, and gives the status for it, or 3 where the error output
-/// failed.
-fn conclude<E: Sink>(end: Result<(), TurnFault>, error: &mut E) -> u8
-    requires { end ≡ Err (TurnFault.Session SessionFault.Ended) → ⊥ }
-    ensures { Concludes end result (E.shown error.old) (E.shown error.new) }
+/// Writes messages to `error`, and then answers the blocks of the input on `output`, as `answer_behind`
+/// does; what is answered is a finding, so that the status is 1 where any answer has a byte.
+///
+/// The status is 0; 1 where an answer has a byte, and where a block is faulty; 3 and 4 as with
+/// `answer_behind`, whatever was answered.
+pub fn find_behind<A: Answering, R: Source, W: Sink, E: Sink>(
+    alloc: Global,
+    messages: &[u8],
+    answering: &A,
+    input: &mut R,
+    output: &mut W,
+    error: &mut E,
+) -> u8
+    ensures serves { Serves (λ text. found (input_outcome messages.now (A.answers answering.now) text)) result
+        (record { input = R.shown input.old; out = W.shown output.old; err = E.shown error.old })
+        (record { input = R.shown input.new; out = W.shown output.new; err = E.shown error.new }) }
+    ensures steps { FindsAll messages.now (A.answers answering.now) result
+        (record { input = R.shown input.old; out = W.shown output.old; err = E.shown error.old })
+        (record { input = R.shown input.new; out = W.shown output.new; err = E.shown error.new }) }
 {
-    match end {
-        Ok(()) => 0,
-        Err(TurnFault::Read) => tell(error, READ_FAILED, 3),
-        Err(TurnFault::Write) => tell(error, WRITE_FAILED, 3),
-        Err(TurnFault::Session(SessionFault::Block(number, fault))) => {
+    find_in_steps(alloc, messages, answering, input, output, error)
+}
+
+/// The same, step by step.
+fn find_in_steps<A: Answering, R: Source, W: Sink, E: Sink>(
+    alloc: Global,
+    messages: &[u8],
+    answering: &A,
+    input: &mut R,
+    output: &mut W,
+    error: &mut E,
+) -> u8
+    ensures { FindsAll messages.now (A.answers answering.now) result
+        (record { input = R.shown input.old; out = W.shown output.old; err = E.shown error.old })
+        (record { input = R.shown input.new; out = W.shown output.new; err = E.shown error.new }) }
+{
+    if hand_on(error, messages).is_err() {
+        return 3;
+    }
+    match answer_input(alloc, answering, input, output) {
+        Ok(true) => 1,
+        Ok(false) => 0,
+        Err(fault) => conclude(fault, error),
+    }
+}
+
+/// Tells why the answering of an input stopped, and gives the status for it, or 3 where the error output
+/// failed.
+fn conclude<E: Sink>(fault: TurnFault, error: &mut E) -> u8
+    requires { fault ≡ TurnFault.Session SessionFault.Ended → ⊥ }
+    ensures { Concludes (Err fault) result (E.shown error.old) (E.shown error.new) }
+{
+    match fault {
+        TurnFault::Read => tell(error, READ_FAILED, 3),
+        TurnFault::Write => tell(error, WRITE_FAILED, 3),
+        TurnFault::Session(SessionFault::Block(number, fault)) => {
             tell_block_fault(error, number, fault)
         }
-        Err(TurnFault::Session(SessionFault::Memory)) => tell_out_of_memory(error),
-        Err(TurnFault::Session(SessionFault::Ended)) => {
+        TurnFault::Session(SessionFault::Memory) => tell_out_of_memory(error),
+        TurnFault::Session(SessionFault::Ended) => {
             prove!(false);
             3
         }

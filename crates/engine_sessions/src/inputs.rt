@@ -1,18 +1,19 @@
 //! The turns over an input.
 ghost use Rattle.std.specs.Prelude.{◌≡◌};
 ghost use Rattle.engine_sessions.specs.Sessions.{opened};
-ghost use Rattle.engine_sessions.specs.Inputs.{AnswersInput};
+ghost use Rattle.engine_sessions.specs.Findings.{AnswersFinding};
 
 use crate::answering::Answering;
 use crate::session::{Session, SessionFault};
-use crate::turning::{TurnFault, turn};
+use crate::turning::{TurnFault, turn_finding};
 use engine_ends::{Sink, Source};
 use std::alloc::Global;
 
 /// The most turns over one input.
 const MOST_TURNS: u64 = 1 << 48;
 
-/// Answers the blocks of an input: each answer is written and flushed before the next read.
+/// Answers the blocks of an input: each answer is written and flushed before the next read. Says whether
+/// any answer has a byte.
 ///
 /// `Session(Block(..))` comes where a block is faulty, with the answers to all blocks before it sent;
 /// `Session(Memory)` where memory is refused; `Write` where the output failed; `Read` where the input
@@ -22,8 +23,8 @@ pub fn answer_input<A: Answering, R: Source, W: Sink>(
     answering: &A,
     input: &mut R,
     output: &mut W,
-) -> Result<(), TurnFault>
-    ensures { AnswersInput (A.answers answering.now) result
+) -> Result<bool, TurnFault>
+    ensures { AnswersFinding (A.answers answering.now) result
         (R.shown input.old) (R.shown input.new) (W.shown output.old) (W.shown output.new) }
 {
     match Session::new(alloc, answering) {
@@ -32,21 +33,26 @@ pub fn answer_input<A: Answering, R: Source, W: Sink>(
     }
 }
 
-/// Makes turns until the input ends or a turn fails.
+/// Makes turns until the input ends or a turn fails. Says whether any answer has a byte.
 fn make_turns<A: Answering, R: Source, W: Sink>(
     alloc: Global,
     session: &mut Session<'_, A>,
     input: &mut R,
     output: &mut W,
-) -> Result<(), TurnFault>
+) -> Result<bool, TurnFault>
     requires { session.old ≡ opened session.old.answering }
-    ensures { AnswersInput (A.answers session.old.answering) result
+    ensures { AnswersFinding (A.answers session.old.answering) result
         (R.shown input.old) (R.shown input.new) (W.shown output.old) (W.shown output.new) }
 {
+    let mut finds = false;
     for _made in 0..MOST_TURNS {
-        match turn(alloc, session, input, output) {
-            Ok(true) => {}
-            Ok(false) => return Ok(()),
+        match turn_finding(alloc, session, input, output) {
+            Ok(turned) => {
+                finds |= turned.finds;
+                if !turned.more {
+                    return Ok(finds);
+                }
+            }
             Err(fault) => return Err(fault),
         }
     }

@@ -11,7 +11,7 @@ mod session;
 mod turning;
 
 pub use answering::Answering;
-pub use behind::answer_behind;
+pub use behind::{answer_behind, find_behind};
 pub use inputs::answer_input;
 pub use laws::{
     answers_do_not_depend_on_the_pieces, answers_end_at_the_first_fault, known_answers_stay,

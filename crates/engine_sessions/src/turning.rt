@@ -6,7 +6,8 @@ ghost use Rattle.std.specs.Prelude.{◌≡◌, ◌≤◌, true, false, [], lengt
 ghost use Rattle.std.specs.Option.{option_to_list};
 ghost use Rattle.device_core.specs.RunBlocks.{most_bytes};
 ghost use Rattle.engine_ends.specs.Sinks.{SinkState};
-ghost use Rattle.engine_sessions.specs.Turns.{due, HasEnded, Sends, SendsDue, SendsUntil, Turns, FailsBy};
+ghost use Rattle.engine_sessions.specs.Turns.{due, HasEnded, say_something, Sends, SendsDue, SendsUntil, Turns, FailsBy};
+ghost use Rattle.engine_sessions.specs.Findings.{TurnsFinding};
 ghost use Rattle.engine_sessions.specs.Holding.{IsGoing, BreaksOffAt};
 
 use crate::answering::Answering;
@@ -27,6 +28,15 @@ pub enum TurnFault {
     Write,
     /// 3: the session gave no answer, or had ended before.
     Session(SessionFault),
+}
+
+/// What a turn came to.
+#[derive(Clone, Copy, Debug, PartialEq, Eq)]
+pub(crate) struct Turned {
+    /// Whether the input goes on.
+    pub(crate) more: bool,
+    /// Whether any of the answers has a byte.
+    pub(crate) finds: bool,
 }
 
 /// Makes one read of at most 4,096 bytes, then writes and flushes every answer that is due, each as
@@ -51,17 +61,38 @@ pub fn turn<A: Answering, R: Source, W: Sink>(
     ensures fits { length session.new.pending ≤ most_bytes }
     ensures untouched { session.old.ended ≡ true → (session.new ≡ session.old) × (input.new ≡ input.old) × (output.new ≡ output.old) }
 {
+    match turn_finding(alloc, session, input, output) {
+        Ok(turned) => Ok(turned.more),
+        Err(fault) => Err(fault),
+    }
+}
+
+/// Does what `turn` does, and says besides whether any of the answers has a byte.
+pub(crate) fn turn_finding<A: Answering, R: Source, W: Sink>(
+    alloc: Global,
+    session: &mut Session<'_, A>,
+    input: &mut R,
+    output: &mut W,
+) -> Result<Turned, TurnFault>
+    ensures ok { IfOk result (λ turned. TurnsFinding (A.answers session.old.answering) turned.more turned.finds session.old session.new
+        (R.shown input.old) (R.shown input.new) (W.shown output.old) (W.shown output.new)) }
+    ensures err { IfErr result (λ fault. FailsBy (A.answers session.old.answering) fault session.old
+        (R.shown input.old) (R.shown input.new) (W.shown output.old) (W.shown output.new)) }
+    ensures ended { OnErr result (HasEnded session.old session.new) }
+    ensures fits { length session.new.pending ≤ most_bytes }
+    ensures untouched { session.old.ended ≡ true → (session.new ≡ session.old) × (input.new ≡ input.old) × (output.new ≡ output.old) }
+{
     if session.is_ended() {
         return Err(TurnFault::Session(SessionFault::Ended));
     }
     let mut piece = [0u8; MOST_READ];
     match input.read(&mut piece) {
         Ok(0) => match answer_last(alloc, session, output) {
-            Ok(()) => Ok(false),
+            Ok(finds) => Ok(Turned { more: false, finds }),
             Err(fault) => Err(fault),
         },
         Ok(len) => match answer_piece(alloc, session, &piece[..len], output) {
-            Ok(()) => Ok(true),
+            Ok(finds) => Ok(Turned { more: true, finds }),
             Err(fault) => Err(fault),
         },
         Err(DeviceFault) => {
@@ -71,50 +102,56 @@ pub fn turn<A: Answering, R: Source, W: Sink>(
     }
 }
 
-/// Takes a piece, and sends each answer as it comes.
+/// Takes a piece, and sends each answer as it comes. Says whether any of them has a byte.
 fn answer_piece<A: Answering, W: Sink>(
     alloc: Global,
     session: &mut Session<'_, A>,
     piece: &[u8],
     output: &mut W,
-) -> Result<(), TurnFault>
+) -> Result<bool, TurnFault>
     requires { IsGoing session.old }
+    ensures finds { IfOk result (λ finds. finds ≡ say_something (due (A.answers session.old.answering) true session.old.pending piece.now).texts) }
     ensures ok { OnOk result (SendsDue (A.answers session.old.answering) true session.old piece.now session.new (W.shown output.old) (W.shown output.new)) }
     ensures err { IfErr result (λ fault. SendsUntil fault (due (A.answers session.old.answering) true session.old.pending piece.now) session.old.answered (W.shown output.old) (W.shown output.new)) }
     ensures ended { OnErr result (HasEnded session.old session.new) }
     ensures fits { length session.new.pending ≤ most_bytes }
 {
     let mut used = 0;
+    let mut finds = false;
     while used < piece.len() {
         let step = match session.take(alloc, &piece[used..]) {
             Ok(step) => step,
             Err(fault) => return Err(TurnFault::Session(fault)),
         };
         match send(output, &step.answer) {
-            Ok(()) => used += step.used,
+            Ok(()) => {
+                used += step.used;
+                finds |= says_something(&step.answer);
+            }
             Err(DeviceFault) => {
                 session.close();
                 return Err(TurnFault::Write);
             }
         }
     }
-    Ok(())
+    Ok(finds)
 }
 
-/// Ends the input, and sends the last answer.
+/// Ends the input, and sends the last answer. Says whether it has a byte.
 fn answer_last<A: Answering, W: Sink>(
     alloc: Global,
     session: &mut Session<'_, A>,
     output: &mut W,
-) -> Result<(), TurnFault>
+) -> Result<bool, TurnFault>
     requires { IsGoing session.old }
+    ensures finds { IfOk result (λ finds. finds ≡ say_something (due (A.answers session.old.answering) false session.old.pending []).texts) }
     ensures ok { OnOk result (SendsDue (A.answers session.old.answering) false session.old [] session.new (W.shown output.old) (W.shown output.new)) }
     ensures err { IfErr result (λ fault. SendsUntil fault (due (A.answers session.old.answering) false session.old.pending []) session.old.answered (W.shown output.old) (W.shown output.new)) }
     ensures ended { HasEnded session.old session.new }
 {
     match session.end(alloc) {
         Ok(last) => match send(output, &last) {
-            Ok(()) => Ok(()),
+            Ok(()) => Ok(says_something(&last)),
             Err(DeviceFault) => Err(TurnFault::Write),
         },
         Err(fault) => Err(TurnFault::Session(fault)),
@@ -129,5 +166,15 @@ fn send<W: Sink>(output: &mut W, answer: &Option<Bytes>) -> Result<(), DeviceFau
     match answer {
         Some(text) => hand_on(output, text.as_slice()),
         None => Ok(()),
+    }
+}
+
+/// Whether there is an answer, and it has a byte.
+fn says_something(answer: &Option<Bytes>) -> bool
+    ensures { result ≡ say_something (option_to_list answer.now) }
+{
+    match answer {
+        Some(text) => !text.as_slice().is_empty(),
+        None => false,
     }
 }

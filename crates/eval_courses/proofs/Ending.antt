@@ -1,6 +1,7 @@
 -- How a course ends.
-use Rattle.std.proofs.Common.{◌≡◌, ◌↔◌, Bool, true, false, List, [], ◌∷◌, ◌++◌, Option, Some, None, codes, Result, Ok, Err, OnErr, append_assoc, refl, ap, sym, ◌∙◌}
+use Rattle.std.proofs.Common.{◌≡◌, ◌↔◌, Bool, true, false, List, [], ◌∷◌, ◌++◌, Option, Some, None, codes, Result, Ok, Err, OnErr, nat_lt, get_or, append_assoc, refl, ap, sym, ◌∙◌, true≢false}
 use Rattle.std.specs.List.{fold}
+use Rattle.std.specs.Prelude.{unwrap_or}
 use Rattle.text_tables.specs.Texts.{Text}
 use Rattle.hwdb_lookup.specs.declared.entry.Entry.{Entry}
 use Rattle.rule_types.specs.Rules.{Rule}
@@ -24,17 +25,21 @@ behind_all [] text = refl
 behind_all (t ∷ []) text = refl
 behind_all (t ∷ u ∷ ts) text = behind_all (u ∷ ts) text
 
+-- whether the first byte of a text is below the `s` of `stops there`
+abbrev below_stops : Text → Bool
+below_stops text = nat_lt (get_or text 0 0) 115
+
 -- a rule whose end is reached is not told as one that stops
 not_stopped : (texts : List Text) → ending_of texts ≡ codes "stops there" → ⊥
-not_stopped [] e = cc
-not_stopped (t ∷ ts) e = cc
+not_stopped [] e = true≢false (ap below_stops e)
+not_stopped (t ∷ ts) e = true≢false (ap below_stops e)
 
 reached_not_stopped : (since : Since) (r : Rule) (s : Scene) → ending since r s ≡ codes "stops there" → ⊥
 unfolding ending
 reached_not_stopped since r s e = not_stopped (effects since r s r.sets) e
 
 ends : (since : Since) (r : Rule) (s : Scene) (b : Bool) → (Some (end_of since r (s, b)) ≡ Some (codes "stops there")) ↔ ((onward (set_all r) (s, b)).1 ≡ false)
-ends since r s true = (λ e. absurd (reached_not_stopped since r s (cc)), λ h. cc)
+ends since r s true = (λ e. absurd (reached_not_stopped since r s (ap (λ (o : Option Text). unwrap_or o []) e)), λ h. absurd (true≢false h))
 ends since r s false = (λ e. refl, λ h. refl)
 
 pub course_ends : (entries : List Entry) (since : Since) (r : Rule) (s : Scene) → (last_of (course entries since r s) ≡ Some (codes "stops there")) ↔ ((apply entries r s).1 ≡ false)

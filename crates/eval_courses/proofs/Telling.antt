@@ -9,10 +9,12 @@ use Rattle.rule_types.specs.Rules.{Rule}
 use Rattle.eval_state.specs.declared.scene.Scene.{Scene}
 use Rattle.eval_acts.specs.Acts.{act_step}
 use Rattle.eval_rules.specs.Steps.{Went}
-use Rattle.eval_courses.specs.Acts.{act_met, act_told, deed_told}
+use Rattle.eval_courses.specs.Acts.{act_told, deed_told}
 use Rattle.eval_courses.specs.Keys.{act_key}
 use Rattle.eval_courses.specs.Looks.{met}
 use Rattle.eval_courses.specs.Courses.{told_onward, told_walk}
+use Rattle.eval_courses.specs.Inner.{done_told, told_behind}
+use Rattle.eval_courses.specs.declared.acts.ToldBefore.{ToldBefore}
 
 module _ {P : Type 0} (step : P → Scene → Went) (told : P → Scene → Text) (parts : List P) (i : ℕ) where
   next_told : (x : P) (s : Scene) → i < length parts → x ≡ get_or parts i x → told_walk step told (drop i parts) s ≡ told x s ∷ told_onward (told_walk step told (drop (i + 1) parts)) (step x s)
@@ -37,8 +39,13 @@ module _ {P : Type 0} (step : P → Scene → Went) (told : P → Scene → Text
   unfolding told_walk
   told_end before s h = sym (ap (λ ps. before ++ told_walk step told ps s) (drop_all i parts h) ∙ append-nil before)
 
+-- what is told of an act that was done, by what it came to
+pub done_is : (act : Act) (before : ToldBefore) (t : Scene) (on : Bool) (went : Went) → (t, on) ≡ went → act_key act ++ met on ++ told_behind before t.state.env ≡ done_told act before went
+unfolding done_told
+done_is act before t on went e = ap (λ (w : Went). act_key act ++ met w.1 ++ told_behind before w.0.state.env) e
+
 -- what is told of an act is what was told before it, and what it set
-pub act_is : (entries : List Entry) (r : Rule) (act : Act) (s t : Scene) (on : Bool) (behind : List Pair → Text) → (t, on) ≡ act_step entries r act s
-    → ((env : List Pair) → behind env ≡ deed_told act.deed s.state env) → act_key act ++ met on ++ behind t.state.env ≡ act_told entries r act s
-unfolding act_told
-act_is entries r act s t on behind e told = ap (λ text. act_key act ++ met on ++ text) (told t.state.env) ∙ ap (act_met act s.state) e
+pub act_is : (entries : List Entry) (r : Rule) (act : Act) (s : Scene) (before : ToldBefore)
+    → ((env : List Pair) → told_behind before env ≡ deed_told act.deed s.state env) → done_told act before (act_step entries r act s) ≡ act_told entries r act s
+unfolding act_told done_told
+act_is entries r act s before told = ap (λ text. act_key act ++ met (act_step entries r act s).1 ++ text) (told (act_step entries r act s).0.state.env)

@@ -2,7 +2,8 @@
 //!
 //! What an act looks at is rendered before it is done, and what it sets is known behind it: what is told of it is made in
 //! two parts.
-ghost use Rattle.std.specs.Prelude.{◌≡◌, ◌∷◌, ◌++◌, [], IfOk, OnOk, List, option_copied};
+ghost use Rattle.std.specs.Prelude.{◌≡◌, ◌∷◌, ◌++◌, [], IfOk, OnOk, List, None, Some, option_copied};
+ghost use Rattle.text_bytes.specs.Escapes.{escape_text};
 ghost use Rattle.text_tables.specs.Pairs.{Pair, value_of};
 ghost use Rattle.rule_types.specs.declared.part.Import.TheVariants as import;
 ghost use Rattle.eval_rendering.specs.Rendering.{render};
@@ -11,7 +12,7 @@ ghost use Rattle.eval_acts.specs.Acts.{act_step};
 ghost use Rattle.text_bytes.specs.Names.{space};
 ghost use Rattle.eval_effects.specs.Shown.{shown};
 ghost use Rattle.eval_courses.specs.Acts.{act_told, answer_told, deed_told, import_told, on_rendered, path_told, spaced};
-ghost use Rattle.eval_courses.specs.Inner.{told_behind};
+ghost use Rattle.eval_courses.specs.Inner.{done_told, told_behind};
 ghost use Rattle.eval_courses.specs.Keys.{act_key};
 ghost use Rattle.eval_courses.specs.Looks.{met};
 
@@ -78,27 +79,64 @@ fn push_spaced(alloc: Global, text: &mut Vec<u8>, written: &[u8]) -> Result<(), 
     push_shown(alloc, text, written)
 }
 
-/// What is told of the command of a PROGRAM, by what the event's block answers to it.
-fn answer_told(
+/// Puts an escaped text behind another.
+fn push_escaped(alloc: Global, text: &mut Vec<u8>, about: &[u8]) -> Result<(), AllocError>
+    ensures { OnOk result (text.new.items ≡ text.old.items ++ escape_text about.now) }
+{
+    text.extend_from_slice(&escape(alloc, about)?)
+}
+
+/// Puts the command of a PROGRAM and the answer to it behind a text.
+fn push_answered(
     alloc: Global,
+    text: &mut Vec<u8>,
+    command: &[u8],
+    answer: &ProgramAnswer<'_>,
+) -> Result<(), AllocError>
+    ensures { OnOk result (text.new.items ≡ text.old.items ++ answer_told command.now (Some answer.now)) }
+{
+    push_escaped(alloc, text, command)?;
+    text.extend_from_slice(b" answers ")?;
+    text.extend_from_slice(Buffer::new().format(answer.status()).as_bytes())?;
+    push_spaced(alloc, text, answer.text())
+}
+
+/// Puts the command of a PROGRAM behind a text, where there is no answer to it.
+fn push_unanswered(alloc: Global, text: &mut Vec<u8>, command: &[u8]) -> Result<(), AllocError>
+    ensures { OnOk result (text.new.items ≡ text.old.items ++ answer_told command.now None) }
+{
+    text.extend_from_slice(b"no answer for ")?;
+    push_escaped(alloc, text, command)
+}
+
+/// Puts the command of a PROGRAM, by what the event's block answers to it, behind a text.
+fn push_answer(
+    alloc: Global,
+    text: &mut Vec<u8>,
     command: &[u8],
     answer: Option<&ProgramAnswer<'_>>,
-) -> Result<Bytes, AllocError>
-    ensures { IfOk result (λ text. text ≡ answer_told command.now (option_copied answer.entry)) }
+) -> Result<(), AllocError>
+    ensures { OnOk result (text.new.items ≡ text.old.items ++ answer_told command.now (option_copied answer.entry)) }
+{
+    match answer {
+        Some(answer) => push_answered(alloc, text, command, answer),
+        None => push_unanswered(alloc, text, command),
+    }
+}
+
+/// What the event's block answers to a command.
+fn answer_to<'a>(state: &State<'a>, command: &[u8]) -> Option<&'a ProgramAnswer<'a>>
+    ensures { option_copied result ≡ value_of state.now.event.programs command.now }
+{
+    state.event.event().programs().get(command)
+}
+
+/// What is told of the command of a PROGRAM.
+fn command_asked(alloc: Global, command: &[u8], state: &State<'_>) -> Result<Bytes, AllocError>
+    ensures { IfOk result (λ text. text ≡ answer_told command.now (value_of state.now.event.programs command.now)) }
 {
     let mut text = Vec::new(alloc);
-    match answer {
-        Some(answer) => {
-            text.extend_from_slice(&escape(alloc, command)?)?;
-            text.extend_from_slice(b" answers ")?;
-            text.extend_from_slice(Buffer::new().format(answer.status()).as_bytes())?;
-            push_spaced(alloc, &mut text, answer.text())?;
-        }
-        None => {
-            text.extend_from_slice(b"no answer for ")?;
-            text.extend_from_slice(&escape(alloc, command)?)?;
-        }
-    }
+    push_answer(alloc, &mut text, command, answer_to(state, command))?;
     Ok(Bytes::new(text))
 }
 
@@ -107,10 +145,7 @@ fn program_told(alloc: Global, template: &Template, state: &State<'_>) -> Result
     ensures { IfOk result (λ text. text ≡ on_rendered (λ command. answer_told command (value_of state.now.event.programs command)) (render template.now state.now Plain)) }
 {
     match render(alloc, template, state, Mode::Plain)? {
-        Rendered::Text(command) => {
-            let answer = state.event.event().programs().get(command.as_slice());
-            answer_told(alloc, command.as_slice(), answer)
-        }
+        Rendered::Text(command) => command_asked(alloc, command.as_slice(), state),
         Rendered::TooLong => Bytes::copy_of(alloc, b"too long"),
     }
 }
@@ -213,8 +248,27 @@ fn act_met(
     Ok(Bytes::new(text))
 }
 
+/// Does what an act asks for, and tells what it met, by what was told before.
+#[tactic(auto, using(eval_rules::proofs::Staying::act_stays, crate::proofs::Telling::done_is))]
+fn tell_done<L: Lookup>(
+    alloc: Global,
+    rule: &Rule,
+    act: &Act,
+    before: &ToldBefore,
+    lookup: &L,
+    scene: &mut Scene<'_>,
+    texts: &mut Vec<Bytes>,
+) -> Result<bool, AllocError>
+    ensures scene { IfOk result (λ on. (scene.new, on) ≡ act_step (L.entries lookup.now) rule.now act.now scene.old) }
+    ensures text { OnOk result (texts.new.items ≡ texts.old.items ++ done_told act.now before.now (act_step (L.entries lookup.now) rule.now act.now scene.old) ∷ []) }
+    ensures event { scene.new.state.event ≡ scene.old.state.event }
+{
+    let goes_on = act_step(alloc, rule, act, lookup, scene)?;
+    texts.push(act_met(alloc, act, goes_on, before, &scene.state.env)?)?;
+    Ok(goes_on)
+}
+
 /// Does what an act asks for, and tells what it met.
-#[tactic(auto, using(eval_rules::proofs::Staying::act_stays, crate::proofs::Telling::act_is))]
 pub(crate) fn tell_act<L: Lookup>(
     alloc: Global,
     rule: &Rule,
@@ -228,8 +282,7 @@ pub(crate) fn tell_act<L: Lookup>(
     ensures event { scene.new.state.event ≡ scene.old.state.event }
 {
     let before = told_before(alloc, &act.deed, &scene.state)?;
-    let goes_on = act_step(alloc, rule, act, lookup, scene)?;
-    let text = act_met(alloc, act, goes_on, &before, &scene.state.env)?;
-    texts.push(text)?;
-    Ok(goes_on)
+    let goes_on = tell_done(alloc, rule, act, &before, lookup, scene, texts);
+    drop(before);
+    goes_on
 }

@@ -10,6 +10,7 @@ mod keys;
 mod laws;
 mod plain;
 mod properties;
+mod subjects;
 mod upward;
 
 pub use course::{Course, tell_course};

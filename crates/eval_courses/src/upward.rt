@@ -1,19 +1,20 @@
 //! The matches of one device, what they met device by device, and what the search came to.
-ghost use Rattle.std.specs.Prelude.{◌≡◌, ◌++◌, IfOk, OnOk, map};
+ghost use Rattle.std.specs.Prelude.{◌≡◌, ◌++◌, IfOk, OnOk, false, length, map};
 ghost use Rattle.std.specs.List.{list_any};
-ghost use Rattle.eval_matching.specs.Subjects.{found_place, holds_at, tags_at, up_subject};
+ghost use Rattle.device_core.specs.Values.{chain};
+ghost use Rattle.eval_matching.specs.Subjects.{found_place, holds_at, up_subject};
 ghost use Rattle.eval_rules.specs.Steps.{search};
-ghost use Rattle.eval_courses.specs.Looks.{looked, members_told};
-ghost use Rattle.eval_courses.specs.Upward.{device_told, found_told, hits, is_absent, met_at, name_at, partly, partly_told, places, search_told, unmet, up_told};
+ghost use Rattle.eval_courses.specs.Inner.{subject_of};
+ghost use Rattle.eval_courses.specs.Upward.{device_told, found_told, hits, met_at, name_at, partly, partly_told, places, search_told, unmet, up_told};
 
 use crate::keys::push_up_key;
-use crate::plain::{push_members, push_value};
+use crate::subjects::{Subject, is_absent, kernel_at, push_looked, up_subject};
 use eval_effects::{push_joined, push_shown};
-use eval_matching::{attribute_at, driver_at, found_place, holds_at, subsystem_at};
+use eval_matching::{found_place, holds_at};
 use eval_rules::search;
 use eval_state::{Scene, State};
 use itoa::Buffer;
-use rule_types::{UpKey, UpMatch};
+use rule_types::UpMatch;
 use std::alloc::{AllocError, Global};
 use text_bytes::Bytes;
 
@@ -26,69 +27,22 @@ fn push_name(
 ) -> Result<(), AllocError>
     ensures { OnOk result (text.new.items ≡ text.old.items ++ name_at state.now place) }
 {
-    push_shown(alloc, text, state.event.kernel_at(place).unwrap_or(b""))
+    push_shown(alloc, text, kernel_at(state, place))
 }
 
-/// Puts texts as the event gave them behind a text, a space between.
-fn push_given(alloc: Global, text: &mut Vec<u8>, members: &[&[u8]]) -> Result<(), AllocError>
-    ensures { OnOk result (text.new.items ≡ text.old.items ++ members_told (map (λ t. t.now) members.now)) }
-{
-    let Some((first, others)) = members.split_first() else {
-        return text.extend_from_slice(b"none");
-    };
-    push_shown(alloc, text, first)?;
-    for other in others {
-        text.push(b' ')?;
-        push_shown(alloc, text, other)?;
-    }
-    Ok(())
-}
-
-/// Puts the tags of the device at a place behind a text.
-fn push_tags(
+/// Puts what a match that fails met behind a text.
+fn push_failing(
     alloc: Global,
     text: &mut Vec<u8>,
-    state: &State<'_>,
-    place: usize,
+    subject: &Subject<'_, '_>,
 ) -> Result<(), AllocError>
-    ensures { OnOk result (text.new.items ≡ text.old.items ++ members_told (tags_at state.now place)) }
+    ensures { OnOk result (text.new.items ≡ text.old.items ++ met_at false (subject_of subject.now)) }
 {
-    if place == 0 {
-        return push_members(alloc, text, state.tags.as_slice());
+    if is_absent(subject) {
+        return text.extend_from_slice(b" has none");
     }
-    match state.event.device_at(place) {
-        Some(device) => push_given(alloc, text, device.tags().as_slice()),
-        None => push_given(alloc, text, &[]),
-    }
-}
-
-/// Puts what a match of one device looked at at a place behind a text.
-fn push_looked(
-    alloc: Global,
-    text: &mut Vec<u8>,
-    key: &UpKey,
-    state: &State<'_>,
-    place: usize,
-) -> Result<(), AllocError>
-    ensures { OnOk result (text.new.items ≡ text.old.items ++ looked (up_subject key.now state.now place)) }
-{
-    match key {
-        UpKey::Kernels => push_name(alloc, text, state, place),
-        UpKey::Subsystems => push_shown(alloc, text, subsystem_at(state, place)),
-        UpKey::Drivers => push_shown(alloc, text, driver_at(state, place)),
-        UpKey::Tags => push_tags(alloc, text, state, place),
-        UpKey::Attrs(name) => push_value(alloc, text, attribute_at(state, place, name.as_slice())),
-    }
-}
-
-/// Whether a match looked at an attribute that the device at a place lacks.
-fn is_absent(key: &UpKey, state: &State<'_>, place: usize) -> bool
-    ensures { result ≡ is_absent (up_subject key.now state.now place) }
-{
-    match key {
-        UpKey::Attrs(name) => attribute_at(state, place, name.as_slice()).is_none(),
-        _ => false,
-    }
+    text.extend_from_slice(b" fails, ")?;
+    push_looked(alloc, text, subject)
 }
 
 /// Puts what a match met at the device at a place behind a text.
@@ -104,11 +58,7 @@ fn push_met_at(
     if holds_at(part, state, place) {
         return text.extend_from_slice(b" holds");
     }
-    if is_absent(&part.key, state, place) {
-        return text.extend_from_slice(b" has none");
-    }
-    text.extend_from_slice(b" fails, ")?;
-    push_looked(alloc, text, &part.key, state, place)
+    push_failing(alloc, text, &up_subject(&part.key, state, place))
 }
 
 /// The device at a place, and what a match met at it.
@@ -127,12 +77,19 @@ fn device_told(
     Ok(Bytes::new(text))
 }
 
+/// How many devices the chain has.
+fn device_count(state: &State<'_>) -> usize
+    ensures { result ≡ length (chain state.now.event) }
+{
+    state.event.event().device_count()
+}
+
 /// Each device of the chain, and what a match met at it.
 fn devices_told(alloc: Global, part: &UpMatch, state: &State<'_>) -> Result<Vec<Bytes>, AllocError>
     ensures { IfOk result (λ texts. texts.items ≡ map (device_told part.now state.now) (places state.now)) }
 {
     let mut texts = Vec::new(alloc);
-    for place in 0..state.event.event().device_count() {
+    for place in 0..device_count(state) {
         texts.push(device_told(alloc, part, state, place)?)?;
     }
     Ok(texts)
@@ -154,10 +111,13 @@ fn up_told(alloc: Global, part: &UpMatch, state: &State<'_>) -> Result<Bytes, Al
 fn hits(parts: &[UpMatch], state: &State<'_>, place: usize) -> usize
     ensures { result ≡ hits parts.now state.now place }
 {
-    parts
-        .iter()
-        .filter(|part| holds_at(part, state, place))
-        .count()
+    let mut count = 0;
+    for part in parts {
+        if holds_at(part, state, place) {
+            count += 1;
+        }
+    }
+    count
 }
 
 /// The device at a place, and how many of the matches it meets.
@@ -183,7 +143,12 @@ fn partly_told(
 fn some_hold(parts: &[UpMatch], state: &State<'_>, place: usize) -> bool
     ensures { result ≡ list_any (holds_at state.now place) parts.now }
 {
-    parts.iter().any(|part| holds_at(part, state, place))
+    for part in parts {
+        if holds_at(part, state, place) {
+            return true;
+        }
+    }
+    false
 }
 
 /// The devices that meet some of the matches, from the farthest on.
@@ -195,7 +160,7 @@ fn partly_all_told(
     ensures { IfOk result (λ texts. texts.items ≡ map (partly_told parts.now state.now) (partly parts.now state.now)) }
 {
     let mut texts = Vec::new(alloc);
-    for place in (0..state.event.event().device_count()).rev() {
+    for place in (0..device_count(state)).rev() {
         if some_hold(parts, state, place) {
             texts.push(partly_told(alloc, parts, state, place)?)?;
         }

@@ -16,3 +16,4 @@ mod reading;
 pub use database::{Database, read_sources};
 pub use fault::HwdbFault;
 pub use hwdb_lookup::{Entry, Lookup, PlainDb, Sourced, rising, winners_are_the_answer};
+pub use lines::{before_comment, trimmed};

@@ -38,7 +38,7 @@ pub fn property_text<'a>(line: &Line<'a>) -> &'a [u8]
 }
 
 /// A text up to its first `#`.
-fn before_comment(text: &[u8]) -> &[u8]
+pub fn before_comment(text: &[u8]) -> &[u8]
     ensures { result.now ≡ before_comment text.now }
 {
     match find(b'#', text) {
@@ -48,7 +48,7 @@ fn before_comment(text: &[u8]) -> &[u8]
 }
 
 /// A text without the whitespace at its end.
-fn trimmed(text: &[u8]) -> &[u8]
+pub fn trimmed(text: &[u8]) -> &[u8]
     ensures { result.now ≡ trimmed text.now }
 {
     let (kept, _) = text.split_at(text.len() - trailing_whitespace(text));

@@ -3,7 +3,7 @@
 use devdry_files::{
     Disk, DiskFault, MemoryDisk, MemoryEntry, MemoryPlace, ReadFault, Stands, read_all, wanted,
 };
-use engine_ends::{Line, Verb};
+use engine_ends::{Format, Line, Verb};
 use std::alloc::{AllocError, Global};
 use std::test::Fail;
 use text_bytes::SourceFile;
@@ -65,6 +65,9 @@ fn read(alloc: Global, root: &str) -> Result<Vec<SourceFile>, ReadFault> {
         modalias: "",
         summary: true,
         style: true,
+        format: Format::Plain,
+        all: false,
+        ignored: Vec::new(alloc),
     };
     let wanted = wanted(alloc, &line)?;
     read_all(alloc, &DISK, &wanted)

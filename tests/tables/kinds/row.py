@@ -1,17 +1,35 @@
 """What a row of a table is: one run of the program, and all that it has to write."""
 from dataclasses import dataclass, field
+from typing import Any, Callable
 
 
 class Begins(bytes):
     """The text that an output begins with, where the rest belongs to a library, as clap's usage does."""
 
 
+@dataclass
+class Read:
+    """What a reader makes of an output, where a format leaves its bytes open."""
+
+    reader: Callable[[bytes], Any]
+    wanted: Any
+
+
 class Link(str):
     """The path that a symbolic link leads to, among the files of a row."""
 
 
-# an empty folder, among the files of a row
+# an empty folder, and a pipe, among the files of a row
 FOLDER = None
+PIPE = object()
+
+
+@dataclass
+class Moded:
+    """A file, or an empty folder, with permissions of its own, among the files of a row."""
+
+    mode: int
+    content: bytes | str | None = b""
 
 
 @dataclass
@@ -21,14 +39,17 @@ class Row:
     name: str
     # the words of the command line; a str is cut at its spaces
     words: list | str
-    # the files of the folder that the program is run in: path to content, a Link or FOLDER; a path may lead through folders
+    # the files of the folder that the program is run in: path to content, a Link, a Moded, FOLDER or PIPE; a path may
+    # lead through folders
     files: dict = field(default_factory=dict)
     # the standard input
     input: bytes | str = b""
     # the standard output, the standard error and the status
-    output: bytes | str = b""
-    messages: bytes | str = b""
+    output: bytes | str | Read = b""
+    messages: bytes | str | Read = b""
     status: int = 0
+    # whether a user is asked for whom permissions count: root is not
+    plain: bool = False
 
 
 def as_bytes(text):

@@ -2,9 +2,9 @@
 from tables.kinds.row import Row, as_bytes
 
 
-def verified(name, *lines, ends=b"\n"):
+def verified(name, *lines, ends=b"\n", words="verify"):
     """A run over a file `r.rules` of these lines, each with what is said of it behind it: `(line, message..)`, or the line
-    alone where nothing is. A message is what follows `r.rules:N: `."""
+    alone where nothing is. A message is what follows `r.rules:N: `. `words` stand before the file."""
     text = b""
     messages = b""
     for number, line in enumerate(lines, 1):
@@ -14,7 +14,7 @@ def verified(name, *lines, ends=b"\n"):
     good = 0 if messages else 1
     return Row(
         name,
-        "verify r.rules",
+        f"{words} r.rules",
         {"r.rules": text[:-1] + ends},
         output=f"1 files checked, {good} good, {1 - good} bad\n",
         messages=messages,

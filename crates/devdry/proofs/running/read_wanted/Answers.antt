@@ -7,7 +7,7 @@ use Rattle.devdry_files.specs.Found.{AreWanted}
 use Rattle.devdry_files.specs.declared.fault.ReadFault.{ReadFault}
 use Rattle.devdry_files.specs.declared.fault.ReadFault.TheVariants.{Memory, Path}
 use Rattle.devdry_files.specs.declared.places.Wanted.{Wanted}
-use Rattle.devdry.specs.Runs.{IsFaultOf, IsFaultyRead}
+use Rattle.devdry.specs.Reading.{IsFaultOf, IsFaultyRead}
 use Rattle.devdry.proofs.running.read_wanted.Goals as goal
 
 -- what holds of a path holds of it more weakly

@@ -1,8 +1,17 @@
-use Rattle.std.proofs.Common.{inl, inr, refl}
+use Rattle.std.proofs.Common.{inl, inr, refl, subst}
+use Rattle.devdry.specs.Runs.{RunsRequest}
 use Rattle.devdry.proofs.running.run_words.Goals as goal
 
 pub returns-in-Ok : goal.returns-in-Ok
-returns-in-Ok g c = inl (record { line = c.in-Ok.line; is_line = c.in-Ok.ensures.line; faultless = c.in-Ok.ensures.faultless; one_database = c.in-Ok.ensures.one; runs = c.run_line.ensures })
+returns-in-Ok g c = inl (record {
+  request = c.in-Ok.request;
+  is_request = c.in-Ok.ensures.request;
+  faultless = c.in-Ok.ensures.faultless;
+  runs = subst (λ r. RunsRequest c.args.terminals.input (g.D.Disk.may_answer c.args.disk.now) r c.run_request.result
+      (record { input = g.I.Source.shown c.args.input.now; out = g.W.Sink.shown c.args.output.now; err = g.E.Sink.shown c.args.error.now })
+      (record { input = g.I.Source.shown c.run_request.new.input; out = g.W.Sink.shown c.run_request.new.output; err = g.E.Sink.shown c.run_request.new.error }))
+      c.shown_request-request.ensures c.run_request.ensures;
+})
 
 pub returns-in-Err : goal.returns-in-Err
 returns-in-Err g c = inr (record { fault = c.in-Err.fault; answers = c.in-Err.ensures.fault; tells = c.tell_line_fault.ensures; unread = refl })

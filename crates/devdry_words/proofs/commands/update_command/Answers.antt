@@ -10,4 +10,7 @@ returns c =
     let start : IsCommand (new_shape (codes "update")) c.about.result = search rules in
     let first = one_more _ _ _ _ _ start c.root_option.ensures c.in_ok-arg.ensures in
     let second = one_more _ _ _ _ _ first c.strict_flag.ensures c.in_ok-arg-2.ensures in
-    IfOk-weaker c.arg-3.result _ _ (λ m h. one_more _ _ _ _ _ second c.files_argument.ensures h) c.arg-3.ensures
+    let third = one_more _ _ _ _ _ second c.all_flag.ensures c.in_ok-arg-3.ensures in
+    let fourth = one_more _ _ _ _ _ third c.format_option.ensures c.in_ok-arg-4.ensures in
+    let fifth = one_more _ _ _ _ _ fourth c.ignore_option.ensures c.in_ok-arg-5.ensures in
+    IfOk-weaker c.arg-6.result _ _ (λ m h. one_more _ _ _ _ _ fifth c.files_argument.ensures h) c.arg-6.ensures

@@ -9,6 +9,9 @@ pub returns : goal.returns
 returns c =
     let start : IsCommand (new_shape (codes "verify")) c.about.result = search rules in
     let first = one_more _ _ _ _ _ start c.root_option.ensures c.in_ok-arg.ensures in
-    let second = one_more _ _ _ _ _ first c.no_summary_flag.ensures c.in_ok-arg-2.ensures in
-    let third = one_more _ _ _ _ _ second c.no_style_flag.ensures c.in_ok-arg-3.ensures in
-    IfOk-weaker c.arg-4.result _ _ (λ m h. one_more _ _ _ _ _ third c.files_argument.ensures h) c.arg-4.ensures
+    let second = one_more _ _ _ _ _ first c.all_flag.ensures c.in_ok-arg-2.ensures in
+    let third = one_more _ _ _ _ _ second c.format_option.ensures c.in_ok-arg-3.ensures in
+    let fourth = one_more _ _ _ _ _ third c.ignore_option.ensures c.in_ok-arg-4.ensures in
+    let fifth = one_more _ _ _ _ _ fourth c.no_summary_flag.ensures c.in_ok-arg-5.ensures in
+    let sixth = one_more _ _ _ _ _ fifth c.no_style_flag.ensures c.in_ok-arg-6.ensures in
+    IfOk-weaker c.arg-7.result _ _ (λ m h. one_more _ _ _ _ _ sixth c.files_argument.ensures h) c.arg-7.ensures

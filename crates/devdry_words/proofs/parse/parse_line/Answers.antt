@@ -1,15 +1,16 @@
-use Rattle.std.proofs.Common.{◌≡◌, ◌∙◌, ◌⊎◌, inl, inr, List, [], Option, Result, Ok, Err, IfErr, IfOk, ap, sym, subst, true}
+use Rattle.std.proofs.Common.{◌≡◌, ◌∙◌, ◌⊎◌, inl, inr, List, [], Option, Result, Ok, Err, IfErr, IfOk, ap, map, string_bytes, sym, subst, true}
 use Rattle.std.proofs.lemmas.Result.{IfErr-weaker}
 use Rattle.clap.specs.Words.{App, IsAmong, HasMatchesOf, Kinds, Row, Text, fault_of, is_simple, is_simple_and_free, subcommand_of, subcommand_rows_of}
 use Rattle.clap.specs.declared.parser.matches.ArgMatches.{ArgMatches}
 use Rattle.clap.specs.declared.error.kind.ErrorKind.{ErrorKind}
 use Rattle.clap.specs.declared.error.kind.ErrorKind.TheVariants as kind
-use Rattle.engine_ends.specs.declared.line.Line.{Line}
+use Rattle.engine_ends.specs.declared.line.Request.{Request}
 use Rattle.engine_ends.specs.declared.line.LineFault.{LineFault}
 use Rattle.engine_ends.specs.declared.line.LineFault.TheVariants.{Memory}
 use Rattle.devdry_words.specs.Commands.{devdry}
-use Rattle.devdry_words.specs.Lines.{AnswersOneOf, AnswersWords, IsAnswer, IsLineOf, NamesTwo, NamesVerb}
-use Rattle.devdry_words.proofs.Asked.{devdry_is_simple, devdry_is_simple_and_free, names_a_verb}
+use Rattle.devdry_words.specs.Answers.{AnswersOneOf, AnswersSubcommand, AnswersWords, IsAnswer}
+use Rattle.devdry_words.specs.Requests.{IsRequestOf, NamesSubcommand}
+use Rattle.devdry_words.proofs.Asked.{devdry_is_simple, devdry_is_simple_and_free, names_a_subcommand}
 use Rattle.devdry_words.proofs.parse.parse_line.Goals as goal
 
 asked_is : (a : App) (words : List Text) (m : ArgMatches) → a ≡ devdry → HasMatchesOf a words m → subcommand_rows_of m ≡ subcommand_of devdry words
@@ -30,12 +31,12 @@ answered a words k f is fails memory said = elim (fails (ap is_simple_and_free i
   | inr among ↦ inr (k, subst (λ x. IsAmong k (fault_of x words)) is among, said)
 ]
 
--- what refuses a line answers words that are not at fault
-refused : (r : Result Line LineFault) (kinds : Kinds) (asked : Option (Text × List Row)) → kinds ≡ [] → IfErr r (λ f. (f ≡ Memory) ⊎ NamesTwo asked f)
+-- what stands in place of a request answers words that are not at fault
+refused : (r : Result Request LineFault) (kinds : Kinds) (asked : Option (Text × List Row)) → kinds ≡ [] → IfErr r (λ f. (f ≡ Memory) ⊎ AnswersSubcommand asked f)
     → IfErr r (AnswersWords kinds asked)
 refused r kinds asked none h = IfErr-weaker r _ _ (λ f why. elim why [
   | inl memory ↦ inl (inl memory)
-  | inr two ↦ inr (none, two)
+  | inr own ↦ inr (none, own)
 ]) h
 
 pub returns-in-Err-try_get_matches_from-clause-fault :
@@ -43,31 +44,31 @@ pub returns-in-Err-try_get_matches_from-clause-fault :
 returns-in-Err-try_get_matches_from-clause-fault c =
     inl (answered _ _ _ _ c.in-Ok.ensures c.in-Err-try_get_matches_from.ensures.kinds c.fault_from.ensures.memory c.fault_from.ensures.kind)
 
-pub line_of-requires : goal.line_of-requires
-line_of-requires c =
+pub request_of-requires : goal.request_of-requires
+request_of-requires c =
     let parsed = c.in-Ok-try_get_matches_from.ensures in
-    subst NamesVerb (sym (asked_is _ _ _ c.in-Ok.ensures parsed.matches)) (names_a_verb _ (faultless _ _ c.in-Ok.ensures parsed.kinds))
+    subst NamesSubcommand (sym (asked_is _ _ _ c.in-Ok.ensures parsed.matches)) (names_a_subcommand _ (faultless _ _ c.in-Ok.ensures parsed.kinds))
 
-pub returns-in-Ok-try_get_matches_from-clause-line :
-    goal.returns-in-Ok-try_get_matches_from-clause-line
-returns-in-Ok-try_get_matches_from-clause-line c =
+pub returns-in-Ok-try_get_matches_from-clause-request :
+    goal.returns-in-Ok-try_get_matches_from-clause-request
+returns-in-Ok-try_get_matches_from-clause-request c =
     let parsed = c.in-Ok-try_get_matches_from.ensures in
-    subst (λ asked. IfOk c.line_of.result (IsLineOf asked)) (asked_is _ _ _ c.in-Ok.ensures parsed.matches) c.line_of.ensures.line
+    subst (λ asked. IfOk c.request_of.result (IsRequestOf asked)) (asked_is _ _ _ c.in-Ok.ensures parsed.matches) c.request_of.ensures.request
 
 pub returns-in-Ok-try_get_matches_from-clause-faultless :
     goal.returns-in-Ok-try_get_matches_from-clause-faultless
 returns-in-Ok-try_get_matches_from-clause-faultless c =
-    always c.line_of.result (faultless _ _ c.in-Ok.ensures c.in-Ok-try_get_matches_from.ensures.kinds)
+    always c.request_of.result (faultless _ _ c.in-Ok.ensures c.in-Ok-try_get_matches_from.ensures.kinds)
 
 pub returns-in-Ok-try_get_matches_from-clause-fault :
     goal.returns-in-Ok-try_get_matches_from-clause-fault
 returns-in-Ok-try_get_matches_from-clause-fault c =
     let parsed = c.in-Ok-try_get_matches_from.ensures in
-    refused _ _ _ (faultless _ _ c.in-Ok.ensures parsed.kinds)
-    (subst (λ asked. IfErr c.line_of.result (λ f. (f ≡ Memory) ⊎ NamesTwo asked f)) (asked_is _ _ _ c.in-Ok.ensures parsed.matches) c.line_of.ensures.refusal)
+    refused _ _ (subcommand_of devdry (map string_bytes c.args.words.now)) (faultless _ _ c.in-Ok.ensures parsed.kinds)
+    (subst (λ asked. IfErr c.request_of.result (λ f. (f ≡ Memory) ⊎ AnswersSubcommand asked f)) (asked_is _ _ _ c.in-Ok.ensures parsed.matches) c.request_of.ensures.fault)
 
 pub returns-in-Ok-try_get_matches_from-clause-refusal :
     goal.returns-in-Ok-try_get_matches_from-clause-refusal
 returns-in-Ok-try_get_matches_from-clause-refusal c _ =
     let parsed = c.in-Ok-try_get_matches_from.ensures in
-    subst (λ asked. IfErr c.line_of.result (λ f. (f ≡ Memory) ⊎ NamesTwo asked f)) (asked_is _ _ _ c.in-Ok.ensures parsed.matches) c.line_of.ensures.refusal
+    subst (λ asked. IfErr c.request_of.result (λ f. (f ≡ Memory) ⊎ AnswersSubcommand asked f)) (asked_is _ _ _ c.in-Ok.ensures parsed.matches) c.request_of.ensures.fault

@@ -1,6 +1,6 @@
-use Rattle.engine_sessions.proofs.Turns.{Served}
+use Rattle.engine_sessions.proofs.FindingLemmas.{ServedFinding}
 use Rattle.engine_sessions.proofs.inputs.make_turns.Given as goal
 
 abbrev pub invariant-loop-made : goal.invariant-loop-made
 invariant-loop-made g l =
-    Served (g.A.Answering.answers l.initial.session.answering) l.initial.session (g.R.Source.shown l.initial.input) (g.R.Source.shown l.input) (g.W.Sink.shown l.initial.output) (g.W.Sink.shown l.output) l.session l._made
+    ServedFinding (g.A.Answering.answers l.initial.session.answering) l.initial.session (g.R.Source.shown l.initial.input) (g.R.Source.shown l.input) (g.W.Sink.shown l.initial.output) (g.W.Sink.shown l.output) l.session l._made l.finds

@@ -1,7 +1,6 @@
-use Rattle.std.proofs.Common.{◌≡◌, [], ◌∷◌, ◌++◌, length, map, arith, zero-add, ap, sym, ◌∙◌}
+use Rattle.std.proofs.Common.{◌≡◌, [], ◌∷◌, ◌++◌, map, arith, zero-add, ap, sym, ◌∙◌}
 use Rattle.std.specs.List.{range_with_len}
 use Rattle.std.proofs.lemmas.List.FromFn.{map-range_with_len_more}
-use Rattle.device_core.specs.Values.{chain}
 use Rattle.eval_courses.specs.Upward.{device_told}
 use Rattle.eval_courses.proofs.upward.devices_told.Goals as goal
 
@@ -16,4 +15,4 @@ pub returns : goal.returns
 returns c =
     let at_end : c.loop-place.place ≡ c.device_count-place-end.result = omega arith in
     c.loop-place.invariant
-    ∙ ap (λ n. map (device_told c.args.part.now c.args.state.now) (range_with_len 0 n)) (at_end ∙ c.device_count-place-end.ensures.value ∙ ap (λ event. length (chain event)) c.event.ensures)
+    ∙ ap (λ n. map (device_told c.args.part.now c.args.state.now) (range_with_len 0 n)) (at_end ∙ c.device_count-place-end.ensures)

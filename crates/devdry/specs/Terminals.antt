@@ -1,0 +1,41 @@
+-- What the program shows otherwise on a terminal than in a file.
+use Rattle.std.specs.Prelude.{Bool, true, false}
+use Rattle.engine_ends.specs.declared.line.Format.{Format}
+use Rattle.engine_ends.specs.declared.line.Format.TheVariants.{Human, HumanInColor}
+use Rattle.engine_ends.specs.declared.line.Line.{Line}
+use Rattle.engine_ends.specs.declared.line.Request.{Request}
+use Rattle.engine_ends.specs.declared.line.Request.TheVariants.{Run, Files, Compare}
+
+-- the format for people in colors, and any other as it is
+abbrev pub in_color : Format → Format
+in_color Human = HumanInColor
+in_color format = format
+
+-- the format that is shown, told whether colors are
+abbrev pub shown_format : Bool → Format → Format
+shown_format true format = in_color format
+shown_format false format = format
+
+-- a line with the format that is shown
+abbrev pub shown_line : Bool → Line → Line
+shown_line colors line = record {
+  verb = line.verb;
+  root = line.root;
+  files = line.files;
+  index = line.index;
+  strict = line.strict;
+  sources = line.sources;
+  why = line.why;
+  modalias = line.modalias;
+  summary = line.summary;
+  style = line.style;
+  format = shown_format colors line.format;
+  all = line.all;
+  ignored = line.ignored;
+}
+
+-- a request with the format that is shown: `files` and `compare` have no messages
+abbrev pub shown_request : Bool → Request → Request
+shown_request colors (Run line) = Run (shown_line colors line)
+shown_request colors (Files line) = Files line
+shown_request colors (Compare old new) = Compare old new

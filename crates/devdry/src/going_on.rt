@@ -1,0 +1,89 @@
+//! Runs that go on behind what can't be read.
+//!
+//! What is told of the reading is written first. Then the run is as any other, and its status is no
+//! less than what the reading asks for.
+ghost use Rattle.engine_core.specs.Runs.{RunsOver};
+ghost use Rattle.engine_ends.specs.Sources.{SourceState};
+ghost use Rattle.std.specs.Prelude.{None};
+ghost use Rattle.devdry.specs.GoingOn.{DeliversLines, ListsFiles, RunsBehind, RunsSome};
+
+use devdry_files::Disk;
+use devdry_folders::{Listed, ReadSome, list_files, read_what_can};
+use engine_core::serve;
+use engine_ends::{DeviceFault, Line, Sink, Source, deliver, hand_on, tell_out_of_memory};
+use std::alloc::Global;
+
+/// Runs a line over what can be read of what it asks for.
+pub(crate) fn run_some<D: Disk, I: Source, W: Sink, E: Sink>(
+    alloc: Global,
+    disk: &D,
+    line: &Line<'_>,
+    input: &mut I,
+    output: &mut W,
+    error: &mut E,
+) -> u8
+    ensures { RunsSome (D.may_answer disk.now) line.now result
+        (record { input = I.shown input.old; out = W.shown output.old; err = E.shown error.old })
+        (record { input = I.shown input.new; out = W.shown output.new; err = E.shown error.new }) }
+{
+    match read_what_can(alloc, disk, line) {
+        Ok(some) => run_over(alloc, line, some, input, output, error),
+        Err(_) => tell_out_of_memory(error),
+    }
+}
+
+/// Tells what could not be read, and runs a line over what could.
+fn run_over<I: Source, W: Sink, E: Sink>(
+    alloc: Global,
+    line: &Line<'_>,
+    some: ReadSome,
+    input: &mut I,
+    output: &mut W,
+    error: &mut E,
+) -> u8
+    ensures { RunsBehind some.told.items some.least (RunsOver line.now some.files.items None) result
+        (record { input = I.shown input.old; out = W.shown output.old; err = E.shown error.old })
+        (record { input = I.shown input.new; out = W.shown output.new; err = E.shown error.new }) }
+{
+    match hand_on(error, &some.told) {
+        Ok(()) => {
+            let own = serve(alloc, line, some.files, None, input, output, error);
+            own.max(some.least)
+        }
+        Err(DeviceFault) => 3,
+    }
+}
+
+/// Tells which files of the folders that a line asks for count. No input is read.
+pub(crate) fn run_files<D: Disk, W: Sink, E: Sink>(
+    alloc: Global,
+    disk: &D,
+    line: &Line<'_>,
+    output: &mut W,
+    error: &mut E,
+) -> u8
+    ensures { (input : SourceState) → ListsFiles (D.may_answer disk.now) line.now result
+        (record { input = input; out = W.shown output.old; err = E.shown error.old })
+        (record { input = input; out = W.shown output.new; err = E.shown error.new }) }
+{
+    match list_files(alloc, disk, line) {
+        Ok(listed) => tell_listed(&listed, output, error),
+        Err(_) => tell_out_of_memory(error),
+    }
+}
+
+/// Writes what is told of the folders, and then the lines on their files.
+fn tell_listed<W: Sink, E: Sink>(listed: &Listed, output: &mut W, error: &mut E) -> u8
+    ensures { (input : SourceState) → RunsBehind listed.now.told.items listed.now.least
+        (DeliversLines listed.now.lines.items) result
+        (record { input = input; out = W.shown output.old; err = E.shown error.old })
+        (record { input = input; out = W.shown output.new; err = E.shown error.new }) }
+{
+    match hand_on(error, &listed.told) {
+        Ok(()) => {
+            let own = deliver(b"", &listed.lines, 0, output, error);
+            own.max(listed.least)
+        }
+        Err(DeviceFault) => 3,
+    }
+}

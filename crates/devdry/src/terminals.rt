@@ -1,0 +1,44 @@
+//! What the program shows otherwise on a terminal than in a file.
+ghost use Rattle.std.specs.Prelude.{◌≡◌};
+ghost use Rattle.devdry.specs.Terminals.{shown_format, shown_line, shown_request};
+
+use engine_ends::{Format, Line, Request};
+
+/// Which of the program's streams somebody looks at.
+#[derive(Clone, Copy, Debug, PartialEq, Eq)]
+pub(crate) struct Terminals {
+    /// Whether the input is a terminal.
+    pub(crate) input: bool,
+    /// Whether messages for people are shown in colors: the error output is a terminal, and the
+    /// environment does not refuse colors.
+    pub(crate) colors: bool,
+}
+
+/// A request, whose messages are in colors where these are shown.
+pub(crate) fn shown_request<'a>(request: Request<'a>, colors: bool) -> Request<'a>
+    ensures { result ≡ shown_request colors request.entry }
+{
+    match request {
+        Request::Run(line) => Request::Run(shown_line(line, colors)),
+        Request::Files(line) => Request::Files(line),
+        Request::Compare(old, new) => Request::Compare(old, new),
+    }
+}
+
+/// A line, whose messages are in colors where these are shown.
+fn shown_line<'a>(mut line: Line<'a>, colors: bool) -> Line<'a>
+    ensures { result ≡ shown_line colors line.entry }
+{
+    line.format = shown_format(line.format, colors);
+    line
+}
+
+/// The format for people in colors where these are shown, and any other as it is.
+fn shown_format(format: Format, colors: bool) -> Format
+    ensures { result ≡ shown_format colors format }
+{
+    match format {
+        Format::Human if colors => Format::HumanInColor,
+        _ => format,
+    }
+}

@@ -1,0 +1,66 @@
+//! The section on each remark.
+ghost use Rattle.std.specs.Prelude.{◌≡◌, IsSomeAnd, MatchOption, None};
+ghost use Rattle.devdry_explanations.specs.Codes.{remark_with};
+ghost use Rattle.devdry_explanations.specs.Sections.{HasAdvice, HasHeading, IsSectionOn};
+ghost use Rattle.engine_formats.specs.declared.remark.Remark.TheVariants.{Message};
+
+use crate::codes::remark_with;
+use crate::{comments, database, rules, style};
+use engine_formats::Remark;
+use text_bytes::MessageKind;
+
+/// The section on a kind of message.
+fn section_on_kind(kind: MessageKind) -> &'static str
+    ensures heading { HasHeading (Message kind) result.now }
+    ensures advice { HasAdvice (Message kind) result.now }
+{
+    match kind {
+        MessageKind::PropertyWithoutMatch => database::H1,
+        MessageKind::MatchWithoutProperty => database::H2,
+        MessageKind::UnindentedLine => database::H3,
+        MessageKind::NoEquals => database::H4,
+        MessageKind::EmptyKey => database::H5,
+        MessageKind::PatternNotSupported => database::H6,
+        MessageKind::BadSyntax => rules::V1,
+        MessageKind::UnknownKey => rules::V2,
+        MessageKind::OperatorNotAllowed => rules::V3,
+        MessageKind::WrongAttribute => rules::V4,
+        MessageKind::BadValue => rules::V5,
+        MessageKind::BadSubstitution => rules::V6,
+        MessageKind::NoLaterLabel => rules::V7,
+        MessageKind::GivenTwice => rules::V8,
+        MessageKind::LineTooLong => rules::V9,
+        MessageKind::BadPrefix => rules::V10,
+        MessageKind::SetNotSupported => rules::V11,
+        MessageKind::OpenAtEnd => rules::V12,
+        MessageKind::CommaExpected => style::S1,
+        MessageKind::BlankExpected => style::S2,
+        MessageKind::ReadAsAssign => style::S3,
+        MessageKind::LabelUnused => style::S4,
+    }
+}
+
+/// The section on a remark. Its first line is the heading of the remark, and behind an empty line stand
+/// what it means, a file that earns it, and the mended one.
+pub fn section_on(remark: Remark) -> &'static str
+    ensures heading { HasHeading remark result.now }
+    ensures advice { HasAdvice remark result.now }
+{
+    match remark {
+        Remark::Message(kind) => section_on_kind(kind),
+        Remark::IdleIgnore => comments::I1,
+        Remark::UnknownCode => comments::I2,
+    }
+}
+
+/// The section on the remark of a code, which may be written with a small letter: `V6` or `v6`. A text
+/// that is no code has none.
+pub fn explanation(code: &str) -> Option<&'static str>
+    ensures { MatchOption (remark_with code.now) (result ≡ None)
+        (λ remark. IsSomeAnd result (λ section. IsSectionOn remark section.now)) }
+{
+    match remark_with(code.as_bytes()) {
+        Some(remark) => Some(section_on(remark)),
+        None => None,
+    }
+}

@@ -1,0 +1,18 @@
+//! What a look at a path shows.
+
+/// What stands at a path, symlinks followed.
+#[derive(Clone, Copy, Debug, PartialEq, Eq)]
+pub enum Look {
+    /// 1: nothing, which is also what a symlink to nothing leads to.
+    Absent,
+    /// 2: a folder that may be listed.
+    Folder,
+    /// 3: a file that may be read and has an end: a regular one, or the null device.
+    File,
+    /// 4: something that may not be looked at, listed or read.
+    Forbidden,
+    /// 5: neither a folder nor such a file: a FIFO, a socket, another device, or a path below a file.
+    Other,
+    /// 6: the look failed, as at a symlink that leads to itself.
+    Failed,
+}

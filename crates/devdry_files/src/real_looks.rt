@@ -1,0 +1,119 @@
+//! Looks of the disk of the system at what is at a path.
+//!
+//! What is made of an answer of the system is said by clauses, as in `real_disk`.
+ghost use Rattle.std.specs.Fs.{IsDir, IsFile, file_type};
+ghost use Rattle.std.specs.IoError.{error_kind};
+ghost use Rattle.std.specs.Path.{path_buf_bytes};
+ghost use Rattle.std.specs.Prelude.{◌≡◌, ◌≢◌, ◌&&◌, ◌==◌, IfOk, MatchResult, Ok, Some, alloc_error, if◌then◌else◌, ok_or, option_map};
+ghost use Rattle.std.specs.declared.io.ErrorKind.{ErrorKind};
+ghost use Rattle.devdry_files.specs.Errors.{look_from, target_unread};
+
+use crate::look::Look;
+use std::alloc::{AllocError, Global};
+use std::fs::{self, File, Metadata};
+use std::io;
+use std::os::unix::fs::{FileTypeExt, MetadataExt};
+use std::path::PathBuf;
+use std::rt::Files;
+use text_bytes::Bytes;
+
+/// The number of the null device, 1:3 as the system writes it.
+const NULL_DEVICE: u64 = 0x103;
+
+// What a look that failed shows, and nothing where memory was refused to it.
+fn failed_look(error: &io::Error) -> Option<Look>
+    ensures { result ≡ look_from (error_kind error.now) }
+{
+    match error.kind() {
+        io::ErrorKind::NotFound => Some(Look::Absent),
+        io::ErrorKind::NotADirectory => Some(Look::Other),
+        io::ErrorKind::PermissionDenied => Some(Look::Forbidden),
+        io::ErrorKind::OutOfMemory => None,
+        _ => Some(Look::Failed),
+    }
+}
+
+// Whether a device is the null device, which hides a file where a link leads to it: a character
+// device of that number.
+fn is_null(is_char_device: bool, number: u64) -> bool
+    ensures { result ≡ (is_char_device && number == NULL_DEVICE) }
+{
+    is_char_device & (number == NULL_DEVICE)
+}
+
+// What is at a path, by what the system tells of it, and whether it is the null device. All else that is
+// neither a folder nor a regular file, as a FIFO, is told apart, since it must not be opened.
+fn look_of(metadata: &Metadata, is_null: bool) -> Look
+    ensures folder { IsDir (file_type metadata.now) → result ≡ Look.Folder }
+    ensures file { IsFile (file_type metadata.now) → result ≡ Look.File }
+    ensures other { (IsDir (file_type metadata.now) → ⊥) → (IsFile (file_type metadata.now) → ⊥)
+        → result ≡ (if is_null then Look.File else Look.Other) }
+{
+    if metadata.is_dir() {
+        Look::Folder
+    } else if metadata.is_file() || is_null {
+        Look::File
+    } else {
+        Look::Other
+    }
+}
+
+// What a look shows where what it saw could be opened, or could not.
+fn opened_look<F: Drop>(look: Look, opened: io::Result<F>) -> Result<Look, AllocError>
+    ensures { MatchResult opened (λ _. result ≡ Ok look)
+        (λ error. result ≡ ok_or (look_from (error_kind error)) alloc_error) }
+{
+    match opened {
+        Ok(_) => Ok(look),
+        Err(error) => failed_look(&error).ok_or(AllocError),
+    }
+}
+
+// The same at a path. What is neither a folder nor a file is not opened.
+fn tried_look<R: Files>(rt: &R, path: &str, look: Look) -> Result<Look, AllocError>
+    ensures { look ≡ Look.Other → result ≡ Ok look }
+{
+    match look {
+        Look::Folder | Look::File => opened_look(look, File::open(rt, path)),
+        _ => Ok(look),
+    }
+}
+
+/// What is at a path: what is there is looked at, and a folder or a file is opened, so that one that may
+/// not be is told apart.
+pub(crate) fn look_at<R: Files>(rt: &R, path: &str) -> Result<Look, AllocError> {
+    match fs::metadata(rt, path) {
+        Ok(metadata) => {
+            let is_null = is_null(metadata.file_type().is_char_device(), metadata.rdev());
+            tried_look(rt, path, look_of(&metadata, is_null))
+        }
+        Err(error) => failed_look(&error).ok_or(AllocError),
+    }
+}
+
+/// Where a symlink leads that may not have been read.
+pub(crate) fn target_from(
+    alloc: Global,
+    read: io::Result<PathBuf>,
+) -> Result<Option<Bytes>, AllocError>
+    ensures { MatchResult read (λ path. result ≡ Ok (Some (path_buf_bytes path)))
+        (λ error. IfOk result (λ target. target_unread (error_kind error) ≡ Ok target)) }
+{
+    match read {
+        Ok(path) => Ok(Some(Bytes::new(path.into_string().into_bytes()))),
+        Err(error) => untargeted(alloc, &error),
+    }
+}
+
+// What is told of a symlink that can't be read, or want of memory.
+fn untargeted(alloc: Global, error: &io::Error) -> Result<Option<Bytes>, AllocError>
+    ensures told { IfOk result (λ target. target_unread (error_kind error.now) ≡ Ok target) }
+    ensures untold { (error_kind error.now ≢ ErrorKind.InvalidFilename)
+        → result ≡ target_unread (error_kind error.now) }
+{
+    match error.kind() {
+        io::ErrorKind::OutOfMemory => Err(AllocError),
+        io::ErrorKind::InvalidFilename => Ok(Some(Bytes::copy_of(alloc, b"?")?)),
+        _ => Ok(None),
+    }
+}

@@ -1,0 +1,114 @@
+-- What is told where no file was read at all.
+use Rattle.std.specs.Prelude.{◌≡◌, ◌++◌, ◌∷◌, ◌⊎◌, ◌==◌, ℕ, All, Bool, true, false, List, [], None, Option, Some, codes, decimal, filter, flat_map, if◌then◌else◌, length, map}
+use Rattle.std.specs.List.{count_by, list_all, list_any}
+use Rattle.text_bytes.specs.Escapes.{escape_text}
+use Rattle.text_bytes.specs.Kinds.{suffix_of}
+use Rattle.text_bytes.specs.Names.{newline, slash}
+use Rattle.text_bytes.specs.declared.source_file.FileKind.{FileKind}
+use Rattle.text_bytes.specs.declared.source_file.FileKind.TheVariants.{Hwdb, Rules}
+use Rattle.engine_ends.specs.Kinds.{kinds_read, reads_folders_of}
+use Rattle.engine_ends.specs.declared.line.Line.{Line}
+use Rattle.devdry_files.specs.Answers.{Answer}
+use Rattle.devdry_files.specs.Answers.Answer.{Listing, NoListing, Target}
+use Rattle.devdry_files.specs.Found.{counts}
+use Rattle.devdry_files.specs.declared.disk.DiskFault.TheVariants.{Absent, Unreadable, NotUtf8}
+use Rattle.devdry_files.specs.declared.disk.Entry.{Entry}
+use Rattle.devdry_folders.specs.declared.elsewhere.Elsewhere.{Elsewhere}
+use Rattle.devdry_folders.specs.declared.sights.Met.{Met}
+use Rattle.devdry_folders.specs.declared.sights.Met.TheVariants as met
+use Rattle.devdry_folders.specs.declared.sights.Sight.{Sight}
+use Rattle.devdry_folders.specs.declared.sights.Spot.{Spot}
+use Rattle.devdry_folders.specs.declared.sights.Spot.TheVariants as spot
+use Rattle.devdry_folders.specs.declared.sights.Visit.{Visit}
+
+-- a line on a place
+abbrev pub line_on : List ℕ → List ℕ → List ℕ
+line_on path text = codes "devdry: " ++ escape_text path ++ text ++ newline ∷ []
+
+-- whether what was met can't be read
+abbrev pub is_unread : Met → Bool
+is_unread (met.Unread reason) = true
+is_unread _ = false
+
+-- whether one of the sights can't be read
+abbrev pub has_unread : List Sight → Bool
+has_unread sights = list_any (λ s. is_unread s.met) sights
+
+-- why a folder gave no file, if nothing in it was told of yet
+abbrev pub why_no_file : FileKind → List Sight → List ℕ
+why_no_file kind sights =
+    if length sights == 0 then codes ": empty"
+    else codes ": has no " ++ suffix_of kind ++ codes " files"
+
+-- the line on a folder that was looked at, unless it or a file in it is told of as one that can't be read
+abbrev pub folder_line : FileKind → List ℕ → Spot → List Sight → List ℕ
+folder_line kind path spot.Absent sights = line_on path (codes ": absent")
+folder_line kind path spot.Folder sights =
+    if has_unread sights then [] else line_on path (why_no_file kind sights)
+folder_line kind path spot.File sights = []
+folder_line kind path (spot.Unread reason) sights = []
+
+-- the line on a link to an absolute path, which is taken from the root of the running system
+abbrev pub line_on_target : List ℕ → List ℕ → List ℕ
+line_on_target path (first ∷ rest) =
+    if first == slash then line_on path (codes ": link out of the root: " ++ escape_text (first ∷ rest)) else []
+line_on_target path [] = []
+
+-- the same where a link is at the path, and the root is neither empty nor slashes alone, which are the root of the running system
+abbrev pub link_line : List ℕ → List ℕ → Option (List ℕ) → List ℕ
+link_line root path None = []
+link_line root path (Some target) = if list_all (λ b. b == slash) root then [] else line_on_target path target
+
+-- the lines on what was visited below a root
+abbrev pub lines_on_place : List ℕ → Visit → List ℕ
+lines_on_place root v = folder_line v.kind v.path v.scan.spot v.scan.sights.items ++ link_line root v.path v.link
+
+-- where an image keeps the files of a kind whose `/lib` is no link to `/usr/lib`
+abbrev pub unmerged_folder : FileKind → List ℕ
+unmerged_folder Hwdb = codes "/lib/udev/hwdb.d"
+unmerged_folder Rules = codes "/lib/udev/rules.d"
+
+-- the word behind a number of files
+abbrev pub files_word : ℕ → List ℕ
+files_word count = if count == 1 then codes " file" else codes " files"
+
+-- the line on files that stand where none is read, if there are any
+abbrev pub line_elsewhere : Elsewhere → List ℕ
+line_elsewhere e = if e.count == 0 then [] else line_on e.path (codes " has " ++ decimal e.count ++ files_word e.count)
+
+-- all that is told where no file was read
+abbrev pub nothing_lines : List ℕ → List Visit → List Elsewhere → List ℕ
+nothing_lines root visits others =
+    codes "devdry: no files\n" ++ flat_map (lines_on_place root) visits ++ flat_map line_elsewhere others
+
+-- how many files of the kind are in the folder at the path, as the disk may list it, and none where it may not
+pub record IsCounted (may : Answer → Type 0) (kind : FileKind) (path : List ℕ) (count : ℕ) : Type 0 where
+  pub entries : List Entry
+  pub listed : may (Listing path entries) ⊎ ((entries ≡ []) × (may (NoListing path Absent) ⊎ (may (NoListing path Unreadable) ⊎ may (NoListing path NotUtf8))))
+  pub count_is : count ≡ count_by (counts kind) entries
+
+-- the folder of a kind that is not read, behind a root, with the files of the kind in it
+pub record IsElsewhere (may : Answer → Type 0) (root : List ℕ) (e : Elsewhere) : Type 0 where
+  pub path_is : e.path ≡ root ++ unmerged_folder e.kind
+  pub counted : IsCounted may e.kind e.path e.count
+
+-- such a folder for each of these kinds
+pub record AreElsewhereOf (may : Answer → Type 0) (root : List ℕ) (kinds : List FileKind) (others : List Elsewhere) : Type 0 where
+  pub kinds_are : map (λ e. e.kind) others ≡ kinds
+  pub each : All (IsElsewhere may root) others
+
+-- the path of `/lib` behind a root
+abbrev pub lib_of : List ℕ → List ℕ
+lib_of root = root ++ codes "/lib"
+
+-- such a folder for each kind whose folders the line reads; but none where a symlink stands at `/lib`, since the files below it are
+-- those of the folder that it leads to
+abbrev pub AreElsewhereBy : (Answer → Type 0) → Line → Option (List ℕ) → List Elsewhere → Type 0
+AreElsewhereBy may line None others = AreElsewhereOf may line.root.now (filter (reads_folders_of line) (kinds_read line.verb)) others
+AreElsewhereBy may line (Some target) others = others ≡ []
+
+-- the same, by what the disk may say of a symlink at `/lib`
+pub record AreElsewhere (may : Answer → Type 0) (line : Line) (others : List Elsewhere) : Type 0 where
+  pub link : Option (List ℕ)
+  pub linked : may (Target (lib_of line.root.now) link)
+  pub are : AreElsewhereBy may line link others

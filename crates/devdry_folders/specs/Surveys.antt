@@ -1,0 +1,48 @@
+-- What a line comes to that goes on behind what can't be read.
+use Rattle.std.specs.Prelude.{◌≡◌, ◌++◌, ℕ, Bool, false, List, [], if◌then◌else◌}
+use Rattle.engine_ends.specs.declared.line.Line.{Line}
+use Rattle.devdry_files.specs.Answers.{Answer}
+use Rattle.devdry_files.specs.Places.{Wants}
+use Rattle.devdry_files.specs.declared.places.Wanted.{Wanted}
+use Rattle.devdry_folders.specs.Nothing.{AreElsewhere, nothing_lines}
+use Rattle.devdry_folders.specs.Standing.{AreListed}
+use Rattle.devdry_folders.specs.Unread.{files_of, has_files, least_status, unread_lines}
+use Rattle.devdry_folders.specs.Visits.{AreVisits}
+use Rattle.devdry_folders.specs.declared.elsewhere.Elsewhere.{Elsewhere}
+use Rattle.devdry_folders.specs.declared.reading.Listed.{Listed}
+use Rattle.devdry_folders.specs.declared.reading.ReadSome.{ReadSome}
+use Rattle.devdry_folders.specs.declared.sights.Visit.{Visit}
+
+-- These are visits of all that the line asks for.
+pub record AreVisitsFor (may : Answer → Type 0) (line : Line) (visits : List Visit) : Type 0 where
+  pub wanted : Wanted
+  pub wants : Wants line wanted
+  pub are_visits : AreVisits may wanted visits
+
+-- What is told where no file was read: what was looked at; and nothing where some file was.
+pub record TellsNothing (may : Answer → Type 0) (line : Line) (visits : List Visit) (some : Bool) (lines : List ℕ) : Type 0 where
+  pub others : List Elsewhere
+  pub elsewhere : some ≡ false → AreElsewhere may line others
+  pub told : lines ≡ (if some then [] else nothing_lines line.root.now visits others)
+
+-- What is told of visits before the run: what can't be read, and what was looked at where no file was read.
+pub record IsTold (may : Answer → Type 0) (line : Line) (visits : List Visit) (told : List ℕ) : Type 0 where
+  pub nothing : List ℕ
+  pub tells : TellsNothing may line visits (has_files visits) nothing
+  pub told_is : told ≡ unread_lines visits ++ nothing
+
+-- What the line asks for was visited; the files that were read, what is told and the least status come of that.
+pub record IsReadSome (may : Answer → Type 0) (line : Line) (some : ReadSome) : Type 0 where
+  pub visits : List Visit
+  pub are_visits : AreVisitsFor may line visits
+  pub files : some.files.items ≡ files_of visits
+  pub told : IsTold may line visits some.told.items
+  pub least : some.least ≡ least_status visits
+
+-- What the line asks for was visited; the lines on all that was met, what is told and the least status come of that.
+pub record IsListed (may : Answer → Type 0) (line : Line) (listed : Listed) : Type 0 where
+  pub visits : List Visit
+  pub are_visits : AreVisitsFor may line visits
+  pub lines : AreListed visits listed.lines.items
+  pub told : IsTold may line visits listed.told.items
+  pub least : listed.least ≡ least_status visits

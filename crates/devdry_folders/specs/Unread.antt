@@ -1,0 +1,83 @@
+-- What is told of what can't be read, and the files that were read.
+use Rattle.std.specs.Prelude.{◌++◌, ◌∷◌, ◌==◌, ℕ, Bool, true, false, List, [], codes, flat_map, if◌then◌else◌, length, not}
+use Rattle.std.specs.List.{list_any}
+use Rattle.text_bytes.specs.Escapes.{escape_text}
+use Rattle.text_bytes.specs.Names.{newline}
+use Rattle.text_bytes.specs.declared.source_file.FileKind.{FileKind}
+use Rattle.text_bytes.specs.declared.source_file.SourceFile.{SourceFile}
+use Rattle.devdry_folders.specs.Reasons.{reason_text}
+use Rattle.devdry_folders.specs.declared.reasons.Reason.{Reason}
+use Rattle.devdry_folders.specs.declared.sights.Met.{Met}
+use Rattle.devdry_folders.specs.declared.sights.Met.TheVariants as met
+use Rattle.devdry_folders.specs.declared.sights.Sight.{Sight}
+use Rattle.devdry_folders.specs.declared.sights.Spot.{Spot}
+use Rattle.devdry_folders.specs.declared.sights.Spot.TheVariants as spot
+use Rattle.devdry_folders.specs.declared.sights.Visit.{Visit}
+
+-- the line on what can't be read
+abbrev pub unread_line : List ℕ → Reason → List ℕ
+unread_line path reason = codes "devdry: cannot read " ++ escape_text path ++ codes ": " ++ reason_text reason ++ newline ∷ []
+
+-- the line on what is met at a path, if it can't be read
+abbrev pub line_on_met : List ℕ → Met → List ℕ
+line_on_met path (met.Unread reason) = unread_line path reason
+line_on_met path _ = []
+
+-- the line on a sight, if it can't be read
+abbrev pub line_on_sight : Sight → List ℕ
+line_on_sight s = line_on_met s.path s.met
+
+-- the line on what stands at a path, if it can't be listed
+abbrev pub line_on_spot : List ℕ → Spot → List ℕ
+line_on_spot path (spot.Unread reason) = unread_line path reason
+line_on_spot path _ = []
+
+-- the lines on a visit: on the folder, and on what is in it
+abbrev pub lines_on_visit : Visit → List ℕ
+lines_on_visit v = line_on_spot v.path v.scan.spot ++ flat_map line_on_sight v.scan.sights.items
+
+-- the lines on all that can't be read, in the order of the visits
+abbrev pub unread_lines : List Visit → List ℕ
+unread_lines visits = flat_map lines_on_visit visits
+
+-- whether a file was read
+abbrev pub is_file : Met → Bool
+is_file (met.File bytes) = true
+is_file _ = false
+
+-- whether one of the sights is a file that was read
+abbrev pub has_file : List Sight → Bool
+has_file sights = list_any (λ s. is_file s.met) sights
+
+-- whether any file was read
+abbrev pub has_files : List Visit → Bool
+has_files visits = list_any (λ v. has_file v.scan.sights.items) visits
+
+-- the file of a name that was met, if one was
+abbrev pub file_of_met : FileKind → ℕ → List ℕ → Met → List SourceFile
+file_of_met kind rank name (met.File bytes) = record { kind = kind; rank = rank; name = name; bytes = bytes } ∷ []
+file_of_met kind rank name _ = []
+
+-- how a file is named: in a folder of the system by its name there, else by its path
+abbrev pub name_told : Bool → Sight → List ℕ
+name_told named s = if named then s.path else s.name
+
+-- the file of a sight, if it is one, by its kind, its rank and whether it is named
+abbrev pub file_of_sight : FileKind → ℕ → Bool → Sight → List SourceFile
+file_of_sight kind rank named s = file_of_met kind rank (name_told named s) s.met
+
+-- the files of a visit
+abbrev pub files_of_visit : Visit → List SourceFile
+files_of_visit v = flat_map (file_of_sight v.kind v.rank v.is_named) v.scan.sights.items
+
+-- the files of visits, in their order
+abbrev pub files_of : List Visit → List SourceFile
+files_of visits = flat_map files_of_visit visits
+
+-- the least status of a run, by the lines on what can't be read and whether any file was read
+abbrev pub least_of : List ℕ → Bool → ℕ
+least_of unread some = if not (length unread == 0) then 3 else if some then 0 else 1
+
+-- the least status of a run over visits: 3 where something can't be read, else 1 where no file was read
+abbrev pub least_status : List Visit → ℕ
+least_status visits = least_of (unread_lines visits) (has_files visits)

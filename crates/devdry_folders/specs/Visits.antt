@@ -1,0 +1,135 @@
+-- The folders and files that a line asks for, and what came of each, as it comes from the answers that a disk may give.
+use Rattle.std.specs.Prelude.{◌≡◌, ◌++◌, ◌∷◌, ℕ, All, true, false, IsPermutation, IsSorted, List, [], None, Option, Some, String, if◌then◌else◌, map, nat_eq, string_bytes}
+use Rattle.std.specs.List.{ends_with}
+use Rattle.std.specs.String.{string_cmp}
+use Rattle.std.specs.declared.alloc.Global.{Global}
+use Rattle.text_bytes.specs.Kinds.{suffix_of}
+use Rattle.text_bytes.specs.Names.{slash}
+use Rattle.text_bytes.specs.declared.source_file.FileKind.{FileKind}
+use Rattle.devdry_files.specs.Answers.{Answer}
+use Rattle.devdry_files.specs.Answers.Answer.{Listing, Looked, NoListing, Target}
+use Rattle.devdry_files.specs.Places.{Place, places_of}
+use Rattle.devdry_files.specs.declared.disk.DiskFault.TheVariants as disk
+use Rattle.devdry_files.specs.declared.disk.Entry.{Entry}
+use Rattle.devdry_files.specs.declared.look.Look.{Look}
+use Rattle.devdry_files.specs.declared.look.Look.TheVariants as looks
+use Rattle.devdry_files.specs.declared.places.Wanted.{Wanted}
+use Rattle.devdry_folders.specs.Meetings.{IsMet, IsMetBy}
+use Rattle.devdry_folders.specs.declared.reasons.Reason.TheVariants as reasons
+use Rattle.devdry_folders.specs.declared.sights.Met.{Met}
+use Rattle.devdry_folders.specs.declared.sights.Met.TheVariants as met
+use Rattle.devdry_folders.specs.declared.sights.Scan.{Scan}
+use Rattle.devdry_folders.specs.declared.sights.Sight.{Sight}
+use Rattle.devdry_folders.specs.declared.sights.Spot.{Spot}
+use Rattle.devdry_folders.specs.declared.sights.Spot.TheVariants as spot
+use Rattle.devdry_folders.specs.declared.sights.Visit.{Visit}
+
+-- the path of a name in the folder at a path: one slash is put between them, but none behind a slash that ends the folder's path
+abbrev pub below : List ℕ → List ℕ → List ℕ
+below folder name = if ends_with nat_eq folder (slash ∷ []) then folder ++ name else folder ++ slash ∷ name
+
+-- all names in a folder, sorted byte by byte, as the disk may list it
+pub record AreAllNames (may : Answer → Type 0) (folder : List ℕ) (names : List (String Global)) : Type 0 where
+  pub entries : List Entry
+  pub listed : may (Listing folder entries)
+  pub once : IsPermutation (map (λ e. e.name) entries) names
+  pub rise : IsSorted string_cmp names
+
+-- what is met at a name in a folder of files of a kind: a name that ends in another way is not looked at
+pub record IsSightIn (may : Answer → Type 0) (kind : FileKind) (folder : List ℕ) (s : Sight) : Type 0 where
+  pub path_is : s.path ≡ below folder s.name
+  pub of_kind : ends_with nat_eq s.name (suffix_of kind) ≡ true → IsMet may s.path s.met
+  pub of_none : ends_with nat_eq s.name (suffix_of kind) ≡ false → s.met ≡ met.OtherName
+
+-- what is met at these names in a folder of files of a kind, in their order
+pub record AreSightsAt (may : Answer → Type 0) (kind : FileKind) (folder : List ℕ) (names : List (List ℕ)) (sights : List Sight) : Type 0 where
+  pub named_so : map (λ s. s.name) sights ≡ names
+  pub each : All (IsSightIn may kind folder) sights
+
+-- what is met in a folder of files of a kind: one sight for each name, in their order
+pub record AreSightsIn (may : Answer → Type 0) (kind : FileKind) (folder : List ℕ) (sights : List Sight) : Type 0 where
+  pub names : List (String Global)
+  pub are_names : AreAllNames may folder names
+  pub are_sights : AreSightsAt may kind folder (map string_bytes names) sights
+
+-- what comes of listing the folder at a path: its sights, or that it is gone, can't be listed, or has a name that is not UTF-8
+abbrev pub IsListedSo : (Answer → Type 0) → FileKind → List ℕ → Spot → List Sight → Type 0
+IsListedSo may kind path spot.Folder sights = AreSightsIn may kind path sights
+IsListedSo may kind path spot.Absent sights = may (NoListing path disk.Absent) × (sights ≡ [])
+IsListedSo may kind path (spot.Unread reasons.Failed) sights = may (NoListing path disk.Unreadable) × (sights ≡ [])
+IsListedSo may kind path (spot.Unread reasons.NotUtf8) sights = may (NoListing path disk.NotUtf8) × (sights ≡ [])
+IsListedSo may kind path _ sights = ⊥
+
+-- what nothing at a folder's path is, by the symlink there, if one is there: no folder, or a folder that can't be read
+abbrev pub missing_folder : Option (List ℕ) → Spot
+missing_folder None = spot.Absent
+missing_folder (Some target) = spot.Unread (reasons.LinkToNothing target)
+
+-- what stands at a folder's path and is not listed
+abbrev pub IsUnlisted : Spot → Scan → Type 0
+IsUnlisted it scan = (scan.spot ≡ it) × (scan.sights.items ≡ [])
+
+-- what comes of a folder that is wanted, by the symlink at its path, if one is there, and a look
+abbrev pub IsScannedBy : (Answer → Type 0) → FileKind → List ℕ → Option (List ℕ) → Look → Scan → Type 0
+IsScannedBy may kind path link looks.Absent scan = IsUnlisted (missing_folder link) scan
+IsScannedBy may kind path link looks.Folder scan = IsListedSo may kind path scan.spot scan.sights.items
+IsScannedBy may kind path link looks.File scan = IsUnlisted (spot.Unread reasons.NotFolder) scan
+IsScannedBy may kind path link looks.Forbidden scan = IsUnlisted (spot.Unread reasons.Forbidden) scan
+IsScannedBy may kind path link looks.Other scan = IsUnlisted (spot.Unread reasons.NotFolder) scan
+IsScannedBy may kind path link looks.Failed scan = IsUnlisted (spot.Unread reasons.Failed) scan
+
+-- a folder that is wanted
+pub record IsFolderVisit (may : Answer → Type 0) (v : Visit) : Type 0 where
+  pub unnamed : v.is_named ≡ false
+  pub linked : may (Target v.path v.link)
+  pub look : Look
+  pub looked : may (Looked v.path look)
+  pub scanned : IsScannedBy may v.kind v.path v.link look v.scan
+
+-- the sight of what is met at the path of a file that is named
+abbrev pub sight_at : List ℕ → Met → Sight
+sight_at path it = record { name = path; path = path; met = it }
+
+-- what comes of a file that is named: what is met there
+pub record IsOneFile (may : Answer → Type 0) (path : List ℕ) (look : Look) (scan : Scan) : Type 0 where
+  pub at_file : scan.spot ≡ spot.File
+  pub it : Met
+  pub alone : scan.sights.items ≡ sight_at path it ∷ []
+  pub met_so : IsMetBy may path look it
+
+-- what comes of what is named, by a look: a folder is listed
+abbrev pub IsNamedSo : (Answer → Type 0) → FileKind → List ℕ → Look → Scan → Type 0
+IsNamedSo may kind path looks.Folder scan = IsListedSo may kind path scan.spot scan.sights.items
+IsNamedSo may kind path look scan = IsOneFile may path look scan
+
+-- what is named: a file, or a folder whose files of the kind are taken
+pub record IsNamedVisit (may : Answer → Type 0) (kind : FileKind) (v : Visit) : Type 0 where
+  pub kind_is : v.kind ≡ kind
+  pub rank_is : v.rank ≡ 0
+  pub named : v.is_named ≡ true
+  pub unlinked : v.link ≡ None
+  pub look : Look
+  pub looked : may (Looked v.path look)
+  pub scanned : IsNamedSo may kind v.path look v.scan
+
+-- a visit as a place: the kind of the files, the rank and the path
+abbrev pub place_of_visit : Visit → Place
+place_of_visit v = record { kind = v.kind; rank = v.rank; path = v.path }
+
+-- visits of what is named, in its order
+pub record AreNamedVisits (may : Answer → Type 0) (kind : FileKind) (paths : List (List ℕ)) (visits : List Visit) : Type 0 where
+  pub named_so : map (λ v. v.path) visits ≡ paths
+  pub each : All (IsNamedVisit may kind) visits
+
+-- visits of folders, in their order
+pub record AreFolderVisits (may : Answer → Type 0) (places : List Place) (visits : List Visit) : Type 0 where
+  pub placed_so : map place_of_visit visits ≡ places
+  pub each : All (IsFolderVisit may) visits
+
+-- visits of all that is wanted: of what is named, and then of the folders
+pub record AreVisits (may : Answer → Type 0) (w : Wanted) (visits : List Visit) : Type 0 where
+  pub named : List Visit
+  pub found : List Visit
+  pub cut : visits ≡ named ++ found
+  pub are_named : AreNamedVisits may w.kind (map (λ f. f.now) w.files.now) named
+  pub are_found : AreFolderVisits may (places_of w.folders.items) found

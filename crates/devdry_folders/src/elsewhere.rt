@@ -1,0 +1,133 @@
+//! Files that stand where none is read: below `/lib` where that is no symlink, as it is to `/usr/lib`.
+ghost use Rattle.std.specs.Prelude.{◌≡◌, ◌⊎◌, [], IfOk, filter};
+ghost use Rattle.engine_ends.specs.Kinds.{kinds_read, reads_folders_of};
+ghost use Rattle.devdry_files.specs.Answers.Answer.{Listing, NoListing, Target};
+ghost use Rattle.devdry_files.specs.declared.disk.DiskFault.TheVariants as faults;
+ghost use Rattle.devdry_folders.specs.Nothing.{AreElsewhere, AreElsewhereOf, IsCounted, IsElsewhere, lib_of, unmerged_folder};
+
+use devdry_files::{Disk, DiskFault, Entry, counts};
+use engine_ends::Line;
+use std::alloc::{AllocError, Global};
+use text_bytes::{Bytes, FileKind};
+
+/// A folder that is not read, and how many files of a kind it has.
+#[derive(Debug, Drop)]
+pub struct Elsewhere {
+    /// The kind.
+    pub kind: FileKind,
+    /// The folder's path.
+    pub path: Bytes,
+    /// How many files of the kind it has.
+    pub count: usize,
+}
+
+// Where an image keeps the files of a kind whose `/lib` is no link to `/usr/lib`.
+fn unmerged_folder(kind: FileKind) -> &'static str
+    ensures { result.now ≡ unmerged_folder kind }
+{
+    match kind {
+        FileKind::Hwdb => "/lib/udev/hwdb.d",
+        FileKind::Rules => "/lib/udev/rules.d",
+    }
+}
+
+// The entries of the folder at a path, and none where it can't be listed.
+fn entries_at<D: Disk>(alloc: Global, disk: &D, path: &str) -> Result<Vec<Entry>, AllocError>
+    ensures { IfOk result (λ entries. D.may_answer disk.now (Listing path.now entries.items)
+        ⊎ ((entries.items ≡ []) × (D.may_answer disk.now (NoListing path.now faults.Absent)
+        ⊎ (D.may_answer disk.now (NoListing path.now faults.Unreadable)
+        ⊎ D.may_answer disk.now (NoListing path.now faults.NotUtf8))))) }
+{
+    match disk.list(alloc, path) {
+        Ok(entries) => Ok(entries),
+        Err(DiskFault::Absent | DiskFault::Unreadable | DiskFault::NotUtf8) => Ok(Vec::new(alloc)),
+        Err(DiskFault::OutOfMemory) => Err(AllocError),
+    }
+}
+
+// How many files of a kind are in the folder at a path.
+fn count_at<D: Disk>(
+    alloc: Global,
+    disk: &D,
+    kind: FileKind,
+    path: &str,
+) -> Result<usize, AllocError>
+    ensures { IfOk result (IsCounted (D.may_answer disk.now) kind path.now) }
+{
+    let entries = entries_at(alloc, disk, path)?;
+    Ok(entries.iter().filter(|entry| counts(kind, entry)).count())
+}
+
+// The files of a kind that stand elsewhere behind a root.
+fn elsewhere_of<D: Disk>(
+    alloc: Global,
+    disk: &D,
+    root: &str,
+    kind: FileKind,
+) -> Result<Elsewhere, AllocError>
+    ensures kind { IfOk result (λ e. e.kind ≡ kind) }
+    ensures elsewhere { IfOk result (IsElsewhere (D.may_answer disk.now) root.now) }
+{
+    let mut path = String::from_str(alloc, root)?;
+    path.push_str(unmerged_folder(kind))?;
+    Ok(Elsewhere {
+        kind,
+        count: count_at(alloc, disk, kind, path.as_str())?,
+        path: Bytes::copy_of(alloc, path.as_bytes())?,
+    })
+}
+
+// The kinds that a line reads from folders.
+fn kinds_in_folders(alloc: Global, line: &Line<'_>) -> Result<Vec<FileKind>, AllocError>
+    ensures { IfOk result (λ kinds.
+        kinds.items ≡ filter (reads_folders_of line.now) (kinds_read line.now.verb)) }
+{
+    let kinds = line.verb.kinds_read().iter().copied();
+    kinds
+        .filter(|kind| line.reads_folders_of(*kind))
+        .collect(alloc)
+}
+
+// The files of kinds that stand elsewhere behind a root.
+fn elsewhere_of_kinds<D: Disk>(
+    alloc: Global,
+    disk: &D,
+    root: &str,
+    kinds: &[FileKind],
+) -> Result<Vec<Elsewhere>, AllocError>
+    ensures { IfOk result (λ others.
+        AreElsewhereOf (D.may_answer disk.now) root.now kinds.now others.items) }
+{
+    let mut others = Vec::new(alloc);
+    for kind in kinds {
+        others.push(elsewhere_of(alloc, disk, root, *kind)?)?;
+    }
+    Ok(others)
+}
+
+// Where the symlink at `/lib` behind a root leads, if one is there.
+fn lib_target<D: Disk>(alloc: Global, disk: &D, root: &str) -> Result<Option<Bytes>, AllocError>
+    ensures { IfOk result (λ target. D.may_answer disk.now (Target (lib_of root.now) target)) }
+{
+    let mut path = String::from_str(alloc, root)?;
+    path.push_str("/lib")?;
+    disk.target(alloc, path.as_str())
+}
+
+/// The files that stand elsewhere, for each kind that the line reads from folders; none where `/lib` is
+/// a symlink, whose files are those of the folder that it leads to.
+///
+/// The error comes where memory is refused.
+pub fn files_elsewhere<D: Disk>(
+    alloc: Global,
+    disk: &D,
+    line: &Line<'_>,
+) -> Result<Vec<Elsewhere>, AllocError>
+    ensures { IfOk result (λ others. AreElsewhere (D.may_answer disk.now) line.now others.items) }
+{
+    if lib_target(alloc, disk, line.root)?.is_some() {
+        return Ok(Vec::new(alloc));
+    }
+    let kinds = kinds_in_folders(alloc, line)?;
+    elsewhere_of_kinds(alloc, disk, line.root, &kinds)
+}

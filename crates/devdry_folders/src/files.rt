@@ -1,0 +1,61 @@
+//! The files that were read.
+ghost use Rattle.std.specs.Prelude.{◌≡◌, ◌++◌, IfOk, OnOk};
+ghost use Rattle.devdry_folders.specs.Unread.{file_of_sight, files_of, files_of_visit};
+
+use crate::sights::{Met, Sight, Visit};
+use std::alloc::{AllocError, Global};
+use text_bytes::{FileKind, SourceFile};
+
+// Puts the file of a sight behind others, if it is one.
+fn push_file(
+    files: &mut Vec<SourceFile>,
+    kind: FileKind,
+    rank: u8,
+    is_named: bool,
+    sight: Sight,
+) -> Result<(), AllocError>
+    ensures { OnOk result (files.new.items ≡ files.old.items ++ file_of_sight kind rank is_named sight) }
+{
+    let Sight { name, path, met } = sight;
+    let name = if is_named { path } else { name };
+    if let Met::File(bytes) = met {
+        files.push(SourceFile {
+            kind,
+            rank,
+            name,
+            bytes,
+        })?;
+    }
+    Ok(())
+}
+
+// Puts the files of a visit behind others.
+fn push_files(files: &mut Vec<SourceFile>, visit: Visit) -> Result<(), AllocError>
+    ensures { OnOk result (files.new.items ≡ files.old.items ++ files_of_visit visit) }
+{
+    let Visit {
+        kind,
+        rank,
+        is_named,
+        scan,
+        ..
+    } = visit;
+    for sight in scan.sights {
+        push_file(files, kind, rank, is_named, sight)?;
+    }
+    Ok(())
+}
+
+/// The files of visits, in their order. Their bytes are not copied.
+///
+/// A file of a folder of the system bears its name there and the folder's rank; one that is named, or
+/// that stands in a folder that is named, its path and rank 0.
+pub fn files_of(alloc: Global, visits: Vec<Visit>) -> Result<Vec<SourceFile>, AllocError>
+    ensures { IfOk result (λ files. files.items ≡ files_of visits.items) }
+{
+    let mut files = Vec::new(alloc);
+    for visit in visits {
+        push_files(&mut files, visit)?;
+    }
+    Ok(files)
+}

@@ -1,0 +1,53 @@
+//! What is met at the path of a file.
+ghost use Rattle.std.specs.Prelude.{◌≡◌, IfOk};
+ghost use Rattle.devdry_folders.specs.Meetings.{IsMet, IsMetBy, IsMissing, IsReadSo};
+
+use crate::reasons::Reason;
+use crate::sights::Met;
+use devdry_files::{Disk, DiskFault, Look};
+use std::alloc::{AllocError, Global};
+
+// What comes of reading the file at a path.
+fn read_at<D: Disk>(alloc: Global, disk: &D, path: &str) -> Result<Met, AllocError>
+    ensures { IfOk result (IsReadSo (D.may_answer disk.now) path.now) }
+{
+    match disk.read(alloc, path) {
+        Ok(bytes) => Ok(Met::File(bytes)),
+        Err(DiskFault::Absent) => Ok(Met::Unread(Reason::Absent)),
+        Err(DiskFault::Unreadable) => Ok(Met::Unread(Reason::Failed)),
+        Err(DiskFault::NotUtf8) => Ok(Met::Unread(Reason::NotUtf8)),
+        Err(DiskFault::OutOfMemory) => Err(AllocError),
+    }
+}
+
+// What is met at a path where nothing is, or a symlink to nothing.
+fn missing_at<D: Disk>(alloc: Global, disk: &D, path: &str) -> Result<Met, AllocError>
+    ensures { IfOk result (IsMissing (D.may_answer disk.now) path.now) }
+{
+    match disk.target(alloc, path)? {
+        Some(target) => Ok(Met::Unread(Reason::LinkToNothing(target))),
+        None => Ok(Met::Unread(Reason::Absent)),
+    }
+}
+
+/// What is met at a path, by a look at it.
+pub fn met_by<D: Disk>(alloc: Global, disk: &D, path: &str, look: Look) -> Result<Met, AllocError>
+    ensures { IfOk result (IsMetBy (D.may_answer disk.now) path.now look) }
+{
+    match look {
+        Look::Absent => missing_at(alloc, disk, path),
+        Look::Folder => Ok(Met::Folder),
+        Look::File => read_at(alloc, disk, path),
+        Look::Forbidden => Ok(Met::Unread(Reason::Forbidden)),
+        Look::Other => Ok(Met::Unread(Reason::NotRegular)),
+        Look::Failed => Ok(Met::Unread(Reason::Failed)),
+    }
+}
+
+/// What is met at a path: it is looked at, and read where a file is there.
+pub fn met_at<D: Disk>(alloc: Global, disk: &D, path: &str) -> Result<Met, AllocError>
+    ensures { IfOk result (IsMet (D.may_answer disk.now) path.now) }
+{
+    let look = disk.look(path)?;
+    met_by(alloc, disk, path, look)
+}

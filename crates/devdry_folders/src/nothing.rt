@@ -1,0 +1,200 @@
+//! What is told where no file was read at all.
+//!
+//! A check of no file must not look like a good one, so each place that was looked at is named.
+ghost use Rattle.std.specs.List.{list_all};
+ghost use Rattle.std.specs.Prelude.{◌≡◌, ◌++◌, ◌==◌, IfOk, OnOk, flat_map, option_map};
+ghost use Rattle.text_bytes.specs.Names.{slash};
+ghost use Rattle.devdry_folders.specs.Nothing.{folder_line, has_unread, is_unread, line_elsewhere, line_on, files_word, line_on_target, lines_on_place, link_line, nothing_lines, why_no_file};
+
+use crate::elsewhere::Elsewhere;
+use crate::reasons::push_escaped;
+use crate::sights::{Met, Sight, Spot, Visit};
+use itoa::Buffer;
+use std::alloc::{AllocError, Global};
+use text_bytes::{Bytes, FileKind};
+
+// Puts a line on a place behind others.
+fn push_line(alloc: Global, lines: &mut Vec<u8>, path: &[u8], text: &[u8]) -> Result<(), AllocError>
+    ensures { OnOk result (lines.new.items ≡ lines.old.items ++ line_on path.now text.now) }
+{
+    push_escaped(alloc, lines, b"devdry: ", path)?;
+    lines.extend_from_slice(text)?;
+    lines.push(b'\n')?;
+    Ok(())
+}
+
+// Whether what was met can't be read.
+fn is_unread(met: &Met) -> bool
+    ensures { result ≡ is_unread met.now }
+{
+    matches!(met, Met::Unread(_))
+}
+
+// Whether one of the sights can't be read.
+fn has_unread(sights: &[Sight]) -> bool
+    ensures { result ≡ has_unread sights.now }
+{
+    sights.iter().any(|sight| is_unread(&sight.met))
+}
+
+// Why a folder gave no file.
+fn why_no_file(alloc: Global, kind: FileKind, sights: &[Sight]) -> Result<Vec<u8>, AllocError>
+    ensures { IfOk result (λ text. text.items ≡ why_no_file kind sights.now) }
+{
+    if sights.is_empty() {
+        return Vec::from_slice(alloc, b": empty");
+    }
+    let mut text = Vec::from_slice(alloc, b": has no ")?;
+    text.extend_from_slice(kind.suffix().as_bytes())?;
+    text.extend_from_slice(b" files")?;
+    Ok(text)
+}
+
+// Puts the line on a folder that was listed behind others, unless what is in it is told of already.
+fn push_listed(
+    alloc: Global,
+    lines: &mut Vec<u8>,
+    kind: FileKind,
+    path: &[u8],
+    sights: &[Sight],
+) -> Result<(), AllocError>
+    ensures { OnOk result (lines.new.items ≡ lines.old.items
+        ++ folder_line kind path.now Spot.Folder sights.now) }
+{
+    if has_unread(sights) {
+        return Ok(());
+    }
+    push_line(alloc, lines, path, &why_no_file(alloc, kind, sights)?)
+}
+
+// Puts the line on a place that was looked at behind others.
+fn push_folder(alloc: Global, lines: &mut Vec<u8>, visit: &Visit) -> Result<(), AllocError>
+    ensures { OnOk result (lines.new.items ≡ lines.old.items
+        ++ folder_line visit.now.kind visit.now.path visit.now.scan.spot visit.now.scan.sights.items) }
+{
+    let path = visit.path.as_slice();
+    match visit.scan.spot {
+        Spot::Absent => push_line(alloc, lines, path, b": absent"),
+        Spot::Folder => push_listed(alloc, lines, visit.kind, path, &visit.scan.sights),
+        Spot::File | Spot::Unread(_) => Ok(()),
+    }
+}
+
+// Puts the line on a link to an absolute path behind others.
+fn push_target(
+    alloc: Global,
+    lines: &mut Vec<u8>,
+    path: &[u8],
+    target: &[u8],
+) -> Result<(), AllocError>
+    ensures { OnOk result (lines.new.items ≡ lines.old.items ++ line_on_target path.now target.now) }
+{
+    if target.first() != Some(&b'/') {
+        return Ok(());
+    }
+    let mut text = Vec::new(alloc);
+    push_escaped(alloc, &mut text, b": link out of the root: ", target)?;
+    push_line(alloc, lines, path, &text)
+}
+
+// Whether a root is that of the running system: it is empty, or slashes alone.
+fn is_own_root(root: &str) -> bool
+    ensures { result ≡ list_all (λ b. b == slash) root.now }
+{
+    root.bytes().all(|byte| byte == b'/')
+}
+
+// Puts the line on a link at a path behind others, if it is an absolute one in an image.
+fn push_link(
+    alloc: Global,
+    lines: &mut Vec<u8>,
+    root: &str,
+    path: &[u8],
+    link: Option<&Bytes>,
+) -> Result<(), AllocError>
+    ensures { OnOk result (lines.new.items ≡ lines.old.items
+        ++ link_line root.now path.now (option_map (λ t. t.now) link.entry)) }
+{
+    match link {
+        Some(target) if !is_own_root(root) => push_target(alloc, lines, path, target.as_slice()),
+        _ => Ok(()),
+    }
+}
+
+// Puts the lines on a place that was looked at behind others.
+fn push_place(
+    alloc: Global,
+    lines: &mut Vec<u8>,
+    root: &str,
+    visit: &Visit,
+) -> Result<(), AllocError>
+    ensures { OnOk result (lines.new.items ≡ lines.old.items ++ lines_on_place root.now visit.now) }
+{
+    push_folder(alloc, lines, visit)?;
+    push_link(
+        alloc,
+        lines,
+        root,
+        visit.path.as_slice(),
+        visit.link.as_ref(),
+    )
+}
+
+// The word behind a number of files.
+fn files_word(count: usize) -> &'static [u8]
+    ensures { result.now ≡ files_word count }
+{
+    if count == 1 { b" file" } else { b" files" }
+}
+
+// Puts the line on files that stand elsewhere behind others, if there are any.
+fn push_elsewhere(alloc: Global, lines: &mut Vec<u8>, other: &Elsewhere) -> Result<(), AllocError>
+    ensures { OnOk result (lines.new.items ≡ lines.old.items ++ line_elsewhere other.now) }
+{
+    if other.count == 0 {
+        return Ok(());
+    }
+    let mut text = Vec::from_slice(alloc, b" has ")?;
+    text.extend_from_slice(Buffer::new().format(other.count).as_bytes())?;
+    text.extend_from_slice(files_word(other.count))?;
+    push_line(alloc, lines, other.path.as_slice(), &text)
+}
+
+// Puts the lines on all places that were looked at behind others.
+fn push_places(
+    alloc: Global,
+    lines: &mut Vec<u8>,
+    root: &str,
+    visits: &[Visit],
+) -> Result<(), AllocError>
+    ensures { OnOk result (lines.new.items ≡ lines.old.items
+        ++ flat_map (lines_on_place root.now) visits.now) }
+{
+    for visit in visits {
+        push_place(alloc, lines, root, visit)?;
+    }
+    Ok(())
+}
+
+/// The lines that say that no file was read: `devdry: no files`, then for each folder that was looked
+/// at `devdry: PATH: absent`, `empty` or `has no .rules files`, with `devdry: PATH: link out of the
+/// root: TARGET` behind it where it is an absolute link and the root is not that of the running system,
+/// and `devdry: PATH has 12 files` (`1 file`) for files that stand elsewhere. What can't be read has no
+/// line here.
+///
+/// The error comes where memory is refused.
+pub fn nothing_lines(
+    alloc: Global,
+    root: &str,
+    visits: &[Visit],
+    others: &[Elsewhere],
+) -> Result<Vec<u8>, AllocError>
+    ensures { IfOk result (λ lines. lines.items ≡ nothing_lines root.now visits.now others.now) }
+{
+    let mut lines = Vec::from_slice(alloc, b"devdry: no files\n")?;
+    push_places(alloc, &mut lines, root, visits)?;
+    for other in others {
+        push_elsewhere(alloc, &mut lines, other)?;
+    }
+    Ok(lines)
+}

@@ -1,0 +1,145 @@
+//! What a line comes to that goes on behind what can't be read.
+ghost use Rattle.std.specs.Prelude.{◌≡◌, ◌≤◌, IfOk};
+ghost use Rattle.devdry_folders.specs.Surveys.{AreVisitsFor, IsListed, IsReadSome, IsTold, TellsNothing};
+ghost use Rattle.devdry_folders.specs.Unread.{least_of, least_status};
+
+use crate::elsewhere::files_elsewhere;
+use crate::files::files_of;
+use crate::nothing::nothing_lines;
+use crate::sights::Visit;
+use crate::standing::standing_lines;
+use crate::unread::{has_files, unread_lines};
+use crate::visiting::visits;
+use devdry_files::{Disk, wanted};
+use engine_ends::Line;
+use std::alloc::{AllocError, Global};
+use text_bytes::SourceFile;
+
+/// What could be read of what a line asks for.
+#[derive(Debug, Drop)]
+pub struct ReadSome {
+    /// The files that were read, in the order of reading.
+    pub files: Vec<SourceFile>,
+    /// What is told on the error output before the run.
+    pub told: Vec<u8>,
+    /// The least status of the run.
+    pub least: u8,
+}
+
+/// Which files of the folders count.
+#[derive(Debug, Drop)]
+pub struct Listed {
+    /// The lines for the output.
+    pub lines: Vec<u8>,
+    /// What is told on the error output before them.
+    pub told: Vec<u8>,
+    /// The least status of the run.
+    pub least: u8,
+}
+
+// Visits of all that a line asks for.
+fn visits_for<D: Disk>(alloc: Global, disk: &D, line: &Line<'_>) -> Result<Vec<Visit>, AllocError>
+    ensures { IfOk result (λ visits. AreVisitsFor (D.may_answer disk.now) line.now visits.items) }
+{
+    let wanted = wanted(alloc, line)?;
+    visits(alloc, disk, &wanted)
+}
+
+// What is told of visits before the run, and the least status of the run.
+#[derive(Drop)]
+struct Told {
+    lines: Vec<u8>,
+    least: u8,
+}
+
+// The least status of a run, by the lines on what can't be read and whether any file was read.
+fn least_of(unread: &[u8], some: bool) -> u8
+    ensures { result ≡ least_of unread.now some }
+{
+    if !unread.is_empty() {
+        3
+    } else if some {
+        0
+    } else {
+        1
+    }
+}
+
+// What is told where no file was read, and nothing else.
+fn told_of_nothing<D: Disk>(
+    alloc: Global,
+    disk: &D,
+    line: &Line<'_>,
+    visits: &[Visit],
+    some: bool,
+) -> Result<Vec<u8>, AllocError>
+    ensures { IfOk result (λ lines. TellsNothing (D.may_answer disk.now) line.now visits.now some lines.items) }
+{
+    if some {
+        return Ok(Vec::new(alloc));
+    }
+    let others = files_elsewhere(alloc, disk, line)?;
+    nothing_lines(alloc, line.root, visits, &others)
+}
+
+// What is told of visits before the run, and the least status of the run.
+fn told_of<D: Disk>(
+    alloc: Global,
+    disk: &D,
+    line: &Line<'_>,
+    visits: &[Visit],
+) -> Result<Told, AllocError>
+    ensures told { IfOk result (λ t. IsTold (D.may_answer disk.now) line.now visits.now t.lines.items) }
+    ensures least { IfOk result (λ t. t.least ≡ least_status visits.now) }
+{
+    let mut lines = unread_lines(alloc, visits)?;
+    let some = has_files(visits);
+    let least = least_of(&lines, some);
+    lines.append(&mut told_of_nothing(alloc, disk, line, visits, some)?)?;
+    Ok(Told { lines, least })
+}
+
+/// Reads what can be read of what a line asks for: the files that it names in the order given, then the
+/// folders.
+///
+/// Where the line names a folder, the files in it are taken whose names end in the suffix of their
+/// kind, by name, each as `FILE/NAME`, with one slash. What can't be read is told, `devdry: cannot read
+/// PATH: REASON`, and the least status is then 3; nothing is opened that is neither a folder nor a
+/// regular file, but for the null device. An absent folder is no fault. Where no file was read, each
+/// folder that was looked at is told of, and the least status is 1, unless it is 3.
+///
+/// The error comes where memory is refused.
+pub fn read_what_can<D: Disk>(
+    alloc: Global,
+    disk: &D,
+    line: &Line<'_>,
+) -> Result<ReadSome, AllocError>
+    ensures some { IfOk result (IsReadSome (D.may_answer disk.now) line.now) }
+    ensures least { IfOk result (λ some. some.least ≤ 3) }
+{
+    let visits = visits_for(alloc, disk, line)?;
+    let told = told_of(alloc, disk, line, &visits)?;
+    Ok(ReadSome {
+        files: files_of(alloc, visits)?,
+        told: told.lines,
+        least: told.least,
+    })
+}
+
+/// Tells which files of the folders that a line asks for count: each file is used, masks those of its
+/// name, is hidden by another, or is passed over with the reason; what can't be read is told besides,
+/// and the least status is as with `read_what_can`.
+///
+/// The error comes where memory is refused.
+pub fn list_files<D: Disk>(alloc: Global, disk: &D, line: &Line<'_>) -> Result<Listed, AllocError>
+    ensures listed { IfOk result (IsListed (D.may_answer disk.now) line.now) }
+    ensures least { IfOk result (λ listed. listed.least ≤ 3) }
+{
+    let visits = visits_for(alloc, disk, line)?;
+    let told = told_of(alloc, disk, line, &visits)?;
+    Ok(Listed {
+        lines: standing_lines(alloc, visits)?,
+        told: told.lines,
+        least: told.least,
+    })
+}

@@ -1,0 +1,67 @@
+//! What is met where files are looked for.
+
+use crate::reasons::Reason;
+use text_bytes::{Bytes, FileKind};
+
+/// What is met at a name in a folder, or at the path of a file that is named.
+#[derive(Debug, Drop)]
+pub enum Met {
+    /// A file, which was read: all its bytes.
+    File(Bytes),
+    /// Something whose name ends in another way than those of the kind; it is not looked at.
+    OtherName,
+    /// A folder.
+    Folder,
+    /// Something that can't be read, and why.
+    Unread(Reason),
+}
+
+/// A name, where it stands, and what is met there.
+#[derive(Debug, Drop)]
+pub struct Sight {
+    /// The name without its folder; of a file that is named the path.
+    pub name: Bytes,
+    /// The path.
+    pub path: Bytes,
+    /// What is met there.
+    pub met: Met,
+}
+
+/// What stands at the path of a folder that is wanted, or of a file that is named.
+#[derive(Debug, Drop)]
+pub enum Spot {
+    /// Nothing, which is no fault of a folder.
+    Absent,
+    /// A folder, which was listed.
+    Folder,
+    /// A file, or what stands in its place.
+    File,
+    /// A folder that can't be listed, or what stands in its place, and why it can't be.
+    Unread(Reason),
+}
+
+/// What stands at a path, and what is met in it.
+#[derive(Debug, Drop)]
+pub struct Scan {
+    /// What stands there.
+    pub spot: Spot,
+    /// What is met in a folder, sorted by name, or the file alone.
+    pub sights: Vec<Sight>,
+}
+
+/// A folder or a file that a line asks for, and what came of it.
+#[derive(Debug, Drop)]
+pub struct Visit {
+    /// What files there hold.
+    pub kind: FileKind,
+    /// The place among the folders of the kind; 0 where the line names it.
+    pub rank: u8,
+    /// Whether the line names it.
+    pub is_named: bool,
+    /// Its path.
+    pub path: Bytes,
+    /// Where the symlink at the path of a folder leads, if one is there; of what is named, nothing.
+    pub link: Option<Bytes>,
+    /// What came of it.
+    pub scan: Scan,
+}

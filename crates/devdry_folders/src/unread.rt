@@ -1,0 +1,92 @@
+//! What is told of what can't be read.
+ghost use Rattle.std.specs.Prelude.{◌≡◌, ◌++◌, IfOk, OnOk, flat_map};
+ghost use Rattle.devdry_folders.specs.Unread.{has_file, has_files, is_file, line_on_met, line_on_spot, lines_on_visit, unread_line, unread_lines};
+
+use crate::reasons::{Reason, push_escaped, push_reason};
+use crate::sights::{Met, Sight, Spot, Visit};
+use std::alloc::{AllocError, Global};
+
+// Puts the line on what can't be read behind others.
+fn push_unread(
+    alloc: Global,
+    lines: &mut Vec<u8>,
+    path: &[u8],
+    reason: &Reason,
+) -> Result<(), AllocError>
+    ensures { OnOk result (lines.new.items ≡ lines.old.items ++ unread_line path.now reason.now) }
+{
+    push_escaped(alloc, lines, b"devdry: cannot read ", path)?;
+    lines.extend_from_slice(b": ")?;
+    push_reason(alloc, lines, reason)?;
+    lines.push(b'\n')?;
+    Ok(())
+}
+
+// Puts the line on what is met at a path behind others, if it can't be read.
+fn push_on_met(alloc: Global, lines: &mut Vec<u8>, path: &[u8], met: &Met) -> Result<(), AllocError>
+    ensures { OnOk result (lines.new.items ≡ lines.old.items ++ line_on_met path.now met.now) }
+{
+    match met {
+        Met::Unread(reason) => push_unread(alloc, lines, path, reason),
+        _ => Ok(()),
+    }
+}
+
+// Puts the line on what stands at a path behind others, if it can't be listed.
+fn push_on_spot(
+    alloc: Global,
+    lines: &mut Vec<u8>,
+    path: &[u8],
+    spot: &Spot,
+) -> Result<(), AllocError>
+    ensures { OnOk result (lines.new.items ≡ lines.old.items ++ line_on_spot path.now spot.now) }
+{
+    match spot {
+        Spot::Unread(reason) => push_unread(alloc, lines, path, reason),
+        _ => Ok(()),
+    }
+}
+
+// Puts the lines on a visit behind others.
+fn push_on_visit(alloc: Global, lines: &mut Vec<u8>, visit: &Visit) -> Result<(), AllocError>
+    ensures { OnOk result (lines.new.items ≡ lines.old.items ++ lines_on_visit visit.now) }
+{
+    push_on_spot(alloc, lines, visit.path.as_slice(), &visit.scan.spot)?;
+    for sight in &visit.scan.sights {
+        push_on_met(alloc, lines, sight.path.as_slice(), &sight.met)?;
+    }
+    Ok(())
+}
+
+/// The lines on all that can't be read, in the order of the visits: `devdry: cannot read PATH: REASON`,
+/// the path escaped.
+pub fn unread_lines(alloc: Global, visits: &[Visit]) -> Result<Vec<u8>, AllocError>
+    ensures { IfOk result (λ lines. lines.items ≡ unread_lines visits.now) }
+{
+    let mut lines = Vec::new(alloc);
+    for visit in visits {
+        push_on_visit(alloc, &mut lines, visit)?;
+    }
+    Ok(lines)
+}
+
+/// Whether a file was read.
+pub fn is_file(met: &Met) -> bool
+    ensures { result ≡ is_file met.now }
+{
+    matches!(met, Met::File(_))
+}
+
+// Whether one of the sights is a file that was read.
+fn has_file(sights: &[Sight]) -> bool
+    ensures { result ≡ has_file sights.now }
+{
+    sights.iter().any(|sight| is_file(&sight.met))
+}
+
+/// Whether any file was read.
+pub fn has_files(visits: &[Visit]) -> bool
+    ensures { result ≡ has_files visits.now }
+{
+    visits.iter().any(|visit| has_file(&visit.scan.sights))
+}

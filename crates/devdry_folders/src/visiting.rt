@@ -1,0 +1,303 @@
+//! Visits what a line asks for, one file or folder after the other, whatever comes of it.
+ghost use Rattle.std.specs.List.{ends_with};
+ghost use Rattle.std.specs.Prelude.{◌≡◌, IfOk, IsPermutation, IsSorted, false, map, nat_eq, option_map, string_bytes, true};
+ghost use Rattle.std.specs.String.{string_cmp};
+ghost use Rattle.text_bytes.specs.Kinds.{suffix_of};
+ghost use Rattle.devdry_files.specs.Answers.Answer.{Listing};
+ghost use Rattle.devdry_files.specs.Places.{place_of, places_of};
+ghost use Rattle.devdry_folders.specs.Meetings.{IsMet};
+ghost use Rattle.devdry_folders.specs.Visits.{AreFolderVisits, AreNamedVisits, AreSightsAt, AreSightsIn, AreVisits, IsFolderVisit, IsListedSo, IsNamedSo, IsNamedVisit, IsOneFile, IsScannedBy, IsSightIn, IsUnlisted, below, missing_folder, place_of_visit};
+
+use crate::meetings::{met_at, met_by};
+use crate::reasons::Reason;
+use crate::sights::{Met, Scan, Sight, Spot, Visit};
+use devdry_files::{Disk, DiskFault, Entry, Folder, Look, Wanted};
+use std::alloc::{AllocError, Global};
+use text_bytes::{Bytes, FileKind};
+
+// The path of a name in the folder at a path, whose own path may end in a slash.
+fn path_below(alloc: Global, folder: &str, name: &str) -> Result<String, AllocError>
+    ensures { IfOk result (λ path. string_bytes path ≡ below folder.now name.now) }
+{
+    let mut path = String::from_str(alloc, folder)?;
+    if !folder.as_bytes().ends_with(b"/") {
+        path.push_str("/")?;
+    }
+    path.push_str(name)?;
+    Ok(path)
+}
+
+// The names of entries, sorted byte by byte.
+fn names_of(alloc: Global, entries: Vec<Entry>) -> Result<Vec<String>, AllocError>
+    ensures once { IfOk result (λ names. IsPermutation (map (λ e. e.name) entries.items) names.items) }
+    ensures rise { IfOk result (λ names. IsSorted string_cmp names.items) }
+{
+    let mut names: Vec<String> = entries.into_iter().map(|entry| entry.name).collect(alloc)?;
+    names.sort_unstable();
+    Ok(names)
+}
+
+// What is met at a name in a folder of files of a kind.
+fn met_in<D: Disk>(
+    alloc: Global,
+    disk: &D,
+    kind: FileKind,
+    name: &str,
+    path: &str,
+) -> Result<Met, AllocError>
+    ensures of_kind { IfOk result (λ it. ends_with nat_eq name.now (suffix_of kind) ≡ true
+        → IsMet (D.may_answer disk.now) path.now it) }
+    ensures of_none { IfOk result (λ it. ends_with nat_eq name.now (suffix_of kind) ≡ false
+        → it ≡ Met.OtherName) }
+{
+    if name.as_bytes().ends_with(kind.suffix().as_bytes()) {
+        met_at(alloc, disk, path)
+    } else {
+        Ok(Met::OtherName)
+    }
+}
+
+// The sight of a name in a folder of files of a kind.
+fn sight_in<D: Disk>(
+    alloc: Global,
+    disk: &D,
+    kind: FileKind,
+    folder: &str,
+    name: &str,
+) -> Result<Sight, AllocError>
+    ensures name { IfOk result (λ s. s.name ≡ name.now) }
+    ensures sight { IfOk result (IsSightIn (D.may_answer disk.now) kind folder.now) }
+{
+    let path = path_below(alloc, folder, name)?;
+    let met = met_in(alloc, disk, kind, name, path.as_str())?;
+    Ok(Sight {
+        name: Bytes::copy_of(alloc, name.as_bytes())?,
+        path: Bytes::copy_of(alloc, path.as_bytes())?,
+        met,
+    })
+}
+
+// The sights of names in a folder of files of a kind, in their order.
+fn sights_of_names<D: Disk>(
+    alloc: Global,
+    disk: &D,
+    kind: FileKind,
+    folder: &str,
+    names: &[String],
+) -> Result<Vec<Sight>, AllocError>
+    ensures { IfOk result (λ sights. AreSightsAt (D.may_answer disk.now) kind folder.now
+        (map string_bytes names.now) sights.items) }
+{
+    let mut sights = Vec::new(alloc);
+    for name in names {
+        sights.push(sight_in(alloc, disk, kind, folder, name.as_str())?)?;
+    }
+    Ok(sights)
+}
+
+// The sights in a folder that was listed so.
+fn sights_in<D: Disk>(
+    alloc: Global,
+    disk: &D,
+    kind: FileKind,
+    folder: &str,
+    entries: Vec<Entry>,
+) -> Result<Vec<Sight>, AllocError>
+    requires { D.may_answer disk.now (Listing folder.now entries.items) }
+    ensures { IfOk result (λ sights.
+        AreSightsIn (D.may_answer disk.now) kind folder.now sights.items) }
+{
+    let names = names_of(alloc, entries)?;
+    sights_of_names(alloc, disk, kind, folder, &names)
+}
+
+// What stands at a path and is not listed.
+fn unlisted(alloc: Global, spot: Spot) -> Scan
+    ensures { IsUnlisted spot result }
+{
+    Scan {
+        spot,
+        sights: Vec::new(alloc),
+    }
+}
+
+// What comes of listing the folder at a path.
+fn scan_listed<D: Disk>(
+    alloc: Global,
+    disk: &D,
+    kind: FileKind,
+    path: &str,
+) -> Result<Scan, AllocError>
+    ensures { IfOk result (λ scan.
+        IsListedSo (D.may_answer disk.now) kind path.now scan.spot scan.sights.items) }
+{
+    match disk.list(alloc, path) {
+        Ok(entries) => Ok(Scan {
+            spot: Spot::Folder,
+            sights: sights_in(alloc, disk, kind, path, entries)?,
+        }),
+        Err(DiskFault::Absent) => Ok(unlisted(alloc, Spot::Absent)),
+        Err(DiskFault::Unreadable) => Ok(unlisted(alloc, Spot::Unread(Reason::Failed))),
+        Err(DiskFault::NotUtf8) => Ok(unlisted(alloc, Spot::Unread(Reason::NotUtf8))),
+        Err(DiskFault::OutOfMemory) => Err(AllocError),
+    }
+}
+
+// What nothing at a folder's path is, by the symlink there, if one is there.
+fn missing_folder(alloc: Global, link: Option<&Bytes>) -> Result<Spot, AllocError>
+    ensures { IfOk result (λ it. it ≡ missing_folder (option_map (λ t. t.now) link.entry)) }
+{
+    match link {
+        Some(target) => {
+            let target = Bytes::copy_of(alloc, target.as_slice())?;
+            Ok(Spot::Unread(Reason::LinkToNothing(target)))
+        }
+        None => Ok(Spot::Absent),
+    }
+}
+
+// What comes of a folder that is wanted, by a look at it.
+fn scan_by<D: Disk>(
+    alloc: Global,
+    disk: &D,
+    kind: FileKind,
+    path: &str,
+    link: Option<&Bytes>,
+    look: Look,
+) -> Result<Scan, AllocError>
+    ensures { IfOk result (IsScannedBy (D.may_answer disk.now) kind path.now
+        (option_map (λ t. t.now) link.entry) look) }
+{
+    match look {
+        Look::Absent => Ok(unlisted(alloc, missing_folder(alloc, link)?)),
+        Look::Folder => scan_listed(alloc, disk, kind, path),
+        Look::File | Look::Other => Ok(unlisted(alloc, Spot::Unread(Reason::NotFolder))),
+        Look::Forbidden => Ok(unlisted(alloc, Spot::Unread(Reason::Forbidden))),
+        Look::Failed => Ok(unlisted(alloc, Spot::Unread(Reason::Failed))),
+    }
+}
+
+// A visit of a folder that is wanted.
+fn visit_folder<D: Disk>(alloc: Global, disk: &D, folder: &Folder) -> Result<Visit, AllocError>
+    ensures place { IfOk result (λ v. place_of_visit v ≡ place_of folder.now) }
+    ensures visit { IfOk result (IsFolderVisit (D.may_answer disk.now)) }
+{
+    let path = folder.path.as_str();
+    let link = disk.target(alloc, path)?;
+    let look = disk.look(path)?;
+    let scan = scan_by(alloc, disk, folder.kind, path, link.as_ref(), look)?;
+    Ok(Visit {
+        kind: folder.kind,
+        rank: folder.rank,
+        is_named: false,
+        path: Bytes::copy_of(alloc, path.as_bytes())?,
+        link,
+        scan,
+    })
+}
+
+// What comes of a file that is named, by a look at it.
+fn scan_file<D: Disk>(alloc: Global, disk: &D, path: &str, look: Look) -> Result<Scan, AllocError>
+    ensures { IfOk result (IsOneFile (D.may_answer disk.now) path.now look) }
+{
+    let mut sights = Vec::new(alloc);
+    sights.push(Sight {
+        met: met_by(alloc, disk, path, look)?,
+        name: Bytes::copy_of(alloc, path.as_bytes())?,
+        path: Bytes::copy_of(alloc, path.as_bytes())?,
+    })?;
+    Ok(Scan {
+        spot: Spot::File,
+        sights,
+    })
+}
+
+// What comes of what is named, by a look at it.
+fn scan_named<D: Disk>(
+    alloc: Global,
+    disk: &D,
+    kind: FileKind,
+    path: &str,
+    look: Look,
+) -> Result<Scan, AllocError>
+    ensures { IfOk result (IsNamedSo (D.may_answer disk.now) kind path.now look) }
+{
+    match look {
+        Look::Folder => scan_listed(alloc, disk, kind, path),
+        _ => scan_file(alloc, disk, path, look),
+    }
+}
+
+// A visit of what is named.
+fn visit_named<D: Disk>(
+    alloc: Global,
+    disk: &D,
+    kind: FileKind,
+    path: &str,
+) -> Result<Visit, AllocError>
+    ensures path { IfOk result (λ v. v.path ≡ path.now) }
+    ensures visit { IfOk result (IsNamedVisit (D.may_answer disk.now) kind) }
+{
+    let look = disk.look(path)?;
+    let scan = scan_named(alloc, disk, kind, path, look)?;
+    Ok(Visit {
+        kind,
+        rank: 0,
+        is_named: true,
+        path: Bytes::copy_of(alloc, path.as_bytes())?,
+        link: None,
+        scan,
+    })
+}
+
+// Visits of what is named, in its order.
+fn named_visits<D: Disk>(
+    alloc: Global,
+    disk: &D,
+    kind: FileKind,
+    paths: &[&str],
+) -> Result<Vec<Visit>, AllocError>
+    ensures { IfOk result (λ visits.
+        AreNamedVisits (D.may_answer disk.now) kind (map (λ p. p.now) paths.now) visits.items) }
+{
+    let mut visits = Vec::new(alloc);
+    for path in paths {
+        visits.push(visit_named(alloc, disk, kind, path)?)?;
+    }
+    Ok(visits)
+}
+
+// Visits of folders, in their order.
+fn folder_visits<D: Disk>(
+    alloc: Global,
+    disk: &D,
+    folders: &[Folder],
+) -> Result<Vec<Visit>, AllocError>
+    ensures { IfOk result (λ visits.
+        AreFolderVisits (D.may_answer disk.now) (places_of folders.now) visits.items) }
+{
+    let mut visits = Vec::new(alloc);
+    for folder in folders {
+        visits.push(visit_folder(alloc, disk, folder)?)?;
+    }
+    Ok(visits)
+}
+
+/// Visits all that is wanted: what is named in the order given, and then the folders.
+///
+/// A file that is named is read whatever its name; of a folder that is named, and of the folders, the
+/// files are read whose names end in the suffix of their kind, by name. What can't be read is kept with
+/// its reason, and the next is visited. An absent folder is no fault, but a symlink to nothing is.
+///
+/// The error comes where memory is refused.
+pub fn visits<D: Disk>(
+    alloc: Global,
+    disk: &D,
+    wanted: &Wanted<'_, '_>,
+) -> Result<Vec<Visit>, AllocError>
+    ensures { IfOk result (λ visits. AreVisits (D.may_answer disk.now) wanted.now visits.items) }
+{
+    let mut visits = named_visits(alloc, disk, wanted.kind, wanted.files)?;
+    visits.append(&mut folder_visits(alloc, disk, wanted.folders.as_slice())?)?;
+    Ok(visits)
+}

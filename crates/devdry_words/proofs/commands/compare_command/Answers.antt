@@ -1,0 +1,13 @@
+use Rattle.std.proofs.Common.{rules, codes}
+use Rattle.std.proofs.lemmas.Result.{IfOk-weaker}
+use Rattle.clap.specs.Simple.{new_shape}
+use Rattle.devdry_words.specs.Commands.{IsCommand}
+use Rattle.devdry_words.proofs.Chains.{one_more}
+use Rattle.devdry_words.proofs.commands.compare_command.Goals as goal
+
+pub returns : goal.returns
+returns c =
+    let start : IsCommand (new_shape (codes "compare")) c.about.result = search rules in
+    let first = one_more _ _ _ _ _ start c.index_option.ensures c.in_ok-arg.ensures in
+    let second = one_more _ _ _ _ _ first c.old_argument.ensures c.in_ok-arg-2.ensures in
+    IfOk-weaker c.arg-3.result _ _ (λ m h. one_more _ _ _ _ _ second c.new_argument.ensures h) c.arg-3.ensures

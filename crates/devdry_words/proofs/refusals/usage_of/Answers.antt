@@ -1,0 +1,13 @@
+use Rattle.std.proofs.Common.{subst}
+use Rattle.devdry_words.specs.Answers.{IsUsageOf}
+use Rattle.devdry_words.specs.Refusals.{invalid_value, no_such_format, not_ignorable}
+use Rattle.devdry_words.proofs.refusals.usage_of.Goals as goal
+
+pub returns-in-UnknownFormat : goal.returns-in-UnknownFormat
+returns-in-UnknownFormat c =
+    rw c.in-UnknownFormat.is (subst (λ value. IsUsageOf (invalid_value value no_such_format) c.usage_on_value.result) c.text.ensures c.usage_on_value.ensures)
+
+pub returns-in-UnknownPart : goal.returns-in-UnknownPart
+returns-in-UnknownPart c =
+    rw c.in-UnknownPart.is
+    (subst (λ value. IsUsageOf (invalid_value value not_ignorable) c.usage_on_value-in-UnknownPart.result) c.unknown_text.ensures c.usage_on_value-in-UnknownPart.ensures)

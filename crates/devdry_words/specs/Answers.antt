@@ -1,0 +1,62 @@
+-- What is answered to words that ask for no run.
+use Rattle.std.specs.Prelude.{◌≡◌, ◌⊎◌, ◌++◌, ⊤, List, [], Option, IsSomeAnd, MatchOption, codes, string_bytes}
+use Rattle.clap.specs.Words.{IsAmong, Kinds, Row, Text}
+use Rattle.clap.specs.declared.error.kind.ErrorKind.{ErrorKind}
+use Rattle.clap.specs.declared.error.kind.ErrorKind.TheVariants as kind
+use Rattle.engine_ends.specs.declared.line.LineFault.{LineFault}
+use Rattle.engine_ends.specs.declared.line.LineFault.TheVariants.{Help, Usage, Memory}
+use Rattle.devdry_explanations.specs.Codes.{remark_with}
+use Rattle.devdry_explanations.specs.Sections.{IsSectionOn}
+use Rattle.devdry_words.specs.declared.subcommands.Subcommand.TheVariants.{Explain}
+use Rattle.devdry_words.specs.Refusals.{invalid_value, known_codes, refusal_of, said_of}
+use Rattle.devdry_words.specs.Requests.{subcommand_name}
+use Rattle.devdry_words.specs.Values.{text_of}
+
+-- help or the version is asked for, by the kind of clap's answer
+abbrev pub AsksForHelp : ErrorKind → Type 0
+AsksForHelp k = (k ≡ kind.DisplayHelp) ⊎ (k ≡ kind.DisplayVersion)
+
+-- help answers a request, usage any other kind, and want of memory may answer each
+abbrev pub IsAnswer : LineFault → ErrorKind → Type 0
+IsAnswer (Help text) k = AsksForHelp k
+IsAnswer (Usage text) k = AsksForHelp k → ⊥
+IsAnswer Memory k = ⊤
+
+-- memory ran out, or the fault answers one of these kinds
+abbrev pub AnswersOneOf : Kinds → LineFault → Type 0
+AnswersOneOf kinds fault =
+    (fault ≡ Memory) ⊎ ((k : ErrorKind) × IsAmong k kinds × IsAnswer fault k)
+
+-- it is usage with this text, or memory ran out
+abbrev pub IsUsageOf : Text → LineFault → Type 0
+IsUsageOf said (Help text) = ⊥
+IsUsageOf said (Usage text) = string_bytes text ≡ said
+IsUsageOf said Memory = ⊤
+
+-- it is help with a text of which this holds, or memory ran out
+abbrev pub IsHelpWith : (Text → Type 0) → LineFault → Type 0
+IsHelpWith P (Help text) = P (string_bytes text)
+IsHelpWith P (Usage text) = ⊥
+IsHelpWith P Memory = ⊤
+
+-- what is said behind a code that there is not
+abbrev pub no_such_code : Text
+no_such_code = codes "' for '<CODE>'\n  [possible values: " ++ known_codes ++ codes "]\n\nFor more information, try '--help'.\n"
+
+-- a code is answered with the section on its remark, and what is no code with usage that lists the codes
+abbrev pub Explains : Text → LineFault → Type 0
+Explains code fault =
+    MatchOption (remark_with code) (IsUsageOf (invalid_value code no_such_code) fault) (λ remark. IsHelpWith (IsSectionOn remark) fault)
+
+-- what `devdry` itself answers to the matches of a subcommand that asks for no run: why it is refused, or to `explain` the section
+abbrev pub AnswersMatches : Text → List Row → LineFault → Type 0
+AnswersMatches name rows fault =
+    MatchOption (refusal_of name rows) ((subcommand_name Explain ≡ name) × Explains (text_of (codes "CODE") rows) fault) (λ r. IsUsageOf (said_of r rows) fault)
+
+-- the same, of a subcommand that is named with its matches
+abbrev pub AnswersSubcommand : Option (Text × List Row) → LineFault → Type 0
+AnswersSubcommand asked fault = IsSomeAnd asked (λ p. AnswersMatches p.0 p.1 fault)
+
+-- the fault answers one of clap's kinds; or there are none, and it is what `devdry` itself answers
+abbrev pub AnswersWords : Kinds → Option (Text × List Row) → LineFault → Type 0
+AnswersWords kinds asked fault = AnswersOneOf kinds fault ⊎ ((kinds ≡ []) × AnswersSubcommand asked fault)

@@ -1,0 +1,80 @@
+-- What `devdry` itself refuses of the words that clap takes, and what it says of them.
+use Rattle.std.specs.Prelude.{◌&&◌, ◌||◌, ◌++◌, List, [], Bool, Option, Some, None, if◌then◌else◌, find, flat_map, is_some, not, unwrap_or, codes}
+use Rattle.std.specs.Option.{is_none}
+use Rattle.std.specs.Str.{bytes_eq}
+use Rattle.clap.specs.Words.{Row, Text, first_of}
+use Rattle.engine_formats.specs.Codes.{remark_of}
+use Rattle.devdry_words.specs.declared.refusals.Refusal.{Refusal}
+use Rattle.devdry_words.specs.declared.refusals.Refusal.TheVariants.{TwoDatabases, EmptyRoot, EmptySide, UnknownFormat, UnknownPart}
+use Rattle.devdry_words.specs.Lines.{format_of}
+use Rattle.devdry_words.specs.Values.{cut_at_commas, has_value, is_empty_text, is_set, text_of, texts_of}
+
+-- a query names two databases: files and an index
+abbrev pub names_two : Text → List Row → Bool
+names_two name rows = bytes_eq name (codes "query") && (is_some (first_of (codes "index") rows) && has_value (codes "FILE") rows)
+
+-- all is asked for, or what becomes of files, below a root that is given and empty
+abbrev pub lacks_root : Text → List Row → Bool
+lacks_root name rows = (is_set (codes "all") rows || bytes_eq name (codes "files")) && is_empty_text (codes "root") rows
+
+-- one of the two roots that are compared is empty
+abbrev pub lacks_side : List Row → Bool
+lacks_side rows = is_empty_text (codes "OLD") rows || is_empty_text (codes "NEW") rows
+
+-- a part of `--ignore` is the word `comments`, or the code of a remark
+abbrev pub is_ignorable : Text → Bool
+is_ignorable part = bytes_eq part (codes "comments") || is_some (remark_of part)
+
+-- the first of these parts that is neither
+abbrev pub first_unknown : List Text → Option Text
+first_unknown parts = find (λ part. not (is_ignorable part)) parts
+
+-- the first part of `--ignore` that is neither, if there is one
+abbrev pub unknown_part : List Row → Option Text
+unknown_part rows = first_unknown (flat_map cut_at_commas (texts_of (codes "ignore") rows))
+
+-- why a value is refused that has to be one of a few, if it is: no format has the name, or a part of `--ignore` names nothing
+abbrev pub unknown_value : List Row → Option Refusal
+unknown_value rows = if is_none (format_of rows) then Some UnknownFormat else (if is_some (unknown_part rows) then Some UnknownPart else None)
+
+-- why the matches of a subcommand are no line, if they are none
+abbrev pub refusal_of : Text → List Row → Option Refusal
+refusal_of name rows = if names_two name rows then Some TwoDatabases
+    else (if lacks_root name rows then Some EmptyRoot
+    else (if lacks_side rows then Some EmptySide else unknown_value rows))
+
+-- what is said of a value that its argument does not take, by what stands before and behind the value
+abbrev pub invalid_value : Text → Text → Text
+invalid_value value behind = codes "error: invalid value '" ++ value ++ behind
+
+-- what is said of a query that names two databases
+abbrev pub two_databases : Text
+two_databases = codes "error: the argument '--index <FILE>' cannot be used with '[FILE]...'\n\nUsage: devdry query --index <FILE> <MODALIAS>\n\nFor more information, try '--help'.\n"
+
+-- what is said of an empty root where all is asked for, or what becomes of files
+abbrev pub empty_root : Text
+empty_root = codes "error: an empty value of '--root <DIR>' names no folder\n\nFor more information, try '--help'.\n"
+
+-- what is said of an empty root that is compared
+abbrev pub empty_side : Text
+empty_side = codes "error: an empty value of '<OLD>' or '<NEW>' names no folder; '/' is that of the running system\n\nFor more information, try '--help'.\n"
+
+-- what is said behind the name of a format that there is not
+abbrev pub no_such_format : Text
+no_such_format = codes "' for '--format <FORMAT>'\n  [possible values: plain, gcc, github, gitlab, json, human]\n\nFor more information, try '--help'.\n"
+
+-- the codes of all remarks, a comma and a blank between two
+abbrev pub known_codes : Text
+known_codes = codes "V1, V2, V3, V4, V5, V6, V7, V8, V9, V10, V11, V12, S1, S2, S3, S4, H1, H2, H3, H4, H5, H6, I1, I2"
+
+-- what is said behind a part of `--ignore` that is neither a code nor the word `comments`
+abbrev pub not_ignorable : Text
+not_ignorable = codes "' for '--ignore <CODES>'\n  [possible values: " ++ known_codes ++ codes ", comments]\n\nFor more information, try '--help'.\n"
+
+-- what is said of matches that are refused
+abbrev pub said_of : Refusal → List Row → Text
+said_of TwoDatabases rows = two_databases
+said_of EmptyRoot rows = empty_root
+said_of EmptySide rows = empty_side
+said_of UnknownFormat rows = invalid_value (text_of (codes "format") rows) no_such_format
+said_of UnknownPart rows = invalid_value (unwrap_or (unknown_part rows) []) not_ignorable

@@ -1,0 +1,125 @@
+//! What is refused of the words that `clap` takes.
+//!
+//! A rule of one argument on another would cost what `clap` says of the words that it takes, and so
+//! would values cut at commas, so that these few cases are looked at here.
+ghost use Rattle.std.specs.Prelude.{◌≡◌};
+ghost use Rattle.clap.specs.Words.{found_of, rows_of};
+ghost use Rattle.devdry_words.specs.Answers.{IsUsageOf};
+ghost use Rattle.devdry_words.specs.Refusals.{lacks_root, lacks_side, names_two, refusal_of, said_of, unknown_value};
+
+use crate::ignored::{unknown_part, unknown_text};
+use crate::line_reading::format_of;
+use crate::telling::{usage, usage_on_value};
+use crate::values::{has_value, is_empty, is_given, text, value};
+use clap::ArgMatches;
+use engine_ends::LineFault;
+use std::alloc::Global;
+
+const TWO_DATABASES: &str = "error: the argument '--index <FILE>' cannot be used with '[FILE]...'
+
+Usage: devdry query --index <FILE> <MODALIAS>
+
+For more information, try '--help'.
+";
+
+const EMPTY_ROOT: &str = "error: an empty value of '--root <DIR>' names no folder
+
+For more information, try '--help'.
+";
+
+const EMPTY_SIDE: &str =
+    "error: an empty value of '<OLD>' or '<NEW>' names no folder; '/' is that of the running system
+
+For more information, try '--help'.
+";
+
+const NO_SUCH_FORMAT: &str = "' for '--format <FORMAT>'
+  [possible values: plain, gcc, github, gitlab, json, human]
+
+For more information, try '--help'.
+";
+
+const NOT_IGNORABLE: &str = "' for '--ignore <CODES>'
+  [possible values: V1, V2, V3, V4, V5, V6, V7, V8, V9, V10, V11, V12, S1, S2, S3, S4, H1, H2, H3, H4, H5, H6, I1, I2, comments]
+
+For more information, try '--help'.
+";
+
+/// Why words that `clap` takes are refused.
+#[derive(Clone, Copy, Debug, PartialEq, Eq)]
+pub(crate) enum Refusal {
+    /// A query names two databases: files and an index.
+    TwoDatabases,
+    /// All is asked for, or what becomes of files, below a root that is given and empty: so a variable
+    /// without a value, as in `-r "$image"`, does not stand for the system itself.
+    EmptyRoot,
+    /// A root that is compared is empty.
+    EmptySide,
+    /// There is no such format.
+    UnknownFormat,
+    /// A part of `--ignore` is neither the code of a remark nor the word `comments`.
+    UnknownPart,
+}
+
+/// Whether the matches of a subcommand name two databases.
+fn names_two(name: &str, matches: &ArgMatches<'_>) -> bool
+    ensures { result ≡ names_two name.now (rows_of (found_of matches.now)) }
+{
+    (name == "query") & value(matches, "index").is_some() & has_value(matches, "FILE")
+}
+
+/// Whether the matches of a subcommand ask for all, or what becomes of files, below a root that is given
+/// and empty.
+fn lacks_root(name: &str, matches: &ArgMatches<'_>) -> bool
+    ensures { result ≡ lacks_root name.now (rows_of (found_of matches.now)) }
+{
+    (is_given(matches, "all") | (name == "files")) & is_empty(matches, "root")
+}
+
+/// Whether a root that matches compare is empty.
+fn lacks_side(matches: &ArgMatches<'_>) -> bool
+    ensures { result ≡ lacks_side (rows_of (found_of matches.now)) }
+{
+    is_empty(matches, "OLD") | is_empty(matches, "NEW")
+}
+
+/// Why a value of matches is refused that has to be one of a few, if it is.
+fn unknown_value(matches: &ArgMatches<'_>) -> Option<Refusal>
+    ensures { result ≡ unknown_value (rows_of (found_of matches.now)) }
+{
+    if format_of(matches).is_none() {
+        Some(Refusal::UnknownFormat)
+    } else if unknown_part(matches).is_some() {
+        Some(Refusal::UnknownPart)
+    } else {
+        None
+    }
+}
+
+/// Why the matches of a subcommand are refused, if they are.
+pub(crate) fn refusal_of(name: &str, matches: &ArgMatches<'_>) -> Option<Refusal>
+    ensures { result ≡ refusal_of name.now (rows_of (found_of matches.now)) }
+{
+    if names_two(name, matches) {
+        Some(Refusal::TwoDatabases)
+    } else if lacks_root(name, matches) {
+        Some(Refusal::EmptyRoot)
+    } else if lacks_side(matches) {
+        Some(Refusal::EmptySide)
+    } else {
+        unknown_value(matches)
+    }
+}
+
+/// What is said of matches that are refused.
+pub(crate) fn usage_of(alloc: Global, refusal: Refusal, matches: &ArgMatches<'_>) -> LineFault
+    ensures { IsUsageOf (said_of refusal (rows_of (found_of matches.now))) result }
+{
+    match refusal {
+        Refusal::TwoDatabases => usage(alloc, TWO_DATABASES),
+        Refusal::EmptyRoot => usage(alloc, EMPTY_ROOT),
+        Refusal::EmptySide => usage(alloc, EMPTY_SIDE),
+        Refusal::UnknownFormat => usage_on_value(alloc, text(matches, "format"), NO_SUCH_FORMAT),
+        Refusal::UnknownPart => usage_on_value(alloc, unknown_text(matches), NOT_IGNORABLE),
+    }
+}

@@ -1,0 +1,75 @@
+//! The subcommands by their names, and what each of them asks for.
+ghost use Rattle.std.specs.Prelude.{◌≡◌, IfOk, MatchResult, codes};
+ghost use Rattle.clap.specs.Words.{found_of, rows_of};
+ghost use Rattle.devdry_words.specs.Lines.{name_of};
+ghost use Rattle.devdry_words.specs.Requests.{AsksFor, IsSubcommandName, subcommand_name};
+
+use crate::line_reading::line_with;
+use crate::values::text;
+use clap::ArgMatches;
+use engine_ends::{Request, Verb};
+use std::alloc::{AllocError, Global};
+
+/// A subcommand.
+#[derive(Clone, Copy, Debug, PartialEq, Eq)]
+pub(crate) enum Subcommand {
+    /// One that is run over the files which it reads.
+    Run(Verb),
+    /// `files`.
+    Files,
+    /// `compare`.
+    Compare,
+    /// `explain`.
+    Explain,
+}
+
+/// The subcommand of a name.
+pub(crate) fn subcommand_of(name: &str) -> Subcommand
+    requires { IsSubcommandName name.now }
+    ensures { subcommand_name result ≡ name.now }
+{
+    match name {
+        "verify" => Subcommand::Run(Verb::Verify),
+        "query" => Subcommand::Run(Verb::Query),
+        "update" => Subcommand::Run(Verb::Update),
+        "events" => Subcommand::Run(Verb::Events),
+        "files" => Subcommand::Files,
+        "compare" => Subcommand::Compare,
+        _ => Subcommand::Explain,
+    }
+}
+
+/// What a subcommand that is run asks for with these matches. `Err` is want of memory.
+pub(crate) fn run_request<'a>(
+    alloc: Global,
+    verb: Verb,
+    matches: &ArgMatches<'a>,
+) -> Result<Request<'a>, AllocError>
+    ensures { IfOk result (AsksFor (name_of verb) (rows_of (found_of matches.now))) }
+{
+    let root = text(matches, "root");
+    Ok(Request::Run(line_with(alloc, verb, root, matches)?))
+}
+
+/// What `files` asks for with these matches. `Err` is want of memory.
+pub(crate) fn files_request<'a>(
+    alloc: Global,
+    matches: &ArgMatches<'a>,
+) -> Result<Request<'a>, AllocError>
+    ensures { IfOk result (AsksFor (codes "files") (rows_of (found_of matches.now))) }
+{
+    let root = text(matches, "root");
+    Ok(Request::Files(line_with(alloc, Verb::Events, root, matches)?))
+}
+
+/// What `compare` asks for with these matches. `Err` is want of memory.
+pub(crate) fn compare_request<'a>(
+    alloc: Global,
+    matches: &ArgMatches<'a>,
+) -> Result<Request<'a>, AllocError>
+    ensures { IfOk result (AsksFor (codes "compare") (rows_of (found_of matches.now))) }
+{
+    let old = line_with(alloc, Verb::Events, text(matches, "OLD"), matches)?;
+    let new = line_with(alloc, Verb::Events, text(matches, "NEW"), matches)?;
+    Ok(Request::Compare(old, new))
+}

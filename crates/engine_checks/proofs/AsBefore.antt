@@ -1,0 +1,119 @@
+-- With the default format and nothing ignored, what is told is what the messages say.
+use Rattle.std.proofs.Common.{◌≡◌, ℕ, ◌+◌, ◌^◌, ◌==◌, Bool, true, false, not, ◌&&◌, ◌||◌, cond, List, [], ◌∷◌, ◌++◌, length, filter, fold, map, nat_le, refl, ap, sym, ◌∙◌, subst}
+use Rattle.std.specs.List.{AllZip, count_by, flat_map, list_any}
+use Rattle.std.proofs.lemmas.List.Elements.{filter-append}
+use Rattle.text_bytes.specs.declared.message.Message.{Message}
+use Rattle.text_bytes.specs.declared.source_file.SourceFile.{SourceFile}
+use Rattle.text_bytes.specs.declared.source_file.FileKind.TheVariants.{Rules}
+use Rattle.text_tables.specs.Texts.{Text, same_text}
+use Rattle.rule_types.specs.Rules.{tokens_in}
+use Rattle.rule_core.specs.Rules.{file_messages, set_of}
+use Rattle.rule_places.specs.Files.{placed_findings}
+use Rattle.rule_places.specs.Laws.{as_message}
+use Rattle.rule_places.specs.declared.placed_finding.PlacedFinding.{PlacedFinding}
+use Rattle.rule_places.proofs.Messages.{findings_told}
+use Rattle.engine_ends.specs.Delivery.{Outcome}
+use Rattle.engine_ends.specs.declared.line.Format.TheVariants.{Plain}
+use Rattle.engine_ends.specs.declared.line.Line.{Line}
+use Rattle.engine_reports.specs.Checks as plain
+use Rattle.engine_reports.specs.Checks.{is_style, said_of, summary_line, told, verify_status}
+use Rattle.engine_reports.specs.FilesRead.{files_read}
+use Rattle.engine_reports.specs.Messages.{message_lines}
+use Rattle.engine_reports.specs.Outcomes.{rules_outcome, too_many_rules, verify_outcome}
+use Rattle.engine_formats.specs.Diagnostics.{DiagnosticValue}
+use Rattle.engine_formats.specs.Formats.{formatted}
+use Rattle.engine_formats.specs.Made.{AreMadeOf, IsMadeOf}
+use Rattle.engine_checks.specs.Files.{file_text, ignored_by, ignores_counted, rule_diagnostic, rules_found, rules_told}
+use Rattle.engine_checks.specs.Outcomes.{bad_count, checks_outcome, checks_said, is_named_in, rules_checks}
+use Rattle.engine_checks.specs.Told.{FileText, by_line, file_told, is_told}
+
+pub none_among : (ds : List DiagnosticValue) → by_line ds [] ≡ ds
+none_among [] = refl
+none_among (d ∷ ds) = ap (λ xs. d ∷ xs) (none_among ds)
+
+-- with nothing ignored all is told, or all but what is about style
+pub all_but_style : (style : Bool) (file : FileText) (found : List DiagnosticValue) → file_told style [] file [] found ≡ filter (is_told style [] []) found
+unfolding file_told
+all_but_style style file found = none_among (filter (is_told style [] []) found)
+
+one_made : (file : FileText) (p : PlacedFinding) → IsMadeOf (as_message file.name p) (rule_diagnostic file p)
+one_made file p = record { name = refl; begins = refl; remark = refl; word = refl }
+
+-- the diagnostics of findings are made of their messages
+findings_made : (style : Bool) (file : FileText) (ps : List PlacedFinding) → AreMadeOf (told style (map (as_message file.name) ps)) (filter (is_told style [] []) (map (rule_diagnostic file) ps))
+unfolding told
+findings_made true file [] = tt
+findings_made true file (p ∷ ps) = (one_made file p, findings_made true file ps)
+findings_made false file [] = tt
+findings_made false file (p ∷ ps) = by (is_style p.kind) (findings_made false file ps)
+  where
+    ms : List Message
+    ms = filter (λ m. not (is_style m.kind)) (map (as_message file.name) ps)
+
+    ds : List DiagnosticValue
+    ds = filter (is_told false [] []) (map (rule_diagnostic file) ps)
+
+    by : (b : Bool) → AreMadeOf ms ds → AreMadeOf (cond (not b) (as_message file.name p ∷ ms) ms) (cond ((not b && true) && true) (rule_diagnostic file p ∷ ds) ds)
+    by true more = more
+    by false more = (one_made file p, more)
+
+file_made : (line : Line) (file : SourceFile) → ignored_by line ≡ [] → AreMadeOf (told line.style (file_messages file)) (rules_told line file)
+unfolding rules_told
+file_made line file none =
+    subst (λ ds. AreMadeOf (told line.style (file_messages file)) ds)
+    (sym (ap (λ ignored. file_told line.style ignored (file_text line file) (ignores_counted ignored file) (rules_found line file)) none ∙ all_but_style line.style (file_text line file) (rules_found line file)))
+    (subst (λ ms. AreMadeOf (told line.style ms) (filter (is_told line.style [] []) (rules_found line file))) (findings_told file) (findings_made line.style (file_text line file) (placed_findings file)))
+
+pub both_made : (ms ns : List Message) (ds es : List DiagnosticValue) → AreMadeOf ms ds → AreMadeOf ns es → AreMadeOf (ms ++ ns) (ds ++ es)
+both_made [] ns [] es f g = g
+both_made [] ns (d ∷ ds) es f g = absurd f
+both_made (m ∷ ms) ns [] es f g = absurd f
+both_made (m ∷ ms) ns (d ∷ ds) es f g = (f.0, both_made ms ns ds es f.1 g)
+
+told_both : (style : Bool) (ms ns : List Message) → told style (ms ++ ns) ≡ told style ms ++ told style ns
+unfolding told
+told_both true ms ns = refl
+told_both false ms ns = filter-append (λ m. not (is_style m.kind)) ms ns
+
+told_none : (style : Bool) → told style [] ≡ []
+unfolding told
+told_none true = refl
+told_none false = refl
+
+files_made : (line : Line) (files : List SourceFile) → ignored_by line ≡ [] → AreMadeOf (told line.style (flat_map file_messages files)) (flat_map (rules_told line) files)
+files_made line [] none = subst (λ ms. AreMadeOf ms []) (sym (told_none line.style)) tt
+files_made line (file ∷ files) none =
+    subst (λ ms. AreMadeOf ms (rules_told line file ++ flat_map (rules_told line) files)) (sym (told_both line.style (file_messages file) (flat_map file_messages files)))
+    (both_made (told line.style (file_messages file)) (told line.style (flat_map file_messages files)) (rules_told line file) (flat_map (rules_told line) files) (file_made line file none) (files_made line files none))
+
+same_named : (ms : List Message) (ds : List DiagnosticValue) (name : Text) → AreMadeOf ms ds → is_named_in ds name ≡ plain.is_named_in ms name
+same_named [] [] name made = refl
+same_named [] (d ∷ ds) name made = absurd made
+same_named (m ∷ ms) [] name made = absurd made
+same_named (m ∷ ms) (d ∷ ds) name made = ap (λ file. same_text name file || is_named_in ds name) made.0.name ∙ ap (λ b. same_text name m.file || b) (same_named ms ds name made.1)
+
+same_sums : (p q : SourceFile → Bool) (n : ℕ) (files : List SourceFile) → ((file : SourceFile) → p file ≡ q file) → fold (λ a x. a + cond (p x) 1 0) n files ≡ fold (λ a x. a + cond (q x) 1 0) n files
+same_sums p q n [] e = refl
+same_sums p q n (file ∷ files) e =
+    ap (λ b. fold (λ a x. a + cond (p x) 1 0) (n + cond b 1 0) files) (e file) ∙ same_sums p q (n + cond (q file) 1 0) files e
+
+same_count : (p q : SourceFile → Bool) (files : List SourceFile) → ((file : SourceFile) → p file ≡ q file) → count_by p files ≡ count_by q files
+same_count p q files e = same_sums p q 0 files e
+
+module _ (plainly : (ms : List Message) (ds : List DiagnosticValue) → AreMadeOf ms ds → formatted Plain ds ≡ message_lines ms) where
+  same_said : (line : Line) (files : List SourceFile) (ms : List Message) (ds : List DiagnosticValue) → line.format ≡ Plain → AreMadeOf ms ds → checks_said line files ds ≡ said_of line.summary files ms
+  same_said line files ms ds format made =
+      let count : bad_count files ds ≡ plain.bad_count files ms = same_count (λ f. is_named_in ds f.name) (λ f. plain.is_named_in ms f.name) files (λ f. same_named ms ds f.name made) in
+      let text : formatted line.format ds ≡ message_lines ms = ap (λ f. formatted f ds) format ∙ plainly ms ds made in
+      let said : ℕ → Text → Outcome = λ (n : ℕ) (t : Text). record { output = cond line.summary (summary_line (length files) n) []; messages = t; status = verify_status n } in
+      ap (λ n. said n (formatted line.format ds)) count ∙ ap (said (plain.bad_count files ms)) text
+
+  same_rules : (line : Line) (files : List SourceFile) → line.format ≡ Plain → ignored_by line ≡ [] → rules_checks line files ≡ rules_outcome line files
+  unfolding rules_checks rules_outcome set_of
+  same_rules line files format none =
+      ap (λ o. cond (nat_le (tokens_in (set_of files).rules) (2 ^ 24)) o too_many_rules)
+      (same_said line files (told line.style (set_of files).messages) (flat_map (rules_told line) files) format (files_made line files none))
+
+  -- what `verify` says is as before
+  pub as_before : (line : Line) (files : List SourceFile) → line.format ≡ Plain → ignored_by line ≡ [] → checks_outcome line files ≡ verify_outcome line files
+  as_before line files format none = same_rules line (files_read Rules line files) format none

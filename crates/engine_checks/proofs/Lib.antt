@@ -1,0 +1,11 @@
+pub mod Lists
+pub mod Walking
+pub mod Held
+pub mod Silencing
+pub mod Telling
+pub mod Checking
+pub mod AsBefore
+pub mod EachCode
+pub mod LeftOut
+pub mod Among
+pub mod UpdatesBefore

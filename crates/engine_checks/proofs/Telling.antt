@@ -1,0 +1,87 @@
+-- What is told of a file, step by step.
+use Rattle.std.proofs.Common.{◌≡◌, ℕ, ◌+◌, ◌<◌, Bool, true, false, not, ◌&&◌, cond, List, [], ◌∷◌, ◌++◌, length, take, get_or, map, filter, Option, Some, None, option_map, option_to_list, nat_lt, refl, ap, sym, ◌∙◌, append_assoc, append-nil}
+use Rattle.std.specs.List.{cons_option, filter_map, list_any, take_while}
+use Rattle.std.proofs.lemmas.List.{take_more, take_all}
+use Rattle.std.proofs.lemmas.List.Elements.{filter_map-append}
+use Rattle.text_bytes.specs.Texts.{skip_while}
+use Rattle.text_tables.specs.Texts.{Text}
+use Rattle.engine_formats.specs.Diagnostics.{DiagnosticValue}
+use Rattle.engine_formats.specs.declared.remark.Remark.{Remark}
+use Rattle.engine_formats.specs.declared.remark.Remark.TheVariants.{IdleIgnore, UnknownCode}
+use Rattle.engine_checks.specs.Ignores.{Ignore}
+use Rattle.engine_checks.specs.Tables.{are_silencing, is_met, is_told_by, remark_by}
+use Rattle.engine_checks.specs.Told.{FileText, by_line, comment_diagnostic, comment_diagnostics, file_told, is_asked, is_silenced, is_told, is_unknown, remark_on, silences}
+
+-- one element more that may give something
+pub filter_map_more : {X Y : Type 0} (f : X → Option Y) (xs : List X) (i : ℕ) (x : X) → i < length xs → x ≡ get_or xs i x → filter_map f (take (i + 1) xs) ≡ filter_map f (take i xs) ++ option_to_list (f x)
+filter_map_more {X} {Y} f xs i x within is =
+    ap (filter_map f) (take_more xs i x within)
+    ∙ filter_map-append f (take i xs) (get_or xs i x ∷ [])
+    ∙ ap (λ y. filter_map f (take i xs) ++ filter_map f (y ∷ [])) (sym is)
+    ∙ ap (λ ys. filter_map f (take i xs) ++ ys) (by (f x))
+  where
+    by : (o : Option Y) → cons_option o [] ≡ option_to_list o
+    by None = refl
+    by (Some y) = refl
+
+-- a diagnostic more, with the remarks before it
+pub one_by_line : (remarks told before pushed rest behind more done : List DiagnosticValue) (d : DiagnosticValue)
+    → ((left : List DiagnosticValue) → told ++ by_line left rest ≡ by_line (done ++ left) remarks)
+    → before ≡ take_while (λ o. nat_lt o.begins d.begins) rest → behind ≡ skip_while (λ o. nat_lt o.begins d.begins) rest → pushed ≡ told ++ before → more ≡ pushed ++ d ∷ []
+    → (left : List DiagnosticValue) → more ++ by_line left behind ≡ by_line ((done ++ d ∷ []) ++ left) remarks
+one_by_line remarks told before pushed rest behind more done d so_far f g h k left =
+    ap (λ ms. ms ++ by_line left behind) k
+    ∙ append_assoc pushed (d ∷ []) (by_line left behind)
+    ∙ ap (λ ms. ms ++ d ∷ by_line left behind) h
+    ∙ append_assoc told before (d ∷ by_line left behind)
+    ∙ ap (λ os. told ++ (os ++ d ∷ by_line left behind)) f
+    ∙ ap (λ os. told ++ (take_while (λ o. nat_lt o.begins d.begins) rest ++ d ∷ by_line left os)) g
+    ∙ so_far (d ∷ left)
+    ∙ ap (λ ls. by_line ls remarks) (sym (append_assoc done (d ∷ []) left))
+
+same_filter_map : {X Y : Type 0} (f g : X → Option Y) (xs : List X) → ((x : X) → f x ≡ g x) → filter_map f xs ≡ filter_map g xs
+same_filter_map f g [] e = refl
+same_filter_map f g (x ∷ xs) e = ap (λ o. cons_option o (filter_map f xs)) (e x) ∙ ap (cons_option (g x)) (same_filter_map f g xs e)
+
+-- tables of what was found give the remarks on comments
+pub remarks_by : (file : FileText) (in_file : List Text) (at_lines : List (ℕ × Text)) (found : List DiagnosticValue) (ignores : List Ignore)
+    → ((i : Ignore) → is_met in_file at_lines i.scope i.code ≡ list_any (silences i) found)
+    → filter_map (λ i. option_map (comment_diagnostic file i) (remark_by in_file at_lines i)) ignores ≡ comment_diagnostics file found ignores
+remarks_by file in_file at_lines found ignores met =
+    same_filter_map (λ i. option_map (comment_diagnostic file i) (remark_by in_file at_lines i)) (λ i. option_map (comment_diagnostic file i) (remark_on found i)) ignores
+    (λ i. ap (λ b. option_map (comment_diagnostic file i) (cond (is_unknown i.scope i.code) (Some UnknownCode) (cond b None (Some IdleIgnore)))) (met i))
+
+-- those that pass, of what elements are made into
+filter_made : {X Y : Type 0} (p : X → Bool) (q : Y → Bool) (f : X → Y) (xs : List X) → ((x : X) → p x ≡ q (f x)) → map f (filter p xs) ≡ filter q (map f xs)
+filter_made p q f [] e = refl
+filter_made p q f (x ∷ xs) e = ap (λ b. map f (cond b (x ∷ filter p xs) (filter p xs))) (e x) ∙ by (q (f x)) (filter_made p q f xs e)
+  where
+    by : (b : Bool) → map f (filter p xs) ≡ filter q (map f xs) → map f (cond b (x ∷ filter p xs) (filter p xs)) ≡ cond b (f x ∷ filter q (map f xs)) (filter q (map f xs))
+    by true more = ap (λ ys. f x ∷ ys) more
+    by false more = more
+
+-- tables of what comments silence tell which diagnostics are told
+pub told_by : {X : Type 0} (f : X → DiagnosticValue) (style : Bool) (ignored in_file : List Text) (at_lines : List (ℕ × Text)) (ignores : List Ignore) (found : List X)
+    → ((d : DiagnosticValue) → are_silencing in_file at_lines d ≡ is_silenced ignores d)
+    → map f (filter (λ x. is_told_by style ignored in_file at_lines (f x)) found) ≡ filter (is_told style ignored ignores) (map f found)
+told_by f style ignored in_file at_lines ignores found silencing =
+    filter_made (λ x. is_told_by style ignored in_file at_lines (f x)) (is_told style ignored ignores) f found
+    (λ x. ap (λ b. is_asked style ignored (f x).remark && not b) (silencing (f x)))
+
+-- all that is told of a file
+pub all_told : {X : Type 0} (f : X → DiagnosticValue) (style : Bool) (ignored : List Text) (file : FileText) (ignores : List Ignore) (found seen kept : List X) (remarks lent told : List DiagnosticValue)
+    (met_file : List Text) (met_lines : List (ℕ × Text)) (in_file : List Text) (at_lines : List (ℕ × Text))
+    → seen ≡ found
+    → ((i : Ignore) → is_met met_file met_lines i.scope i.code ≡ list_any (silences i) (map f seen))
+    → ((d : DiagnosticValue) → are_silencing in_file at_lines d ≡ is_silenced ignores d)
+    → remarks ≡ filter_map (λ i. option_map (comment_diagnostic file i) (remark_by met_file met_lines i)) ignores
+    → lent ≡ filter (λ d. is_asked style ignored d.remark) remarks
+    → kept ≡ filter (λ x. is_told_by style ignored in_file at_lines (f x)) found
+    → told ≡ by_line (map f kept) lent
+    → told ≡ file_told style ignored file ignores (map f found)
+unfolding file_told
+all_told f style ignored file ignores found seen kept remarks lent told met_file met_lines in_file at_lines s met silencing r l k t =
+    t
+    ∙ ap (λ ds. by_line ds lent) (ap (map f) k ∙ told_by f style ignored in_file at_lines ignores found silencing)
+    ∙ ap (by_line (filter (is_told style ignored ignores) (map f found)))
+    (l ∙ ap (filter (λ d. is_asked style ignored d.remark)) (r ∙ remarks_by file met_file met_lines (map f found) ignores (λ i. met i ∙ ap (λ xs. list_any (silences i) (map f xs)) s)))

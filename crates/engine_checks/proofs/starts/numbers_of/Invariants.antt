@@ -1,0 +1,5 @@
+use Rattle.std.proofs.Common.{◌≡◌, map, take}
+use Rattle.engine_checks.proofs.starts.numbers_of.Given as goal
+
+abbrev pub invariant-loop-line : goal.invariant-loop-line
+invariant-loop-line l = l.numbers.items ≡ map (λ line. line.number) (take l.line-index l.lines)

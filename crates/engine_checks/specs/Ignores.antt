@@ -1,0 +1,102 @@
+-- The codes that comments in a file ask to ignore.
+use Rattle.std.specs.Prelude.{ℕ, ◌+◌, ◌-◌, Bool, not, ◌==◌, nat_lt, if◌then◌else◌, List, [], ◌∷◌, ◌++◌, length, take, drop, map, filter, find, flat_map, codes, Option, Some, None, option_to_list}
+use Rattle.std.specs.List.{slice_split}
+use Rattle.text_bytes.specs.Lines.{NumberedLine, numbered_lines}
+use Rattle.text_bytes.specs.Messages.{capped}
+use Rattle.text_bytes.specs.Names.{comma}
+use Rattle.text_bytes.specs.Texts.{unindented}
+use Rattle.text_bytes.specs.declared.source_file.FileKind.{FileKind}
+use Rattle.text_bytes.specs.declared.source_file.FileKind.TheVariants.{Hwdb, Rules}
+use Rattle.text_bytes.specs.declared.source_file.SourceFile.{SourceFile}
+use Rattle.text_tables.specs.Texts.{Text, same_text}
+use Rattle.hwdb_core.specs.Lines.{is_comment, trimmed}
+use Rattle.rule_core.specs.Lines.{joined_lines}
+use Rattle.engine_checks.specs.declared.ignores.Scope.{Scope}
+use Rattle.engine_checks.specs.declared.ignores.Scope.TheVariants.{File, Next, Unread}
+
+-- a code in a comment: the comment's line, the column at which the code begins and the one behind its end, and what it is about
+pub record Ignore : Type 0 where
+  pub line : ℕ
+  pub column : ℕ
+  pub end : ℕ
+  pub scope : Scope
+  pub code : Text
+
+-- what stands behind the front of a text, where it begins with that
+abbrev pub behind : Text → Text → Option Text
+behind front text = if same_text (take (length front) text) front then Some (drop (length front) text) else None
+
+-- what a comment is about and its codes, by what stands behind ` ignore ` or else behind ` ignore-file `, and else the text that is not understood
+abbrev pub asked_or : Option ℕ → Option Text → Option Text → Text → Scope × Text
+asked_or next (Some list) in_file text = (Next next, list)
+asked_or next None (Some list) text = (File, list)
+asked_or next None None text = (Unread, unindented text)
+
+-- what a comment asks for by what stands behind `# devdry:`
+abbrev pub asked_by : Option ℕ → Text → Scope × Text
+asked_by next text = asked_or next (behind (codes " ignore ") text) (behind (codes " ignore-file ") text) text
+
+-- the codes of a list, cut at its commas; what is not understood is one text
+abbrev pub texts_of : Scope → Text → List Text
+texts_of File list = slice_split (λ b. b == comma) list
+texts_of (Next next) list = slice_split (λ b. b == comma) list
+texts_of Unread text = text ∷ []
+
+-- the code in a text: without the blanks before it and the whitespace behind it
+abbrev pub code_in : Text → Text
+code_in text = trimmed (unindented text)
+
+-- the column at which the code in a text begins, by that of the text
+abbrev pub code_column : ℕ → Text → ℕ
+code_column column text = column + (length text - length (unindented text))
+
+-- the code in a text of a line, by the column at which the text begins
+abbrev pub ignore_at : ℕ → Scope → ℕ → Text → Ignore
+ignore_at line scope column text = record {
+  line = line;
+  column = capped (code_column column text);
+  end = capped (code_column column text + length (code_in text));
+  scope = scope;
+  code = code_in text;
+}
+
+-- texts of a comment in this line, one behind another with a byte between them, of which the first begins in this column
+abbrev pub ignores_at : ℕ → Scope → ℕ → List Text → List Ignore
+ignores_at line scope column [] = []
+ignores_at line scope column (text ∷ texts) =
+    ignore_at line scope column text ∷ ignores_at line scope (column + length text + 1) texts
+
+-- the same of what a comment asks for, which ends where its line ends
+abbrev pub ignores_asked : NumberedLine → Scope × Text → List Ignore
+ignores_asked l asked = ignores_at (capped l.number) asked.0 (length l.text + 1 - length asked.1) (texts_of asked.0 asked.1)
+
+-- a line as it is looked at for a comment: in rules without the blanks at its start, in a database as it is
+abbrev pub comment_of : FileKind → Text → Text
+comment_of Rules text = unindented text
+comment_of Hwdb text = text
+
+-- the codes of a comment that begins with `# devdry:`
+abbrev pub ignores_behind : NumberedLine → Option ℕ → Option Text → List Ignore
+ignores_behind l next None = []
+ignores_behind l next (Some text) = ignores_asked l (asked_by next text)
+
+-- the codes in a line, which comments on the next rule are about
+abbrev pub ignores_of_line : FileKind → Option ℕ → NumberedLine → List Ignore
+ignores_of_line kind next l = ignores_behind l next (behind (codes "# devdry:") (comment_of kind l.text))
+
+-- the first line behind another one, by the numbers of lines
+abbrev pub next_behind : List ℕ → ℕ → Option ℕ
+next_behind starts line = find (nat_lt line) starts
+
+-- the lines in which rules begin, also the one that is open where the file ends; in a database the lines that are no comments
+abbrev pub starts_of : FileKind → List ℕ → List ℕ
+starts_of Rules bytes = map (λ l. l.number) (joined_lines bytes).lines ++ option_to_list (joined_lines bytes).open_at
+starts_of Hwdb bytes = map (λ l. capped l.number) (filter (λ l. not (is_comment l.text)) (numbered_lines bytes))
+
+-- the codes in lines, each comment on the next rule being about the first of these starts behind it
+abbrev pub ignores_among : FileKind → List ℕ → List NumberedLine → List Ignore
+ignores_among kind starts lines = flat_map (λ l. ignores_of_line kind (next_behind starts (capped l.number)) l) lines
+
+-- the codes that comments in a file ask to ignore, in the order of their places
+unfoldable pub ignores_in : SourceFile → List Ignore
+ignores_in file = ignores_among file.kind (starts_of file.kind file.bytes) (numbered_lines file.bytes)

@@ -1,0 +1,72 @@
+-- What is left out, what is said of codes in comments, and where these stand.
+use Rattle.std.specs.Prelude.{◌≡◌, ◌⊎◌, ◌<◌, ◌≤◌, ◌-◌, ℕ, Bool, true, false, List, ◌∷◌, ◌++◌, filter, not, take, drop, All, Contains, Option, Some, None}
+use Rattle.text_bytes.specs.Lines.{numbered_lines}
+use Rattle.text_bytes.specs.Texts.{unindented}
+use Rattle.text_bytes.specs.declared.message.MessageKind.{MessageKind}
+use Rattle.text_tables.specs.Texts.{Text}
+use Rattle.hwdb_core.specs.Lines.{trimmed}
+use Rattle.engine_formats.specs.Diagnostics.{DiagnosticValue}
+use Rattle.engine_formats.specs.Placing.{line_numbered}
+use Rattle.engine_formats.specs.Remarks.{code_of}
+use Rattle.engine_formats.specs.declared.remark.Remark.{Remark}
+use Rattle.engine_formats.specs.declared.remark.Remark.TheVariants.{Message, IdleIgnore, UnknownCode}
+use Rattle.engine_checks.specs.Ignores.{Ignore}
+use Rattle.engine_checks.specs.Told.{is_about_style}
+use Rattle.engine_checks.specs.declared.ignores.Scope.TheVariants.{File, Next, Unread}
+
+-- whether a remark is a message about a file, and none on a comment
+abbrev pub is_message : Remark → Bool
+is_message (Message kind) = true
+is_message IdleIgnore = false
+is_message UnknownCode = false
+
+-- the messages among diagnostics, in their order
+abbrev pub messages_among : List DiagnosticValue → List DiagnosticValue
+messages_among told = filter (λ d. is_message d.remark) told
+
+-- the remarks on comments among diagnostics, in their order
+abbrev pub remarks_among : List DiagnosticValue → List DiagnosticValue
+remarks_among told = filter (λ d. not (is_message d.remark)) told
+
+-- A code in a comment silences what was found: that has the code, and the comment is about the whole file, or about the line that it is told of.
+pub record IsSilencing (ignore : Ignore) (d : DiagnosticValue) : Type 0 where
+  pub code : code_of d.remark ≡ ignore.code
+  pub about : (ignore.scope ≡ File) ⊎ (ignore.scope ≡ Next (Some d.begins))
+
+-- What was found is left out: it is about style and style is, its code is a text of `--ignore`, or a code in a comment silences it.
+abbrev pub IsLeftOut : Bool → List Text → List Ignore → DiagnosticValue → Type 0
+IsLeftOut style ignored ignores d =
+    ((style ≡ false) × (is_about_style d.remark ≡ true))
+    ⊎ (Contains ignored (code_of d.remark) ⊎ ((ignore : Ignore) × (Contains ignores ignore × IsSilencing ignore d)))
+
+-- A code in a comment silences something that was found.
+abbrev pub IsInUse : List DiagnosticValue → Ignore → Type 0
+IsInUse found ignore = (d : DiagnosticValue) × (Contains found d × IsSilencing ignore d)
+
+-- A code in a comment is the code of no message, or the comment is not understood.
+abbrev pub IsUnknown : Ignore → Type 0
+IsUnknown ignore = (ignore.scope ≡ Unread) ⊎ ((kind : MessageKind) → code_of (Message kind) ≡ ignore.code → ⊥)
+
+-- What is to be said of a code in a comment: nothing where it is in use, that it is unknown where it is, and else that it silences nothing.
+abbrev pub IsSaidOf : List DiagnosticValue → Ignore → Option Remark → Type 0
+IsSaidOf found ignore None = IsInUse found ignore
+IsSaidOf found ignore (Some UnknownCode) = IsUnknown ignore
+IsSaidOf found ignore (Some IdleIgnore) = (IsInUse found ignore → ⊥) × (IsUnknown ignore → ⊥)
+IsSaidOf found ignore (Some (Message kind)) = ⊥
+
+-- A code in a comment stands in the line of its number at its columns, without the blanks before it and the whitespace behind it.
+pub record StandsInLine (bytes : List ℕ) (ignore : Ignore) : Type 0 where
+  pub text : take (ignore.end - ignore.column) (drop (ignore.column - 1) (line_numbered (numbered_lines bytes) ignore.line)) ≡ ignore.code
+  pub begins : 0 < ignore.column
+  pub front : unindented ignore.code ≡ ignore.code
+  pub back : trimmed ignore.code ≡ ignore.code
+
+-- A line is the first of these numbers behind another one; it is none where no number is behind that.
+abbrev pub IsFirstBehind : List ℕ → ℕ → Option ℕ → Type 0
+IsFirstBehind starts line None = All (λ start. start ≤ line) starts
+IsFirstBehind starts line (Some next) =
+    (passed : List ℕ) × ((more : List ℕ) × ((starts ≡ passed ++ next ∷ more) × (All (λ start. start ≤ line) passed × (line < next))))
+
+-- A comment on the next rule is about the first of these lines behind its own.
+abbrev pub IsAboutNext : List ℕ → Ignore → Type 0
+IsAboutNext starts ignore = (next : Option ℕ) → ignore.scope ≡ Next next → IsFirstBehind starts ignore.line next

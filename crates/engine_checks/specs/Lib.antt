@@ -1,0 +1,7 @@
+pub mod Codes
+pub mod Ignores
+pub mod Told
+pub mod Files
+pub mod Outcomes
+pub mod Tables
+pub mod Laws

@@ -1,0 +1,61 @@
+-- What `verify` and `update` say with other formats and with messages that are ignored.
+use Rattle.std.specs.Prelude.{ℕ, ◌^◌, Bool, nat_le, if◌then◌else◌, List, [], length, flat_map}
+use Rattle.std.specs.List.{count_by, list_any}
+use Rattle.text_bytes.specs.declared.source_file.SourceFile.{SourceFile}
+use Rattle.text_bytes.specs.declared.source_file.FileKind.TheVariants.{Hwdb, Rules}
+use Rattle.text_bytes.specs.declared.message.Message.{Message}
+use Rattle.text_tables.specs.Texts.{Text, same_text}
+use Rattle.hwdb_lookup.specs.declared.entry.Entry.{Entry}
+use Rattle.rule_types.specs.Rules.{tokens_in}
+use Rattle.rule_core.specs.Rules.{set_of}
+use Rattle.trie_core.specs.Image.{image}
+use Rattle.engine_ends.specs.Delivery.{Outcome}
+use Rattle.engine_ends.specs.declared.line.Line.{Line}
+use Rattle.engine_reports.specs.Checks.{summary_line, verify_status}
+use Rattle.engine_reports.specs.FilesRead.{files_read}
+use Rattle.engine_reports.specs.Outcomes.{database_outcome, too_many_rules, update_status}
+use Rattle.engine_formats.specs.Diagnostics.{DiagnosticValue}
+use Rattle.engine_formats.specs.Formats.{formatted}
+use Rattle.engine_checks.specs.Files.{database_told, rules_told}
+
+-- whether one of the diagnostics bears a name
+abbrev pub is_named_in : List DiagnosticValue → Text → Bool
+is_named_in told name = list_any (λ d. same_text name d.name) told
+
+-- how many of the files are bad: something is told under their name
+abbrev pub bad_count : List SourceFile → List DiagnosticValue → ℕ
+bad_count files told = count_by (λ f. is_named_in told f.name) files
+
+-- what is said of files and of what is told of them
+abbrev pub checks_said : Line → List SourceFile → List DiagnosticValue → Outcome
+checks_said line files told = record {
+  output = if line.summary then summary_line (length files) (bad_count files told) else [];
+  messages = formatted line.format told;
+  status = verify_status (bad_count files told);
+}
+
+-- what `verify` says of rules files
+unfoldable pub rules_checks : Line → List SourceFile → Outcome
+rules_checks line files =
+    if nat_le (tokens_in (set_of files).rules) (2 ^ 24) then checks_said line files (flat_map (rules_told line) files)
+    else too_many_rules
+
+-- what `verify` says of the files handed in
+abbrev pub checks_outcome : Line → List SourceFile → Outcome
+checks_outcome line files = rules_checks line (files_read Rules line files)
+
+-- what `update` says of the entries of the database and of the text of so many diagnostics: the entries as an index
+abbrev pub updated_by : Line → Text → ℕ → List Entry → Outcome
+updated_by line text count entries = record { output = image entries; messages = text; status = update_status line.strict count }
+
+-- what `update` says of the entries and of what is told of the files; the messages of the database are among what is told
+abbrev pub entries_said : Line → List DiagnosticValue → List Entry → List Message → Outcome
+entries_said line told entries messages = updated_by line (formatted line.format told) (length told) entries
+
+-- what `update` says of files of a database
+unfoldable pub database_checks : Line → List SourceFile → Outcome
+database_checks line files = database_outcome (entries_said line (flat_map (database_told line) files)) files
+
+-- what `update` says of the files handed in
+abbrev pub told_update_outcome : Line → List SourceFile → Outcome
+told_update_outcome line files = database_checks line (files_read Hwdb line files)

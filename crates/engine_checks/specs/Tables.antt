@@ -1,0 +1,91 @@
+-- Serves inner proofs only: codes in comments and codes of diagnostics, as tables hold them.
+use Rattle.std.specs.Prelude.{ℕ, Bool, true, false, not, ◌==◌, ◌&&◌, ◌||◌, if◌then◌else◌, List, [], ◌∷◌, map, Option, Some, None}
+use Rattle.std.specs.List.{list_any}
+use Rattle.std.specs.Option.{option_map_or}
+use Rattle.text_tables.specs.Texts.{Text, is_among, same_text}
+use Rattle.engine_formats.specs.Diagnostics.{DiagnosticValue}
+use Rattle.engine_formats.specs.Remarks.{code_of}
+use Rattle.engine_formats.specs.declared.remark.Remark.{Remark}
+use Rattle.engine_formats.specs.declared.remark.Remark.TheVariants.{IdleIgnore, UnknownCode}
+use Rattle.text_bytes.specs.declared.source_file.SourceFile.{SourceFile}
+use Rattle.hwdb_core.specs.Sources.{messages_of}
+use Rattle.rule_places.specs.Files.{placed_findings}
+use Rattle.engine_ends.specs.declared.line.Line.{Line}
+use Rattle.engine_checks.specs.Ignores.{Ignore, ignores_in}
+use Rattle.engine_checks.specs.Files.{database_diagnostic, file_text, rule_diagnostic}
+use Rattle.engine_checks.specs.Told.{FileText, file_told, is_asked, is_unknown}
+use Rattle.engine_checks.specs.declared.ignores.Scope.{Scope}
+use Rattle.engine_checks.specs.declared.ignores.Scope.TheVariants.{File, Next, Unread}
+
+-- whether a pair is this code at this line
+abbrev pub is_code_at : ℕ → Text → ℕ × Text → Bool
+is_code_at line code pair = line == pair.0 && same_text code pair.1
+
+-- whether a code is there at a line
+abbrev pub has_code_at : List (ℕ × Text) → ℕ → Text → Bool
+has_code_at pairs line code = list_any (is_code_at line code) pairs
+
+-- whether a comment is about the whole file
+abbrev pub is_file : Scope → Bool
+is_file File = true
+is_file (Next next) = false
+is_file Unread = false
+
+-- the line that a comment is about
+abbrev pub next_line : Scope → Option ℕ
+next_line File = None
+next_line (Next next) = next
+next_line Unread = None
+
+-- whether a comment asks to ignore this code in the whole file
+abbrev pub is_in_file : Text → Ignore → Bool
+is_in_file code ignore = is_file ignore.scope && same_text code ignore.code
+
+-- whether a comment asks to ignore this code at this line
+abbrev pub is_next_at : ℕ → Text → Ignore → Bool
+is_next_at line code ignore = option_map_or (λ next. is_code_at line code (next, ignore.code)) (next_line ignore.scope) false
+
+-- whether a diagnostic has this code
+abbrev pub has_code : Text → DiagnosticValue → Bool
+has_code code d = same_text code (code_of d.remark)
+
+-- whether it has this code and is told of this line
+abbrev pub has_code_in : ℕ → Text → DiagnosticValue → Bool
+has_code_in line code d = is_code_at line code (d.begins, code_of d.remark)
+
+-- whether tables of what is ignored in the file and at lines have the code of a diagnostic
+abbrev pub are_silencing : List Text → List (ℕ × Text) → DiagnosticValue → Bool
+are_silencing in_file at_lines d = is_among in_file (code_of d.remark) || has_code_at at_lines d.begins (code_of d.remark)
+
+-- whether tables of what was found in the file and at lines have what a code in a comment is about
+abbrev pub is_met : List Text → List (ℕ × Text) → Scope → Text → Bool
+is_met found at_lines scope code = (is_file scope && is_among found code) || option_map_or (λ next. has_code_at at_lines next code) (next_line scope) false
+
+-- what is to be said of a code in a comment, by such tables
+abbrev pub remark_by : List Text → List (ℕ × Text) → Ignore → Option Remark
+remark_by found at_lines ignore =
+    if is_unknown ignore.scope ignore.code then Some UnknownCode
+    else if is_met found at_lines ignore.scope ignore.code then None
+    else Some IdleIgnore
+
+-- whether a diagnostic is told, by tables of what is ignored
+abbrev pub is_told_by : Bool → List Text → List Text → List (ℕ × Text) → DiagnosticValue → Bool
+is_told_by style ignored in_file at_lines d = is_asked style ignored d.remark && not (are_silencing in_file at_lines d)
+
+-- a file that is read for its checks: as diagnostics show it, and with the codes in its comments
+pub record FileRead : Type 0 where
+  pub file : SourceFile
+  pub text : FileText
+  pub ignores : List Ignore
+
+-- a file that a command line reads, with or without its comments
+abbrev pub read_by : Line → Bool → SourceFile → FileRead
+read_by line comments file = record { file = file; text = file_text line file; ignores = if comments then ignores_in file else [] }
+
+-- what is told of a rules file that is read
+abbrev pub rules_told_by : Bool → List Text → FileRead → List DiagnosticValue
+rules_told_by style ignored read = file_told style ignored read.text read.ignores (map (rule_diagnostic read.text) (placed_findings read.file))
+
+-- what is told of a file of a database that is read
+abbrev pub database_told_by : Bool → List Text → FileRead → List DiagnosticValue
+database_told_by style ignored read = file_told style ignored read.text read.ignores (map (database_diagnostic read.text) (messages_of (read.file ∷ [])))

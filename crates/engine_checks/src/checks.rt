@@ -1,0 +1,84 @@
+//! What `verify` says with other formats, and with messages that are ignored.
+ghost use Rattle.std.specs.Prelude.{◌≡◌, ◌<◌, flat_map, map, IfOk, IfErr};
+ghost use Rattle.engine_formats.specs.Diagnostics.{shown};
+ghost use Rattle.engine_reports.specs.Checks.{verify_status};
+ghost use Rattle.engine_reports.specs.Reports.{IsSaid, said};
+ghost use Rattle.engine_checks.specs.Files.{rules_told};
+ghost use Rattle.engine_checks.specs.Outcomes.{checks_outcome, checks_said, rules_checks};
+
+use crate::asked::{asked_by, has_comments};
+use crate::counts::bad_count;
+use crate::reads::read_files;
+use crate::rules_told::rules_told;
+use engine_ends::Line;
+use engine_formats::{Diagnostic, formatted};
+use engine_reports::{Refusal, Report, counted, files_read};
+use rule_core::read_rules;
+use std::alloc::{AllocError, Global};
+use text_bytes::{FileKind, SourceFile};
+
+/// What `verify` says of the files handed in, with the line's format and without the messages that it ignores: what is told,
+/// and how many of the files are bad.
+///
+/// A text of the line that is no code silences nothing. `TooManyRules` comes exactly where the rules have more than 2^24
+/// tokens, `Memory` where memory is refused.
+pub fn report_on_checks(
+    alloc: Global,
+    line: &Line<'_>,
+    files: Vec<SourceFile>,
+) -> Result<Report, Refusal>
+    ensures said { IfOk result (λ r. said r ≡ checks_outcome line.now files.items) }
+    ensures status { IfOk result (λ r. r.status < 3) }
+    ensures refused { IfErr result (λ e. IsSaid e (checks_outcome line.now files.items)) }
+{
+    let files = files_read(alloc, FileKind::Rules, line, files)?;
+    report_on_these(alloc, line, &files)
+}
+
+/// The same of the files that are read.
+fn report_on_these(alloc: Global, line: &Line<'_>, files: &[SourceFile]) -> Result<Report, Refusal>
+    ensures said { IfOk result (λ r. said r ≡ rules_checks line.now files.now) }
+    ensures status { IfOk result (λ r. r.status < 3) }
+    ensures refused { IfErr result (λ e. IsSaid e (rules_checks line.now files.now)) }
+{
+    let rules = read_rules(alloc, files)?;
+    drop(rules);
+    let report = checked(alloc, line, files)?;
+    Ok(report)
+}
+
+/// What is told of the files.
+fn checked(alloc: Global, line: &Line<'_>, files: &[SourceFile]) -> Result<Report, AllocError>
+    ensures said { IfOk result (λ r. said r ≡ checks_said line.now files.now (flat_map (rules_told line.now) files.now)) }
+    ensures status { IfOk result (λ r. r.status < 3) }
+{
+    let asked = asked_by(alloc, line)?;
+    let reads = read_files(alloc, line, has_comments(&asked.ignored), files)?;
+    let told = rules_told(alloc, &asked, &reads)?;
+    report_on_told(alloc, line, files, &told)
+}
+
+/// What is said of files and of what is told of them.
+fn report_on_told(
+    alloc: Global,
+    line: &Line<'_>,
+    files: &[SourceFile],
+    told: &[Diagnostic<'_>],
+) -> Result<Report, AllocError>
+    ensures said { IfOk result (λ r. said r ≡ checks_said line.now files.now (map shown told.now)) }
+    ensures status { IfOk result (λ r. r.status < 3) }
+{
+    let bad = bad_count(alloc, files, told)?;
+    Ok(Report {
+        output: counted(alloc, line.summary, files.len(), bad)?,
+        messages: formatted(alloc, line.format, told)?,
+        status: verify_status(bad),
+    })
+}
+
+/// 0 where no file is bad, else 1.
+fn verify_status(bad: usize) -> u8
+    ensures { result ≡ verify_status bad }
+{
+    if bad == 0 { 0 } else { 1 }
+}

@@ -1,0 +1,36 @@
+//! Why the definitions of what comments silence mean what they say.
+//!
+//! Each function does nothing: its contract is a law of the definitions.
+ghost use Rattle.std.specs.Prelude.{◌≡◌, not, Bool, true, false, List, filter, filter_map, option_map};
+ghost use Rattle.text_bytes.specs.declared.source_file.SourceFile.{SourceFile};
+ghost use Rattle.text_tables.specs.Texts.{Text, is_among};
+ghost use Rattle.engine_ends.specs.declared.line.Line.{Line};
+ghost use Rattle.engine_formats.specs.Diagnostics.{DiagnosticValue};
+ghost use Rattle.engine_formats.specs.Remarks.{code_of};
+ghost use Rattle.engine_checks.specs.Codes.{has_comments};
+ghost use Rattle.engine_checks.specs.Files.{database_found, database_told, file_text, ignored_by, rules_found, rules_told};
+ghost use Rattle.engine_checks.specs.Ignores as ignores;
+ghost use Rattle.engine_checks.specs.Ignores.{ignores_in};
+ghost use Rattle.engine_checks.specs.Laws.{IsLeftOut, IsSaidOf, messages_among, remarks_among};
+ghost use Rattle.engine_checks.specs.Told.{comment_diagnostic, is_told, remark_on};
+
+/// Where comments count, what was found is told in its order, but for what style, the line or a comment silences; nothing else is
+/// left out.
+pub fn found_is_told_or_silenced()
+    ensures rules { (line : Line) (file : SourceFile) → has_comments (ignored_by line) ≡ true
+        → messages_among (rules_told line file) ≡ filter (is_told line.style (ignored_by line) (ignores_in file)) (rules_found line file) }
+    ensures database { (line : Line) (file : SourceFile) → has_comments (ignored_by line) ≡ true
+        → messages_among (database_told line file) ≡ filter (is_told line.style (ignored_by line) (ignores_in file)) (database_found line file) }
+    ensures silenced { (style : Bool) (ignored : List Text) (comments : List ignores.Ignore) (d : DiagnosticValue) → is_told style ignored comments d ≡ false → IsLeftOut style ignored comments d }
+    ensures told { (style : Bool) (ignored : List Text) (comments : List ignores.Ignore) (d : DiagnosticValue) → is_told style ignored comments d ≡ true → IsLeftOut style ignored comments d → ⊥ }
+{}
+
+/// Each code in a comment silences something that was found, or is told as I1 or I2, and only then; but for these codes where the
+/// line ignores them.
+pub fn comments_silence_or_are_told()
+    ensures rules { (line : Line) (file : SourceFile) → has_comments (ignored_by line) ≡ true
+        → remarks_among (rules_told line file) ≡ filter (λ d. not (is_among (ignored_by line) (code_of d.remark))) (filter_map (λ i. option_map (comment_diagnostic (file_text line file) i) (remark_on (rules_found line file) i)) (ignores_in file)) }
+    ensures database { (line : Line) (file : SourceFile) → has_comments (ignored_by line) ≡ true
+        → remarks_among (database_told line file) ≡ filter (λ d. not (is_among (ignored_by line) (code_of d.remark))) (filter_map (λ i. option_map (comment_diagnostic (file_text line file) i) (remark_on (database_found line file) i)) (ignores_in file)) }
+    ensures said { (found : List DiagnosticValue) (ignore : ignores.Ignore) → IsSaidOf found ignore (remark_on found ignore) }
+{}

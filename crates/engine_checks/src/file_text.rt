@@ -1,0 +1,71 @@
+//! A file as diagnostics show it.
+ghost use Rattle.std.specs.Prelude.{◌≡◌, IfOk};
+ghost use Rattle.engine_formats.specs.Placing.{line_numbered};
+ghost use Rattle.engine_checks.specs.Files.{file_text};
+
+use engine_ends::Line;
+use engine_formats::{file_lines, line_numbered, path_of};
+use std::alloc::{AllocError, Global};
+use std::marker::Model;
+use text_bytes::{Bytes, Line as TextLine, SourceFile};
+
+/// A file with the path by which it was opened and with its lines.
+#[derive(Drop)]
+pub(crate) struct FileText<'a> {
+    name: &'a [u8],
+    path: Bytes,
+    lines: Vec<TextLine<'a>>,
+}
+
+impl<'a> Model for FileText<'a> {
+    ghost use Rattle.engine_checks.specs.Told as told;
+
+    ghost Value = { told.FileText };
+
+    ghost view = { λ f. record { name = f.name.now; path = f.path; lines = f.lines.items } };
+}
+
+impl<'a> FileText<'a> {
+    /// A file that a command line reads. The error comes where memory is refused.
+    pub(crate) fn of(
+        alloc: Global,
+        line: &Line<'_>,
+        file: &'a SourceFile,
+    ) -> Result<FileText<'a>, AllocError>
+        ensures { IfOk result (λ text. text ≡ file_text line.now file.now) }
+    {
+        Ok(FileText {
+            name: file.name.as_slice(),
+            path: Bytes::new(path_of(alloc, line, file)?),
+            lines: file_lines(alloc, file.bytes.as_slice())?,
+        })
+    }
+
+    /// The name, as messages tell it.
+    pub(crate) fn name(&self) -> &'a [u8]
+        ensures { result.now ≡ self.now.name }
+    {
+        self.name
+    }
+
+    /// The path by which the file was opened.
+    pub(crate) fn path(&self) -> &[u8]
+        ensures { result.now ≡ self.now.path }
+    {
+        self.path.as_slice()
+    }
+
+    /// The lines.
+    pub(crate) fn lines(&self) -> &[TextLine<'a>]
+        ensures { result.now ≡ self.now.lines }
+    {
+        &self.lines
+    }
+
+    /// A line by its number; empty where there is none.
+    pub(crate) fn line(&self, number: u32) -> &'a [u8]
+        ensures { result.now ≡ line_numbered self.now.lines number }
+    {
+        line_numbered(&self.lines, number)
+    }
+}

@@ -1,0 +1,190 @@
+//! The codes that comments in a file ask to ignore.
+//!
+//! `# devdry: ignore V6,S2` is about the next rule, `# devdry: ignore-file S1` about the whole file. Such a comment is a line
+//! of its own; in rules blanks may stand before it. Codes are cut at commas, and blanks around a code are no part of it. A
+//! comment that begins with `# devdry:` and goes on in another way is kept too, so that it can be told.
+ghost use Rattle.std.specs.Prelude.{◌≡◌, ◌++◌, ◌+◌, ◌-◌, ◌≤◌, ◌<◌, ◌^◌, ◌==◌, length, option_map, IfSome, IfOk, OnOk};
+ghost use Rattle.std.specs.List.{slice_split};
+ghost use Rattle.text_bytes.specs.Lines.{numbered_lines};
+ghost use Rattle.text_bytes.specs.Names.{comma};
+ghost use Rattle.engine_checks.specs.Ignores.{asked_by, behind, comment_of, ignore_at, ignores_among, ignores_at, ignores_in, ignores_of_line, texts_of};
+
+use crate::starts::{behind_line, starts_of};
+use hwdb_core::trimmed;
+use std::alloc::{AllocError, Global};
+use std::marker::Model;
+use text_bytes::{FileKind, Line, Lines, SourceFile, capped, split_once, unindented};
+
+/// What a code in a comment is about.
+#[derive(Clone, Copy, Debug, PartialEq, Eq)]
+pub enum Scope {
+    /// The whole file.
+    File,
+    /// The next rule, by the line in which it begins; none where no rule follows. In a database it is the next line that is
+    /// no comment.
+    Next(Option<u32>),
+    /// Nothing: the comment is not understood.
+    Unread,
+}
+
+/// A code in a comment.
+#[derive(Debug, Drop)]
+pub struct Ignore<'a> {
+    /// The number of the comment's line, counted from 1; one over 2^32 - 1 is given as that.
+    pub line: u32,
+    /// The byte of the line at which the code begins, counted from 1, up to the same number.
+    pub column: u32,
+    /// The byte behind the code's last one.
+    pub end: u32,
+    /// What it is about.
+    pub scope: Scope,
+    /// The code, without the blanks around it, or what stands behind `# devdry:` where that is not understood.
+    pub code: &'a [u8],
+}
+
+impl<'a> Model for Ignore<'a> {
+    ghost use Rattle.engine_checks.specs.Ignores as ignores;
+
+    ghost Value = { ignores.Ignore };
+
+    ghost view = { λ i. record { line = i.line; column = i.column; end = i.end; scope = i.scope; code = i.code.now } };
+}
+
+impl<'a> Ignore<'a> {
+    /// The code in a text of a line, by the column at which the text begins.
+    fn at(line: u32, scope: Scope, column: usize, text: &'a [u8]) -> Ignore<'a>
+        requires { column + length text.now < 2 ^ 64 }
+        ensures { result ≡ ignore_at line scope column text.now }
+    {
+        let unindented = unindented(text);
+        let code = trimmed(unindented);
+        let begins = column + (text.len() - unindented.len());
+        Ignore {
+            line,
+            column: capped(begins),
+            end: capped(begins + code.len()),
+            scope,
+            code,
+        }
+    }
+}
+
+/// What stands behind the front of a text, where it begins with that.
+fn behind<'a>(front: &[u8], text: &'a [u8]) -> Option<&'a [u8]>
+    ensures value { option_map (λ t. t.now) result ≡ behind front.now text.now }
+    ensures within { IfSome result (λ t. length t.now ≤ length text.now) }
+{
+    text.strip_prefix(front)
+}
+
+/// A line as it is looked at for a comment: in rules without the blanks at its start.
+fn comment_of(kind: FileKind, text: &[u8]) -> &[u8]
+    ensures value { result.now ≡ comment_of kind text.now }
+    ensures within { length result.now ≤ length text.now }
+{
+    match kind {
+        FileKind::Rules => unindented(text),
+        FileKind::Hwdb => text,
+    }
+}
+
+/// What a comment is about and its codes, by what stands behind `# devdry:`.
+fn asked_by(next: Option<u32>, text: &[u8]) -> (Scope, &[u8])
+    ensures asked { (result.0, result.1.now) ≡ asked_by next text.now }
+    ensures within { length result.1.now ≤ length text.now }
+{
+    if let Some(list) = behind(b" ignore ", text) {
+        return (Scope::Next(next), list);
+    }
+    match behind(b" ignore-file ", text) {
+        Some(list) => (Scope::File, list),
+        None => (Scope::Unread, unindented(text)),
+    }
+}
+
+/// Puts the codes of a list, which ends before a column, behind others.
+fn push_list<'a>(
+    ignores: &mut Vec<Ignore<'a>>,
+    line: u32,
+    scope: Scope,
+    end: usize,
+    list: &'a [u8],
+) -> Result<(), AllocError>
+    requires { length list.now ≤ end }
+    ensures { OnOk result (ignores.new.items ≡ ignores.old.items ++ ignores_at line scope (end - length list.now) (slice_split (λ b. b == comma) list.now)) }
+{
+    let mut rest = list;
+    while let Some((code, behind)) = split_once(b',', rest) {
+        ignores.push(Ignore::at(line, scope, end - rest.len(), code))?;
+        rest = behind;
+    }
+    ignores.push(Ignore::at(line, scope, end - rest.len(), rest))?;
+    Ok(())
+}
+
+/// Puts what a comment asks for, which ends before a column, behind others.
+fn push_asked<'a>(
+    ignores: &mut Vec<Ignore<'a>>,
+    line: u32,
+    scope: Scope,
+    end: usize,
+    text: &'a [u8],
+) -> Result<(), AllocError>
+    requires { length text.now ≤ end }
+    ensures { OnOk result (ignores.new.items ≡ ignores.old.items ++ ignores_at line scope (end - length text.now) (texts_of scope text.now)) }
+{
+    match scope {
+        Scope::Unread => {
+            ignores.push(Ignore::at(line, scope, end - text.len(), text))?;
+            Ok(())
+        }
+        _ => push_list(ignores, line, scope, end, text),
+    }
+}
+
+/// Puts the codes in a line behind others.
+fn push_line<'a>(
+    ignores: &mut Vec<Ignore<'a>>,
+    kind: FileKind,
+    next: Option<u32>,
+    line: &Line<'a>,
+) -> Result<(), AllocError>
+    ensures { OnOk result (ignores.new.items ≡ ignores.old.items ++ ignores_of_line kind next line.now) }
+{
+    match behind(b"# devdry:", comment_of(kind, line.text())) {
+        None => Ok(()),
+        Some(text) => {
+            let (scope, list) = asked_by(next, text);
+            let end = line.text().len() + 1;
+            push_asked(ignores, capped(line.number()), scope, end, list)
+        }
+    }
+}
+
+/// The codes in the lines of a file, each comment on the next rule being about the first of these starts behind it.
+fn ignores_among<'a>(
+    alloc: Global,
+    kind: FileKind,
+    starts: &[u32],
+    bytes: &'a [u8],
+) -> Result<Vec<Ignore<'a>>, AllocError>
+    ensures { IfOk result (λ ignores. ignores.items ≡ ignores_among kind starts.now (numbered_lines bytes.now)) }
+{
+    let mut ignores = Vec::new(alloc);
+    let mut rest = starts;
+    for line in Lines::new(bytes) {
+        rest = behind_line(rest, capped(line.number()));
+        push_line(&mut ignores, kind, rest.first().copied(), &line)?;
+    }
+    Ok(ignores)
+}
+
+/// The codes that comments in a file ask to ignore, in the order of their places. The error comes where memory is refused.
+#[tactic(auto, unfolding(crate::specs::Ignores::ignores_in))]
+pub fn ignores_in(alloc: Global, file: &SourceFile) -> Result<Vec<Ignore<'_>>, AllocError>
+    ensures { IfOk result (λ ignores. ignores.items ≡ ignores_in file.now) }
+{
+    let bytes = file.bytes.as_slice();
+    let starts = starts_of(alloc, file.kind, bytes)?;
+    ignores_among(alloc, file.kind, &starts, bytes)
+}

@@ -1,0 +1,44 @@
+//! Why the definitions that the other contracts cite mean what they say.
+//!
+//! Each function does nothing: its contract is a law of the definitions.
+ghost use Rattle.std.specs.Prelude.{◌≡◌, ◌<◌, ◌^◌, ◌&&◌, ◌||◌, not, true, false, All, List, [], filter, length};
+ghost use Rattle.text_bytes.specs.Lines.{lines};
+ghost use Rattle.text_bytes.specs.declared.source_file.FileKind as kinds;
+ghost use Rattle.text_bytes.specs.declared.source_file.SourceFile.{SourceFile};
+ghost use Rattle.text_tables.specs.Texts.{is_among};
+ghost use Rattle.engine_ends.specs.declared.line.Format.{Format};
+ghost use Rattle.engine_ends.specs.declared.line.Line.{Line};
+ghost use Rattle.engine_reports.specs.FilesRead.{files_read};
+ghost use Rattle.engine_reports.specs.Outcomes.{database_outcome, update_outcome, verify_outcome};
+ghost use Rattle.engine_formats.specs.Remarks.{code_of};
+ghost use Rattle.engine_checks.specs.Codes.{has_comments};
+ghost use Rattle.engine_checks.specs.Files.{database_found, database_told, ignored_by, rules_found, rules_told};
+ghost use Rattle.engine_checks.specs.Outcomes.{checks_outcome, told_update_outcome};
+ghost use Rattle.engine_checks.specs.Told.{is_about_style};
+
+use engine_formats::{messages_are_plain_diagnostics, messages_stand_at_their_words};
+
+/// With the default format and nothing ignored `verify` says what it says without these options.
+pub fn plain_checks_are_as_before()
+    ensures { (line : Line) (files : List SourceFile) → line.format ≡ Format.Plain → ignored_by line ≡ [] → checks_outcome line files ≡ verify_outcome line files }
+{
+    messages_are_plain_diagnostics();
+}
+
+/// With the default format and nothing ignored `update` says what it says without these options, where the lines of each file
+/// that is read can be told by number.
+pub fn plain_updates_are_as_before()
+    ensures { (line : Line) (files : List SourceFile) → line.format ≡ Format.Plain → ignored_by line ≡ [] → All (λ file. length (lines file.bytes) < 2 ^ 32) (files_read kinds.FileKind.Hwdb line files)
+        → told_update_outcome line files ≡ database_outcome (update_outcome line) (files_read kinds.FileKind.Hwdb line files) }
+{
+    messages_are_plain_diagnostics();
+    messages_stand_at_their_words();
+}
+
+/// Where comments don't count, told is what was found, but for the codes that are ignored, and for style where that is left out.
+pub fn ignored_codes_alone_are_left_out()
+    ensures rules { (line : Line) (file : SourceFile) → has_comments (ignored_by line) ≡ false
+        → rules_told line file ≡ filter (λ d. (line.style || not (is_about_style d.remark)) && not (is_among (ignored_by line) (code_of d.remark))) (rules_found line file) }
+    ensures database { (line : Line) (file : SourceFile) → has_comments (ignored_by line) ≡ false
+        → database_told line file ≡ filter (λ d. (line.style || not (is_about_style d.remark)) && not (is_among (ignored_by line) (code_of d.remark))) (database_found line file) }
+{}

@@ -1,0 +1,33 @@
+//! The checks of files with options: other formats of messages, and messages that are ignored.
+//!
+//! `--ignore` names codes; messages of these are neither told nor counted. With the word `comments` among them, comments in the
+//! files count too. What is told is put together as diagnostics, file by file, and written in the format that was asked for.
+#![tactic(auto)]
+
+mod asked;
+mod checks;
+mod codes;
+mod comment_laws;
+mod comment_remarks;
+mod counts;
+mod database_told;
+mod file_text;
+mod found;
+mod ignores;
+mod laws;
+mod line_codes;
+mod met;
+mod reads;
+mod rules_told;
+mod silenced;
+mod starts;
+mod told;
+mod updates;
+
+pub use checks::report_on_checks;
+pub use comment_laws::{comments_silence_or_are_told, found_is_told_or_silenced};
+pub use ignores::{Ignore, Scope, ignores_in};
+pub use laws::{
+    ignored_codes_alone_are_left_out, plain_checks_are_as_before, plain_updates_are_as_before,
+};
+pub use updates::report_on_told_update;

@@ -1,0 +1,39 @@
+//! What is told of rules files.
+ghost use Rattle.std.specs.Prelude.{◌≡◌, flat_map, map, IfOk};
+ghost use Rattle.engine_formats.specs.Diagnostics.{shown};
+ghost use Rattle.engine_checks.specs.Tables.{rules_told_by};
+
+use crate::found::rule_diagnostics;
+use crate::reads::FileRead;
+use crate::told::{Asked, file_told};
+use engine_formats::Diagnostic;
+use rule_places::placed_findings;
+use std::alloc::{AllocError, Global};
+
+/// What is told of a rules file.
+fn told_of_file<'r>(
+    alloc: Global,
+    asked: &Asked<'_>,
+    read: &'r FileRead<'_>,
+) -> Result<Vec<Diagnostic<'r>>, AllocError>
+    ensures { IfOk result (λ told. map shown told.items ≡ rules_told_by asked.now.style asked.now.ignored read.now) }
+{
+    let findings = placed_findings(alloc, read.file())?;
+    let found = rule_diagnostics(alloc, read.text(), findings)?;
+    file_told(alloc, asked, read.text(), read.ignores(), found)
+}
+
+/// What is told of rules files, file by file. The error comes where memory is refused.
+pub(crate) fn rules_told<'r>(
+    alloc: Global,
+    asked: &Asked<'_>,
+    reads: &'r [FileRead<'_>],
+) -> Result<Vec<Diagnostic<'r>>, AllocError>
+    ensures { IfOk result (λ told. map shown told.items ≡ flat_map (rules_told_by asked.now.style asked.now.ignored) reads.now) }
+{
+    let mut told = Vec::new(alloc);
+    for read in reads {
+        told.append(&mut told_of_file(alloc, asked, read)?)?;
+    }
+    Ok(told)
+}

@@ -1,0 +1,72 @@
+//! The lines that a comment on the next rule can be about.
+ghost use Rattle.std.specs.Prelude.{◌≡◌, ◌≤◌, nat_le, length, map, IfOk};
+ghost use Rattle.std.specs.List.{prefix_len};
+ghost use Rattle.text_bytes.specs.Texts.{skip_while};
+ghost use Rattle.engine_checks.specs.Ignores.{starts_of};
+
+use rule_core::{JoinedLine, joined_lines};
+use std::alloc::{AllocError, Global};
+use text_bytes::{FileKind, Lines, begins_with, capped};
+
+/// The lines of a file that a comment on the next rule can be about: those in which rules begin, also the one that is still
+/// open where the file ends, and in a database those that are no comments. The error comes where memory is refused.
+pub(crate) fn starts_of(alloc: Global, kind: FileKind, bytes: &[u8]) -> Result<Vec<u32>, AllocError>
+    ensures { IfOk result (λ starts. starts.items ≡ starts_of kind bytes.now) }
+{
+    match kind {
+        FileKind::Rules => rule_starts(alloc, bytes),
+        FileKind::Hwdb => plain_starts(alloc, bytes),
+    }
+}
+
+/// The lines in which rules begin.
+fn rule_starts(alloc: Global, bytes: &[u8]) -> Result<Vec<u32>, AllocError>
+    ensures { IfOk result (λ starts. starts.items ≡ starts_of FileKind.Rules bytes.now) }
+{
+    let joined = joined_lines(alloc, bytes)?;
+    let mut starts = numbers_of(alloc, joined.lines())?;
+    if let Some(open) = joined.open_at() {
+        starts.push(open)?;
+    }
+    Ok(starts)
+}
+
+/// The numbers of joined lines.
+fn numbers_of(alloc: Global, lines: &[JoinedLine<'_>]) -> Result<Vec<u32>, AllocError>
+    ensures { IfOk result (λ numbers. numbers.items ≡ map (λ l. l.number) lines.now) }
+{
+    let mut numbers = Vec::with_capacity(alloc, lines.len())?;
+    for line in lines {
+        numbers.push(line.number())?;
+    }
+    Ok(numbers)
+}
+
+/// The lines that are no comments of a database.
+fn plain_starts(alloc: Global, bytes: &[u8]) -> Result<Vec<u32>, AllocError>
+    ensures { IfOk result (λ starts. starts.items ≡ starts_of FileKind.Hwdb bytes.now) }
+{
+    let mut starts = Vec::new(alloc);
+    for line in Lines::new(bytes) {
+        if !begins_with(b'#', line.text()) {
+            starts.push(capped(line.number()))?;
+        }
+    }
+    Ok(starts)
+}
+
+/// What is left of starts behind a line.
+pub(crate) fn behind_line(starts: &[u32], line: u32) -> &[u32]
+    ensures { result.now ≡ skip_while (λ s. nat_le s line) starts.now }
+{
+    let (_, behind) = starts.split_at(count_up_to(starts, line));
+    behind
+}
+
+/// How many starts at the front are not behind a line.
+fn count_up_to(starts: &[u32], line: u32) -> usize
+    ensures value { result ≡ prefix_len (λ s. nat_le s line) starts.now }
+    ensures within { result ≤ length starts.now }
+{
+    starts.iter().take_while(|start| **start <= line).count()
+}

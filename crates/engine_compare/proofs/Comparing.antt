@@ -1,0 +1,55 @@
+-- From the steps of a comparison to what it serves.
+use Rattle.std.proofs.Common.{◌≡◌, ℕ, ◌++◌, inl, inr, refl, subst, Result, Ok, Err}
+use Rattle.text_tables.specs.Texts.{Text}
+use Rattle.engine_ends.specs.Streams.{Streams, outputs}
+use Rattle.engine_ends.specs.Delivery.{Outcome, Delivers, Tells, TellsFaults, out_of_memory}
+use Rattle.engine_reports.specs.Openings.{OpeningValue}
+use Rattle.engine_reports.specs.Indexes.{refused_index}
+use Rattle.engine_reports.specs.Outcomes.{too_many_entries, too_many_rules}
+use Rattle.engine_reports.specs.Reports.{IsRefused, IsSaid}
+use Rattle.engine_reports.specs.declared.refusal.Refusal.{Refusal}
+use Rattle.engine_reports.specs.declared.refusal.Refusal.TheVariants.{TooManyEntries, TooManyRules, Index, Memory}
+use Rattle.device_core.specs.Values.{EventValue}
+use Rattle.engine_core.specs.Answering.{TablesValue, answer_by}
+use Rattle.engine_sessions.specs.Findings.{FindsAll}
+use Rattle.engine_sessions.specs.Serves.{Serves}
+use Rattle.engine_sessions.proofs.Serving.{reports_serve}
+use Rattle.engine_sessions.proofs.FindServing.{finds_serve}
+use Rattle.engine_compare.specs.Differences.{differences}
+use Rattle.engine_compare.specs.Outcomes.{compare_outcome, differences_by}
+use Rattle.engine_compare.specs.Runs.{ComparesBy}
+
+pub compares_serve : (old new : Result OpeningValue Outcome) (status : ℕ) (before now : Streams) → ComparesBy old new status before now → Serves (compare_outcome old new) status before now
+compares_serve (Ok old) (Ok new) status before now r = finds_serve (old.messages ++ new.messages) (differences_by old new) status before now r
+compares_serve (Ok old) (Err said) status before now r = reports_serve (λ text. said) said status before now (λ text. refl) r
+compares_serve (Err said) new status before now r = reports_serve (λ text. said) said status before now (λ text. refl) r
+
+-- what is delivered where one side can't be opened
+pub record Refuses (refusal : Refusal) (status : ℕ) (before now : Streams) : Type 0 where
+  pub delivers : (outcome : Outcome) → IsSaid refusal outcome → Delivers outcome status (outputs before) (outputs now)
+  pub faults : TellsFaults status (outputs before) (outputs now)
+  pub memory : refusal ≡ Memory → Tells out_of_memory 4 status before.err now.err × (now.out ≡ before.out)
+  pub unread : now.input ≡ before.input
+
+-- the old side is refused
+pub old_refused : (refusal : Refusal) (old new : Result OpeningValue Outcome) (status : ℕ) (before now : Streams) → IsRefused refusal old → Refuses refusal status before now → ComparesBy old new status before now
+old_refused TooManyEntries old new status before now is r = rw is (record { delivers = r.delivers too_many_entries refl; faults = r.faults; unread = r.unread })
+old_refused TooManyRules old new status before now is r = rw is (record { delivers = r.delivers too_many_rules refl; faults = r.faults; unread = r.unread })
+old_refused (Index fault) old new status before now is r = rw is (record { delivers = r.delivers (refused_index fault) refl; faults = r.faults; unread = r.unread })
+old_refused Memory (Ok old) (Ok new) status before now is r = inl (record { unread = r.unread; unanswered = (r.memory refl).1; tells = inr (r.memory refl).0 })
+old_refused Memory (Ok old) (Err said) status before now is r = record { delivers = r.delivers said tt; faults = r.faults; unread = r.unread }
+old_refused Memory (Err said) new status before now is r = record { delivers = r.delivers said tt; faults = r.faults; unread = r.unread }
+
+-- the new side is refused, where the old one is not
+pub new_refused : (refusal : Refusal) (old new : Result OpeningValue Outcome) (value : OpeningValue) (status : ℕ) (before now : Streams) → old ≡ Ok value → IsRefused refusal new → Refuses refusal status before now → ComparesBy old new status before now
+new_refused TooManyEntries old new value status before now e is r = rw (e, is) (record { delivers = r.delivers too_many_entries refl; faults = r.faults; unread = r.unread })
+new_refused TooManyRules old new value status before now e is r = rw (e, is) (record { delivers = r.delivers too_many_rules refl; faults = r.faults; unread = r.unread })
+new_refused (Index fault) old new value status before now e is r = rw (e, is) (record { delivers = r.delivers (refused_index fault) refl; faults = r.faults; unread = r.unread })
+new_refused Memory old new value status before now e is r = old_refused Memory old new status before now tt r
+
+-- what comes and goes between two tables
+abbrev pub told_by : TablesValue × TablesValue → EventValue → Text
+told_by both event = differences event (answer_by both.0 event) (answer_by both.1 event)
+
+pub finds_both : (messages said : Text) (both tables : TablesValue × TablesValue) (status : ℕ) (before now : Streams) → messages ≡ said → both ≡ tables → FindsAll messages (told_by both) status before now → FindsAll said (told_by tables) status before now
+finds_both messages said both tables status before now e f h = subst (λ m. FindsAll m (told_by tables) status before now) e (subst (λ t. FindsAll messages (told_by t) status before now) f h)

@@ -1,0 +1,4 @@
+pub mod Counting
+pub mod Tallying
+pub mod Comparing
+pub mod Telling

@@ -1,0 +1,41 @@
+-- What comes and goes between two answers to one event.
+use Rattle.std.specs.Prelude.{ℕ, Bool, not, ◌||◌, ◌&&◌, ◌==◌, if◌then◌else◌, nat_eq, List, [], ◌∷◌, ◌++◌, length, codes, filter, flat_map}
+use Rattle.std.specs.List.{starts_with}
+use Rattle.text_bytes.specs.Names.{newline, minus, plus}
+use Rattle.text_bytes.specs.Lines.{lines}
+use Rattle.text_tables.specs.Texts.{Text}
+use Rattle.device_core.specs.Values.{EventValue}
+use Rattle.engine_answers.specs.Lines.{event_line}
+use Rattle.engine_compare.specs.Surplus.{surplus}
+
+-- whether a line of an answer is compared: it has a byte, and is no note
+abbrev pub is_compared : Text → Bool
+is_compared line = not (length line == 0 || starts_with nat_eq line (codes "note "))
+
+-- lines without the first
+abbrev pub behind_first : List Text → List Text
+behind_first [] = []
+behind_first (first ∷ others) = others
+
+-- the lines of an answer that are compared: of those behind its first, which names the event, all but the notes and the empty one at its end
+abbrev pub compared_lines : Text → List Text
+compared_lines answer = filter is_compared (behind_first (lines answer))
+
+-- a line behind a mark
+abbrev pub marked_line : ℕ → Text → Text
+marked_line mark line = mark ∷ line ++ newline ∷ []
+
+-- lines, each behind a mark
+abbrev pub marked_lines : ℕ → List Text → Text
+marked_lines mark lines = flat_map (marked_line mark) lines
+
+-- what is told of an event: its line, each line that goes behind `-`, each that comes behind `+`, and an empty line; nothing where no
+-- line goes or comes
+abbrev pub told_of : EventValue → List Text → List Text → Text
+told_of event gone come =
+    if length gone == 0 && length come == 0 then []
+    else event_line event.action event.device.path ++ marked_lines minus gone ++ marked_lines plus come ++ newline ∷ []
+
+-- what comes and goes between an old and a new answer to an event
+abbrev pub differences : EventValue → Text → Text → Text
+differences event old new = told_of event (surplus (compared_lines old) (compared_lines new)) (surplus (compared_lines new) (compared_lines old))

@@ -1,0 +1,56 @@
+//! What holds of the lines that come and go. Each law is the contract of a function that does nothing.
+ghost use Rattle.std.specs.Prelude.{◌≡◌, ◌↔◌, ◌+◌, ◌-◌, ◌≤◌, true, false, List, [], ◌∷◌, ◌++◌, codes};
+ghost use Rattle.text_tables.specs.Texts.{Text, is_among};
+ghost use Rattle.device_core.specs.Values.{EventValue};
+ghost use Rattle.engine_answers.specs.Lines.{event_line};
+ghost use Rattle.engine_compare.specs.Differences.{compared_lines, differences};
+ghost use Rattle.engine_compare.specs.Surplus.{surplus, times, unless_fewer};
+
+/// A line is told as many times as its list has it more often than the other list.
+pub fn lines_are_told_as_often_as_they_are_more()
+    ensures { (texts others : List Text) (text : Text) → times text (surplus texts others) ≡ times text texts - times text others }
+{}
+
+/// Where the lines that go are taken out of the old ones and those that come are put in, the new ones
+/// are left, each as often as it is there.
+pub fn differences_lead_from_old_to_new()
+    ensures taken { (old new : List Text) (text : Text) → times text (surplus old new) ≤ times text old }
+    ensures put { (old new : List Text) (text : Text) → (times text old - times text (surplus old new)) + times text (surplus new old) ≡ times text new }
+{}
+
+/// No line both goes and comes.
+pub fn no_line_goes_and_comes()
+    ensures { (old new : List Text) (text : Text) → is_among (surplus old new) text ≡ true → is_among (surplus new old) text ≡ false }
+{}
+
+/// No line goes or comes exactly where both lists have each line equally often, in whatever order.
+pub fn nothing_differs_where_lines_are_the_same()
+    ensures { (old new : List Text) → ((surplus old new ≡ []) × (surplus new old ≡ [])) ↔ ((text : Text) → times text old ≡ times text new) }
+{}
+
+/// Lines are told in the order of their list, and of equal ones the last: a line at the end of a list
+/// is told behind the others, unless those before it have it less often than the other list.
+pub fn the_last_of_equal_lines_are_told()
+    ensures { (texts others : List Text) (text : Text) → surplus (texts ++ text ∷ []) others ≡ surplus texts others ++ unless_fewer texts text others }
+{}
+
+/// Of an answer that is the same twice nothing is told.
+pub fn the_same_answer_differs_in_nothing()
+    ensures { (event : EventValue) (answer : Text) → differences event answer answer ≡ [] }
+{}
+
+/// Nothing is told of an event exactly where its two answers have the same lines, notes aside: each as often, in whatever
+/// order.
+pub fn nothing_is_told_where_lines_are_the_same()
+    ensures { (event : EventValue) (old new : Text) → (differences event old new ≡ [])
+        ↔ ((text : Text) → times text (compared_lines old) ≡ times text (compared_lines new)) }
+{}
+
+/// What is told, by an example: behind the event's line the lines that go, each behind `-`, then those that come, each behind
+/// `+`, both in the order of their answer, and an empty line. The first line of an answer is not compared, and notes are not.
+pub fn lines_that_go_stand_before_those_that_come()
+    ensures { (event : EventValue) → differences event
+        (codes "event add /old\nlink x\nnote 1 a\nenv A=1\nmode 0600\n\n")
+        (codes "event add /new\nmode 0660\nenv A=1\nnote 2 b\nlink y\n\n")
+        ≡ event_line event.action event.device.path ++ codes "-link x\n-mode 0600\n+mode 0660\n+link y\n\n" }
+{}

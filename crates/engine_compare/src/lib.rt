@@ -1,0 +1,24 @@
+//! What comes and goes between the answers of two sets of rules to one event, and the whole run of
+//! `compare` over files and an index in memory and an input.
+//!
+//! Nothing here opens a file or knows a terminal, as in `engine_core`, whose `serve` it stands beside.
+#![tactic(auto)]
+
+mod answers;
+mod compared;
+mod laws;
+mod serving;
+mod shared;
+mod tallies;
+
+pub use answers::differences;
+pub use compared::Compared;
+pub use laws::{
+    differences_lead_from_old_to_new, lines_are_told_as_often_as_they_are_more,
+    lines_that_go_stand_before_those_that_come, no_line_goes_and_comes,
+    nothing_differs_where_lines_are_the_same, nothing_is_told_where_lines_are_the_same,
+    the_last_of_equal_lines_are_told, the_same_answer_differs_in_nothing,
+};
+pub use serving::serve_compare;
+pub use shared::Shared;
+pub use tallies::surplus;

@@ -1,0 +1,176 @@
+//! The whole comparison.
+ghost use Rattle.std.specs.Prelude.{◌≡◌, ◌++◌, Ok, Err, Some, None, IfOk, IfErr, option_map, Result};
+ghost use Rattle.engine_ends.specs.Delivery.{Outcome};
+ghost use Rattle.engine_compare.specs.Outcomes.{differences_by};
+ghost use Rattle.engine_compare.specs.Runs.{ComparesBy, ComparesOver};
+ghost use Rattle.engine_reports.specs.Indexes.{entries_in};
+ghost use Rattle.engine_reports.specs.Openings.{OpeningValue, opening};
+ghost use Rattle.engine_reports.specs.Reports.{IsRefused, shown_rules};
+ghost use Rattle.engine_sessions.specs.Findings.{FindsAll};
+
+use crate::compared::Compared;
+use crate::shared::Shared;
+use engine_core::{Tables, open_with_database};
+use engine_ends::{Line, Sink, Source, tell_out_of_memory};
+use engine_reports::{Refusal, RulesRead, deliver_refusal, open_index, open_rules};
+use engine_sessions::find_behind;
+use hwdb_lookup::Lookup;
+use index_reading::{Index, IndexFault};
+use std::alloc::{AllocError, Global};
+use text_bytes::SourceFile;
+
+/// Compares the answers to the events of an input by two sets of rules, writes what comes and goes, and
+/// gives the status to exit with.
+///
+/// The files of each side are those handed in for its line, taken as `events` takes them. Messages
+/// about the old and then about the new rules go to `error`; to `output`, for each block of `input`
+/// whose answers differ, what comes and goes, written and flushed before the next read. Where `index`
+/// is handed in, both sides ask it, and no file of a database is read.
+///
+/// The status is 0; 1 where anything comes or goes, where a block is faulty, where the files of a side
+/// hold more than they may, or where the index fails a check; 3 where the input or an output failed, or
+/// the input did not end within 2^48 reads, and only there; 4 where memory was refused. Under 3 all was
+/// written and flushed.
+pub fn serve_compare<R: Source, W: Sink, E: Sink>(
+    alloc: Global,
+    old_line: &Line<'_>,
+    new_line: &Line<'_>,
+    old_files: Vec<SourceFile>,
+    new_files: Vec<SourceFile>,
+    index: Option<&[u8]>,
+    input: &mut R,
+    output: &mut W,
+    error: &mut E,
+) -> u8
+    // What is written and answered is one function of the lines, the files, the index and the input; and the same step by step.
+    ensures { ComparesOver old_line.now new_line.now old_files.items new_files.items (option_map (λ bytes. bytes.now) index.entry) result
+        (record { input = R.shown input.old; out = W.shown output.old; err = E.shown error.old })
+        (record { input = R.shown input.new; out = W.shown output.new; err = E.shown error.new }) }
+{
+    let opened = open_index(index);
+    compare_opened(
+        alloc, old_line, new_line, old_files, new_files, opened, input, output, error,
+    )
+}
+
+/// The same, by what came of the index.
+fn compare_opened<R: Source, W: Sink, E: Sink>(
+    alloc: Global,
+    old_line: &Line<'_>,
+    new_line: &Line<'_>,
+    old_files: Vec<SourceFile>,
+    new_files: Vec<SourceFile>,
+    opened: Option<Result<Index<'_>, IndexFault>>,
+    input: &mut R,
+    output: &mut W,
+    error: &mut E,
+) -> u8
+    ensures { ComparesBy (opening old_line.now old_files.items opened.entry) (opening new_line.now new_files.items opened.entry) result
+        (record { input = R.shown input.old; out = W.shown output.old; err = E.shown error.old })
+        (record { input = R.shown input.new; out = W.shown output.new; err = E.shown error.new }) }
+{
+    match opened {
+        None => {
+            let old = open_with_database(alloc, old_line, old_files);
+            let new = open_with_database(alloc, new_line, new_files);
+            compare_read(alloc, old, new, input, output, error)
+        }
+        Some(Ok(index)) => {
+            let old = open_beside(alloc, old_line, old_files, &index);
+            let new = open_beside(alloc, new_line, new_files, &index);
+            compare_read(alloc, old, new, input, output, error)
+        }
+        Some(Err(fault)) => deliver_refusal(Refusal::Index(fault), output, error),
+    }
+}
+
+/// Compares two sets of rules with their databases, or writes why there are not both.
+fn compare_read<L: Lookup + Drop, M: Lookup + Drop, R: Source, W: Sink, E: Sink>(
+    alloc: Global,
+    old: Result<(RulesRead, L), Refusal>,
+    new: Result<(RulesRead, M), Refusal>,
+    input: &mut R,
+    output: &mut W,
+    error: &mut E,
+) -> u8
+    ensures { (old_opened new_opened : Result OpeningValue Outcome)
+        → IfOk old (λ r. old_opened ≡ Ok (shown_rules r.0 (L.entries r.1))) → IfErr old (λ e. IsRefused e old_opened)
+        → IfOk new (λ r. new_opened ≡ Ok (shown_rules r.0 (M.entries r.1))) → IfErr new (λ e. IsRefused e new_opened)
+        → ComparesBy old_opened new_opened result
+        (record { input = R.shown input.old; out = W.shown output.old; err = E.shown error.old })
+        (record { input = R.shown input.new; out = W.shown output.new; err = E.shown error.new }) }
+{
+    match old {
+        Ok((old_rules, old_lookup)) => match new {
+            Ok((new_rules, new_lookup)) => compare_rules(
+                alloc, old_rules, old_lookup, new_rules, new_lookup, input, output, error,
+            ),
+            Err(refusal) => deliver_refusal(refusal, output, error),
+        },
+        Err(refusal) => deliver_refusal(refusal, output, error),
+    }
+}
+
+/// Writes the messages, and what comes and goes behind them.
+fn compare_rules<L: Lookup + Drop, M: Lookup + Drop, R: Source, W: Sink, E: Sink>(
+    alloc: Global,
+    old: RulesRead,
+    old_lookup: L,
+    new: RulesRead,
+    new_lookup: M,
+    input: &mut R,
+    output: &mut W,
+    error: &mut E,
+) -> u8
+    ensures { FindsAll (old.messages.items ++ new.messages.items) (differences_by (shown_rules old (L.entries old_lookup)) (shown_rules new (M.entries new_lookup))) result
+        (record { input = R.shown input.old; out = W.shown output.old; err = E.shown error.old })
+        (record { input = R.shown input.new; out = W.shown output.new; err = E.shown error.new }) }
+{
+    match both_tables(alloc, old, old_lookup, new, new_lookup) {
+        Ok((messages, tables)) => find_behind(alloc, &messages, &tables, input, output, error),
+        Err(_) => tell_out_of_memory(error),
+    }
+}
+
+/// The messages about both sides, and the tables of both. The error comes where memory is refused.
+fn both_tables<L: Lookup + Drop, M: Lookup + Drop>(
+    alloc: Global,
+    old: RulesRead,
+    old_lookup: L,
+    new: RulesRead,
+    new_lookup: M,
+) -> Result<(Vec<u8>, Compared<Tables<L>, Tables<M>>), AllocError>
+    ensures messages { IfOk result (λ both. both.0.items ≡ old.messages.items ++ new.messages.items) }
+    ensures tables { IfOk result (λ both. both.1 ≡ (
+      record { rules = old.rules.rules; entries = L.entries old_lookup },
+      record { rules = new.rules.rules; entries = M.entries new_lookup },
+    )) }
+{
+    let RulesRead {
+        mut messages,
+        rules: old_rules,
+    } = old;
+    let RulesRead {
+        messages: mut more,
+        rules: new_rules,
+    } = new;
+    messages.append(&mut more)?;
+    let old_tables = Tables::new(alloc, old_rules, old_lookup)?;
+    let new_tables = Tables::new(alloc, new_rules, new_lookup)?;
+    Ok((messages, Compared::new(old_tables, new_tables)))
+}
+
+/// The rules and the messages about the files handed in, beside an index that others ask, too. No file of
+/// a database is read.
+fn open_beside<'b, 'a>(
+    alloc: Global,
+    line: &Line<'_>,
+    files: Vec<SourceFile>,
+    index: &'b Index<'a>,
+) -> Result<(RulesRead, Shared<'b, Index<'a>>), Refusal>
+    ensures opening { IfOk result (λ r. opening line.now files.items (Some (Ok index.entry.now)) ≡ Ok (shown_rules r.0 (entries_in r.1))) }
+    ensures refused { IfErr result (λ e. IsRefused e (opening line.now files.items (Some (Ok index.entry.now)))) }
+{
+    let read = open_rules(alloc, line, files)?;
+    Ok((read, Shared::new(index)))
+}

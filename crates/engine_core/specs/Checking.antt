@@ -1,0 +1,35 @@
+-- What `verify` and `update` say, by plain messages or as the line's options ask.
+use Rattle.std.specs.Prelude.{Bool, true, false, not, ◌||◌, ◌==◌, if◌then◌else◌, List, vec_len}
+use Rattle.text_bytes.specs.declared.source_file.SourceFile.{SourceFile}
+use Rattle.text_bytes.specs.declared.source_file.FileKind.TheVariants.{Hwdb}
+use Rattle.engine_checks.specs.Outcomes.{checks_outcome, told_update_outcome}
+use Rattle.engine_ends.specs.declared.line.Format.{Format}
+use Rattle.engine_ends.specs.declared.line.Format.TheVariants.{Plain, Gcc, Github, Gitlab, Json, Human, HumanInColor}
+use Rattle.engine_ends.specs.declared.line.Line.{Line}
+use Rattle.engine_ends.specs.Delivery.{Outcome}
+use Rattle.engine_reports.specs.FilesRead.{files_read}
+use Rattle.engine_reports.specs.Outcomes.{database_outcome, update_outcome, verify_outcome}
+
+-- whether messages are written as ever
+abbrev pub is_plain : Format → Bool
+is_plain Plain = true
+is_plain Gcc = false
+is_plain Github = false
+is_plain Gitlab = false
+is_plain Json = false
+is_plain Human = false
+is_plain HumanInColor = false
+
+-- whether a line asks for another format of messages, or to leave some out
+abbrev pub asks_checks : Line → Bool
+asks_checks line = not (is_plain line.format) || not (vec_len line.ignored == 0)
+
+-- what `verify` says of the files handed in
+abbrev pub verify_said : Line → List SourceFile → Outcome
+verify_said line files = if asks_checks line then checks_outcome line files else verify_outcome line files
+
+-- what `update` says of the files handed in
+abbrev pub update_said : Line → List SourceFile → Outcome
+update_said line files =
+    if asks_checks line then told_update_outcome line files
+    else database_outcome (update_outcome line) (files_read Hwdb line files)

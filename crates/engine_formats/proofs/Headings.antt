@@ -1,0 +1,136 @@
+-- The headings of remarks, one by one.
+use Rattle.std.proofs.Common.{◌≡◌, ◌==◌, false, cond, ◌∷◌, ◌++◌, refl}
+use Rattle.std.specs.List.{list_any}
+use Rattle.text_bytes.specs.Names.{colon, newline, space}
+use Rattle.text_bytes.specs.Texts.{split_once}
+use Rattle.text_bytes.specs.declared.message.MessageKind.{MessageKind}
+use Rattle.text_bytes.specs.declared.message.MessageKind.TheVariants.{PropertyWithoutMatch, MatchWithoutProperty, UnindentedLine, NoEquals, EmptyKey, PatternNotSupported, BadSyntax, UnknownKey, OperatorNotAllowed, WrongAttribute, BadValue, BadSubstitution, NoLaterLabel, GivenTwice, LineTooLong, BadPrefix, SetNotSupported, OpenAtEnd, CommaExpected, BlankExpected, ReadAsAssign, LabelUnused}
+use Rattle.engine_reports.specs.Checks.{is_style}
+use Rattle.engine_formats.specs.Advice.{advice_of}
+use Rattle.engine_formats.specs.Remarks.{code_of, heading_parts, remark_heading, severity_of, text_of}
+use Rattle.engine_formats.specs.declared.remark.Remark.{Remark}
+use Rattle.engine_formats.specs.declared.remark.Remark.TheVariants.{Message, IdleIgnore, UnknownCode}
+use Rattle.engine_formats.specs.declared.remark.Severity.TheVariants.{Error, Warning}
+use Rattle.engine_formats.proofs.OneLine.{Lacks, lacks-append}
+
+-- the two parts of each heading, of which the first has no space
+pub in_two_parts : (remark : Remark) → (remark_heading remark ≡ code_of remark ++ space ∷ text_of remark) × (list_any (λ b. b == space) (code_of remark) ≡ false)
+unfolding heading_parts split_once
+in_two_parts (Message PropertyWithoutMatch) = (refl, refl)
+in_two_parts (Message MatchWithoutProperty) = (refl, refl)
+in_two_parts (Message UnindentedLine) = (refl, refl)
+in_two_parts (Message NoEquals) = (refl, refl)
+in_two_parts (Message EmptyKey) = (refl, refl)
+in_two_parts (Message PatternNotSupported) = (refl, refl)
+in_two_parts (Message BadSyntax) = (refl, refl)
+in_two_parts (Message UnknownKey) = (refl, refl)
+in_two_parts (Message OperatorNotAllowed) = (refl, refl)
+in_two_parts (Message WrongAttribute) = (refl, refl)
+in_two_parts (Message BadValue) = (refl, refl)
+in_two_parts (Message BadSubstitution) = (refl, refl)
+in_two_parts (Message NoLaterLabel) = (refl, refl)
+in_two_parts (Message GivenTwice) = (refl, refl)
+in_two_parts (Message LineTooLong) = (refl, refl)
+in_two_parts (Message BadPrefix) = (refl, refl)
+in_two_parts (Message SetNotSupported) = (refl, refl)
+in_two_parts (Message OpenAtEnd) = (refl, refl)
+in_two_parts (Message CommaExpected) = (refl, refl)
+in_two_parts (Message BlankExpected) = (refl, refl)
+in_two_parts (Message ReadAsAssign) = (refl, refl)
+in_two_parts (Message LabelUnused) = (refl, refl)
+in_two_parts IdleIgnore = (refl, refl)
+in_two_parts UnknownCode = (refl, refl)
+
+-- each message about style is a warning, and each other an error
+pub by_style : (kind : MessageKind) → severity_of (Message kind) ≡ cond (is_style kind) Warning Error
+by_style PropertyWithoutMatch = refl
+by_style MatchWithoutProperty = refl
+by_style UnindentedLine = refl
+by_style NoEquals = refl
+by_style EmptyKey = refl
+by_style PatternNotSupported = refl
+by_style BadSyntax = refl
+by_style UnknownKey = refl
+by_style OperatorNotAllowed = refl
+by_style WrongAttribute = refl
+by_style BadValue = refl
+by_style BadSubstitution = refl
+by_style NoLaterLabel = refl
+by_style GivenTwice = refl
+by_style LineTooLong = refl
+by_style BadPrefix = refl
+by_style SetNotSupported = refl
+by_style OpenAtEnd = refl
+by_style CommaExpected = refl
+by_style BlankExpected = refl
+by_style ReadAsAssign = refl
+by_style LabelUnused = refl
+
+-- the words on each remark stay on their line
+in_one_line : (remark : Remark) → Lacks newline (code_of remark) × Lacks newline (text_of remark) × Lacks newline (advice_of remark)
+unfolding heading_parts split_once
+in_one_line (Message PropertyWithoutMatch) = (refl, refl, refl)
+in_one_line (Message MatchWithoutProperty) = (refl, refl, refl)
+in_one_line (Message UnindentedLine) = (refl, refl, refl)
+in_one_line (Message NoEquals) = (refl, refl, refl)
+in_one_line (Message EmptyKey) = (refl, refl, refl)
+in_one_line (Message PatternNotSupported) = (refl, refl, refl)
+in_one_line (Message BadSyntax) = (refl, refl, refl)
+in_one_line (Message UnknownKey) = (refl, refl, refl)
+in_one_line (Message OperatorNotAllowed) = (refl, refl, refl)
+in_one_line (Message WrongAttribute) = (refl, refl, refl)
+in_one_line (Message BadValue) = (refl, refl, refl)
+in_one_line (Message BadSubstitution) = (refl, refl, refl)
+in_one_line (Message NoLaterLabel) = (refl, refl, refl)
+in_one_line (Message GivenTwice) = (refl, refl, refl)
+in_one_line (Message LineTooLong) = (refl, refl, refl)
+in_one_line (Message BadPrefix) = (refl, refl, refl)
+in_one_line (Message SetNotSupported) = (refl, refl, refl)
+in_one_line (Message OpenAtEnd) = (refl, refl, refl)
+in_one_line (Message CommaExpected) = (refl, refl, refl)
+in_one_line (Message BlankExpected) = (refl, refl, refl)
+in_one_line (Message ReadAsAssign) = (refl, refl, refl)
+in_one_line (Message LabelUnused) = (refl, refl, refl)
+in_one_line IdleIgnore = (refl, refl, refl)
+in_one_line UnknownCode = (refl, refl, refl)
+
+pub code_lacks : (remark : Remark) → Lacks newline (code_of remark)
+code_lacks remark = (in_one_line remark).0
+
+pub text_lacks : (remark : Remark) → Lacks newline (text_of remark)
+text_lacks remark = (in_one_line remark).1
+
+pub advice_lacks : (remark : Remark) → Lacks newline (advice_of remark)
+advice_lacks remark = (in_one_line remark).2
+
+pub heading_lacks : (remark : Remark) → Lacks newline (remark_heading remark)
+heading_lacks remark =
+    rw ((in_two_parts remark).0) (lacks-append newline (code_of remark) (space ∷ text_of remark) (code_lacks remark) (text_lacks remark))
+
+-- no code has a colon
+pub code_has_no_colon : (remark : Remark) → Lacks colon (code_of remark)
+unfolding heading_parts split_once
+code_has_no_colon (Message PropertyWithoutMatch) = refl
+code_has_no_colon (Message MatchWithoutProperty) = refl
+code_has_no_colon (Message UnindentedLine) = refl
+code_has_no_colon (Message NoEquals) = refl
+code_has_no_colon (Message EmptyKey) = refl
+code_has_no_colon (Message PatternNotSupported) = refl
+code_has_no_colon (Message BadSyntax) = refl
+code_has_no_colon (Message UnknownKey) = refl
+code_has_no_colon (Message OperatorNotAllowed) = refl
+code_has_no_colon (Message WrongAttribute) = refl
+code_has_no_colon (Message BadValue) = refl
+code_has_no_colon (Message BadSubstitution) = refl
+code_has_no_colon (Message NoLaterLabel) = refl
+code_has_no_colon (Message GivenTwice) = refl
+code_has_no_colon (Message LineTooLong) = refl
+code_has_no_colon (Message BadPrefix) = refl
+code_has_no_colon (Message SetNotSupported) = refl
+code_has_no_colon (Message OpenAtEnd) = refl
+code_has_no_colon (Message CommaExpected) = refl
+code_has_no_colon (Message BlankExpected) = refl
+code_has_no_colon (Message ReadAsAssign) = refl
+code_has_no_colon (Message LabelUnused) = refl
+code_has_no_colon IdleIgnore = refl
+code_has_no_colon UnknownCode = refl

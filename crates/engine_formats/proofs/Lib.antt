@@ -1,0 +1,11 @@
+mod OneLine
+mod Commands
+mod Headings
+mod Issues
+mod SameLines
+mod Read
+mod Fingerprints
+mod Places
+mod Standing
+mod Counted
+mod Carets

@@ -1,0 +1,38 @@
+use Rattle.std.proofs.Common.{◌≡◌, Some, refl}
+use Rattle.text_bytes.specs.Texts.{split_once}
+use Rattle.text_bytes.specs.declared.message.MessageKind.TheVariants.{PropertyWithoutMatch, MatchWithoutProperty, UnindentedLine, NoEquals, EmptyKey, PatternNotSupported, BadSyntax, UnknownKey, OperatorNotAllowed, WrongAttribute, BadValue, BadSubstitution, NoLaterLabel, GivenTwice, LineTooLong, BadPrefix, SetNotSupported, OpenAtEnd, CommaExpected, BlankExpected, ReadAsAssign, LabelUnused}
+use Rattle.engine_formats.specs.Remarks.{code_of, heading_parts}
+use Rattle.engine_formats.specs.declared.remark.Remark.{Remark}
+use Rattle.engine_formats.specs.declared.remark.Remark.TheVariants.{Message, IdleIgnore, UnknownCode}
+use Rattle.engine_formats.specs.Codes.{remark_of}
+use Rattle.engine_formats.proofs.codes.each_remark_is_found.Goals as goal
+
+found : (remark : Remark) → remark_of (code_of remark) ≡ Some remark
+unfolding remark_of heading_parts split_once
+found (Message PropertyWithoutMatch) = refl
+found (Message MatchWithoutProperty) = refl
+found (Message UnindentedLine) = refl
+found (Message NoEquals) = refl
+found (Message EmptyKey) = refl
+found (Message PatternNotSupported) = refl
+found (Message BadSyntax) = refl
+found (Message UnknownKey) = refl
+found (Message OperatorNotAllowed) = refl
+found (Message WrongAttribute) = refl
+found (Message BadValue) = refl
+found (Message BadSubstitution) = refl
+found (Message NoLaterLabel) = refl
+found (Message GivenTwice) = refl
+found (Message LineTooLong) = refl
+found (Message BadPrefix) = refl
+found (Message SetNotSupported) = refl
+found (Message OpenAtEnd) = refl
+found (Message CommaExpected) = refl
+found (Message BlankExpected) = refl
+found (Message ReadAsAssign) = refl
+found (Message LabelUnused) = refl
+found IdleIgnore = refl
+found UnknownCode = refl
+
+pub returns : goal.returns
+returns c = found c.args.remark

@@ -1,0 +1,6 @@
+use Rattle.std.proofs.Common.{◌≡◌, ◌++◌, take}
+use Rattle.engine_formats.specs.Github.{github_property}
+use Rattle.engine_formats.proofs.github_escapes.push_github_property.Given as goal
+
+abbrev pub invariant-loop-byte : goal.invariant-loop-byte
+invariant-loop-byte l = l.text.items ≡ l.initial.text.items ++ github_property (take l.byte-index l.value)

@@ -1,0 +1,37 @@
+-- How what a diagnostic is about is mended.
+use Rattle.std.specs.Prelude.{ℕ, List, codes}
+use Rattle.text_bytes.specs.declared.message.MessageKind.{MessageKind}
+use Rattle.text_bytes.specs.declared.message.MessageKind.TheVariants.{PropertyWithoutMatch, MatchWithoutProperty, UnindentedLine, NoEquals, EmptyKey, PatternNotSupported, BadSyntax, UnknownKey, OperatorNotAllowed, WrongAttribute, BadValue, BadSubstitution, NoLaterLabel, GivenTwice, LineTooLong, BadPrefix, SetNotSupported, OpenAtEnd, CommaExpected, BlankExpected, ReadAsAssign, LabelUnused}
+use Rattle.engine_formats.specs.declared.remark.Remark.{Remark}
+use Rattle.engine_formats.specs.declared.remark.Remark.TheVariants.{Message, IdleIgnore, UnknownCode}
+
+-- the sentence on messages of a kind
+abbrev pub advice_on : MessageKind → List ℕ
+advice_on PropertyWithoutMatch = codes "Put the match above its properties."
+advice_on MatchWithoutProperty = codes "Put the properties below the match, each after a space."
+advice_on UnindentedLine = codes "Put an empty line between two records."
+advice_on NoEquals = codes "A property is written KEY=VALUE."
+advice_on EmptyKey = codes "Before the = of a property stands its key."
+advice_on PatternNotSupported = codes "A class of the C library depends on the locale: write its members out."
+advice_on BadSyntax = codes "From here on there is no KEY{attribute} operator \"value\": most often a quote is missing."
+advice_on UnknownKey = codes "Keys are written in capitals, and those that look at a parent end in S."
+advice_on OperatorNotAllowed = codes "Use == or != to compare, another operator to assign: this key takes only some of them."
+advice_on WrongAttribute = codes "ATTR, ENV and a few more need a name in braces, most other keys have none."
+advice_on BadValue = codes "Use one of the values that this key takes."
+advice_on BadSubstitution = codes "Behind $ and % stands one of udev's names or letters; the signs themselves are $$ and %%."
+advice_on NoLaterLabel = codes "A jump goes forward only, and stays in its file: give a later rule this label."
+advice_on GivenTwice = codes "A rule has one label and one jump; the later ones are dropped."
+advice_on LineTooLong = codes "A rule has at most 16,384 bytes, its continued lines together."
+advice_on BadPrefix = codes "Before a value may stand e, for escapes, and behind == and != also i, to ignore case."
+advice_on SetNotSupported = codes "A class of the C library depends on the locale: write its members out."
+advice_on OpenAtEnd = codes "Take the backslash away, or write the line that is to follow."
+advice_on CommaExpected = codes "Put one comma between two tokens, and none after the last."
+advice_on BlankExpected = codes "Put a space after the comma."
+advice_on ReadAsAssign = codes "The key has no := or += of its own: write =."
+advice_on LabelUnused = codes "Remove the label, or correct the GOTO that should go to it."
+
+-- the sentence on a remark
+abbrev pub advice_of : Remark → List ℕ
+advice_of (Message kind) = advice_on kind
+advice_of IdleIgnore = codes "Take the code out of the comment, which silences nothing."
+advice_of UnknownCode = codes "Write \"ignore\" or \"ignore-file\", a space, and codes such as V6,S2."

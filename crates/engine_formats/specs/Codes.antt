@@ -1,0 +1,21 @@
+-- The codes of remarks.
+use Rattle.std.specs.Prelude.{ℕ, List, [], ◌∷◌, ◌++◌, Option, find, map, nat_eq}
+use Rattle.text_bytes.specs.declared.message.MessageKind.{MessageKind}
+use Rattle.text_bytes.specs.declared.message.MessageKind.TheVariants.{PropertyWithoutMatch, MatchWithoutProperty, UnindentedLine, NoEquals, EmptyKey, PatternNotSupported, BadSyntax, UnknownKey, OperatorNotAllowed, WrongAttribute, BadValue, BadSubstitution, NoLaterLabel, GivenTwice, LineTooLong, BadPrefix, SetNotSupported, OpenAtEnd, CommaExpected, BlankExpected, ReadAsAssign, LabelUnused}
+use Rattle.std.specs.Cmp.Lexicographic.{pointwise}
+use Rattle.engine_formats.specs.Remarks.{code_of}
+use Rattle.engine_formats.specs.declared.remark.Remark.{Remark}
+use Rattle.engine_formats.specs.declared.remark.Remark.TheVariants.{Message, IdleIgnore, UnknownCode}
+
+-- each kind of message
+abbrev pub kinds : List MessageKind
+kinds = BadSyntax ∷ UnknownKey ∷ OperatorNotAllowed ∷ WrongAttribute ∷ BadValue ∷ BadSubstitution ∷ NoLaterLabel ∷ GivenTwice ∷ LineTooLong ∷ BadPrefix ∷ SetNotSupported
+    ∷ OpenAtEnd ∷ CommaExpected ∷ BlankExpected ∷ ReadAsAssign ∷ LabelUnused ∷ PropertyWithoutMatch ∷ MatchWithoutProperty ∷ UnindentedLine ∷ NoEquals ∷ EmptyKey ∷ PatternNotSupported ∷ []
+
+-- each remark
+abbrev pub remarks : List Remark
+remarks = map (λ kind. Message kind) kinds ++ IdleIgnore ∷ UnknownCode ∷ []
+
+-- the remark of a code, if it is one
+unfoldable pub remark_of : List ℕ → Option Remark
+remark_of code = find (λ remark. pointwise nat_eq (code_of remark) code) remarks

@@ -1,0 +1,30 @@
+-- Diagnostics, as contracts see them.
+use Rattle.std.specs.Prelude.{ℕ, List}
+use Rattle.engine_formats.specs.declared.diagnostic.Diagnostic.{Diagnostic}
+use Rattle.engine_formats.specs.declared.remark.Remark.{Remark}
+
+-- what is said of a place in a file
+pub record DiagnosticValue : Type 0 where
+  pub name : List ℕ
+  pub path : List ℕ
+  pub source : List ℕ
+  pub begins : ℕ
+  pub line : ℕ
+  pub column : ℕ
+  pub end : ℕ
+  pub remark : Remark
+  pub word : List ℕ
+
+-- what a contract sees of a diagnostic
+abbrev pub shown : Diagnostic → DiagnosticValue
+shown d = record {
+  name = d.name.now;
+  path = d.path.now;
+  source = d.source.now;
+  begins = d.begins;
+  line = d.line;
+  column = d.column;
+  end = d.end;
+  remark = d.remark;
+  word = d.word;
+}

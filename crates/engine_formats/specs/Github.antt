@@ -1,0 +1,63 @@
+-- Diagnostics as workflow commands of GitHub.
+use Rattle.std.specs.Prelude.{ℕ, ◌+◌, ◌*◌, Bool, not, ◌==◌, ◌||◌, if◌then◌else◌, List, [], ◌∷◌, ◌++◌, codes, decimal, drop, flat_map, length, take_while}
+use Rattle.text_bytes.specs.Escapes.{digit_value}
+use Rattle.text_bytes.specs.Names.{carriage_return, colon, comma, newline, percent}
+use Rattle.engine_ends.specs.Places.{word_part}
+use Rattle.engine_formats.specs.Diagnostics.{DiagnosticValue}
+use Rattle.engine_formats.specs.Remarks.{code_of, severity_of, severity_word, text_of}
+
+-- a byte of what a command says: `%` and the two ends of a line by `%` and two hexadecimal digits, all others as they are
+abbrev pub github_byte : ℕ → List ℕ
+github_byte b =
+    if b == percent then codes "%25"
+    else if b == carriage_return then codes "%0D"
+    else if b == newline then codes "%0A"
+    else b ∷ []
+
+-- a byte of a command's property, where a colon and a comma are written so too
+abbrev pub property_byte : ℕ → List ℕ
+property_byte b =
+    if b == colon then codes "%3A"
+    else if b == comma then codes "%2C"
+    else github_byte b
+
+-- what a command says, byte by byte
+abbrev pub github_text : List ℕ → List ℕ
+github_text said = flat_map github_byte said
+
+-- a command's property, byte by byte
+abbrev pub github_property : List ℕ → List ℕ
+github_property value = flat_map property_byte value
+
+-- The text that is written so: a `%` and two digits are the byte of their number, and any other byte is itself.
+abbrev pub github_read : List ℕ → List ℕ
+github_read [] = []
+github_read (b ∷ []) = b ∷ []
+github_read (b ∷ c ∷ []) = b ∷ c ∷ []
+github_read (b ∷ high ∷ low ∷ rest) =
+    if b == percent then (16 * digit_value high + digit_value low) ∷ github_read rest
+    else b ∷ github_read (high ∷ low ∷ rest)
+
+-- the two ends of a line
+abbrev pub ends_line : ℕ → Bool
+ends_line b = b == carriage_return || b == newline
+
+-- what ends a property: a comma, a colon and the ends of a line
+abbrev pub ends_property : ℕ → Bool
+ends_property b = b == comma || b == colon || ends_line b
+
+-- the property behind a name at the start of a text, up to what ends it
+abbrev pub property_at : List ℕ → List ℕ → List ℕ
+property_at name text = take_while (λ b. not (ends_property b)) (drop (length name) text)
+
+-- the file of a command, by the path by which it was opened, and the place in it
+unfoldable pub github_place : DiagnosticValue → List ℕ
+github_place d =
+    codes " file=" ++ github_property d.path ++ codes ",line=" ++ decimal d.line ++ codes ",col=" ++ decimal d.column
+    ++ codes ",endColumn=" ++ decimal d.end
+
+-- the line of a diagnostic as a command: `::error file=PATH,line=LINE,col=COLUMN,endColumn=END,title=V6::bad substitution: WORD`
+unfoldable pub github_line : DiagnosticValue → List ℕ
+github_line d =
+    codes "::" ++ severity_word (severity_of d.remark) ++ github_place d ++ codes ",title=" ++ code_of d.remark ++ codes "::"
+    ++ github_text (text_of d.remark ++ word_part d.word) ++ newline ∷ []

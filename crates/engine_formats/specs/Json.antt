@@ -1,0 +1,86 @@
+-- Diagnostics as JSON.
+use Rattle.std.specs.Prelude.{ℕ, List, [], ◌∷◌, ◌++◌, codes, decimal, map}
+use Rattle.std.specs.Str.Lossy.{utf8_lossy}
+use Rattle.text_bytes.specs.Names.{colon, newline}
+use Rattle.engine_ends.specs.Places.{word_part}
+use Rattle.json.specs.Json.{Json, array, number, object, string, Items, item, no_items, Members, member, no_members}
+use Rattle.json.specs.Print.{print}
+use Rattle.json.specs.Token.{Token}
+use Rattle.json.specs.Tree.{json_tokens}
+use Rattle.engine_formats.specs.Diagnostics.{DiagnosticValue}
+use Rattle.engine_formats.specs.Remarks.{code_of, remark_heading, severity_of, severity_word, text_of}
+use Rattle.engine_formats.specs.declared.remark.Severity.{Severity}
+use Rattle.engine_formats.specs.declared.remark.Severity.TheVariants.{Error, Warning}
+
+-- a text of a file, where what is no UTF-8 becomes U+FFFD
+abbrev pub text_value : List ℕ → Json
+text_value text = string (utf8_lossy text)
+
+abbrev pub number_value : ℕ → Json
+number_value n = number (decimal n)
+
+-- members, each of a key and a value
+abbrev pub members_of : List (List ℕ × Json) → Members
+members_of [] = no_members
+members_of (m ∷ ms) = member m.0 m.1 (members_of ms)
+
+-- an object of members, in this order
+abbrev pub object_of : List (List ℕ × Json) → Json
+object_of ms = object (members_of ms)
+
+abbrev pub items_of : List Json → Items
+items_of [] = no_items
+items_of (j ∷ js) = item j (items_of js)
+
+-- an array of values
+abbrev pub array_of : List Json → Json
+array_of js = array (items_of js)
+
+-- a diagnostic as an object
+abbrev pub json_object : DiagnosticValue → Json
+json_object d = object_of (
+    (codes "path", text_value d.path)
+    ∷ (codes "line", number_value d.line)
+    ∷ (codes "column", number_value d.column)
+    ∷ (codes "end_column", number_value d.end)
+    ∷ (codes "code", text_value (code_of d.remark))
+    ∷ (codes "text", text_value (text_of d.remark))
+    ∷ (codes "word", text_value d.word)
+    ∷ (codes "severity", string (severity_word (severity_of d.remark)))
+    ∷ [])
+
+-- the line of a diagnostic: the object without blanks between its parts
+unfoldable pub json_line : DiagnosticValue → List ℕ
+json_line d = print (json_tokens (json_object d)) ++ newline ∷ []
+
+-- the word of GitLab for how severe something is
+abbrev pub gitlab_severity : Severity → List ℕ
+gitlab_severity Error = codes "major"
+gitlab_severity Warning = codes "minor"
+
+-- what tells a diagnostic from the others about its file: `LINE:COLUMN:V6:PATH`
+abbrev pub fingerprint : DiagnosticValue → List ℕ
+fingerprint d = decimal d.line ++ colon ∷ decimal d.column ++ colon ∷ code_of d.remark ++ colon ∷ d.path
+
+-- the file and the line of a diagnostic
+abbrev pub gitlab_location : DiagnosticValue → Json
+gitlab_location d =
+    object_of ((codes "path", text_value d.path) ∷ (codes "lines", object_of ((codes "begin", number_value d.line) ∷ [])) ∷ [])
+
+-- a diagnostic as an issue of code quality
+abbrev pub gitlab_issue : DiagnosticValue → Json
+gitlab_issue d = object_of (
+    (codes "description", text_value (remark_heading d.remark ++ word_part d.word))
+    ∷ (codes "check_name", text_value (code_of d.remark))
+    ∷ (codes "fingerprint", text_value (fingerprint d))
+    ∷ (codes "severity", string (gitlab_severity (severity_of d.remark)))
+    ∷ (codes "location", gitlab_location d)
+    ∷ [])
+
+-- serves inner proofs only: the tokens of an issue
+unfoldable pub issue_tokens : DiagnosticValue → List Token
+issue_tokens d = json_tokens (gitlab_issue d)
+
+-- diagnostics as a report of code quality: an array of issues, on one line
+unfoldable pub gitlab_report : List DiagnosticValue → List ℕ
+gitlab_report ds = print (json_tokens (array_of (map gitlab_issue ds))) ++ newline ∷ []

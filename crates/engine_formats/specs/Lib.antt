@@ -1,0 +1,15 @@
+pub mod Remarks
+pub mod Codes
+pub mod Diagnostics
+pub mod Lines
+pub mod Github
+pub mod Json
+pub mod Advice
+pub mod Paints
+pub mod Human
+pub mod Marks
+pub mod Formats
+pub mod Readers
+pub mod Made
+pub mod Paths
+pub mod Placing

@@ -1,0 +1,42 @@
+-- Where the mark of a place stands, as a reader sees it.
+use Rattle.std.specs.Prelude.{◌≡◌, ℕ, suc, ◌-◌, ◌<◌, Bool, true, false, not, ◌==◌, if◌then◌else◌, List, [], ◌∷◌, ◌++◌, drop, map, slice_index_or, take, take_while}
+use Rattle.text_bytes.specs.Lines.{lines}
+use Rattle.text_bytes.specs.Names.{caret}
+use Rattle.engine_formats.specs.Human.{continues, shown_byte}
+use Rattle.engine_formats.specs.Paints.{escape_code}
+
+-- the letter that ends the start or the end of a color
+abbrev pub letter_m : ℕ
+letter_m = 109
+
+-- How many columns of a terminal a text takes, of which the first bytes may still belong to the start or the end of a color. Such a
+-- sequence goes from an escape byte up to a letter `m` and takes none, and neither does a byte that goes on a character.
+abbrev pub columns_from : Bool → List ℕ → ℕ
+columns_from true [] = 0
+columns_from false [] = 0
+columns_from true (b ∷ text) = columns_from (not (b == letter_m)) text
+columns_from false (b ∷ text) =
+    if b == escape_code then columns_from true text
+    else if continues b then columns_from false text
+    else suc (columns_from false text)
+
+-- how many columns of a terminal a text takes
+abbrev pub columns : List ℕ → ℕ
+columns text = columns_from false text
+
+-- a line up to its first `^`
+abbrev pub before_caret : List ℕ → List ℕ
+before_caret line = take_while (λ b. not (b == caret)) line
+
+-- the line of a text that stands behind this many others, without its newline
+abbrev pub line_behind : ℕ → List ℕ → List ℕ
+line_behind others text = slice_index_or (lines text) others []
+
+-- `^` stands below the first byte of the place at a column: the line that is shown goes on from the place as its source does, for one
+-- byte at least where there is one, and before the mark stand as many columns as before the place
+pub record PointsAt (source : List ℕ) (column : ℕ) (shown marks : List ℕ) : Type 0 where
+  pub before : List ℕ
+  pub room : ℕ
+  pub some : 0 < room
+  pub place : shown ≡ before ++ map shown_byte (take room (drop (column - 1) source))
+  pub below : columns (before_caret marks) ≡ columns before

@@ -1,0 +1,15 @@
+-- The paths by which files were opened.
+use Rattle.std.specs.Prelude.{ℕ, if◌then◌else◌, List, ◌∷◌, ◌++◌}
+use Rattle.text_bytes.specs.Names.{slash}
+use Rattle.text_bytes.specs.declared.source_file.SourceFile.{SourceFile}
+use Rattle.engine_ends.specs.Folders.{folder_path}
+use Rattle.engine_ends.specs.Kinds.{names_files_of}
+use Rattle.engine_ends.specs.declared.line.Line.{Line}
+
+-- the path of a file in its folder, behind a root
+abbrev pub path_in_folder : List ℕ → SourceFile → List ℕ
+path_in_folder root file = root ++ folder_path file.kind file.rank ++ slash ∷ file.name
+
+-- the path of a file: its name where the line names files of its kind, and else that in its folder
+abbrev pub path_of : Line → SourceFile → List ℕ
+path_of line file = if names_files_of line file.kind then file.name else path_in_folder line.root.now file

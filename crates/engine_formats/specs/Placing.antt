@@ -1,0 +1,56 @@
+-- Where messages about a database stand in their file.
+use Rattle.std.specs.Prelude.{◌≡◌, ℕ, ◌+◌, ◌-◌, ◌<◌, Bool, true, false, if◌then◌else◌, List, [], drop, length, slice_index_or, take}
+use Rattle.std.specs.List.{Contains}
+use Rattle.text_bytes.specs.Lines.{NumberedLine}
+use Rattle.text_bytes.specs.Messages.{capped}
+use Rattle.text_bytes.specs.Texts.{unindented}
+use Rattle.text_bytes.specs.declared.message.Message.{Message}
+use Rattle.text_bytes.specs.declared.message.MessageKind.{MessageKind}
+use Rattle.text_bytes.specs.declared.message.MessageKind.TheVariants.{PropertyWithoutMatch, NoEquals, EmptyKey}
+use Rattle.hwdb_core.specs.Lines.{before_comment, trimmed}
+use Rattle.engine_formats.specs.declared.placing.TextPlace.{TextPlace}
+
+-- a place in a line: the columns that it begins at and ends before, counted from 1, and the text there
+pub record Place : Type 0 where
+  pub source : List ℕ
+  pub column : ℕ
+  pub end : ℕ
+  pub word : List ℕ
+
+-- what a contract sees of a place
+abbrev pub shown_place : TextPlace → Place
+shown_place p = record { source = p.source.now; column = p.column; end = p.end; word = p.word.now }
+
+-- the text of the line of a number, counted from 1, and nothing where there is none
+abbrev pub line_numbered : List NumberedLine → ℕ → List ℕ
+line_numbered lines number = (slice_index_or lines (number - 1) (record { number = 0; text = [] })).text
+
+-- whether messages of a kind are about a property, which stands behind blanks
+abbrev pub is_about_property : MessageKind → Bool
+is_about_property PropertyWithoutMatch = true
+is_about_property NoEquals = true
+is_about_property EmptyKey = true
+is_about_property _ = false
+
+-- the text of a clean line that a message of a kind tells of: a property without its leading blanks, and else the line
+abbrev pub told_text : List ℕ → MessageKind → List ℕ
+told_text clean kind = if is_about_property kind then unindented clean else clean
+
+-- where a message of a kind stands in a line: at the text that it tells of, which ends where the clean line does
+abbrev pub place_in : List ℕ → MessageKind → Place
+place_in source kind =
+    let clean = trimmed (before_comment source) in
+    let word = told_text clean kind in
+    record { source = source; column = capped (length clean - length word + 1); end = capped (length clean + 1); word = word }
+
+-- where a message stands in the lines of its file
+abbrev pub placed : List NumberedLine → Message → Place
+placed lines message = place_in (line_numbered lines message.line) message.kind
+
+-- A place stands among lines: it has the text of the line of this number, in which its word begins at its column and ends before its
+-- end.
+pub record StandsIn (lines : List NumberedLine) (number : ℕ) (p : Place) : Type 0 where
+  pub line : Contains lines (record { number = number; text = p.source })
+  pub first : 0 < p.column
+  pub end : p.end ≡ p.column + length p.word
+  pub text : take (p.end - p.column) (drop (p.column - 1) p.source) ≡ p.word

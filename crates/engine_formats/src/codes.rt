@@ -1,0 +1,57 @@
+//! The codes of remarks, as `V6`.
+ghost use Rattle.std.specs.Prelude.{◌≡◌, Some, IfSome};
+ghost use Rattle.engine_formats.specs.Codes.{remark_of, remarks};
+ghost use Rattle.engine_formats.specs.Remarks.{code_of};
+
+use crate::remark::Remark;
+use text_bytes::MessageKind;
+
+/// Each remark.
+const REMARKS: [Remark; 24] = [
+    Remark::Message(MessageKind::BadSyntax),
+    Remark::Message(MessageKind::UnknownKey),
+    Remark::Message(MessageKind::OperatorNotAllowed),
+    Remark::Message(MessageKind::WrongAttribute),
+    Remark::Message(MessageKind::BadValue),
+    Remark::Message(MessageKind::BadSubstitution),
+    Remark::Message(MessageKind::NoLaterLabel),
+    Remark::Message(MessageKind::GivenTwice),
+    Remark::Message(MessageKind::LineTooLong),
+    Remark::Message(MessageKind::BadPrefix),
+    Remark::Message(MessageKind::SetNotSupported),
+    Remark::Message(MessageKind::OpenAtEnd),
+    Remark::Message(MessageKind::CommaExpected),
+    Remark::Message(MessageKind::BlankExpected),
+    Remark::Message(MessageKind::ReadAsAssign),
+    Remark::Message(MessageKind::LabelUnused),
+    Remark::Message(MessageKind::PropertyWithoutMatch),
+    Remark::Message(MessageKind::MatchWithoutProperty),
+    Remark::Message(MessageKind::UnindentedLine),
+    Remark::Message(MessageKind::NoEquals),
+    Remark::Message(MessageKind::EmptyKey),
+    Remark::Message(MessageKind::PatternNotSupported),
+    Remark::IdleIgnore,
+    Remark::UnknownCode,
+];
+
+/// Each remark, by code: V, S, H and I.
+pub fn remarks() -> &'static [Remark]
+    ensures { result.now ≡ remarks }
+{
+    &REMARKS
+}
+
+/// The remark of a code. Codes are told apart by case, and any other text is none.
+#[tactic(auto, unfolding(crate::specs::Codes::remark_of))]
+pub fn remark_of(code: &[u8]) -> Option<Remark>
+    ensures value { result ≡ remark_of code.now }
+    ensures named { IfSome result (λ remark. code_of remark ≡ code.now) }
+{
+    REMARKS.iter().copied().find(|remark| remark.code() == code)
+}
+
+/// Each remark is found by its code, so that no two have the same one.
+#[tactic(auto, unfolding(crate::specs::Codes::remark_of))]
+pub fn each_remark_is_found(remark: Remark)
+    ensures { remark_of (code_of remark) ≡ Some remark }
+{}

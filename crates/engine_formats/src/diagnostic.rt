@@ -1,0 +1,30 @@
+//! A diagnostic: what is said of a place in a file.
+
+use crate::remark::Remark;
+use text_bytes::Bytes;
+
+/// What is said of a place in a file.
+///
+/// Lines and columns are counted from 1, columns in bytes.
+#[derive(Debug, Drop)]
+pub struct Diagnostic<'a> {
+    /// The file's name, as messages tell it.
+    pub name: &'a [u8],
+    /// The path by which the file was opened.
+    pub path: &'a [u8],
+    /// The line that the place begins in, without its newline.
+    pub source: &'a [u8],
+    /// The number of the line that messages tell: for rules the first line of the rule.
+    pub begins: u32,
+    /// The number of the line that the place begins in.
+    pub line: u32,
+    /// The column that the place begins at.
+    pub column: u32,
+    /// The column behind the last byte of the place that stands in this line; `column` where the place
+    /// is empty.
+    pub end: u32,
+    /// What it is about.
+    pub remark: Remark,
+    /// The part of the file that it is about, whole and not escaped.
+    pub word: Bytes,
+}

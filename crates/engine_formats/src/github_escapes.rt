@@ -1,0 +1,51 @@
+//! How GitHub asks that texts be written in a workflow command.
+//!
+//! A command is one line, whose properties end at a comma and at a colon.
+ghost use Rattle.std.specs.Prelude.{◌≡◌, ◌++◌, OnOk};
+ghost use Rattle.engine_formats.specs.Github.{github_byte, github_property, github_text, property_byte};
+
+use std::alloc::AllocError;
+
+/// Puts what a command says behind a text: `%` and the two ends of a line each as `%` and two
+/// hexadecimal digits.
+pub(crate) fn push_github_text(text: &mut Vec<u8>, said: &[u8]) -> Result<(), AllocError>
+    ensures { OnOk result (text.new.items ≡ text.old.items ++ github_text said.now) }
+{
+    for byte in said {
+        push_text_byte(text, *byte)?;
+    }
+    Ok(())
+}
+
+/// Puts a property of a command behind a text: as what it says, with `:` and `,` written so too.
+pub(crate) fn push_github_property(text: &mut Vec<u8>, value: &[u8]) -> Result<(), AllocError>
+    ensures { OnOk result (text.new.items ≡ text.old.items ++ github_property value.now) }
+{
+    for byte in value {
+        push_property_byte(text, *byte)?;
+    }
+    Ok(())
+}
+
+/// Puts a byte of what a command says behind a text.
+fn push_text_byte(text: &mut Vec<u8>, byte: u8) -> Result<(), AllocError>
+    ensures { OnOk result (text.new.items ≡ text.old.items ++ github_byte byte) }
+{
+    match byte {
+        b'%' => text.extend_from_slice(b"%25"),
+        b'\r' => text.extend_from_slice(b"%0D"),
+        b'\n' => text.extend_from_slice(b"%0A"),
+        _ => Ok(text.push(byte)?),
+    }
+}
+
+/// Puts a byte of a property behind a text.
+fn push_property_byte(text: &mut Vec<u8>, byte: u8) -> Result<(), AllocError>
+    ensures { OnOk result (text.new.items ≡ text.old.items ++ property_byte byte) }
+{
+    match byte {
+        b':' => text.extend_from_slice(b"%3A"),
+        b',' => text.extend_from_slice(b"%2C"),
+        _ => push_text_byte(text, byte),
+    }
+}

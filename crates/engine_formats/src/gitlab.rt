@@ -1,0 +1,121 @@
+//! Diagnostics as a report of code quality for GitLab.
+ghost use Rattle.std.specs.Prelude.{◌≡◌, ◌++◌, map, flat_map, IfOk, OnOk};
+ghost use Rattle.engine_ends.specs.Places.{word_part};
+ghost use Rattle.json.specs.Tree.{json_tokens};
+ghost use Rattle.engine_formats.specs.Diagnostics.{shown};
+ghost use Rattle.engine_formats.specs.Json.{fingerprint, gitlab_location, gitlab_report, gitlab_severity, issue_tokens};
+ghost use Rattle.engine_formats.specs.Remarks.{remark_heading};
+
+use crate::diagnostic::Diagnostic;
+use crate::json_members::{write_number, write_text, write_word};
+use crate::parts::{push_number, push_part};
+use crate::remark::{Remark, Severity};
+use engine_ends::push_word;
+use itoa::Buffer;
+use json::Writer;
+use std::alloc::{AllocError, Global};
+
+/// The report of diagnostics: an array of issues in the order given, on one line.
+#[tactic(auto, unfolding(crate::specs::Json::gitlab_report))]
+pub(crate) fn gitlab_report(
+    alloc: Global,
+    diagnostics: &[Diagnostic<'_>],
+) -> Result<Vec<u8>, AllocError>
+    ensures { IfOk result (λ text. text.items ≡ gitlab_report (map shown diagnostics.now)) }
+{
+    let mut writer = Writer::new(Vec::new(alloc));
+    writer.begin_array()?;
+    write_issues(alloc, &mut writer, diagnostics)?;
+    writer.end_array()?;
+    let mut text = writer.into_inner();
+    text.push(b'\n')?;
+    Ok(text)
+}
+
+/// Puts the issues of diagnostics behind what is written.
+fn write_issues(
+    alloc: Global,
+    writer: &mut Writer,
+    diagnostics: &[Diagnostic<'_>],
+) -> Result<(), AllocError>
+    ensures tokens { OnOk result (writer.new.tokens ≡ writer.old.tokens ++ flat_map issue_tokens (map shown diagnostics.now)) }
+    ensures before { OnOk result (writer.new.before ≡ writer.old.before) }
+{
+    for diagnostic in diagnostics {
+        write_issue(alloc, writer, diagnostic)?;
+    }
+    Ok(())
+}
+
+/// Puts the issue of a diagnostic behind what is written.
+#[tactic(auto, unfolding(crate::specs::Json::issue_tokens))]
+fn write_issue(
+    alloc: Global,
+    writer: &mut Writer,
+    diagnostic: &Diagnostic<'_>,
+) -> Result<(), AllocError>
+    ensures tokens { OnOk result (writer.new.tokens ≡ writer.old.tokens ++ issue_tokens (shown diagnostic.now)) }
+    ensures before { OnOk result (writer.new.before ≡ writer.old.before) }
+{
+    let remark = diagnostic.remark;
+    let said = description(alloc, remark, diagnostic.word.as_slice())?;
+    let own = fingerprint(alloc, diagnostic)?;
+    writer.begin_object()?;
+    write_text(alloc, writer, "description", &said)?;
+    write_text(alloc, writer, "check_name", remark.code())?;
+    write_text(alloc, writer, "fingerprint", &own)?;
+    write_word(writer, "severity", gitlab_severity(remark.severity()))?;
+    writer.key("location")?;
+    write_location(alloc, writer, diagnostic)?;
+    writer.end_object()?;
+    Ok(())
+}
+
+/// Puts the file and the line of a diagnostic behind what is written.
+fn write_location(
+    alloc: Global,
+    writer: &mut Writer,
+    diagnostic: &Diagnostic<'_>,
+) -> Result<(), AllocError>
+    ensures tokens { OnOk result (writer.new.tokens ≡ writer.old.tokens ++ json_tokens (gitlab_location (shown diagnostic.now))) }
+    ensures before { OnOk result (writer.new.before ≡ writer.old.before) }
+{
+    writer.begin_object()?;
+    write_text(alloc, writer, "path", diagnostic.path)?;
+    writer.key("lines")?;
+    writer.begin_object()?;
+    write_number(writer, "begin", diagnostic.line)?;
+    writer.end_object()?;
+    writer.end_object()?;
+    Ok(())
+}
+
+/// What a remark says of a word, with its code: `V6 bad substitution: WORD`.
+fn description(alloc: Global, remark: Remark, word: &[u8]) -> Result<Vec<u8>, AllocError>
+    ensures { IfOk result (λ text. text.items ≡ remark_heading remark ++ word_part word.now) }
+{
+    let mut text = Vec::from_slice(alloc, remark.heading())?;
+    push_word(alloc, &mut text, word)?;
+    Ok(text)
+}
+
+/// What tells a diagnostic from the others about its file: `LINE:COLUMN:V6:PATH`.
+fn fingerprint(alloc: Global, diagnostic: &Diagnostic<'_>) -> Result<Vec<u8>, AllocError>
+    ensures { IfOk result (λ text. text.items ≡ fingerprint (shown diagnostic.now)) }
+{
+    let mut text = Vec::from_slice(alloc, Buffer::new().format(diagnostic.line).as_bytes())?;
+    push_number(&mut text, diagnostic.column)?;
+    push_part(&mut text, diagnostic.remark.code())?;
+    push_part(&mut text, diagnostic.path)?;
+    Ok(text)
+}
+
+/// The word of GitLab for how severe something is.
+fn gitlab_severity(severity: Severity) -> &'static str
+    ensures { result.now ≡ gitlab_severity severity }
+{
+    match severity {
+        Severity::Error => "major",
+        Severity::Warning => "minor",
+    }
+}

@@ -1,0 +1,39 @@
+//! Members of JSON objects, put behind what a writer has written.
+ghost use Rattle.std.specs.Prelude.{◌≡◌, ◌∷◌, [], ◌++◌, decimal, OnOk};
+ghost use Rattle.std.specs.Str.Lossy.{utf8_lossy};
+ghost use Rattle.json.specs.Token as token;
+
+use json::Writer;
+use std::alloc::{AllocError, Global};
+
+/// A member of a text of a file. What of it is no UTF-8 becomes U+FFFD, as JSON has to be UTF-8.
+pub(crate) fn write_text(
+    alloc: Global,
+    writer: &mut Writer,
+    key: &str,
+    text: &[u8],
+) -> Result<(), AllocError>
+    ensures tokens { OnOk result (writer.new.tokens ≡ writer.old.tokens ++ token.key key.now ∷ token.string (utf8_lossy text.now) ∷ []) }
+    ensures before { OnOk result (writer.new.before ≡ writer.old.before) }
+{
+    let text = String::from_utf8_lossy(alloc, text)?;
+    write_word(writer, key, &text)
+}
+
+/// A member of a text of the program's own.
+pub(crate) fn write_word(writer: &mut Writer, key: &str, word: &str) -> Result<(), AllocError>
+    ensures tokens { OnOk result (writer.new.tokens ≡ writer.old.tokens ++ token.key key.now ∷ token.string word.now ∷ []) }
+    ensures before { OnOk result (writer.new.before ≡ writer.old.before) }
+{
+    writer.key(key)?;
+    writer.string(word)
+}
+
+/// A member of a number.
+pub(crate) fn write_number(writer: &mut Writer, key: &str, number: u32) -> Result<(), AllocError>
+    ensures tokens { OnOk result (writer.new.tokens ≡ writer.old.tokens ++ token.key key.now ∷ token.number (decimal number) ∷ []) }
+    ensures before { OnOk result (writer.new.before ≡ writer.old.before) }
+{
+    writer.key(key)?;
+    writer.u64(u64::from(number))
+}

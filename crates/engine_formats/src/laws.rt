@@ -1,0 +1,90 @@
+//! Why the definitions that the other contracts cite mean what they say.
+//!
+//! Each function does nothing: its contract is a law of the definitions.
+ghost use Rattle.std.specs.Prelude.{◌≡◌, ℕ, ◌+◌, ◌-◌, ◌*◌, ◌^◌, ◌<◌, ◌≤◌, Bool, ◌==◌, false, if◌then◌else◌, List, [], ◌∷◌, ◌++◌, All, codes, length, map};
+ghost use Rattle.std.specs.List.{list_any};
+ghost use Rattle.text_bytes.specs.Lines.{lines, numbered_lines};
+ghost use Rattle.text_bytes.specs.Messages.{word_of};
+ghost use Rattle.text_bytes.specs.Names.{space};
+ghost use Rattle.text_bytes.specs.declared.message.Message.{Message};
+ghost use Rattle.text_bytes.specs.declared.message.MessageKind.{MessageKind};
+ghost use Rattle.text_bytes.specs.declared.source_file.SourceFile.{SourceFile};
+ghost use Rattle.hwdb_core.specs.Sources.{messages_of};
+ghost use Rattle.engine_ends.specs.declared.line.Format.{Format};
+ghost use Rattle.engine_reports.specs.Checks.{is_style};
+ghost use Rattle.engine_reports.specs.Messages.{message_lines};
+ghost use Rattle.engine_formats.specs.Diagnostics.{DiagnosticValue};
+ghost use Rattle.engine_formats.specs.Formats.{formatted};
+ghost use Rattle.engine_formats.specs.Github.{ends_line, ends_property, github_place, github_property, github_read, github_text, property_at};
+ghost use Rattle.engine_formats.specs.Human.{human_lines, shown_byte};
+ghost use Rattle.engine_formats.specs.Made.{AreMadeOf};
+ghost use Rattle.engine_formats.specs.Marks.{PointsAt, line_behind};
+ghost use Rattle.engine_formats.specs.Placing.{StandsIn, placed};
+ghost use Rattle.engine_formats.specs.Readers.{HasPlace};
+ghost use Rattle.engine_formats.specs.Remarks.{code_of, remark_heading, severity_of, text_of};
+ghost use Rattle.engine_formats.specs.declared.remark.Remark.{Remark};
+ghost use Rattle.engine_formats.specs.declared.remark.Remark.TheVariants as about;
+ghost use Rattle.engine_formats.specs.declared.remark.Severity.TheVariants.{Error, Warning};
+
+/// The heading of a remark is its code, a space and what it says, and no space stands in its code.
+pub fn a_heading_is_its_code_and_text()
+    ensures whole { (remark : Remark) → remark_heading remark ≡ code_of remark ++ space ∷ text_of remark }
+    ensures code { (remark : Remark) → list_any (λ b. b == space) (code_of remark) ≡ false }
+{}
+
+/// Messages about style are warnings, and all other messages are errors; so are remarks on comments
+/// warnings.
+pub fn style_is_a_warning()
+    ensures message { (kind : MessageKind) → severity_of (about.Message kind) ≡ (if is_style kind then Warning else Error) }
+    ensures idle { severity_of about.IdleIgnore ≡ Warning }
+    ensures unknown { severity_of about.UnknownCode ≡ Warning }
+{}
+
+/// Diagnostics that are made of messages read by default as these messages do.
+pub fn messages_are_plain_diagnostics()
+    ensures { (messages : List Message) (diagnostics : List DiagnosticValue) → AreMadeOf messages diagnostics
+        → formatted Format.Plain diagnostics ≡ message_lines messages }
+{}
+
+/// No line ends in what a workflow command says, and neither does a property in its text.
+pub fn commands_end_nowhere_within()
+    ensures text { (said : List ℕ) → list_any ends_line (github_text said) ≡ false }
+    ensures property { (value : List ℕ) → list_any ends_property (github_property value) ≡ false }
+{}
+
+/// What a workflow command says is read back as it was, and so is a property; the path is the one by
+/// which the file was opened.
+pub fn commands_are_read_back()
+    ensures text { (said : List ℕ) → github_read (github_text said) ≡ said }
+    ensures property { (value : List ℕ) → github_read (github_property value) ≡ value }
+    ensures path { (d : DiagnosticValue) → github_read (property_at (codes " file=") (github_place d)) ≡ d.path }
+{}
+
+/// The text at the place of a message about a database is what the message keeps the first bytes of,
+/// where a file's lines are few enough to be told by number.
+/// In lines that are short enough it stands at the columns that are told, in the line that is told.
+pub fn messages_stand_at_their_words()
+    ensures word { (file : SourceFile) → length (lines file.bytes) < 2 ^ 32
+        → All (λ m. word_of (placed (numbered_lines file.bytes) m).word ≡ m.word) (messages_of (file ∷ [])) }
+    ensures place { (file : SourceFile) → length (lines file.bytes) < 2 ^ 32 → All (λ line. length line < 2 ^ 32 - 1) (lines file.bytes)
+        → All (λ m. StandsIn (numbered_lines file.bytes) m.line (placed (numbered_lines file.bytes) m)) (messages_of (file ∷ [])) }
+{}
+
+/// In the format for people the mark `^` stands below the first byte of the place, in colors and without.
+/// A line of at most 160 bytes is shown whole.
+pub fn marks_stand_below_their_places()
+    ensures mark { (in_color : Bool) (d : DiagnosticValue) → HasPlace d → d.column ≤ length d.source + 1
+        → PointsAt d.source d.column (line_behind 1 (human_lines in_color d)) (line_behind 2 (human_lines in_color d)) }
+    ensures whole { (in_color : Bool) (d : DiagnosticValue) → HasPlace d → length d.source ≤ 160
+        → line_behind 1 (human_lines in_color d) ≡ codes "  " ++ map shown_byte d.source }
+{}
+
+/// The formats for people and for GitHub have a line for each diagnostic, or four where its line is
+/// shown, whatever bytes the file's name, its path, its line and the word have.
+pub fn diagnostics_have_their_lines()
+    ensures plain { (diagnostics : List DiagnosticValue) → All HasPlace diagnostics → length (lines (formatted Format.Plain diagnostics)) ≡ length diagnostics }
+    ensures gcc { (diagnostics : List DiagnosticValue) → All HasPlace diagnostics → length (lines (formatted Format.Gcc diagnostics)) ≡ length diagnostics }
+    ensures github { (diagnostics : List DiagnosticValue) → All HasPlace diagnostics → length (lines (formatted Format.Github diagnostics)) ≡ length diagnostics }
+    ensures human { (diagnostics : List DiagnosticValue) → All HasPlace diagnostics → length (lines (formatted Format.Human diagnostics)) ≡ 4 * length diagnostics }
+    ensures in_color { (diagnostics : List DiagnosticValue) → All HasPlace diagnostics → length (lines (formatted Format.HumanInColor diagnostics)) ≡ 4 * length diagnostics }
+{}

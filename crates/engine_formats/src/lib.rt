@@ -1,0 +1,41 @@
+//! Diagnostics: what is said of a place in a file, in each of the formats that it can be written in.
+//!
+//! A diagnostic is made of a message about a file and of where in it that stands. What is said is
+//! built as one text before any of it is written.
+#![tactic(auto)]
+
+mod advice;
+mod codes;
+mod diagnostic;
+mod formats;
+mod gcc;
+mod github;
+mod github_escapes;
+mod gitlab;
+mod human;
+mod json_members;
+mod laws;
+mod marks;
+mod objects;
+mod paint;
+mod parts;
+mod paths;
+mod placing;
+mod plain;
+mod reader_laws;
+mod remark;
+
+pub use codes::{each_remark_is_found, remark_of, remarks};
+pub use diagnostic::Diagnostic;
+pub use formats::formatted;
+pub use laws::{
+    a_heading_is_its_code_and_text, commands_are_read_back, commands_end_nowhere_within,
+    diagnostics_have_their_lines, marks_stand_below_their_places, messages_are_plain_diagnostics,
+    messages_stand_at_their_words, style_is_a_warning,
+};
+pub use paths::path_of;
+pub use placing::{TextPlace, file_lines, line_numbered, placed_message};
+pub use reader_laws::{
+    a_gitlab_report_is_an_array, each_json_line_is_an_object, fingerprints_differ,
+};
+pub use remark::{Remark, Severity};

@@ -1,0 +1,169 @@
+//! A line of a file as it is shown, and the marks below a place in it.
+ghost use Rattle.std.specs.Prelude.{◌≡◌, ◌≤◌, ◌++◌, take, drop, flat_map, length, map, OnOk};
+ghost use Rattle.std.specs.List.{prefix_len};
+ghost use Rattle.engine_formats.specs.Human.{continues, first_start, mark_line, shown_byte, source_line, source_lines, under, window, window_start};
+
+use crate::paint::Paint;
+use std::alloc::AllocError;
+
+/// How many bytes of a line are shown at most.
+const WIDTH: usize = 160;
+
+/// How many bytes of a longer line are shown before the place.
+const MARGIN: usize = 40;
+
+/// How many bytes of a character of UTF-8 there are at most behind its first one.
+const LONGEST_REST: usize = 3;
+
+/// Puts the line that a place stands in behind a text, and a line that marks the place in a color: `^`
+/// below its first byte and `~` below the others. Of a line of more than 160 bytes, 160 around the
+/// place are shown.
+#[tactic(auto, unfolding(crate::specs::Human::source_lines))]
+pub(crate) fn push_source(
+    text: &mut Vec<u8>,
+    paint: Paint,
+    source: &[u8],
+    column: usize,
+    end: usize,
+) -> Result<(), AllocError>
+    ensures { OnOk result (text.new.items ≡ text.old.items ++ source_lines paint source.now column end) }
+{
+    let start = window_start(source, column);
+    let shown = window(source, start);
+    let before = column.saturating_sub(1).saturating_sub(start);
+    push_line(text, shown)?;
+    push_marks(
+        text,
+        paint,
+        front(shown, before),
+        front(behind(shown, before), end.saturating_sub(column)),
+    )
+}
+
+/// Where the part of a line begins that is shown. Where that would be inside a character of UTF-8, the
+/// part begins behind the bytes that go on the character.
+#[tactic(auto, unfolding(crate::specs::Human::window_start))]
+fn window_start(source: &[u8], column: usize) -> usize
+    ensures { result ≡ window_start source.now column }
+{
+    let start = first_start(source, column);
+    if start == 0 {
+        0
+    } else {
+        start + continuing(front(behind(source, start), LONGEST_REST))
+    }
+}
+
+/// Where the part of a line begins that is shown, wherever characters begin.
+fn first_start(source: &[u8], column: usize) -> usize
+    ensures start { result ≡ first_start source.now column }
+    ensures within { result ≤ length source.now }
+{
+    column
+        .saturating_sub(1)
+        .saturating_sub(MARGIN)
+        .min(source.len().saturating_sub(WIDTH))
+}
+
+/// How many bytes at the start of a text go on a character.
+fn continuing(bytes: &[u8]) -> usize
+    ensures count { result ≡ prefix_len continues bytes.now }
+    ensures within { result ≤ length bytes.now }
+{
+    bytes.iter().take_while(|byte| continues(**byte)).count()
+}
+
+/// The part of a line that is shown.
+fn window(source: &[u8], start: usize) -> &[u8]
+    ensures { result.now ≡ window source.now start }
+{
+    front(behind(source, start), WIDTH)
+}
+
+/// The first bytes of a text, all of them where there are fewer.
+#[tactic(auto, using(std::proofs::lemmas::List::take_min))]
+fn front(text: &[u8], len: usize) -> &[u8]
+    ensures { result.now ≡ take len text.now }
+{
+    &text[..len.min(text.len())]
+}
+
+/// What stands behind the first bytes of a text, nothing where there are fewer.
+fn behind(text: &[u8], len: usize) -> &[u8]
+    ensures { result.now ≡ drop len text.now }
+{
+    if len < text.len() { &text[len..] } else { &[] }
+}
+
+/// Puts a part of a line behind a text, indented, and a newline.
+#[tactic(auto, unfolding(crate::specs::Human::source_line))]
+fn push_line(text: &mut Vec<u8>, shown: &[u8]) -> Result<(), AllocError>
+    ensures { OnOk result (text.new.items ≡ text.old.items ++ source_line shown.now) }
+{
+    text.extend_from_slice(b"  ")?;
+    push_shown(text, shown)?;
+    text.push(b'\n')?;
+    Ok(())
+}
+
+/// Puts the bytes of a line behind a text as they are shown.
+fn push_shown(text: &mut Vec<u8>, bytes: &[u8]) -> Result<(), AllocError>
+    ensures { OnOk result (text.new.items ≡ text.old.items ++ map shown_byte bytes.now) }
+{
+    for byte in bytes {
+        text.push(shown_byte(*byte))?;
+    }
+    Ok(())
+}
+
+/// A byte of a line as it is shown: a tab as a space, and every other control byte as `?`, so that
+/// each takes one column.
+fn shown_byte(byte: u8) -> u8
+    ensures { result ≡ shown_byte byte }
+{
+    match byte {
+        b'\t' => b' ',
+        0x00..=0x1F | 0x7F => b'?',
+        _ => byte,
+    }
+}
+
+/// Puts the marks of a place behind a text, in a color and by what is shown before it and in it, and a
+/// newline.
+#[tactic(auto, unfolding(crate::specs::Human::mark_line))]
+fn push_marks(
+    text: &mut Vec<u8>,
+    paint: Paint,
+    before: &[u8],
+    place: &[u8],
+) -> Result<(), AllocError>
+    ensures { OnOk result (text.new.items ≡ text.old.items ++ mark_line paint before.now place.now) }
+{
+    text.extend_from_slice(b"  ")?;
+    push_under(text, b' ', before)?;
+    text.extend_from_slice(paint.start())?;
+    text.push(b'^')?;
+    push_under(text, b'~', behind(place, 1))?;
+    text.extend_from_slice(paint.stop())?;
+    text.push(b'\n')?;
+    Ok(())
+}
+
+/// Puts a mark behind a text for each of the bytes that takes a column.
+fn push_under(text: &mut Vec<u8>, mark: u8, bytes: &[u8]) -> Result<(), AllocError>
+    ensures { OnOk result (text.new.items ≡ text.old.items ++ flat_map (under mark) bytes.now) }
+{
+    for byte in bytes {
+        if !continues(*byte) {
+            text.push(mark)?;
+        }
+    }
+    Ok(())
+}
+
+/// Whether a byte goes on a character of UTF-8, and so takes no column of its own.
+fn continues(byte: u8) -> bool
+    ensures { result ≡ continues byte }
+{
+    0x80 <= byte && byte < 0xC0
+}

@@ -1,0 +1,93 @@
+-- Whether answers that are sent one behind another have a byte.
+use Rattle.std.proofs.Common.{◌≡◌, ℕ, zero, suc, ◌+◌, ◌==◌, Bool, true, false, cond, not, ◌||◌, inr, List, [], ◌++◌, length, take, ◌≤◌, Ok, Err, ap, ap₂, sym, ◌∙◌, refl, arith, zero-add, length-append}
+use Rattle.std.specs.Option.{option_to_list}
+use Rattle.std.proofs.lemmas.Bool.{ne_eqb}
+use Rattle.std.proofs.lemmas.Grind.{flat_map-append}
+use Rattle.text_tables.specs.Texts.{Text}
+use Rattle.device_core.specs.Values.{EventValue}
+use Rattle.device_core.specs.RunBlocks.{most_bytes}
+use Rattle.engine_ends.specs.Sinks.{HandsOn, SinkState}
+use Rattle.engine_ends.specs.Sources.{SourceState}
+use Rattle.engine_ends.specs.Streams.{Streams}
+use Rattle.engine_sessions.specs.Sessions.{Held, Takes, opened}
+use Rattle.engine_sessions.specs.Turns.{FailsBy, Sends, Turns, due, joined, say_something}
+use Rattle.engine_sessions.specs.Inputs.{most_turns}
+use Rattle.engine_sessions.specs.Findings.{AnswersFinding, FindsAll, TurnsFinding}
+use Rattle.engine_sessions.specs.Holding.{IsGoing}
+use Rattle.engine_sessions.specs.declared.session.Step.{Step}
+use Rattle.engine_sessions.specs.declared.turning.TurnFault.{TurnFault}
+use Rattle.engine_sessions.specs.declared.turning.TurnFault.TheVariants.{Read}
+use Rattle.engine_sessions.proofs.TurnLemmas.{Sent, sent-all, sent-all_texts, sent-more, sent-more_texts, sent-none, sent-none_texts}
+use Rattle.engine_sessions.proofs.Turns.{Served, failed, finished, finished_sent, served_at_start, served_at_start_sent, served_more, served_more_sent, used_up}
+
+some_either : (m n : ℕ) → not (m + n == 0) ≡ (not (m == 0) || not (n == 0))
+some_either zero n = ap (λ k. not (k == 0)) (zero-add n)
+some_either (suc m) n = ap not (ne_eqb (suc m + n) 0 (λ e. omega (arith, e))) ∙ sym (ap (λ b. not b || not (n == 0)) (ne_eqb (suc m) 0 (λ e. omega (arith, e))))
+
+pub something-append : (first second : List Text) → say_something (first ++ second) ≡ (say_something first || say_something second)
+something-append first second =
+    ap (λ text. not (length text == 0)) (flat_map-append (λ text. text) first second)
+    ∙ ap (λ n. not (n == 0)) (length-append (joined first) (joined second)) ∙ some_either (length (joined first)) (length (joined second))
+
+-- the first bytes of a piece were taken, and whether any of their answers has a byte
+pub record SentFinding {A : Type 0} (answer : EventValue → Text) (old : Held A) (part : Text) (now : Held A) (before sink : SinkState) (finds : Bool) : Type 0 where
+  pub sent : Sent answer old part now before sink
+  pub finds_is : finds ≡ say_something sent.texts
+
+pub sent_nothing : {A : Type 0} (answer : EventValue → Text) (old : Held A) (sink : SinkState) → IsGoing old → SentFinding answer old [] old sink sink false
+sent_nothing answer old sink going = record { sent = sent-none answer old sink going; finds_is = sym (ap say_something (sent-none_texts answer old sink going)) }
+
+pub finding-more : {A : Type 0} (answer : EventValue → Text) (old now next : Held A) (part piece : Text) (step : Step) (before sink later : SinkState) (finds says : Bool)
+    → SentFinding answer old part now before sink finds → Takes answer now piece step next → Sends sink (option_to_list step.answer) later → says ≡ say_something (option_to_list step.answer)
+    → SentFinding answer old (part ++ take step.used piece) next before later (finds || says)
+finding-more answer old now next part piece step before sink later finds says s t k e = record {
+  sent = sent-more answer old now next part piece step before sink later s.sent t k;
+  finds_is = ap₂ (λ a b. a || b) s.finds_is e ∙ sym (something-append s.sent.texts (option_to_list step.answer))
+      ∙ sym (ap say_something (sent-more_texts answer old now next part piece step before sink later s.sent t k));
+}
+
+pub finding-all : {A : Type 0} (answer : EventValue → Text) (old now : Held A) (piece : Text) (before sink : SinkState) (finds : Bool) → SentFinding answer old piece now before sink finds → finds ≡ say_something (due answer true old.pending piece).texts
+finding-all answer old now piece before sink finds s = s.finds_is ∙ sym (ap say_something (sent-all_texts answer old now piece before sink s.sent)) ∙ sym (ap (λ a. say_something a.texts) (sent-all answer old now piece before sink s.sent).answers)
+
+-- a turn, by what was due
+pub turn_finds : {A : Type 0} (answer : EventValue → Text) (more finds : Bool) (old new : Held A) (input input_now : SourceState) (output output_now : SinkState) (t : Turns answer more old new input input_now output output_now)
+    → finds ≡ say_something (due answer more old.pending t.piece).texts → TurnsFinding answer more finds old new input input_now output output_now
+turn_finds answer more finds old new input input_now output output_now t e = record { turn = t; finds_is = e ∙ ap (λ a. say_something a.texts) t.sends.answers }
+
+-- some turns, and whether any of their answers has a byte
+pub record ServedFinding {A : Type 0} (answer : EventValue → Text) (first : Held A) (input now : SourceState) (output sink : SinkState) (session : Held A) (turns : ℕ) (finds : Bool) : Type 0 where
+  pub served : Served answer first input now output sink session turns
+  pub finds_is : finds ≡ say_something served.sent
+
+pub finding_at_start : {A : Type 0} (answer : EventValue → Text) (session : Held A) (input : SourceState) (output : SinkState) → session ≡ opened session.answering → ServedFinding answer session input input output output session 0 false
+finding_at_start answer session input output e = record { served = served_at_start answer session input output e; finds_is = sym (ap say_something (served_at_start_sent answer session input output e)) }
+
+pub finding_more : {A : Type 0} (answer : EventValue → Text) (first session next : Held A) (input now later : SourceState) (output sink sink_later : SinkState) (turns : ℕ) (finds says : Bool)
+    → ServedFinding answer first input now output sink session turns finds → TurnsFinding answer true says session next now later sink sink_later → length next.pending ≤ most_bytes
+    → ServedFinding answer first input later output sink_later next (turns + 1) (finds || says)
+finding_more answer first session next input now later output sink sink_later turns finds says s t fits = record {
+  served = served_more answer first session next input now later output sink sink_later turns s.served t.turn fits;
+  finds_is = ap₂ (λ a b. a || b) s.finds_is t.finds_is ∙ sym (something-append s.served.sent t.turn.sends.texts)
+      ∙ sym (ap say_something (served_more_sent answer first session next input now later output sink sink_later turns s.served t.turn fits));
+}
+
+pub finding_finished : {A : Type 0} (answer : EventValue → Text) (first session next : Held A) (input now later : SourceState) (output sink sink_later : SinkState) (turns : ℕ) (finds says : Bool)
+    → ServedFinding answer first input now output sink session turns finds → TurnsFinding answer false says session next now later sink sink_later → AnswersFinding answer (Ok (finds || says)) input later output sink_later
+finding_finished answer first session next input now later output sink sink_later turns finds says s t = record {
+  answers = finished answer first session next input now later output sink sink_later turns s.served t.turn;
+  finds_is = ap₂ (λ a b. a || b) s.finds_is t.finds_is ∙ sym (something-append s.served.sent t.turn.sends.texts)
+      ∙ sym (ap say_something (finished_sent answer first session next input now later output sink sink_later turns s.served t.turn));
+}
+
+pub finding_failed : {A : Type 0} (answer : EventValue → Text) (fault : TurnFault) (first session : Held A) (input now later : SourceState) (output sink sink_later : SinkState) (turns : ℕ) (finds : Bool)
+    → ServedFinding answer first input now output sink session turns finds → FailsBy answer fault session now later sink sink_later → AnswersFinding answer (Err fault) input later output sink_later
+finding_failed answer fault first session input now later output sink sink_later turns finds s f = record { answers = failed answer fault first session input now later output sink sink_later turns s.served f; finds_is = tt }
+
+pub finding_used_up : {A : Type 0} (answer : EventValue → Text) (first session : Held A) (input now : SourceState) (output sink : SinkState) (finds : Bool) → ServedFinding answer first input now output sink session most_turns finds
+    → AnswersFinding answer (Err Read) input now output sink
+finding_used_up answer first session input now output sink finds s = record { answers = used_up answer first session input now output sink s.served; finds_is = tt }
+
+-- all is answered, and what is found is told by the status
+pub found_behind : (messages : Text) (answer : EventValue → Text) (finds : Bool) (status : ℕ) (before now : Streams) → HandsOn before.err messages now.err → AnswersFinding answer (Ok finds) before.input now.input before.out now.out → status ≡ cond finds 1 0
+    → FindsAll messages answer status before now
+found_behind messages answer finds status before now h a e = inr (record { told = now.err; says = h; end = Ok tt; answers = a.answers; concludes = (e ∙ ap (λ b. cond b 1 0) a.finds_is, refl) })

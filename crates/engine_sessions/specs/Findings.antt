@@ -1,0 +1,50 @@
+-- What comes of an input whose answers are findings: whether any answer that was sent has a byte, and the status that tells it.
+use Rattle.std.specs.Prelude.{◌≡◌, ℕ, ◌⊎◌, ◌==◌, Bool, if◌then◌else◌, List, Result, Ok, Err, IfOk, length}
+use Rattle.text_tables.specs.Texts.{Text}
+use Rattle.device_core.specs.Values.{EventValue}
+use Rattle.engine_ends.specs.Sources.{SourceState}
+use Rattle.engine_ends.specs.Sinks.{SinkState, HandsOn}
+use Rattle.engine_ends.specs.Streams.{Streams}
+use Rattle.engine_ends.specs.Delivery.{Outcome}
+use Rattle.engine_sessions.specs.Sessions.{Held}
+use Rattle.engine_sessions.specs.Turns.{Turns, say_something}
+use Rattle.engine_sessions.specs.Inputs.{AnswersInput}
+use Rattle.engine_sessions.specs.Serves.{Concludes, StopsBefore}
+use Rattle.engine_sessions.specs.declared.turning.TurnFault.{TurnFault}
+
+-- A turn, and whether any of the answers that it sends has a byte.
+pub record TurnsFinding {A : Type 0} (answer : EventValue → Text) (more finds : Bool) (old new : Held A) (input input_now : SourceState) (output output_now : SinkState) : Type 0 where
+  pub turn : Turns answer more old new input input_now output output_now
+  pub finds_is : finds ≡ say_something turn.sends.texts
+
+-- how it ended, whatever was found
+abbrev pub ended_by : Result Bool TurnFault → Result (Unit {0}) TurnFault
+ended_by (Ok finds) = Ok tt
+ended_by (Err fault) = Err fault
+
+-- An input is answered, and where all of it is, whether any answer has a byte.
+pub record AnswersFinding (answer : EventValue → Text) (end : Result Bool TurnFault) (input input_now : SourceState) (output output_now : SinkState) : Type 0 where
+  pub answers : AnswersInput answer (ended_by end) input input_now output output_now
+  pub finds_is : IfOk end (λ finds. finds ≡ say_something answers.sent)
+
+-- an outcome whose output is a finding: its status is 1 where there is any output
+abbrev pub found : Outcome → Outcome
+found outcome = record { output = outcome.output; messages = outcome.messages; status = if length outcome.output == 0 then outcome.status else 1 }
+
+-- How the answering of an input is told of where these answers are findings: as it is without that, but where all is answered the status
+-- is 1 if any of them has a byte.
+abbrev pub ConcludesFinding : Result (Unit {0}) TurnFault → List Text → ℕ → SinkState → SinkState → Type 0
+ConcludesFinding (Ok done) sent status err err_now = (status ≡ (if say_something sent then 1 else 0)) × (err_now ≡ err)
+ConcludesFinding (Err fault) sent status err err_now = Concludes (Err fault) status err err_now
+
+-- The messages are written, then the input is answered, and then its end is told of.
+pub record FindsBehind (messages : Text) (answer : EventValue → Text) (status : ℕ) (before now : Streams) : Type 0 where
+  pub told : SinkState
+  pub says : HandsOn before.err messages told
+  pub end : Result (Unit {0}) TurnFault
+  pub answers : AnswersInput answer end before.input now.input before.out now.out
+  pub concludes : ConcludesFinding end answers.sent status told now.err
+
+-- Messages, and the findings in an input behind them, step by step.
+abbrev pub FindsAll : Text → (EventValue → Text) → ℕ → Streams → Streams → Type 0
+FindsAll messages answer status before now = StopsBefore messages status before now ⊎ FindsBehind messages answer status before now

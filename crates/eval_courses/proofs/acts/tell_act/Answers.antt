@@ -1,0 +1,11 @@
+use Rattle.std.proofs.Common.{[], ◌∷◌, ◌++◌, ap, ◌∙◌}
+use Rattle.std.proofs.lemmas.Result.{on_ok_weaker}
+use Rattle.eval_courses.proofs.Telling.{act_is}
+use Rattle.eval_courses.proofs.acts.tell_act.Goals as goal
+
+pub returns-clause-text : goal.returns-clause-text
+returns-clause-text g c =
+    on_ok_weaker c.tell_done-goes_on.result
+    (λ told. told ∙ ap (λ text. c.args.texts.now.items ++ text ∷ [])
+    (act_is (g.L.Lookup.entries c.args.lookup.now) c.args.rule.now c.args.act.now c.args.scene.now c.in_ok-before.before c.in_ok-before.ensures))
+    c.tell_done-goes_on.ensures.text

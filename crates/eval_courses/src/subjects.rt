@@ -1,0 +1,177 @@
+//! What matches look at.
+ghost use Rattle.std.specs.Prelude.{◌≡◌, ◌++◌, OnOk, map, option_map};
+ghost use Rattle.eval_state.specs.Chains.{device_at, kernel_of};
+ghost use Rattle.eval_state.specs.Texts.{or_empty};
+ghost use Rattle.eval_matching.specs.Holding.{members};
+ghost use Rattle.eval_matching.specs.Subjects.{named_constant, plain_subject, tags_at, up_subject};
+ghost use Rattle.eval_courses.specs.Inner.{subject_of};
+ghost use Rattle.eval_courses.specs.Looks.{looked, members_told, value_told};
+ghost use Rattle.eval_courses.specs.Upward.{is_absent};
+
+use eval_effects::push_shown;
+use eval_matching::{attribute_at, driver_at, is_known_constant, subsystem_at};
+use eval_state::State;
+use rule_types::{PlainKey, UpKey};
+use std::alloc::{AllocError, Global};
+
+/// What a match looks at.
+#[derive(Drop)]
+pub(crate) enum Subject<'s, 'a> {
+    /// One text.
+    One(&'s [u8]),
+    /// An attribute, which may be absent.
+    Attribute(Option<&'s [u8]>),
+    /// A constant, which may be absent.
+    Constant(Option<&'s [u8]>),
+    /// Texts as rules left them.
+    Members(&'s [Vec<u8>]),
+    /// Texts as the event gave them.
+    Given(&'a [&'a [u8]]),
+    /// A constant that there is not.
+    Unknown,
+    /// What is not read.
+    Unread,
+}
+
+/// What a match of a constant looks at.
+fn named_constant<'s, 'a>(name: &[u8], state: &'s State<'a>) -> Subject<'s, 'a>
+    ensures { subject_of result ≡ named_constant name.now state.now }
+{
+    if is_known_constant(name) {
+        Subject::Constant(state.event.event().constants().get(name))
+    } else {
+        Subject::Unknown
+    }
+}
+
+/// The assigned name, empty where there is none.
+fn assigned_name<'s>(state: &'s State<'_>) -> &'s [u8]
+    ensures { result.now ≡ or_empty state.now.name }
+{
+    match &state.name {
+        Some(name) => name.as_slice(),
+        None => b"",
+    }
+}
+
+/// What a match of the event looks at.
+pub(crate) fn plain_subject<'s, 'a>(key: &PlainKey, state: &'s State<'a>) -> Subject<'s, 'a>
+    ensures { subject_of result ≡ plain_subject key.now state.now }
+{
+    match key {
+        PlainKey::Action => Subject::One(state.event.event().action()),
+        PlainKey::Devpath => Subject::One(state.event.device().path()),
+        PlainKey::Kernel => Subject::One(state.event.kernel()),
+        PlainKey::Subsystem => Subject::One(subsystem_at(state, 0)),
+        PlainKey::Driver => Subject::One(driver_at(state, 0)),
+        PlainKey::Name => Subject::One(assigned_name(state)),
+        PlainKey::Symlink => Subject::Members(state.links.as_slice()),
+        PlainKey::Tag => Subject::Members(state.tags.as_slice()),
+        PlainKey::Attr(name) => Subject::Attribute(attribute_at(state, 0, name.as_slice())),
+        PlainKey::Sysctl(_) => Subject::Unread,
+        PlainKey::Env(name) => Subject::One(state.property(name.as_slice())),
+        PlainKey::Const(name) => named_constant(name.as_slice(), state),
+    }
+}
+
+/// The tags of the device at a place.
+fn tags_at<'s, 'a>(state: &'s State<'a>, place: usize) -> Subject<'s, 'a>
+    ensures { subject_of result ≡ members (tags_at state.now place) }
+{
+    if place == 0 {
+        return Subject::Members(state.tags.as_slice());
+    }
+    match state.event.device_at(place) {
+        Some(device) => Subject::Given(device.tags().as_slice()),
+        None => Subject::Given(&[]),
+    }
+}
+
+/// The kernel's name of the device at a place, empty where there is none.
+pub(crate) fn kernel_at<'s>(state: &'s State<'_>, place: usize) -> &'s [u8]
+    ensures { result.now ≡ or_empty (option_map kernel_of (device_at state.now.event place)) }
+{
+    state.event.kernel_at(place).unwrap_or(b"")
+}
+
+/// What a match of one device looks at at a place.
+pub(crate) fn up_subject<'s, 'a>(key: &UpKey, state: &'s State<'a>, place: usize) -> Subject<'s, 'a>
+    ensures { subject_of result ≡ up_subject key.now state.now place }
+{
+    match key {
+        UpKey::Kernels => Subject::One(kernel_at(state, place)),
+        UpKey::Subsystems => Subject::One(subsystem_at(state, place)),
+        UpKey::Drivers => Subject::One(driver_at(state, place)),
+        UpKey::Tags => tags_at(state, place),
+        UpKey::Attrs(name) => Subject::Attribute(attribute_at(state, place, name.as_slice())),
+    }
+}
+
+/// Whether it is an attribute that is absent.
+pub(crate) fn is_absent(subject: &Subject<'_, '_>) -> bool
+    ensures { result ≡ is_absent (subject_of subject.now) }
+{
+    match subject {
+        Subject::Attribute(value) => value.is_none(),
+        _ => false,
+    }
+}
+
+/// Puts a text that may be absent behind another.
+fn push_value(alloc: Global, text: &mut Vec<u8>, value: Option<&[u8]>) -> Result<(), AllocError>
+    ensures { OnOk result (text.new.items ≡ text.old.items ++ value_told (option_map (λ t. t.now) value.entry)) }
+{
+    match value {
+        Some(value) => push_shown(alloc, text, value),
+        None => text.extend_from_slice(b"none"),
+    }
+}
+
+/// Puts texts as rules left them behind a text, a space between.
+fn push_members(alloc: Global, text: &mut Vec<u8>, members: &[Vec<u8>]) -> Result<(), AllocError>
+    ensures { OnOk result (text.new.items ≡ text.old.items ++ members_told (map (λ t. t.items) members.now)) }
+{
+    let Some((first, others)) = members.split_first() else {
+        return text.extend_from_slice(b"none");
+    };
+    push_shown(alloc, text, first)?;
+    for other in others {
+        text.push(b' ')?;
+        push_shown(alloc, text, other)?;
+    }
+    Ok(())
+}
+
+/// Puts texts as the event gave them behind a text, a space between.
+fn push_given(alloc: Global, text: &mut Vec<u8>, members: &[&[u8]]) -> Result<(), AllocError>
+    ensures { OnOk result (text.new.items ≡ text.old.items ++ members_told (map (λ t. t.now) members.now)) }
+{
+    let Some((first, others)) = members.split_first() else {
+        return text.extend_from_slice(b"none");
+    };
+    push_shown(alloc, text, first)?;
+    for other in others {
+        text.push(b' ')?;
+        push_shown(alloc, text, other)?;
+    }
+    Ok(())
+}
+
+/// Puts what a match looked at behind a text.
+pub(crate) fn push_looked(
+    alloc: Global,
+    text: &mut Vec<u8>,
+    subject: &Subject<'_, '_>,
+) -> Result<(), AllocError>
+    ensures { OnOk result (text.new.items ≡ text.old.items ++ looked (subject_of subject.now)) }
+{
+    match subject {
+        Subject::One(one) => push_shown(alloc, text, one),
+        Subject::Attribute(value) => push_value(alloc, text, *value),
+        Subject::Constant(value) => push_value(alloc, text, *value),
+        Subject::Members(members) => push_members(alloc, text, members),
+        Subject::Given(members) => push_given(alloc, text, members),
+        Subject::Unknown => text.extend_from_slice(b"unknown"),
+        Subject::Unread => text.extend_from_slice(b"not read"),
+    }
+}

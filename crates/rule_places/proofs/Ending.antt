@@ -1,0 +1,58 @@
+-- What stands behind the last token of a line.
+use Rattle.std.proofs.Common.{◌≡◌, ℕ, ◌+◌, List, [], ◌∷◌, ◌++◌, length, drop, Option, Some, None, Result, Ok, Err, refl, ap, sym, ◌∙◌, subst, append_assoc, append-nil, drop_at, length-append, arith}
+use Rattle.rule_tokens.specs.Grammar.{AllAre, Item, LexesAt, Placed, answers, is_gap_byte, last, more}
+use Rattle.rule_tokens.specs.Lines.{items_of}
+use Rattle.rule_tokens.specs.declared.kinds.TokenFault.{TokenFault}
+use Rattle.rule_tokens.proofs.Steps.{new_given}
+use Rattle.rule_types.specs.declared.part.Part.{Part}
+use Rattle.rule_places.specs.Found.{RulePlaces}
+use Rattle.rule_places.specs.Reading.{goes_on, part_told, taken}
+use Rattle.rule_places.specs.declared.line_reading.LineReading.{LineReading}
+use Rattle.rule_places.specs.declared.line_reading.LineReading.TheVariants.{Rule}
+use Rattle.rule_places.specs.declared.spot.Spot.{Spot}
+use Rattle.rule_places.proofs.Prefixes.{own_of}
+
+-- behind a place, or the last of these items, only blanks and commas stand in the line; where one is a fault, nothing is said
+abbrev pub EndsInGap : List ℕ → ℕ → List Item → Type 0
+EndsInGap line place [] = AllAre is_gap_byte (drop place line)
+EndsInGap line place (Ok t ∷ items) = EndsInGap line t.span.end items
+EndsInGap line place (Err fault ∷ items) = Unit {0}
+
+ends : (line before text : List ℕ) (at place : ℕ) (tokens : List Placed) (end : Option TokenFault) → line ≡ before ++ text → length before ≡ at → LexesAt at text tokens end → EndsInGap line place (answers tokens end)
+ends line before text at place [] None e l h = elim h [ ]
+ends line before text at place [] (Some fault) e l h = tt
+ends line before text at place (t ∷ []) None e l (last rest gap here between) =
+    let o = own_of text t rest here.stands in
+    let own : length text ≡ length o.0 + length rest = ap length o.1 ∙ length-append o.0 rest in
+    let spelled : line ≡ (before ++ o.0) ++ rest = e ∙ (ap (λ v. before ++ v) o.1 ∙ sym (append_assoc before o.0 rest)) in
+    let n : length (before ++ o.0) ≡ length before + length o.0 = length-append before o.0 in
+    let place : length (before ++ o.0) ≡ t.span.end = omega (arith, here.end) in
+    let left : drop t.span.end line ≡ gap = ap (drop t.span.end) spelled ∙ drop_at (before ++ o.0) rest t.span.end place ∙ between.spelled ∙ append-nil gap in
+    subst (AllAre is_gap_byte) (sym left) between.all
+ends line before text at place (t ∷ tokens) end e l (more rest gap next here between some behind) =
+    let o = own_of text t rest here.stands in
+    let own : length text ≡ length o.0 + length rest = ap length o.1 ∙ length-append o.0 rest in
+    let spelled : line ≡ (before ++ (o.0 ++ gap)) ++ next =
+    e ∙ (ap (λ v. before ++ v) (o.1 ∙ (ap (λ v. o.0 ++ v) between.spelled ∙ sym (append_assoc o.0 gap next))) ∙ sym (append_assoc before (o.0 ++ gap) next)) in
+    let n : length (before ++ (o.0 ++ gap)) ≡ length before + (length o.0 + length gap) = length-append before (o.0 ++ gap) ∙ ap (λ n. length before + n) (length-append o.0 gap) in
+    let place : length (before ++ (o.0 ++ gap)) ≡ t.span.end + length gap = omega (arith, here.end) in
+    ends line (before ++ (o.0 ++ gap)) next (t.span.end + length gap) t.span.end tokens end spelled place behind
+
+pub all_end : (line : List ℕ) → EndsInGap line 0 (items_of line)
+all_end line = let g = new_given line in rw g.3 (ends line [] line 0 0 g.0 g.1 refl refl g.2)
+
+-- none of the items is a fault
+abbrev pub NoFault : List Item → Type 0
+NoFault [] = Unit {0}
+NoFault (Ok t ∷ items) = NoFault items
+NoFault (Err fault ∷ items) = ⊥
+
+token_read : (r q : RulePlaces) (t : Placed) (next : RulePlaces → LineReading) (items : List Item) (x : Result Part Spot) → ((s : RulePlaces) → next s ≡ Rule q → NoFault items) → goes_on r t next x ≡ Rule q → NoFault items
+token_read r q t next items (Ok p) f e = f _ e
+token_read r q t next items (Err found) f e = cc
+
+-- a line that is a rule has no fault
+pub rule_has_none : (line : List ℕ) (items : List Item) (r q : RulePlaces) → taken line r items ≡ Rule q → NoFault items
+rule_has_none line [] r q e = tt
+rule_has_none line (Ok t ∷ items) r q e = token_read r q t (λ s. taken line s items) items (part_told t) (λ s f. rule_has_none line items s q f) e
+rule_has_none line (Err fault ∷ items) r q e = cc

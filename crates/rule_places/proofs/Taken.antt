@@ -1,0 +1,37 @@
+-- The tokens of a line taken one by one.
+use Rattle.std.proofs.Common.{◌≡◌, ℕ, List, [], ◌∷◌, Ok, Err, sym, ◌∙◌, ap}
+use Rattle.rule_tokens.specs.Grammar.{Item, Placed}
+use Rattle.rule_tokens.specs.declared.kinds.TokenFault.{TokenFault}
+use Rattle.rule_types.specs.declared.part.Part.{Part}
+use Rattle.rule_places.specs.Found.{RulePlaces}
+use Rattle.rule_places.specs.Reading.{goes_on, part_told, taken, with_part}
+use Rattle.rule_places.specs.Spots.{token_spot}
+use Rattle.rule_places.specs.declared.line_reading.LineReading.{LineReading}
+use Rattle.rule_places.specs.declared.line_reading.LineReading.TheVariants.{Rule, Wrong}
+use Rattle.rule_places.specs.declared.spot.Spot.{Spot}
+
+-- a token is a part of a rule
+pub token_taken : (line : List ℕ) (before now : RulePlaces) (t : Placed) (p : Part) (left more : List Item) (all : LineReading)
+    → taken line before left ≡ all → left ≡ Ok t ∷ more → part_told t ≡ Ok p → now ≡ with_part before t p → taken line now more ≡ all
+token_taken line before now t p left more all h e f g =
+    ap (λ (r : RulePlaces). taken line r more) g
+    ∙ ap (goes_on before t (λ s. taken line s more)) (sym f)
+    ∙ ap (taken line before) (sym e)
+    ∙ h
+
+-- a token is none
+pub token_wrong : (line : List ℕ) (before : RulePlaces) (t : Placed) (found : Spot) (left more : List Item) (all : LineReading)
+    → taken line before left ≡ all → left ≡ Ok t ∷ more → part_told t ≡ Err found → Wrong found ≡ all
+token_wrong line before t found left more all h e f =
+    ap (goes_on before t (λ s. taken line s more)) (sym f)
+    ∙ ap (taken line before) (sym e)
+    ∙ h
+
+-- what follows is no token
+pub text_wrong : (line : List ℕ) (before : RulePlaces) (fault : TokenFault) (found : Spot) (left more : List Item) (all : LineReading)
+    → taken line before left ≡ all → left ≡ Err fault ∷ more → found ≡ token_spot fault.kind fault.at line → Wrong found ≡ all
+text_wrong line before fault found left more all h e f = ap Wrong f ∙ ap (taken line before) (sym e) ∙ h
+
+-- no token follows
+pub tokens_ended : (line : List ℕ) (before : RulePlaces) (left : List Item) (all : LineReading) → taken line before left ≡ all → left ≡ [] → Rule before ≡ all
+tokens_ended line before left all h e = ap (taken line before) (sym e) ∙ h

@@ -1,0 +1,14 @@
+-- What is found of a rule by its line alone.
+use Rattle.std.specs.Prelude.{List, [], Option, None}
+use Rattle.rule_places.specs.declared.found.NamePlace.{NamePlace}
+use Rattle.rule_places.specs.declared.spot.Spot.{Spot}
+
+-- the names of its first LABEL and its first GOTO, and what is to be said of it
+pub record RulePlaces : Type 0 where
+  pub label : Option NamePlace
+  pub goto : Option NamePlace
+  pub spots : List Spot
+
+-- nothing is found of a rule without parts
+abbrev pub no_places : RulePlaces
+no_places = record { label = None; goto = None; spots = [] }

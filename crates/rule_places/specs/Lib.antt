@@ -1,0 +1,9 @@
+pub mod Letters
+pub mod Spots
+pub mod Style
+pub mod Found
+pub mod Reading
+pub mod Kept
+pub mod Files
+pub mod Laws
+pub mod Shown

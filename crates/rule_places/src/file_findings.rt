@@ -1,0 +1,210 @@
+//! All findings of a file, with their places.
+ghost use Rattle.std.specs.Prelude.{◌≡◌, ◌∷◌, ◌++◌, [], if◌then◌else◌, IfOk, OnOk, flat_map, map, zip};
+ghost use Rattle.rule_places.specs.Files.{line_findings, name_spot, open_findings, placed, placed_findings, rule_spots, spots_of};
+
+use crate::found::{NamePlace, RulePlaces};
+use crate::kept::KeptLines;
+use crate::line_reading::LineReading;
+use crate::placed_finding::PlacedFinding;
+use crate::readings::{PlacedReading, landings_of, readings_of};
+use crate::spot::Spot;
+use crate::sums::sum_of;
+use rule_core::joined_lines;
+use rule_jumps::Landing;
+use std::alloc::{AllocError, Global};
+use text_bytes::{Bytes, MessageKind, SourceFile};
+
+/// The findings of a rules file in the order of its messages, each with the physical line, the
+/// columns and the whole text that it is about. Each message that `read_rules` gives of the file
+/// stands for one of them.
+///
+/// Places, by codes: of V1 all from the fault to the rule's end; of V10 the letters; of V2, V3, V4,
+/// S1, S2 and S3 the key of the token, or for S1 the gap behind the last token; of V5, V6, V8 and V11
+/// the value between its quotes, of V7 that of the first GOTO, and of S4 that of the first LABEL; of
+/// V9 the whole rule; of V12 the backslash at the end of the last line. A place in several physical
+/// lines is told as far as it stands in the first of them. A number of a line or of a column over
+/// 2^32 - 1 is given as that one.
+///
+/// The error comes where memory is refused.
+pub fn placed_findings(alloc: Global, file: &SourceFile) -> Result<Vec<PlacedFinding>, AllocError>
+    ensures { IfOk result (λ found. found.items ≡ placed_findings file.now) }
+{
+    let bytes = file.bytes.as_slice();
+    let kept = KeptLines::of(alloc, bytes)?;
+    let joined = joined_lines(alloc, bytes)?;
+    let readings = readings_of(alloc, joined.lines())?;
+    let landings = landings_of(alloc, &readings)?;
+    let mut found = Vec::new(alloc);
+    place_lines(alloc, &mut found, &kept, readings, landings)?;
+    place_open(alloc, &mut found, &kept, joined.open_at())?;
+    Ok(found)
+}
+
+/// Adds the findings of lines, each with what becomes of its jumps.
+fn place_lines(
+    alloc: Global,
+    found: &mut Vec<PlacedFinding>,
+    kept: &KeptLines,
+    readings: Vec<PlacedReading>,
+    landings: Vec<Landing>,
+) -> Result<(), AllocError>
+    ensures { OnOk result (found.new.items ≡ found.old.items ++ flat_map (λ x. line_findings kept.now x.0 x.1) (zip readings.items landings.items)) }
+{
+    for (reading, landing) in readings.into_iter().zip(landings) {
+        place_line(alloc, found, kept, reading, landing)?;
+    }
+    Ok(())
+}
+
+/// Adds the findings of a line.
+fn place_line(
+    alloc: Global,
+    found: &mut Vec<PlacedFinding>,
+    kept: &KeptLines,
+    reading: PlacedReading,
+    landing: Landing,
+) -> Result<(), AllocError>
+    ensures { OnOk result (found.new.items ≡ found.old.items ++ line_findings kept.now reading landing) }
+{
+    let PlacedReading {
+        number,
+        start,
+        read,
+    } = reading;
+    let spots = spots_of(alloc, read, landing)?;
+    place_spots(found, kept, number, start, spots)
+}
+
+/// Adds the findings of a line that begins at a place.
+fn place_spots(
+    found: &mut Vec<PlacedFinding>,
+    kept: &KeptLines,
+    number: u32,
+    start: usize,
+    spots: Vec<Spot>,
+) -> Result<(), AllocError>
+    ensures { OnOk result (found.new.items ≡ found.old.items ++ map (placed kept.now number start) spots.items) }
+{
+    for spot in spots {
+        found.push(placed(kept, number, start, spot)?)?;
+    }
+    Ok(())
+}
+
+/// A finding of a line that begins at a place, as one of the file.
+fn placed(
+    kept: &KeptLines,
+    number: u32,
+    start: usize,
+    spot: Spot,
+) -> Result<PlacedFinding, AllocError>
+    ensures { IfOk result (λ found. found ≡ placed kept.now number start spot) }
+{
+    let place = kept.place_in(sum_of(start, spot.start)?, spot.size);
+    Ok(PlacedFinding {
+        begins: number,
+        line: place.line,
+        column: place.column,
+        end: place.end,
+        kind: spot.kind,
+        word: spot.word,
+    })
+}
+
+/// All that is to be said of a line.
+fn spots_of(alloc: Global, read: LineReading, landing: Landing) -> Result<Vec<Spot>, AllocError>
+    ensures { IfOk result (λ spots. spots.items ≡ spots_of read landing) }
+{
+    match read {
+        LineReading::Rule(places) => rule_spots(alloc, places, landing),
+        LineReading::Wrong(spot) => {
+            let mut spots = Vec::new(alloc);
+            spots.push(spot)?;
+            Ok(spots)
+        }
+    }
+}
+
+/// All that is to be said of a rule: first of its jump, and of its label last.
+fn rule_spots(alloc: Global, places: RulePlaces, landing: Landing) -> Result<Vec<Spot>, AllocError>
+    ensures { IfOk result (λ spots. spots.items ≡ rule_spots places landing) }
+{
+    let RulePlaces { label, goto, spots } = places;
+    let mut own = spots;
+    let mut all = Vec::new(alloc);
+    tell_name(
+        alloc,
+        &mut all,
+        landing.lost,
+        MessageKind::NoLaterLabel,
+        goto,
+    )?;
+    all.append(&mut own)?;
+    tell_name(
+        alloc,
+        &mut all,
+        landing.unused,
+        MessageKind::LabelUnused,
+        label,
+    )?;
+    Ok(all)
+}
+
+/// Adds what is to be said of a name, if something is.
+fn tell_name(
+    alloc: Global,
+    spots: &mut Vec<Spot>,
+    wrong: bool,
+    kind: MessageKind,
+    given: Option<NamePlace>,
+) -> Result<(), AllocError>
+    ensures { OnOk result (spots.new.items ≡ spots.old.items ++ (if wrong then name_spot kind given ∷ [] else [])) }
+{
+    if wrong {
+        spots.push(name_spot(alloc, kind, given))?;
+    }
+    Ok(())
+}
+
+/// What is to be said of a name, which is empty where there is none.
+fn name_spot(alloc: Global, kind: MessageKind, given: Option<NamePlace>) -> Spot
+    ensures { result ≡ name_spot kind given }
+{
+    match given {
+        None => Spot {
+            kind,
+            word: Bytes::new(Vec::new(alloc)),
+            start: 0,
+            size: 0,
+        },
+        Some(NamePlace { name, start, size }) => Spot {
+            kind,
+            word: name,
+            start,
+            size,
+        },
+    }
+}
+
+/// Adds the finding of a line that is still open at the file's end, if there is one.
+fn place_open(
+    alloc: Global,
+    found: &mut Vec<PlacedFinding>,
+    kept: &KeptLines,
+    open_at: Option<u32>,
+) -> Result<(), AllocError>
+    ensures { OnOk result (found.new.items ≡ found.old.items ++ open_findings kept.now open_at) }
+{
+    if let Some(number) = open_at {
+        let place = kept.place_of_backslash();
+        found.push(PlacedFinding {
+            begins: number,
+            line: place.line,
+            column: place.column,
+            end: place.end,
+            kind: MessageKind::OpenAtEnd,
+            word: Bytes::new(Vec::new(alloc)),
+        })?;
+    }
+    Ok(())
+}

@@ -1,0 +1,84 @@
+//! Laws of places, each the contract of a function that does nothing.
+ghost use Rattle.std.specs.Prelude.{◌≡◌, ◌<◌, ◌-◌, ◌^◌, ◌∷◌, [], List, Some, ℕ, drop, length, map, take};
+ghost use Rattle.std.specs.List.{AllByRecursion};
+ghost use Rattle.text_bytes.specs.Lines.{numbered_lines};
+ghost use Rattle.text_bytes.specs.declared.message.MessageKind.TheVariants.{LineTooLong};
+ghost use Rattle.text_bytes.specs.declared.source_file.SourceFile as files;
+ghost use Rattle.rule_jumps.specs.declared.jumps.Landing as jumps;
+ghost use Rattle.rule_core.specs.Drafts.{most_bytes};
+ghost use Rattle.rule_core.specs.Lines.{joined_lines};
+ghost use Rattle.rule_core.specs.Rules.{file_messages};
+ghost use Rattle.rule_places.specs.Files.{placed_findings, spots_of};
+ghost use Rattle.rule_places.specs.Kept.{kept_lines, place_in};
+ghost use Rattle.rule_places.specs.Laws.{EndsOpen, StandsBehind, StandsIn, StandsInFile, StandsQuoted, StandsThere, as_message};
+ghost use Rattle.rule_places.specs.Reading.{reading_of};
+ghost use Rattle.rule_places.specs.Spots.{spot};
+ghost use Rattle.rule_places.specs.Shown.{AreJoined, IsShown, kept_text};
+
+/// Without their places, and with their words cut, the findings of a file are its messages.
+#[tactic(auto, using(crate::proofs::Messages::findings_told))]
+pub fn findings_are_the_messages()
+    ensures { (file : files.SourceFile) → map (as_message file.name) (placed_findings file) ≡ file_messages file }
+{}
+
+/// What is said of a key, of the letters before a quote, or of a part of a line that is no token, is
+/// told with the bytes that stand in the joined line at the place.
+#[tactic(auto, using(crate::proofs::Standing::all_stand))]
+pub fn words_stand_at_their_places()
+    ensures { (line : List ℕ) (landing : jumps.Landing) → AllByRecursion (StandsThere line) (spots_of (reading_of line) landing) }
+{}
+
+/// What is said of a value is said of bytes of the joined line between two quotes, with no quote among
+/// them that ends a value. Of a jump this is said where the rule has a name for it.
+#[tactic(auto, using(crate::proofs::Standing::all_quoted))]
+pub fn values_stand_between_quotes()
+    ensures { (line : List ℕ) (landing : jumps.Landing) → AllByRecursion (StandsQuoted line) (spots_of (reading_of line) landing) }
+{}
+
+/// What is said of commas with no key is said of all that stands behind the last token.
+#[tactic(auto, using(crate::proofs::Standing::all_behind))]
+pub fn last_commas_stand_behind_tokens()
+    ensures { (line : List ℕ) (landing : jumps.Landing) → AllByRecursion (StandsBehind line) (spots_of (reading_of line) landing) }
+{}
+
+/// Of a line that is too long nothing else is said, and it is said of the whole line.
+#[tactic(auto, using(crate::proofs::Lengths::told_whole))]
+pub fn long_lines_are_told_as_a_whole()
+    ensures { (line : List ℕ) (landing : jumps.Landing) → most_bytes < length line → spots_of (reading_of line) landing ≡ spot LineTooLong [] 0 (length line) ∷ [] }
+{}
+
+/// The joined lines of a file are what its kept lines give, one behind the other, so that a place
+/// in a joined line is one among the bytes of the kept lines.
+#[tactic(auto, using(crate::proofs::Joining::all_joined))]
+pub fn joined_lines_are_kept_lines()
+    ensures { (bytes : List ℕ) → AreJoined bytes }
+{}
+
+/// The line of the file that is found for a byte of the kept lines has that byte at the column that
+/// is told, and behind it the bytes that follow.
+#[tactic(auto, using(crate::proofs::Showing::all_shown))]
+pub fn places_show_their_bytes()
+    ensures { (bytes : List ℕ) (at : ℕ) → at < length (kept_text (numbered_lines bytes)) → IsShown bytes at }
+{}
+
+/// So many bytes of the kept lines, from a byte on, stand in the file at the place that is told of
+/// them, up to the end of the line in which the first of them stands.
+#[tactic(auto, using(crate::proofs::Placing::all_placed))]
+pub fn places_stand_in_their_lines()
+    ensures { (bytes : List ℕ) (at size : ℕ) → length bytes < 2 ^ 32 - 1 → at < length (kept_text (numbered_lines bytes)) → 0 < size → StandsIn bytes (take size (drop at (kept_text (numbered_lines bytes)))) (place_in (kept_lines bytes) at size) }
+{}
+
+/// A finding that is told with a text of its file, which is a key, the letters before a quote or what
+/// is no token, stands there: the line of its number has the text at its columns, all of it unless
+/// the rule goes on in another line.
+#[tactic(auto, using(crate::proofs::FileStanding::all_in_file))]
+pub fn findings_stand_in_their_lines()
+    ensures { (file : files.SourceFile) → length file.bytes < 2 ^ 32 - 1 → AllByRecursion (StandsInFile file.bytes) (placed_findings file) }
+{}
+
+/// Where a line is still open at its file's end, that is the last finding, and it stands at the `\\`
+/// that the last line ends in which is no comment.
+#[tactic(auto, using(crate::proofs::Opening::all_open))]
+pub fn open_lines_are_told_at_their_backslash()
+    ensures { (file : files.SourceFile) (number : ℕ) → length file.bytes < 2 ^ 32 - 1 → (joined_lines file.bytes).open_at ≡ Some number → EndsOpen file.bytes (placed_findings file) }
+{}

@@ -1,0 +1,63 @@
+//! Where the letters of a wrong prefix stand.
+ghost use Rattle.std.specs.Prelude.{◌≡◌, ◌≤◌, ◌-◌, length};
+ghost use Rattle.std.specs.List.{prefix_len};
+ghost use Rattle.rule_tokens.specs.Grammar.{is_key_byte};
+ghost use Rattle.rule_places.specs.Letters.{behind_braces, behind_byte, behind_key, start_before_quote};
+
+use text_bytes::{begins_with, split_once};
+
+/// The place in a line of the letters that stand directly before the first quote behind the key, and
+/// the braces, with which the text at the line's end begins.
+pub fn letters_start(line: &[u8], text: &[u8], letters: &[u8]) -> usize
+    ensures { result ≡ start_before_quote line.now text.now letters.now }
+{
+    line.len()
+        .saturating_sub(behind_byte(b'"', behind_braces(text)).len())
+        .saturating_sub(1)
+        .saturating_sub(letters.len())
+}
+
+/// What stands behind the key that a text begins with, and behind its braces if it has them.
+fn behind_braces(text: &[u8]) -> &[u8]
+    ensures { result.now ≡ behind_braces text.now }
+{
+    let rest = behind_key(text);
+    if begins_with(b'{', rest) {
+        behind_byte(b'}', rest)
+    } else {
+        rest
+    }
+}
+
+/// What stands behind the key that a text begins with.
+fn behind_key(text: &[u8]) -> &[u8]
+    ensures { result.now ≡ behind_key text.now }
+{
+    let (_, rest) = text.split_at(key_length(text));
+    rest
+}
+
+/// How many bytes of a key a text begins with.
+fn key_length(text: &[u8]) -> usize
+    ensures value { result ≡ prefix_len is_key_byte text.now }
+    ensures within { result ≤ length text.now }
+{
+    text.iter().take_while(|byte| is_key_byte(**byte)).count()
+}
+
+/// Whether a byte may stand in a key.
+fn is_key_byte(byte: u8) -> bool
+    ensures { result ≡ is_key_byte byte }
+{
+    byte.is_ascii_alphanumeric() || byte == b'_'
+}
+
+/// What stands behind the first such byte of a text, nothing where it has none.
+fn behind_byte(byte: u8, text: &[u8]) -> &[u8]
+    ensures { result.now ≡ behind_byte byte text.now }
+{
+    match split_once(byte, text) {
+        Some((_, rest)) => rest,
+        None => &[],
+    }
+}

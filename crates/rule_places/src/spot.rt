@@ -1,0 +1,88 @@
+//! What is to be said of a part of a joined line.
+ghost use Rattle.std.specs.Prelude.{◌≡◌, IfOk, length, drop};
+ghost use Rattle.rule_places.specs.Spots.{key_spot, part_spot, token_spot, value_spot};
+
+use crate::letters::letters_start;
+use crate::texts::behind;
+use rule_tokens::{Token, TokenFault, TokenFaultKind, letters_before_quote, unquote};
+use std::alloc::{AllocError, Global};
+use text_bytes::{Bytes, MessageKind};
+
+/// What is to be said of a part of a joined line.
+#[derive(Debug, Drop)]
+pub struct Spot {
+    /// What is to be said.
+    pub kind: MessageKind,
+    /// The whole text that it is about.
+    pub word: Bytes,
+    /// The place of the part's first byte, in bytes from the line's start.
+    pub start: usize,
+    /// How many bytes the part has.
+    pub size: usize,
+}
+
+/// What is to be said of a token's key. The error comes where memory is refused.
+pub fn key_spot(alloc: Global, kind: MessageKind, token: &Token<'_>) -> Result<Spot, AllocError>
+    ensures { IfOk result (λ found. found ≡ key_spot kind token.now) }
+{
+    let key = token.key();
+    Ok(Spot {
+        kind,
+        word: Bytes::copy_of(alloc, key)?,
+        start: token.span().start,
+        size: key.len(),
+    })
+}
+
+/// What is to be said of a token's value between its quotes, told with this text.
+pub fn value_spot(kind: MessageKind, word: Bytes, token: &Token<'_>) -> Spot
+    ensures { result ≡ value_spot kind word token.now }
+{
+    let size = token.value().len();
+    Spot {
+        kind,
+        word,
+        start: token.span().end.saturating_sub(1).saturating_sub(size),
+        size,
+    }
+}
+
+/// What is to be said of a token that is no part of a rule: of its key, or of its value with what
+/// that means. The error comes where memory is refused.
+pub fn part_spot(alloc: Global, kind: MessageKind, token: &Token<'_>) -> Result<Spot, AllocError>
+    ensures { IfOk result (λ found. found ≡ part_spot kind token.now) }
+{
+    match kind {
+        MessageKind::UnknownKey | MessageKind::WrongAttribute | MessageKind::OperatorNotAllowed =>
+            key_spot(alloc, kind, token),
+        _ => {
+            let meaning = Bytes::new(unquote(alloc, token)?);
+            Ok(value_spot(kind, meaning, token))
+        }
+    }
+}
+
+/// What is to be said of the part of a line, from its first byte on, that is no token: of all up to
+/// the line's end, or of the letters before the quote. The error comes where memory is refused.
+pub fn token_spot(alloc: Global, fault: TokenFault, line: &[u8]) -> Result<Spot, AllocError>
+    ensures { IfOk result (λ found. found ≡ token_spot fault.kind fault.at line.now) }
+{
+    let text = behind(fault.at, line);
+    match fault.kind {
+        TokenFaultKind::Syntax => Ok(Spot {
+            kind: MessageKind::BadSyntax,
+            word: Bytes::copy_of(alloc, text)?,
+            start: fault.at,
+            size: text.len(),
+        }),
+        TokenFaultKind::Prefix => {
+            let letters = letters_before_quote(text);
+            Ok(Spot {
+                kind: MessageKind::BadPrefix,
+                word: Bytes::copy_of(alloc, letters)?,
+                start: letters_start(line, text, letters),
+                size: letters.len(),
+            })
+        }
+    }
+}

@@ -1,0 +1,357 @@
+#!/usr/bin/env python3
+"""Reads each format of `verify` and `update` as other programs do, and compares what they all say.
+
+usage: tests/read_formats.py PROGRAM
+
+`json` and `gitlab` are read by python's json, `github` as GitHub's runner takes a workflow command apart, `gcc` by the
+regular expression of a problem matcher, `human` line by line, with the part of the line that it shows. Over files with faults, some made by a seed, all of them
+have to say the messages of `plain`, the place of each has to hold what its message is about, and messages and places
+have to be those of a plain reading of the rules (placed_rules.py). A line `ok CASE`, or `not ok CASE` with what differs
+below it, tells of each case.
+"""
+import json
+import os
+import random
+import re
+import shutil
+import subprocess
+import sys
+import tempfile
+from pathlib import Path
+
+from placed_rules import findings
+
+TOP = Path(__file__).resolve().parent.parent
+
+# A problem matcher for gcc, and a message of `plain`.
+GCC = re.compile(r"^(.*):(\d+):(\d+):\s+(warning|error):\s+(.*)\s+\[(.*)\]$")
+PLAIN = re.compile(r"^(.*):(\d+): ([VSHI]\d+) (.*)$")
+CARET = re.compile(r"^ *\^~*$")
+
+# How much of a line `human` shows, and how much of it before a place at most, unless the line ends there.
+SHOWN = 160
+BEFORE = 40
+
+
+def escaped(text):
+    """A text as messages show it."""
+    return "".join(f"\\x{ord(it):02X}" if ord(it) < 0x20 or it in "\x7f\\" else it for it in text)
+
+
+def text_of(raw):
+    """Bytes as a reader of UTF-8 has them."""
+    return raw.decode("utf-8", "replace")
+
+
+def workflow_command(line):
+    """A line as GitHub's runner reads it: the command, its properties and what it says."""
+    if not line.startswith("::"):
+        raise ValueError(f"no command: {line!r}")
+    end = line.index("::", 2)
+    name, _, rest = line[2:end].partition(" ")
+    properties = dict(it.split("=", 1) for it in rest.strip().split(",") if it)
+    for sign, letters in (("\r", "%0D"), ("\n", "%0A"), (":", "%3A"), (",", "%2C"), ("%", "%25")):
+        properties = {key: value.replace(letters, sign) for key, value in properties.items()}
+    said = line[end + 2:]
+    for sign, letters in (("\r", "%0D"), ("\n", "%0A"), ("%", "%25")):
+        said = said.replace(letters, sign)
+    return name, properties, said
+
+
+# Each reader gives of each message: path, line, column, end column, code, severity, and what is said. What a format
+# does not tell is None. Paths and words are escaped, so that they can be compared: those of `json`, whole there, by its
+# reader, and the path of `github`, which is as it was opened.
+
+
+def said(text, word):
+    return f"{text}: {escaped(word)}" if word else text
+
+
+def read_json(text):
+    lines = [json.loads(line) for line in text.decode("utf-8").split("\n")[:-1]]
+    keys = ["path", "line", "column", "end_column", "code", "text", "word", "severity"]
+    for it in lines:
+        if list(it) != keys:
+            raise ValueError(f"keys {list(it)}")
+    return [(escaped(it["path"]), it["line"], it["column"], it["end_column"], it["code"], it["severity"], said(it["text"], it["word"]))
+            for it in lines]
+
+
+def read_gitlab(text):
+    report = json.loads(text.decode("utf-8"))
+    if len({it["fingerprint"] for it in report}) < len(report):
+        raise ValueError("two fingerprints are the same")
+    severities = {"major": "error", "minor": "warning"}
+    found = []
+    for it in report:
+        code, _, told = it["description"].partition(" ")
+        if code != it["check_name"]:
+            raise ValueError(f"the description {it['description']!r}")
+        found.append((escaped(it["location"]["path"]), it["location"]["lines"]["begin"], None, None, code, severities[it["severity"]], told))
+    return found
+
+
+def read_github(text):
+    found = []
+    for line in text_of(text).split("\n")[:-1]:
+        name, own, told = workflow_command(line)
+        if list(own) != ["file", "line", "col", "endColumn", "title"]:
+            raise ValueError(f"properties {own}")
+        found.append((escaped(own["file"]), int(own["line"]), int(own["col"]), int(own["endColumn"]), own["title"], name, told))
+    return found
+
+
+def read_gcc(text):
+    found = [GCC.match(line) for line in text_of(text).split("\n")[:-1]]
+    return [(it[1], int(it[2]), int(it[3]), None, it[6], it[4], it[5]) for it in found]
+
+
+def read_human(text):
+    lines = text.split(b"\n")[:-1]
+    found = []
+    for at in range(0, len(lines), 4):
+        head, source, caret, sentence = lines[at:at + 4]
+        place = GCC.match(text_of(head))
+        if not source.startswith(b"  ") or not CARET.match(text_of(caret)) or not sentence.startswith(b"  = "):
+            raise ValueError(f"lines {lines[at:at + 4]}")
+        found.append((place[1], int(place[2]), int(place[3]), None, place[6], place[4],
+                      (place[5], source[2:], text_of(caret[2:]), text_of(sentence[4:]))))
+    return found
+
+
+READERS = {"json": read_json, "gitlab": read_gitlab, "github": read_github, "gcc": read_gcc, "human": read_human}
+
+
+def run(program, folder, *words):
+    came = subprocess.run([program, *words], cwd=folder, stdin=subprocess.DEVNULL, capture_output=True, timeout=60)
+    return came.returncode, came.stdout, came.stderr
+
+
+def first_difference(one, other):
+    """The first place where two lists differ, as text; empty where they are the same."""
+    for at, (left, right) in enumerate(zip(one, other)):
+        if left != right:
+            return f"message {at + 1}: {left} and {right}"
+    return "" if len(one) == len(other) else f"{len(one)} messages and {len(other)}"
+
+
+def beside_json(form, whole, read):
+    """Where what a format says is not what `json` says, as far as the format tells it."""
+    def kept(it):
+        return [None if told is None else mine for mine, told in zip(it[0], it[1])]
+    wanted = [tuple(kept(pair)) for pair in zip(whole, read)] if len(whole) == len(read) else whole
+    if form == "human":
+        read = [(*it[:-1], it[-1][0]) for it in read]
+        wanted = [(*it[:-1], it[-1].split(": ")[0]) for it in wanted]
+    return first_difference(wanted, read)
+
+
+def beside_plain(whole, plain, name_of):
+    """Where `json` does not say what `plain` says: the name, the code and the front of the word."""
+    told = []
+    for path, _, _, _, code, _, text in whole:
+        told.append((name_of(path), code, text))
+    lines = [PLAIN.match(line) for line in plain.split("\n")[:-1]]
+    # a word is cut in `plain`, and perhaps inside of a character
+    short = [(it[1], it[3], text if text.startswith(it[4].rstrip("\ufffd")) else it[4]) for it, (_, _, text) in zip(lines, told)]
+    return first_difference(told, short) or ("" if len(lines) == len(told) else f"{len(lines)} lines and {len(told)}")
+
+
+def plain_value(line, column):
+    """Whether the value around a column is written without escapes, so that it means what it says."""
+    return "\\" not in line and not re.search(r'\be?ie?"|e"', line[:column])
+
+
+def wrong_place(folder, it):
+    """What is wrong with the place of a message, or nothing."""
+    path, number, column, end, code, severity, text = it
+    if severity != ("warning" if code[0] in "SI" else "error"):
+        return f"{it}: its severity"
+    lines = (folder / path).read_bytes().split(b"\n")
+    line = lines[number - 1]
+    if not 1 <= column <= end <= len(line) + 1:
+        return f"{it}: the line has {len(line)} bytes"
+    place = line[column - 1:end - 1]
+    word = text.partition(": ")[2]
+    whole = escaped(text_of(place))
+    goes_on = line.endswith(b"\\") and end == len(line)
+    if code == "V12":
+        good = place == b"\\" and end == len(line) + 1
+    elif code == "V9":
+        good = not line[:column - 1].strip(b" \t")
+    elif code == "S1" and not word:
+        good = b"," in place and not place.strip(b", \t")
+    elif code in ("V5", "V6", "V7", "V8", "V11", "S4") and not plain_value(text_of(line), column):
+        good = True
+    else:
+        good = word.startswith(whole) if goes_on else word == whole
+    return "" if good else f"{it}: the place has {place!r}"
+
+
+def goes_on(byte):
+    """Whether a byte goes on a character of UTF-8, and so takes no column of its own."""
+    return 0x80 <= byte < 0xC0
+
+
+def columns(text):
+    return sum(not goes_on(byte) for byte in text)
+
+
+def shown_bytes(text):
+    """Bytes as `human` shows them."""
+    return bytes(0x20 if byte == 0x09 else ord("?") if byte < 0x20 or byte == 0x7F else byte for byte in text)
+
+
+def window_of(line, column):
+    """Where the part of a line begins that is shown: in no character of UTF-8."""
+    begins = max(0, min(column - 1 - BEFORE, len(line) - SHOWN))
+    return begins + len(re.match(rb"[\x80-\xBF]{0,3}", line[begins:])[0]) if begins else 0
+
+
+def wrong_caret(folder, whole, it):
+    """What is wrong with the lines that `human` shows below a message, or nothing."""
+    path, number, column, end, code, _, _ = whole
+    _, shown, caret, sentence = it[-1]
+    line = (folder / path).read_bytes().split(b"\n")[number - 1]
+    begins = window_of(line, column)
+    marks = " " * columns(line[begins:column - 1]) + "^" + "~" * columns(line[column:min(end - 1, begins + SHOWN)])
+    if shown != shown_bytes(line[begins:begins + SHOWN]):
+        return f"{whole}: {shown!r} is shown, and the line from byte {begins} on is {line[begins:begins + SHOWN]!r}"
+    if caret != marks:
+        return f"{whole}: {shown!r} has the marks {caret!r} in place of {marks!r}"
+    return "" if sentence == first_sentence(code) else f"{it}: docs/messages.md begins by {first_sentence(code)!r}"
+
+
+def beside_a_reading(folder, words, whole):
+    """Where `json` does not say what a plain reading of the rules says, file by file in the order in which they are named."""
+    wanted = []
+    for path in [it for it in words if (folder / it).is_file()] or dict.fromkeys(it[0] for it in whole):
+        wanted += [(path, line, column, end, code, escaped(text_of(word)))
+                   for code, _, line, column, end, word in findings((folder / path).read_bytes())]
+    return first_difference(wanted, [(*it[:5], it[6].partition(": ")[2]) for it in whole])
+
+
+def first_sentence(code):
+    """The first sentence of a section of docs/messages.md, without the marks of code."""
+    section = re.search(rf"^### {code} .*\n\n([^#]*)", (TOP / "docs/messages.md").read_text(), re.M)[1]
+    return re.match(r"(.*?[.?])(?:\s|$)", section.split("\n\n")[0], re.S)[1].replace("`", "")
+
+
+def told(case, wrong):
+    print(f"not ok {case}\n    {wrong[:2000]}" if wrong else f"ok {case}")
+
+
+def check(case, program, folder, words, name_of=lambda path: path):
+    """Compares all formats of one run."""
+    status, output, plain = run(program, folder, *words)
+    plain_lines = text_of(plain)
+    read = {}
+    for form, reader in READERS.items():
+        came = run(program, folder, *words, f"--format={form}")
+        try:
+            read[form] = reader(came[2])
+        except (AttributeError, IndexError, KeyError, TypeError, ValueError) as fault:
+            told(f"{case}: {form} is read", f"{fault!r} of {came[2][:1000]!r}")
+            continue
+        told(f"{case}: {form} is read, with {len(read[form])} messages", "" if came[:2] == (status, output) else f"{came[:2]} and {(status, output)}")
+    same_plain = run(program, folder, *words, "--format=plain")
+    told(f"{case}: plain is what is written without a format", "" if same_plain == (status, output, plain) else f"{same_plain}")
+    whole = read.get("json")
+    if whole is None:
+        return
+    told(f"{case}: json says what plain says", beside_plain(whole, plain_lines, name_of))
+    for form in READERS:
+        if form != "json" and form in read:
+            told(f"{case}: {form} says what json says", beside_json(form, whole, read[form]))
+    told(f"{case}: each place has what the message is about", next(filter(None, (wrong_place(folder, it) for it in whole)), ""))
+    if words[0] == "verify" and "--no-style" not in words:
+        told(f"{case}: messages and places are those of a plain reading", beside_a_reading(folder, words, whole))
+    if "human" in read:
+        told(f"{case}: the caret stands below it, and the page says how to mend it",
+             next(filter(None, (wrong_caret(folder, *pair) for pair in zip(whole, read["human"]))), ""))
+
+
+# Pieces of rules, good and bad, and what may stand between and behind them.
+PIECES = [
+    'KERNEL=="sd*"', 'SUBSYSTEM!="block"', 'ATTR{size}=="0"', 'ATTRS{idVendor}=="04[[:x:]]"', 'ENV{A}:="1"', 'ENV{B}="$nope"', 'ENV{C}="a %% %"',
+    'FOO="x"', 'TAG-="t"', 'TAG:="t"', 'ACTION-="y"', 'ATTR=="x"', 'IMPORT{x}="y"', 'RUN{shell}+="a"', 'OPTIONS="link_priority=x"', 'LABEL="one"',
+    'LABEL="two"', 'GOTO="one"', 'GOTO="two"', 'GOTO="three"', 'LABEL=""', 'SYMLINK+=i"x"', 'KERNEL==x"a"', 'PROGRAM==i"x"', 'MODE+="0600"',
+    'SYMLINK+="disk/$kernel/$device and a long rest of the value"', 'OWNER="root', "KERNEL=sda", "# c", 'RESULT=="%c{0}"', 'NAME="%c{0}"',
+]
+GAPS = [", ", ", ", ", ", ",", " ", "", ",,", " , ", ",\t", ", \\\n  ", " \\\n", ",\\\n\t"]
+ENDS = ["", "", "", ",", " ", " \t", ", \\\n", ", \\\n# between\n  TAG+=\"t\""]
+# What makes lines long, with characters of two, three and four bytes.
+LONG_PIECES = ['ENV{D}="' + "ä" * 30 + '"', 'ENV{E}="' + "a€" * 20 + '"', 'ENV{F}="' + "\U0001f600 " * 20 + '"', 'ENV{G}="' + "long " * 20 + '"']
+STARTS = ["", "", "", " ", "\t", " \t ", "# a comment\n", "\n"]
+
+
+def made_file(seed, pieces_of=PIECES, most=6):
+    """A file of some rules that are put together by a seed, each of fewer pieces than `most`."""
+    pick = random.Random(seed)
+    lines = []
+    for _ in range(pick.randrange(1, 12)):
+        pieces = [pick.choice(pieces_of) for _ in range(pick.randrange(1, most))]
+        lines.append(pick.choice(STARTS) + pieces[0] + "".join(pick.choice(GAPS) + piece for piece in pieces[1:]) + pick.choice(ENDS))
+    return "\n".join(lines) + pick.choice(["\n", "\n", ""])
+
+
+NAMES = ["a,b:c=d%25.rules", 'a "b" {c}.rules', "ä€.rules", "::error file=x::.rules", "d e/f.rules", "x:1:2: error: y [V1].rules", "a\nb.rules"]
+ODD_WORDS = [
+    '::error::50%, "x"', "%0A%25%2C", "[V1] [x]", "\x01\x1b[2J\x7f", "{\"a\": 1}", "ä€" * 20, "x" * 500, "a: b: c", "<b>&amp;</b>", "back\\slash",
+]
+
+
+def main(program):
+    with tempfile.TemporaryDirectory() as name:
+        folder = Path(name)
+        for example in ("mistakes.rules", "mistakes.hwdb"):
+            shutil.copy(TOP / "examples" / example, folder)
+        check("the examples", program, folder, ["verify", "mistakes.rules"])
+        check("the examples of the database", program, folder, ["update", "mistakes.hwdb"])
+
+        made = [f"made/{number}.rules" for number in range(200)]
+        (folder / "made").mkdir()
+        for number, path in enumerate(made):
+            (folder / path).write_text(made_file(number))
+        check("200 files that are made by a seed", program, folder, ["verify", *made])
+        check("the same without style", program, folder, ["verify", "--no-style", *made])
+        long = [f"long/{number}.rules" for number in range(100)]
+        (folder / "long").mkdir()
+        for number, path in enumerate(long):
+            (folder / path).write_text(made_file(number, PIECES[:4] + LONG_PIECES * 2, 12))
+        check("100 files of long lines", program, folder, ["verify", *long])
+
+        for path in NAMES:
+            (folder / path).parent.mkdir(exist_ok=True)
+            (folder / path).write_text('FOO="x"\nTAG="a",TAG="b",TAG="c"\n')
+        check("odd names", program, folder, ["verify", *(path for path in NAMES if "\n" not in path)])
+        status, _, text = run(program, folder, "verify", "--format=json", NAMES[-1])
+        told("a name with a newline is whole in json",
+             "" if [json.loads(line)["path"] for line in text.decode().split("\n")[:-1]] == [NAMES[-1]] * 3 else text_of(text))
+
+        words = [f'LABEL="{word}"' for word in ODD_WORDS if '"' not in word] + ODD_WORDS
+        (folder / "words.rules").write_text("".join(f"{word}\n" for word in words))
+        check("odd words", program, folder, ["verify", "words.rules"])
+        (folder / "bytes.rules").write_bytes(b'FOO\xFF="x"\nLABEL="\xE4"\nTAG="a",TAG="b"\n')
+        check("bytes that are no character", program, folder, ["verify", "bytes.rules"])
+
+        image = folder / "image"
+        for place, rule in (("etc/udev/rules.d/60-a.rules", 'FOO="1"'), ("usr/lib/udev/rules.d/50-b.rules", 'TAG="a",TAG="b"'),
+                            ("run/udev/rules.d/70-c.rules", 'GOTO="x"')):
+            (image / place).parent.mkdir(parents=True)
+            (image / place).write_text(rule + "\n")
+        check("files of an image by their whole path", program, folder, ["verify", "-r", "image"], name_of=os.path.basename)
+
+        (folder / "good.rules").write_text('TAG="t"\n')
+        check("no message", program, folder, ["verify", "good.rules"])
+
+
+if __name__ == "__main__":
+    if len(sys.argv) != 2:
+        sys.exit(__doc__)
+    try:
+        main(os.path.realpath(sys.argv[1]))
+    except Exception as fault:
+        # (whoever counts the lines sees a run that was cut off, too)
+        print(f"not ok the formats are all read: {fault!r}")
+        raise

@@ -1,0 +1,130 @@
+"""`compare`: per event the lines that the answers of two roots don't share.
+
+What is wanted follows from the answers that docs/behaviour.md gives for each of the two; nothing here was taken from the
+program.
+"""
+from tables.kinds.answered import block
+from tables.kinds.compared import NEW, OLD, compared, placed
+from tables.kinds.index_bytes import WITHOUT_FILE
+from tables.kinds.row import FOLDER, Begins, Row
+
+D = "/devices/d"
+START = f"event add {D}\n"
+
+# One of each line of an answer, and another of each.
+EACH_OLD = [
+    'OWNER="a", GROUP="g", MODE="0600"', 'OPTIONS="link_priority=5"', 'OPTIONS="watch"', 'SECLABEL{smack}="u"',
+    'SYMLINK+="one"', 'TAG+="t"',
+    'ENV{A}="1"', 'ATTR{x}="1"', 'SYSCTL{s}="1"', 'RUN+="/bin/a"', 'RUN{builtin}+="kmod load"',
+]
+EACH_NEW = [
+    'OWNER="b", GROUP="h", MODE="0660"', 'OPTIONS="link_priority=6"', 'OPTIONS="nowatch"', 'OPTIONS="db_persist"',
+    'SECLABEL{smack}="v"', 'SYMLINK+="two"',
+    'TAG+="u"', 'ENV{A}="2"', 'ATTR{x}="2"', 'SYSCTL{s}="2"', 'RUN+="/bin/b"', 'RUN{builtin}+="kmod"',
+]
+EACH = [
+    "-owner a", "-group g", "-mode 0600", "-priority 5", "-watch", "-label smack=u", "-link one", "-tag t", "-env A=1",
+    "-attr x=1", "-sysctl s=1",
+    "-run program /bin/a", "-run builtin kmod load",
+    "+owner b", "+group h", "+mode 0660", "+priority 6", "+nowatch", "+persist", "+label smack=v", "+link two", "+tag u",
+    "+env A=2", "+attr x=2",
+    "+sysctl s=2", "+run program /bin/b", "+run builtin kmod",
+]
+
+# Three commands that are written differently, of which two read the same.
+TWINS = ['RUN+="/bin/%k"', 'RUN+="/bin/b"', 'RUN+="/bin/$kernel"']
+
+DATABASES = {"old/usr/lib/udev/hwdb.d/a.hwdb": "m\n A=1\n B=1\n", "new/etc/udev/hwdb.d/a.hwdb": "m\n A=2\n B=1\n"}
+LOOKS_UP = ['IMPORT{builtin}="hwdb m"']
+
+CHANGES = [
+    compared("nothing changes", ['SYMLINK+="a"'], ['SYMLINK+="a"'], (D, [])),
+    compared("written otherwise, it means the same", ['SYMLINK+="a", TAG+="t"'], ['TAG="t"', 'KERNEL=="d", SYMLINK+="$kernel"',
+        'SYMLINK="a"'], (D, [])),
+    compared("a link goes", ['SYMLINK+="a b"'], ['SYMLINK+="b"'], (D, [], "-link a")),
+    compared("a link comes", ['SYMLINK+="b"'], ['SYMLINK+="a b"'], (D, [], "+link a")),
+    compared("a mode changes", ['MODE="0620"'], ['MODE="0600"'], (D, [], "-mode 0620", "+mode 0600")),
+    compared("a name", ['NAME="a"'], ['NAME="b"'], (D, ["U: net"], "-name a", "+name b")),
+    compared("each line", EACH_OLD, EACH_NEW, (D, [], *EACH)),
+    compared("each line comes", [], EACH_NEW, (D, [], *(line for line in EACH if line[0] == "+"))),
+    compared("each line goes", EACH_OLD, [], (D, [], *(line for line in EACH if line[0] == "-"))),
+    compared("links in another order are the same", ['SYMLINK+="a b c"'], ['SYMLINK+="c b a"'], (D, [])),
+    compared("tags in another order, and one more", ['TAG+="a", TAG+="b"'], ['TAG+="c", TAG+="b", TAG+="a"'], (D, [], "+tag c")),
+    compared("in the order of their own answer", ['SYMLINK+="d c x b a"'], ['SYMLINK+="z x y"'],
+             (D, [], "-link d", "-link c", "-link b", "-link a", "+link z", "+link y")),
+    compared("a property that is taken away", [], ['ENV{A}=""'], (D, ["E: A=1"], "-env A=1")),
+    compared("a link of the block that a rule takes away", [], ['SYMLINK-="a"'], (D, ["S: a", "S: b"], "-link a")),
+    compared("a property that is hidden changes nothing", ['ENV{.A}="1"'], ['ENV{.A}="2"'], (D, [])),
+    compared("lines are escaped", ['ENV{A}="a\\b"'], [b'ENV{A}="a\tb"'], (D, [], "-env A=a\\x5Cb", "+env A=a\\x09b")),
+    compared("equal lines are counted", TWINS, TWINS[:2], (D, [], "-run program /bin/d")),
+    compared("equal lines are counted, the other way", TWINS[1:], TWINS, (D, [], "+run program /bin/d")),
+    compared("of equal lines the last are too many", TWINS, TWINS[:1], (D, [], "-run program /bin/b", "-run program /bin/d")),
+    compared("a thousand links, of which one goes and one comes",
+        ['SYMLINK+="' + " ".join(f"l{number}" for number in range(1000)) + '"'],
+             ['SYMLINK+="' + " ".join(f"l{number}" for number in range(1, 1001)) + '"'], (D, [], "-link l0", "+link l1000")),
+]
+
+NOTES = [
+    compared("notes are no lines", ['IMPORT{db}=="X"', 'SYMLINK+="a"'], ['SYMLINK+="a"'], (D, [])),
+    compared("notes of other lines", ["# one", 'IMPORT{db}!="X", TAG+="t"'], ['IMPORT{db}!="X", TAG+="t"'], (D, [])),
+    compared("what hangs on a note is a line", ['IMPORT{db}=="X", TAG+="t"'], ['IMPORT{db}!="X", TAG+="t"'], (D, [], "+tag t")),
+]
+
+EVENTS = [
+    compared("events that stay are not told", ['KERNEL=="b", TAG+="t"', 'KERNEL=="c", TAG+="t"'], ['KERNEL=="c", TAG+="u"',
+        'KERNEL=="b", TAG+="t"'],
+             ("/a", []), ("/b", []), ("/c", [], "-tag t", "+tag u"), ("/d", [])),
+    compared("several events", [], ['TAG+="t"'], ("/a", [], "+tag t"), ("/b", [], "+tag t"), ("/b", ["G: t"])),
+    compared("no event", ['TAG+="t"'], ['TAG+="u"']),
+    compared("each event starts anew", ['RUN+="/bin/a"'], ['RUN+="/bin/a"', 'TAG=="x", RUN+="/bin/b"'], ("/a", ["G: x"],
+        "+run program /bin/b"), ("/a", [])),
+    Row("an event of another action, its path escaped", ["compare", OLD, NEW], {placed(NEW): 'TAG+="t"\n'},
+        b"C: change\nP: /a\\b\n",
+        "event change /a\\x5Cb\n+tag t\n\n", status=1),
+    Row("a faulty block ends the run behind what was told", ["compare", OLD, NEW], {placed(NEW): 'TAG+="t"\n'},
+        block(D) + b"C: add\n",
+        START + "+tag t\n\n", "block 2, line 1: no device\n", 1),
+    Row("a faulty block where nothing differs", ["compare", OLD, NEW], {}, block(D) + b"C: add\n", "",
+        "block 2, line 1: no device\n", 1),
+]
+
+ROOTS = [
+    Row("two roots that are not there", ["compare", OLD, NEW], {}, block(D)),
+    Row("a root without files, and one with", ["compare", OLD, NEW], {OLD: FOLDER, placed(NEW): 'TAG+="t"\n'}, block(D),
+        START + "+tag t\n\n", status=1),
+    Row("one root twice", ["compare", NEW, NEW], {placed(NEW): 'TAG+="t"\n'}, block(D)),
+    Row("the other way round", ["compare", NEW, OLD], {placed(NEW): 'TAG+="t"\n'}, block(D), START + "-tag t\n\n", status=1),
+    Row("files of all folders, of one name the first", ["compare", OLD, NEW],
+        {"old/usr/lib/udev/rules.d/a.rules": 'TAG+="a"\n', "new/usr/lib/udev/rules.d/a.rules": 'TAG+="a"\n',
+        "new/etc/udev/rules.d/a.rules": 'TAG+="b"\n',
+         "new/run/udev/rules.d/c.rules": 'TAG+="c"\n'}, block(D), START + "-tag a\n+tag b\n+tag c\n\n", status=1),
+    compared("each has its own database", LOOKS_UP, LOOKS_UP, (D, [], "-env A=1", "+env A=2"), files=DATABASES.items()),
+    compared("an index stands in place of both", ['IMPORT{builtin}="hwdb abc"'], ['IMPORT{builtin}="hwdb abc"',
+        'ENV{K}=="V", TAG+="t"'],
+             (D, [], "+tag t"), files=[*DATABASES.items(), ("i", WITHOUT_FILE)], words=["--index", "i"]),
+    compared("messages about the rules, of OLD, then of NEW", ['FOO="1"', 'TAG+="t",TAG+="u"'], ["# c", 'BAR="1"', 'TAG+="t"'],
+        (D, [], "-tag u"),
+             messages="r.rules:1: V2 unknown key: FOO\nr.rules:2: V2 unknown key: BAR\n"),
+    Row("a file that can't be read", ["compare", OLD, NEW], {placed(OLD): 'TAG+="t"\n', "new/etc/udev/rules.d": ""}, block(D),
+        messages="devdry: cannot read new/etc/udev/rules.d\n", status=3),
+    Row("of two the old one's is told", ["compare", OLD, NEW], {"old/etc/udev/rules.d": "", "new/etc/udev/rules.d": ""}, block(D),
+        messages="devdry: cannot read old/etc/udev/rules.d\n", status=3),
+    Row("an index that is none", ["compare", "--index", "i", OLD, NEW], {"i": "none"}, block(D),
+        messages="devdry: index: short\n", status=1),
+    Row("an index that is not there", ["compare", "--index", "i", OLD, NEW], {}, block(D), messages="devdry: cannot read i\n",
+        status=3),
+]
+
+ROWS = [
+    *CHANGES,
+    *NOTES,
+    *EVENTS,
+    *ROOTS,
+    Row("one root alone", ["compare", OLD], {},
+        messages=Begins(b"error: the following required arguments were not provided:\n"), status=2),
+    Row("an empty old root", ["compare", "", NEW], {}, block(D),
+        messages=Begins(b"error: an empty value of '<OLD>' or '<NEW>' names no folder;"), status=2),
+    Row("an empty new root", ["compare", OLD, ""], {placed(OLD): 'TAG+="t"\n'}, block(D),
+        messages=Begins(b"error: an empty value of '<OLD>' or '<NEW>' names no folder;"), status=2),
+    Row("three roots", ["compare", OLD, NEW, "x"], {}, messages=Begins(b"error: unexpected argument 'x' found\n"), status=2),
+]

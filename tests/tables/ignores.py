@@ -1,0 +1,175 @@
+"""`--ignore`: messages that are neither told nor counted, comments in files, and what they say in vain."""
+from tables.kinds.index_bytes import EMPTY
+from tables.kinds.row import Row
+from tables.kinds.verified import verified
+
+# A file with four messages, the last two of one line.
+UNKNOWN = ('FOO=="x", TAG+="t"', "V2 unknown key: FOO")
+LOST = ('KERNEL=="sd*", GOTO="end"', "V7 no later label: end")
+STYLE = ('ENV{A}:="1",TAG+="t"', "S3 operator read as =: ENV", "S2 blank after a comma expected: TAG")
+EVERY = [UNKNOWN, LOST, STYLE]
+TEXT = "".join(f"{line[0]}\n" for line in EVERY)
+
+
+def silent(line, *codes):
+    """A line with the messages that are left where these codes are ignored."""
+    return (line[0], *(said for said in line[1:] if said.split()[0] not in codes))
+
+
+def without(codes, words=None):
+    """A run over all of them that ignores these codes."""
+    ignored = codes.split(",")
+    return verified(f"without {codes}, {words or 'in one word'}", *(silent(line, *ignored) for line in EVERY),
+                    words=words or f"verify --ignore {codes}")
+
+
+def idle(code):
+    return f"I1 nothing to ignore: {code}"
+
+
+def unknown(code):
+    return f"I2 unknown code: {code}"
+
+
+def commented(name, *lines, words="verify --ignore comments"):
+    """A run that honours comments."""
+    return verified(name, *lines, words=words)
+
+
+CODES = [
+    *(without(codes) for codes in ["V2", "V7", "S2", "S3", "V2,V7", "S2,S3", "V2,V7,S2", "V2,V7,S2,S3", "S3,S2,V7,V2", "V2,V2",
+    "V6", "H1", "S1,V12"]),
+    without("V2,S2", "verify --ignore V2 --ignore S2"),
+    without("V2,S2,S3", "verify --ignore=V2,S2 --ignore S3"),
+    Row("without V2 and V7, not counted", "verify --ignore V7 --ignore V7,V2 --no-summary r.rules", {"r.rules": TEXT},
+        messages="".join(f"r.rules:3: {said}\n" for said in STYLE[1:]), status=1),
+    Row("ignored beside style that is left out", "verify --no-style --ignore V2,S2 r.rules", {"r.rules": TEXT},
+        output="1 files checked, 0 good, 1 bad\n", messages="r.rules:2: V7 no later label: end\n", status=1),
+    Row("a file whose messages are all ignored is good", "verify --ignore V1 a.rules b.rules", {"a.rules": "FOO\n",
+        "b.rules": "BAR\n" + 'TAG=="t",\n'},
+        output="2 files checked, 1 good, 1 bad\n", messages="b.rules:2: S1 one comma expected\n", status=1),
+    Row("behind the files", "verify a.rules --ignore V1", {"a.rules": "FOO\n"}, output="1 files checked, 1 good, 0 bad\n"),
+    Row("in a format", "verify --ignore V2,S3 --format=gcc r.rules", {"r.rules": TEXT},
+        output="1 files checked, 0 good, 1 bad\n",
+        messages="r.rules:2:22: error: no later label: end [V7]\nr.rules:3:13: warning: blank after a comma expected: TAG [S2]\n", status=1),
+    # what is dropped stays dropped: its label is none
+    verified("an ignored fault still drops its rule", ('GOTO="x"', "V7 no later label: x"), 'LABEL="x", FOO="1"',
+        words="verify --ignore V2"),
+]
+
+# Files of the database.
+H = " A=1\n\nm1\n\nm2\n =x\n"
+H1, H2, H5 = "t.hwdb:1: H1 property without a match: A=1\n", "t.hwdb:3: H2 match without a property: m1\n", "t.hwdb:6: H5 empty key: =x\n"
+
+
+def updated(name, words, messages, status=0, text=H):
+    """A run of `update` over a file of no entry."""
+    return Row(name, f"update {words} t.hwdb", {"t.hwdb": text}, output=EMPTY, messages=messages, status=status)
+
+
+DATABASE = [
+    updated("update without H1", "--ignore H1", H2 + H5),
+    updated("update without two", "--ignore H1,H5", H2),
+    updated("update, strictly, where one is left", "-s --ignore H1,H5", H2, 1),
+    updated("update, strictly, where none is left", "-s --ignore H1,H5,H2", ""),
+    updated("update, strictly, where codes of rules are ignored", "-s --ignore V1,S2", H1 + H2 + H5, 1),
+    updated("update in a format", "-s --ignore H2,H5 --format=github",
+        "::error file=t.hwdb,line=1,col=2,endColumn=5,title=H1::property without a match: A=1\n", 1),
+    updated("a comment in a file of the database", "-s --ignore comments", "",
+        text="# devdry: ignore H2\nm1\n\n# devdry: ignore H1\n A=1\n"),
+    updated("comments are not asked for", "-s", "t.hwdb:2: H2 match without a property: m1\n", 1, "# devdry: ignore H2\nm1\n"),
+    updated("a comment about the whole file", "-s --ignore comments", "", text="m1\n\nm2\n\n# devdry: ignore-file H2\nm3\n"),
+    updated("a comment in vain", "--ignore comments",
+        "t.hwdb:1: I1 nothing to ignore: H1\nt.hwdb:2: H2 match without a property: m1\n",
+            text="# devdry: ignore H1\nm1\n"),
+    updated("a comment in vain, strictly", "-s --ignore comments", "t.hwdb:1: I1 nothing to ignore: H1\n", 1,
+        "# devdry: ignore H1\n"),
+]
+
+COMMENTS = [
+    commented("a comment is about the next rule", "# devdry: ignore V2", UNKNOWN[0], UNKNOWN),
+    commented("several codes", "# devdry: ignore S3,S2", STYLE[0], STYLE),
+    commented("blanks around codes", "# devdry: ignore  S3, S2 ", STYLE[0], "# devdry: ignore \tS2", silent(STYLE, "S2")),
+    commented("a comment that ends in a carriage return", "# devdry: ignore-file S3,S2\r", STYLE[0]),
+    commented("one of two", "# devdry: ignore S3", silent(STYLE, "S3")),
+    commented("two comments of one rule", "# devdry: ignore S3", "# devdry: ignore S2", STYLE[0]),
+    commented("another comment between", "# devdry: ignore V2", "# It is so on purpose.", UNKNOWN[0]),
+    commented("an indented comment", " \t# devdry: ignore V2", " " + UNKNOWN[0]),
+    commented("an empty line between", "# devdry: ignore V2", "", UNKNOWN[0]),
+    commented("a continued rule is one", "# devdry: ignore V2", 'KERNEL=="a", \\', '  FOO="1"', UNKNOWN),
+    commented("a jump, and its label", "# devdry: ignore V7", LOST[0], "# devdry: ignore S4", 'LABEL="x"'),
+    commented("the last line of a file", "TAG=\"t\"", "# devdry: ignore V12", 'TAG="u" \\'),
+    commented("a comment about the whole file, wherever it stands", UNKNOWN[0], silent(LOST), "# devdry: ignore-file V2",
+        UNKNOWN[0], UNKNOWN[0]),
+    commented("the whole file, and a rule", "# devdry: ignore-file S2", silent(STYLE, "S2"), "# devdry: ignore S3", STYLE[0],
+        silent(STYLE, "S2")),
+    commented("codes that are ignored in the words, too", "# devdry: ignore S2", STYLE[0], silent(STYLE, "S3"),
+        words="verify --ignore S3,comments"),
+    commented("nothing to ignore", ("# devdry: ignore V6", idle("V6")), UNKNOWN),
+    commented("one of two has nothing to ignore", ("# devdry: ignore V2,V6", idle("V6")), UNKNOWN[0]),
+    commented("no rule behind it", UNKNOWN, ("# devdry: ignore V2", idle("V2"))),
+    commented("a good rule behind it", ("# devdry: ignore V2", idle("V2")), 'TAG="t"', UNKNOWN),
+    commented("nothing in the whole file", 'TAG="t"', ("# devdry: ignore-file S1", idle("S1"))),
+    commented("an unknown code", ("# devdry: ignore X6", unknown("X6")), UNKNOWN),
+    commented("an unknown code beside a known one", ("# devdry: ignore V2,V99", unknown("V99")), UNKNOWN[0]),
+    commented("an unknown code for the whole file", ("# devdry: ignore-file none", unknown("none"))),
+    commented("other comments say nothing", "# devdry", "# devdry is asked to ignore V2", "# ignore V2", UNKNOWN),
+    verified("comments are not asked for, other codes are", "# devdry: ignore V2", UNKNOWN, "# devdry: ignore-file X9",
+        words="verify --ignore S2"),
+    verified("comments without --ignore", "# devdry: ignore V2", UNKNOWN, "# devdry: ignore X9"),
+    Row("a comment is about its own file", "verify --ignore comments a.rules b.rules",
+        {"a.rules": "# devdry: ignore-file V1\nFOO\n", "b.rules": "FOO\n"}, output="2 files checked, 1 good, 1 bad\n",
+        messages="b.rules:1: V1 bad syntax: FOO\n", status=1),
+    Row("in a format, at the code in the comment", "verify --ignore comments --format json r.rules",
+        {"r.rules": "# devdry: ignore V6,  X \nFOO\n"},
+        output="1 files checked, 0 good, 1 bad\n", messages="""\
+{"path":"r.rules","line":1,"column":18,"end_column":20,"code":"I1","text":"nothing to ignore","word":"V6","severity":"warning"}
+{"path":"r.rules","line":1,"column":23,"end_column":24,"code":"I2","text":"unknown code","word":"X","severity":"warning"}
+{"path":"r.rules","line":2,"column":1,"end_column":4,"code":"V1","text":"bad syntax","word":"FOO","severity":"error"}
+""", status=1),
+]
+
+# what is said of a part of `--ignore` that is neither a code nor `comments`, before any file is looked at
+NO_SUCH_CODE = """\
+error: invalid value '{}' for '--ignore <CODES>'
+  [possible values: V1, V2, V3, V4, V5, V6, V7, V8, V9, V10, V11, V12, S1, S2, S3, S4, H1, H2, H3, H4, H5, H6, I1, I2, comments]
+
+For more information, try '--help'.
+"""
+
+# (words, the code that there is not)
+UNKNOWN_CODES = [
+    ("verify --ignore X6 r.rules", "X6"),
+    ("verify --ignore V6,X6 r.rules", "X6"),
+    ("verify --ignore V13 r.rules", "V13"),
+    ("verify --ignore V0,X r.rules", "V0"),
+    ("verify --ignore V r.rules", "V"),
+    ("verify --ignore V2 --ignore bad r.rules", "bad"),
+    ("verify --ignore bad,V2 --ignore worse r.rules", "bad"),
+    ("verify --ignore v2 r.rules", "v2"),
+    ("verify --ignore i1 r.rules", "i1"),
+    ("verify --ignore I3 r.rules", "I3"),
+    ("verify --ignore comment r.rules", "comment"),
+    ("verify --ignore Comments r.rules", "Comments"),
+    ("verify --ignore= r.rules", ""),
+    ("verify --ignore V2, r.rules", ""),
+    ("update --ignore H7 r.rules", "H7"),
+    ("verify --ignore X6 none.rules", "X6"),
+    ("verify --all --ignore X6 none.rules", "X6"),
+    ("update --all --ignore X6 -r none", "X6"),
+]
+
+
+def refused(name, words, code):
+    """A run over a file that is refused for this code."""
+    return Row(name, words, {"r.rules": "FOO\n"}, messages=NO_SUCH_CODE.replace("{}", code), status=2)
+
+
+ROWS = [
+    *CODES,
+    *DATABASE,
+    *COMMENTS,
+    *(refused(f"a code that there is not, {words}", words, code) for words, code in UNKNOWN_CODES),
+    refused("a blank before a code", ["verify", "--ignore", "V1, V2", "r.rules"], " V2"),
+    refused("a code with a tab", ["verify", "--ignore", "a\tb", "r.rules"], "a\tb"),
+]

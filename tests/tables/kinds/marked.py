@@ -1,0 +1,214 @@
+"""Files whose faulty places are marked by hand, and what each format says of them.
+
+A mark is `<CODES|PLACE>`: the place stands in the file, and the codes are of the messages about it. Where the word of a
+message is another text than the place, it stands between: `<V6=a$nope|$nope>`. Nothing here asks the program: columns
+are counted in what is left where the marks are taken out, and the formats are written anew from docs/behaviour.md.
+"""
+import json
+import re
+from dataclasses import dataclass
+from functools import cache
+from pathlib import Path
+
+from tables.kinds.row import Read, Row, as_bytes
+
+DOCS = Path(__file__).resolve().parents[3] / "docs"
+
+# What each code says, by the tables of the reference.
+TEXTS = {
+    "V1": "bad syntax",
+    "V2": "unknown key",
+    "V3": "operator not allowed",
+    "V4": "attribute missing or not allowed",
+    "V5": "bad value",
+    "V6": "bad substitution",
+    "V7": "no later label",
+    "V8": "label or goto given twice",
+    "V9": "line too long",
+    "V10": "bad quote prefix",
+    "V11": "set not supported",
+    "V12": "line continuation at the file's end",
+    "S1": "one comma expected",
+    "S2": "blank after a comma expected",
+    "S3": "operator read as =",
+    "S4": "label unused",
+    "H1": "property without a match",
+    "H2": "match without a property",
+    "H3": "unindented line after properties",
+    "H4": "no =",
+    "H5": "empty key",
+    "H6": "pattern not supported",
+    "I1": "nothing to ignore",
+    "I2": "unknown code",
+}
+MARK = re.compile(rb"<([VSHI]\d+(?: [VSHI]\d+)*)(?:=([^|<>]*))?\|([^<>]*)>")
+FORMATS = ["plain", "gcc", "github", "gitlab", "json", "human"]
+
+# A message has so many bytes of a word in `plain`.
+WORD = 32
+
+
+@dataclass
+class Found:
+    """A message with its place: the line that it tells, and the physical line with the columns of the place in it."""
+
+    code: str
+    begins: int
+    line: int
+    column: int
+    end: int
+    word: bytes
+    source: bytes
+
+    @property
+    def severity(self):
+        return "warning" if self.code[0] in "SI" else "error"
+
+    @property
+    def text(self):
+        return TEXTS[self.code].encode()
+
+    @property
+    def turn(self):
+        """Where it stands among the messages of its file: of one rule V by number and place, S by place and number, S4 last."""
+        number, place = int(self.code[1:]), (self.line, self.column)
+        if self.code[0] == "S":
+            return (self.begins, 2, (), number) if self.code == "S4" else (self.begins, 1, place, number)
+        return (self.begins, 0, number, place)
+
+
+def escaped(text):
+    """A text as messages show it."""
+    return b"".join(b"\\x%02X" % byte if byte < 0x20 or byte in b"\x7F\\" else bytes([byte]) for byte in text)
+
+
+def unmarked(marked):
+    """A physical line without its marks, and for each the codes, the word and the columns of the place."""
+    line, places, at = b"", [], 0
+    for mark in MARK.finditer(marked):
+        line += marked[at:mark.start()]
+        codes, word, place = mark.groups()
+        places.append((codes.decode().split(), place if word is None else word, len(line) + 1, len(line) + 1 + len(place)))
+        line += place
+        at = mark.end()
+    return line + marked[at:], places
+
+
+def read_marks(lines, rules=True):
+    """The bytes of a file of these marked lines, and its messages in their order."""
+    text, found, begins, open_line = b"", [], 0, False
+    for number, marked in enumerate(map(as_bytes, lines), 1):
+        line, places = unmarked(marked)
+        text += line + b"\n"
+        comment = line.lstrip(b" \t").startswith(b"#")
+        begins = begins if open_line else number
+        for codes, word, column, end in places:
+            tells = number if comment or not rules else begins
+            found += [Found(code, tells, number, column, end, word, line) for code in codes]
+        open_line = rules and (open_line if comment else line.endswith(b"\\"))
+    return text, sorted(found, key=lambda it: it.turn)
+
+
+@cache
+def sentence(code):
+    """The first sentence of the section of docs/messages.md on a code, without the marks of code."""
+    section = re.search(rf"^### {code} .*\n\n([^#]*)", (DOCS / "messages.md").read_text(), re.M)[1]
+    return re.match(r"(.*?[.?])(?:\s|$)", section.split("\n\n")[0], re.S)[1].replace("\n", " ").replace("`", "").encode()
+
+
+def with_word(found, word):
+    """What a message says: its text, and the word where there is one."""
+    return found.text + (b": " + word if word else b"")
+
+
+def plain(found, name, path):
+    return b"%s:%d: %s %s\n" % (escaped(name), found.begins, found.code.encode(), with_word(found, escaped(found.word[:WORD])))
+
+
+def gcc(found, name, path):
+    return b"%s:%d:%d: %s: %s [%s]\n" % (
+        escaped(path), found.line, found.column, found.severity.encode(), with_word(found, escaped(found.word)), found.code.encode())
+
+
+def percent(text, signs):
+    """A text in which these signs are written as GitHub reads them, and all else stands as it is."""
+    return b"".join(b"%%%02X" % byte if byte in signs else bytes([byte]) for byte in text)
+
+
+def github(found, name, path):
+    return b"::%s file=%s,line=%d,col=%d,endColumn=%d,title=%s::%s\n" % (
+        found.severity.encode(), percent(path, b"%\r\n:,"), found.line, found.column, found.end, found.code.encode(),
+        percent(with_word(found, escaped(found.word)), b"%\r\n"))
+
+
+def shown(text):
+    """Bytes as JSON has them."""
+    return text.decode("utf-8", "replace")
+
+
+def json_line(found, name, path):
+    said = {
+        "path": shown(path), "line": found.line, "column": found.column, "end_column": found.end, "code": found.code,
+        "text": shown(found.text), "word": shown(found.word), "severity": found.severity,
+    }
+    return json.dumps(said, ensure_ascii=False, separators=(",", ":")).encode() + b"\n"
+
+
+def columns(text):
+    """How many columns bytes take: one a byte, but for those that go on a character of UTF-8."""
+    return sum(not 0x80 <= byte < 0xC0 for byte in text)
+
+
+def human(found, name, path):
+    # (of a line of more than 160 bytes only a part is shown: such rows are written by hand)
+    source = bytes(0x20 if byte == 0x09 else ord("?") if byte < 0x20 or byte == 0x7F else byte for byte in found.source)
+    caret = b" " * columns(found.source[:found.column - 1]) + b"^" + b"~" * columns(found.source[found.column:found.end - 1])
+    return b"%s:%d:%d: %s: %s [%s]\n  %s\n  %s\n  = %s\n" % (
+        escaped(path), found.line, found.column, found.severity.encode(), found.text, found.code.encode(), source, caret,
+        sentence(found.code))
+
+
+def gitlab_report(text):
+    """What GitLab reads of a report: of each message its path, its line, its severity, its code and its description."""
+    report = json.loads(text.decode("utf-8"))
+    prints = [it["fingerprint"] for it in report]
+    if not all(isinstance(mark, str) and mark for mark in prints) or len(set(prints)) < len(prints):
+        raise ValueError(f"fingerprints {prints}")
+    return [
+        (it["location"]["path"], it["location"]["lines"]["begin"], it["severity"], it["check_name"], it["description"])
+        for it in report
+    ]
+
+
+def gitlab(found, name, path):
+    severity = "minor" if found.severity == "warning" else "major"
+    return (shown(path), found.line, severity, found.code, f"{found.code} {shown(with_word(found, escaped(found.word)))}")
+
+
+LINES = {"plain": plain, "gcc": gcc, "github": github, "json": json_line, "human": human}
+
+
+def messages(form, files):
+    """All that a format says of messages: `files` are name, path and messages of each file."""
+    every = [(it, as_bytes(name), as_bytes(path)) for name, path, found in files for it in found]
+    if form == "gitlab":
+        return Read(gitlab_report, [gitlab(*it) for it in every])
+    return b"".join(LINES[form](*it) for it in every)
+
+
+def summary(files):
+    """What `verify` counts."""
+    bad = sum(1 for _, _, found in files if found)
+    return f"{len(files)} files checked, {len(files) - bad} good, {bad} bad\n"
+
+
+def in_formats(name, *lines, file=b"r.rules", formats=FORMATS, words=()):
+    """A run of `verify` over a file of these marked lines for each format."""
+    text, found = read_marks(lines)
+    file = as_bytes(file)
+    files = [(file, file, found)]
+    return [
+        Row(f"{name}, {form}", ["verify", f"--format={form}", *words, file], {file: text}, output=summary(files),
+            messages=messages(form, files), status=1 if found else 0)
+        for form in formats
+    ]

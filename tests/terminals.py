@@ -1,0 +1,174 @@
+#!/usr/bin/env python3
+"""Runs the program at terminals: what is written in colors, and what is said before event blocks are awaited.
+
+usage: tests/terminals.py PROGRAM
+
+Each terminal is one that python makes. A line `ok CASE`, or `not ok CASE` with what was wanted and what came below it,
+tells of each case.
+"""
+import os
+import pty
+import select
+import subprocess
+import sys
+import tempfile
+import tty
+from pathlib import Path
+
+from read_formats import first_sentence, told
+
+SECONDS = 10
+
+RED, YELLOW, END = "\x1b[1;31m", "\x1b[1;33m", "\x1b[0m"
+RULES = 'FOO="1"\nKERNEL=="sr*",TAG+="optical"\n'
+COUNTED = "1 files checked, 0 good, 1 bad\n"
+
+
+def human(red="", yellow="", end=""):
+    """What `human` says of RULES, in these colors."""
+    return (f'{red}a.rules:1:1: error: {end}unknown key [V2]\n  FOO="1"\n  {red}^~~{end}\n  = {first_sentence("V2")}\n'
+            f'{yellow}a.rules:2:15: warning: {end}blank after a comma expected [S2]\n  KERNEL=="sr*",TAG+="optical"\n'
+            f'                {yellow}^~~{end}\n  = {first_sentence("S2")}\n')
+
+
+PLAIN, PAINTED = human(), human(RED, YELLOW, END)
+GCC = "a.rules:1:1: error: unknown key: FOO [V2]\na.rules:2:15: warning: blank after a comma expected: TAG [S2]\n"
+OF_DATABASE = (f'{RED}a.hwdb:1:1: error: {END}match without a property [H2]\n  m\n  {RED}^{END}\n  = {first_sentence("H2")}\n')
+WAITING = "devdry: waiting for event blocks, each ended by an empty line; devdry-capture DEVICE prints them\n"
+BLOCK = "C: add\nP: /devices/x\n\n"
+
+
+def differs(case, wanted, came):
+    told(case, "" if wanted == came else f"wanted: {wanted!r}\n    came:   {came!r}")
+
+
+def environment(no_color):
+    """The environment of a run, with NO_COLOR as it is given, or without it."""
+    own = {key: value for key, value in os.environ.items() if key != "NO_COLOR"}
+    return own if no_color is None else {**own, "NO_COLOR": no_color}
+
+
+def terminal():
+    """The two ends of a terminal: that of who sits at it, and the program's, which hands bytes on as they come."""
+    ours, its = pty.openpty()
+    tty.setraw(its)
+    return ours, its
+
+
+def all_of(ours):
+    """All that was written to a terminal whose other end is closed."""
+    said = b""
+    while True:
+        try:
+            piece = os.read(ours, 4096)
+        except OSError:
+            piece = b""
+        if not piece:
+            os.close(ours)
+            return said.decode()
+        said += piece
+
+
+def at_terminals(program, folder, words, places, no_color=None):
+    """What a run writes to its standard output and its standard error, of which those that are named are terminals."""
+    ends = {place: terminal() for place in places}
+    files = {place: ends[place][1] if place in ends else subprocess.PIPE for place in ("stdout", "stderr")}
+    with subprocess.Popen([program, *words.split()], cwd=folder, env=environment(no_color), stdin=subprocess.DEVNULL, **files) as run:
+        for _, its in ends.values():
+            os.close(its)
+        wrote = {place: all_of(ours) for place, (ours, _) in ends.items()}
+        rest = [None if it is None else it.decode("utf-8", "replace") for it in run.communicate(timeout=SECONDS)]
+    return wrote.get("stdout", rest[0]), wrote.get("stderr", rest[1])
+
+
+# (what is asked, words, which outputs are terminals, NO_COLOR, output, messages)
+COLORS = [
+    ("human at a terminal", "verify --format=human a.rules", ["stderr"], None, COUNTED, PAINTED),
+    ("both outputs at terminals", "verify --format=human a.rules", ["stdout", "stderr"], None, COUNTED, PAINTED),
+    ("an empty NO_COLOR", "verify --format=human a.rules", ["stderr"], "", COUNTED, PAINTED),
+    ("NO_COLOR", "verify --format=human a.rules", ["stderr"], "1", COUNTED, PLAIN),
+    ("NO_COLOR with a blank", "verify --format=human a.rules", ["stderr"], " ", COUNTED, PLAIN),
+    ("NO_COLOR with a 0", "verify --format=human a.rules", ["stderr"], "0", COUNTED, PLAIN),
+    ("NO_COLOR that is no text", "verify --format=human a.rules", ["stderr"], os.fsdecode(b"\xFF"), COUNTED, PLAIN),
+    ("human to a pipe", "verify --format=human a.rules", [], None, COUNTED, PLAIN),
+    ("human to a pipe, and the output at a terminal", "verify --format=human a.rules", ["stdout"], None, COUNTED, PLAIN),
+    ("gcc at a terminal", "verify --format=gcc a.rules", ["stderr"], None, COUNTED, GCC),
+    ("human of the database", "update --format=human a.hwdb", ["stderr"], None, None, OF_DATABASE),
+    ("what is no message", "verify --format=human none.rules", ["stderr"], None, "", "devdry: cannot read none.rules\n"),
+]
+
+
+def check_colors(program, folder):
+    for case, words, places, no_color, output, messages in COLORS:
+        wrote = at_terminals(program, folder, words, places, no_color)
+        differs(f"colors: {case}", (wrote[0] if output is None else output, messages), wrote)
+
+
+def line_of(file):
+    """The next line of an output, or what came of it in ten seconds."""
+    said = b""
+    while not said.endswith(b"\n") and select.select([file], [], [], SECONDS)[0]:
+        byte = os.read(file.fileno(), 1)
+        if not byte:
+            break
+        said += byte
+    return said.decode()
+
+
+def check_waiting(program, folder, words, answer):
+    """Types a block at a terminal that is the standard input, once the line on waiting is there, and then ends the input."""
+    ours, its = pty.openpty()
+    with subprocess.Popen([program, *words.split()], cwd=folder, stdin=its, stdout=subprocess.PIPE, stderr=subprocess.PIPE) as run:
+        os.close(its)
+        differs(f"{words}: the line on waiting", WAITING, line_of(run.stderr))
+        os.write(ours, BLOCK.encode())
+        differs(f"{words}: what is typed is answered", answer, line_of(run.stdout))
+        os.write(ours, b"\x04")
+        try:
+            output, messages = run.communicate(timeout=SECONDS)
+        except subprocess.TimeoutExpired:
+            run.kill()
+            output, messages = b"no end in ten seconds", b""
+        differs(f"{words}: nothing else is told", b"", messages)
+        told(f"{words}: it ends", "" if run.returncode in (0, 1) else f"status {run.returncode}, {output!r}")
+    os.close(ours)
+
+
+def check_silence(program, folder, words, at_terminal):
+    """A run that takes no blocks, or takes them from no terminal, says nothing of waiting."""
+    ours, its = pty.openpty()
+    came = subprocess.run([program, *words.split()], cwd=folder, stdin=its if at_terminal else subprocess.DEVNULL, capture_output=True,
+                          timeout=SECONDS)
+    os.close(its)
+    os.close(ours)
+    differs(f"{words}: nothing is told of waiting where the input is {'a terminal' if at_terminal else 'none'}", b"", came.stderr)
+
+
+def main(program):
+    with tempfile.TemporaryDirectory() as name:
+        folder = Path(name)
+        (folder / "a.rules").write_text(RULES)
+        (folder / "good.rules").write_text('ACTION=="add", TAG+="t"\n')
+        (folder / "a.hwdb").write_text("m\n")
+        (folder / "old").mkdir()
+        rules = folder / "new/etc/udev/rules.d"
+        rules.mkdir(parents=True)
+        (rules / "good.rules").write_text('ACTION=="add", TAG+="t"\n')
+        check_colors(program, folder)
+        check_waiting(program, folder, "events -r old good.rules", "event add /devices/x\n")
+        check_waiting(program, folder, "compare old new", "event add /devices/x\n")
+        for words in ("events -r old good.rules", "compare old new"):
+            check_silence(program, folder, words, False)
+        for words in ("verify good.rules", "files -r new", "query -r old m", "explain V1"):
+            check_silence(program, folder, words, True)
+
+
+if __name__ == "__main__":
+    if len(sys.argv) != 2:
+        sys.exit(__doc__)
+    try:
+        main(os.path.realpath(sys.argv[1]))
+    except Exception as fault:
+        # (whoever counts the lines sees a run that was cut off, too)
+        print(f"not ok the program at terminals: {fault!r}")
+        raise

@@ -1,0 +1,38 @@
+#!/usr/bin/env bash
+# What `devdry explain` prints of a code is the section of docs/messages.md on it, byte for byte, without the signs of its
+# heading.
+set -uo pipefail
+# shellcheck source=lib.sh
+. "$(dirname "$0")/lib.sh"
+
+# section CODE: the section on it, without the empty lines behind it
+section() {
+    awk -v code="$1" '
+        /^##+ / { inside = ($1 == "###" && $2 == code); sub(/^### /, "") }
+        inside && /./ { for (; empty > 0; empty--) print ""; print }
+        inside && !/./ { empty++ }
+        !inside { empty = 0 }' "$top/docs/messages.md"
+}
+
+codes=$(sed -nE 's/^### ([A-Z][0-9]+) .*/\1/p' "$top/docs/messages.md")
+for code in $codes; do
+    section "$code" > "$work/section"
+    "$program" explain "$code" > "$work/said" 2> "$work/messages"
+    same "explain $code ends in status 0" 0 $?
+    same "explain $code says nothing else" "" "$(cat "$work/messages")"
+    if cmp -s "$work/section" "$work/said"; then
+        ok "explain $code prints its section"
+    else
+        not_ok "explain $code prints its section" "$(diff "$work/section" "$work/said")"
+    fi
+    goes_well "explain $code takes a small letter" cmp <("$program" explain "${code,}") "$work/section"
+done
+same "there are sections" "24" "$(wc -w <<< "$codes")"
+
+for code in '' none V V0 V13 V01 ' V1' 'V1 ' 'V1 bad syntax' S0 S5 H7 X1; do
+    said=$("$program" explain "$code" 2>&1 > "$work/output")
+    same "explain '$code' ends in status 2" 2 $?
+    same "explain '$code' prints nothing" "" "$(cat "$work/output")"
+    same "explain '$code' lists the codes" "$(tr '\n' ' ' <<< "$codes" | sed 's/ $//; s/ /, /g')" \
+        "$(sed -n 's/^  \[possible values: \(.*\)\]$/\1/p' <<< "$said")"
+done

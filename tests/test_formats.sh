@@ -1,0 +1,10 @@
+#!/usr/bin/env bash
+# What readers of other programs have of each format: python's json, GitHub's runner, a problem matcher.
+set -uo pipefail
+# shellcheck source=lib.sh
+. "$(dirname "$0")/lib.sh"
+if has python3; then
+    PYTHONDONTWRITEBYTECODE=1 python3 "$top/tests/read_formats.py" "$program"
+else
+    skipped "the formats" "there is no python3"
+fi

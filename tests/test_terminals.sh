@@ -1,0 +1,10 @@
+#!/usr/bin/env bash
+# What the program does where its standard input or its standard error is a terminal.
+set -uo pipefail
+# shellcheck source=lib.sh
+. "$(dirname "$0")/lib.sh"
+if has python3; then
+    PYTHONDONTWRITEBYTECODE=1 python3 "$top/tests/terminals.py" "$program"
+else
+    skipped "what is said to a terminal" "there is no python3"
+fi

@@ -25,8 +25,12 @@ TOP = Path(__file__).resolve().parent.parent
 
 # A problem matcher for gcc, and a message of `plain`.
 GCC = re.compile(r"^(.*):(\d+):(\d+):\s+(warning|error):\s+(.*)\s+\[(.*)\]$")
-PLAIN = re.compile(r"^(.*):(\d+): ([VSHI]\d+) (.*)$")
+PLAIN = re.compile(r"^(.*):(\d+): ([VSHIW]\d+) (.*)$")
 CARET = re.compile(r"^ *\^~*$")
+
+# The lints whose place is a value, and those whose place is a key and whose word is the name in braces behind it.
+LINTS_OF_VALUES = ("W1", "W2", "W3", "W4", "W8", "W9", "W11")
+LINTS_OF_NAMES = ("W5", "W6", "W7", "W10")
 
 # How much of a line `human` shows, and how much of it before a place at most, unless the line ends there.
 SHOWN = 160
@@ -165,7 +169,7 @@ def plain_value(line, column):
 def wrong_place(folder, it):
     """What is wrong with the place of a message, or nothing."""
     path, number, column, end, code, severity, text = it
-    if severity != ("warning" if code[0] in "SI" else "error"):
+    if severity != ("warning" if code[0] in "SIW" else "error"):
         return f"{it}: its severity"
     lines = (folder / path).read_bytes().split(b"\n")
     line = lines[number - 1]
@@ -181,8 +185,12 @@ def wrong_place(folder, it):
         good = not line[:column - 1].strip(b" \t")
     elif code == "S1" and not word:
         good = b"," in place and not place.strip(b", \t")
-    elif code in ("V5", "V6", "V7", "V8", "V11", "S4") and not plain_value(text_of(line), column):
+    elif code in ("V5", "V6", "V7", "V8", "V11", "S4", *LINTS_OF_VALUES) and not plain_value(text_of(line), column):
         good = True
+    elif code in LINTS_OF_NAMES:
+        good = place.isalpha() and escaped(text_of(line[end - 1:])).startswith("{" + word + "}")
+    elif code == "W13":
+        good = place.isalpha() and not line[:column - 1].strip(b" \t")
     else:
         good = word.startswith(whole) if goes_on else word == whole
     return "" if good else f"{it}: the place has {place!r}"
@@ -223,12 +231,13 @@ def wrong_caret(folder, whole, it):
 
 
 def beside_a_reading(folder, words, whole):
-    """Where `json` does not say what a plain reading of the rules says, file by file in the order in which they are named."""
+    """Where `json` does not say what a plain reading of the rules says, file by file in the order in which they are named.
+    Of lints the plain reading knows nothing."""
     wanted = []
     for path in [it for it in words if (folder / it).is_file()] or dict.fromkeys(it[0] for it in whole):
         wanted += [(path, line, column, end, code, escaped(text_of(word)))
                    for code, _, line, column, end, word in findings((folder / path).read_bytes())]
-    return first_difference(wanted, [(*it[:5], it[6].partition(": ")[2]) for it in whole])
+    return first_difference(wanted, [(*it[:5], it[6].partition(": ")[2]) for it in whole if it[4][0] != "W"])
 
 
 def first_sentence(code):
@@ -282,6 +291,13 @@ GAPS = [", ", ", ", ", ", ",", " ", "", ",,", " , ", ",\t", ", \\\n  ", " \\\n",
 ENDS = ["", "", "", ",", " ", " \t", ", \\\n", ", \\\n# between\n  TAG+=\"t\""]
 # What makes lines long, with characters of two, three and four bytes.
 LONG_PIECES = ['ENV{D}="' + "ä" * 30 + '"', 'ENV{E}="' + "a€" * 20 + '"', 'ENV{F}="' + "\U0001f600 " * 20 + '"', 'ENV{G}="' + "long " * 20 + '"']
+# What lints are told of, and what they are not told of.
+LINT_PIECES = [
+    'MODE="0888"', 'MODE="0660"', 'RUN+="touch /run/a; b"', 'RUN+="/bin/sh -c \'a | b\'"', 'PROGRAM=="/bin/a && b"', 'ATTRS{idVendor}=="1D6B"',
+    'ATTRS{idProduct}=="0002"', 'ATTRS{bInterfaceNumber}=="0A"', 'ENV{MODALIAS}=="usb:v1d6b*"', 'ENV{ID_FS_TYPE}=="ext4"', 'IMPORT{builtin}="blkid"',
+    'ENV{A}=="1"', 'ENV{A}="1"', 'ATTR{b}=="2"', 'ATTR{b}="2"', 'SUBSYSTEM=="block"', 'NAME="x"', 'SYMLINK+="a /dev/b"', 'ATTR{"c"}=="3"',
+    'KERNEL=="^sd{a,b}$"', 'KERNEL=="*"', 'DRIVERS=="a|*"', 'GOTO="one"', 'LABEL="one"', 'TAG+="t"', 'RESULT==e"\\x5Ea"',
+]
 STARTS = ["", "", "", " ", "\t", " \t ", "# a comment\n", "\n"]
 
 
@@ -315,6 +331,12 @@ def main(program):
             (folder / path).write_text(made_file(number))
         check("200 files that are made by a seed", program, folder, ["verify", *made])
         check("the same without style", program, folder, ["verify", "--no-style", *made])
+        check("the same with lints", program, folder, ["verify", "--lint", *made])
+        lints = [f"lints/{number}.rules" for number in range(200)]
+        (folder / "lints").mkdir()
+        for number, path in enumerate(lints):
+            (folder / path).write_text(made_file(number, LINT_PIECES, 8))
+        check("200 files of what lints are told of", program, folder, ["verify", "--lint", *lints])
         long = [f"long/{number}.rules" for number in range(100)]
         (folder / "long").mkdir()
         for number, path in enumerate(long):

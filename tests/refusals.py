@@ -163,6 +163,32 @@ v.rules:6: V6 bad substitution: $nope
 v.rules:7: V4 attribute missing or not allowed: ATTR
 """
 
+# a rule with most lints, among rules that it earns some by
+LINTED_RULES = """\
+GOTO="end"
+SUBSYSTEM=="block", KERNEL=="*", ATTRS{idVendor}=="1D6B", ATTRS{busnum}=="^1", ATTRS{bInterfaceNumber}=="01", ENV{A}="1", \\
+  NAME="a", MODE=e"\\x78", RUN+="cp > b", SYMLINK+="/dev/b", ATTR{"c"}=="1", ENV{ID_PATH}=="x"
+IMPORT{builtin}="path_id"
+ENV{A}=="1"
+# devdry: ignore W1
+LABEL="end", MODE="8"
+"""
+LINTED_RULES_TOLD = """\
+l.rules:2: W1 mode is no octal number: x
+l.rules:2: W2 sign of the shell, and no shell: cp > b
+l.rules:2: W3 program without a path: cp > b
+l.rules:2: W4 letter case that the kernel does not write: 1D6B
+l.rules:2: W5 attributes of different devices: bInterfaceNumber
+l.rules:2: W8 name outside net: a
+l.rules:2: W9 link begins with /dev/: /dev/b
+l.rules:2: W10 name in quotes: "c"
+l.rules:2: W11 regular expression in a pattern: ^1
+l.rules:2: W12 match that always holds: KERNEL
+l.rules:2: W6 property imported further down: ID_PATH
+l.rules:2: W7 value assigned that others compare: A
+l.rules:2: W13 rule never reached: end
+"""
+
 FAULTY_SOURCE = " A=1\n\nm1\n\nm2\n =x\n B\nm3\n C=1\n\n[[.a.]]\n D=1\n"
 FAULTY_SOURCE_TOLD = """\
 s.hwdb:1: H1 property without a match: A=1
@@ -251,6 +277,9 @@ ROWS = [
     Row(
         "faulty rules", ["verify", "v.rules"], {"v.rules": FAULTY_RULES},
         output="1 files checked, 0 good, 1 bad\n", messages=FAULTY_RULES_TOLD, status=1),
+    Row(
+        "rules with lints", ["verify", "--lint", "--ignore", "comments", "l.rules"], {"l.rules": LINTED_RULES},
+        output="1 files checked, 0 good, 1 bad\n", messages=LINTED_RULES_TOLD, status=1),
     Row(
         "a faulty source", ["update", "-s", "s.hwdb"], {"s.hwdb": FAULTY_SOURCE},
         output=EMPTY_INDEX, messages=FAULTY_SOURCE_TOLD, status=1),

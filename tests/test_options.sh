@@ -88,6 +88,7 @@ done
 )
 same "bash offers formats behind --format" "gcc github gitlab" "$(bash_offers devdry verify --format g | paste -s -d " " -)"
 same "bash offers codes behind --ignore" "H1 H2 H3 H4 H5 H6" "$(bash_offers devdry update --ignore H | paste -s -d " " -)"
+same "bash offers codes of lints behind --ignore" "W1 W10 W11 W12 W13" "$(bash_offers devdry verify --ignore W1 | paste -s -d " " -)"
 same "bash offers codes behind a comma" "V6,S1 V6,S2 V6,S3 V6,S4" "$(bash_offers devdry verify --ignore V6,S | paste -s -d " " -)"
 same "bash offers the codes to explain" "$codes" "$(bash_offers devdry explain '' | LC_ALL=C sort)"
 same "docs/messages.md has these codes" "$codes" "$(sed -nE 's/^### ([A-Z][0-9]+) .*/\1/p' "$top/docs/messages.md" | LC_ALL=C sort)"

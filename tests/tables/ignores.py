@@ -73,6 +73,7 @@ DATABASE = [
     updated("update, strictly, where one is left", "-s --ignore H1,H5", H2, 1),
     updated("update, strictly, where none is left", "-s --ignore H1,H5,H2", ""),
     updated("update, strictly, where codes of rules are ignored", "-s --ignore V1,S2", H1 + H2 + H5, 1),
+    updated("update, strictly, where codes of lints are ignored", "-s --ignore W1,W13", H1 + H2 + H5, 1),
     updated("update in a format", "-s --ignore H2,H5 --format=github",
         "::error file=t.hwdb,line=1,col=2,endColumn=5,title=H1::property without a match: A=1\n", 1),
     updated("a comment in a file of the database", "-s --ignore comments", "",
@@ -132,7 +133,7 @@ COMMENTS = [
 # what is said of a part of `--ignore` that is neither a code nor `comments`, before any file is looked at
 NO_SUCH_CODE = """\
 error: invalid value '{}' for '--ignore <CODES>'
-  [possible values: V1, V2, V3, V4, V5, V6, V7, V8, V9, V10, V11, V12, S1, S2, S3, S4, H1, H2, H3, H4, H5, H6, I1, I2, comments]
+  [possible values: V1, V2, V3, V4, V5, V6, V7, V8, V9, V10, V11, V12, S1, S2, S3, S4, H1, H2, H3, H4, H5, H6, W1, W2, W3, W4, W5, W6, W7, W8, W9, W10, W11, W12, W13, I1, I2, comments]
 
 For more information, try '--help'.
 """
@@ -149,6 +150,9 @@ UNKNOWN_CODES = [
     ("verify --ignore v2 r.rules", "v2"),
     ("verify --ignore i1 r.rules", "i1"),
     ("verify --ignore I3 r.rules", "I3"),
+    ("verify --ignore W0 r.rules", "W0"),
+    ("verify --lint --ignore W14 r.rules", "W14"),
+    ("update --ignore w1 r.rules", "w1"),
     ("verify --ignore comment r.rules", "comment"),
     ("verify --ignore Comments r.rules", "Comments"),
     ("verify --ignore= r.rules", ""),

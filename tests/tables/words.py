@@ -93,6 +93,7 @@ Options:
       --ignore <CODES>   Leave out the messages of these codes, as V6,S2; comments: as the files say
       --no-summary       Do not count the good and the bad files
       --no-style         Give no messages about style
+      --lint             Also tell of rules that are most likely not the ones that were meant
   -h, --help             Print help
   -V, --version          Print version
 """
@@ -213,7 +214,7 @@ For more information, try '--help'.
 
 NO_SUCH_CODE = """\
 error: invalid value 'V13' for '<CODE>'
-  [possible values: V1, V2, V3, V4, V5, V6, V7, V8, V9, V10, V11, V12, S1, S2, S3, S4, H1, H2, H3, H4, H5, H6, I1, I2]
+  [possible values: V1, V2, V3, V4, V5, V6, V7, V8, V9, V10, V11, V12, S1, S2, S3, S4, H1, H2, H3, H4, H5, H6, W1, W2, W3, W4, W5, W6, W7, W8, W9, W10, W11, W12, W13, I1, I2]
 
 For more information, try '--help'.
 """
@@ -249,6 +250,7 @@ NOT_UNDERSTOOD = [
     ("verify --none", "error: unexpected argument '--none' found\n"),
     ("verify --strict", "error: unexpected argument '--strict' found\n"),
     ("verify --sources", "error: unexpected argument '--sources' found\n"),
+    ("update --lint", "error: unexpected argument '--lint' found\n"),
     ("verify --why a.rules", "error: unexpected argument '--why' found\n"),
     ("query m --why a.rules", "error: unexpected argument '--why' found\n"),
     ("events --sources --sources", "error: the argument '--sources' cannot be used multiple times\n"),
@@ -269,6 +271,8 @@ NOT_UNDERSTOOD = [
     ("explain V1 V2", "error: unexpected argument 'V2' found\n"),
     ("explain V13", NO_SUCH_CODE),
     ("query m --all", "error: unexpected argument '--all' found\n"),
+    ("events --lint", "error: unexpected argument '--lint' found\n"),
+    ("verify --lint --lint", "error: the argument '--lint' cannot be used multiple times\n"),
     ("events --format gcc", "error: unexpected argument '--format' found\n"),
     ("events --ignore V6", "error: unexpected argument '--ignore' found\n"),
     ("verify --format", "error: a value is required for '--format <FORMAT>' but none was supplied\n"),

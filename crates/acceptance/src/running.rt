@@ -86,6 +86,7 @@ pub(crate) fn line<'a>(alloc: Global, verb: Verb, modalias: &'a str) -> Line<'a>
         modalias,
         summary: true,
         style: true,
+        lint: false,
         format: Format::Plain,
         all: false,
         ignored: Vec::new(alloc),

@@ -29,6 +29,7 @@ shown_line colors line = record {
   modalias = line.modalias;
   summary = line.summary;
   style = line.style;
+  lint = line.lint;
   format = shown_format colors line.format;
   all = line.all;
   ignored = line.ignored;

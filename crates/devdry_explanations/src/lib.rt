@@ -6,6 +6,7 @@
 mod codes;
 mod comments;
 mod database;
+mod lints;
 mod rules;
 mod sections;
 mod style;

@@ -3,10 +3,12 @@ ghost use Rattle.std.specs.Prelude.{◌≡◌, IsSomeAnd, MatchOption, None};
 ghost use Rattle.devdry_explanations.specs.Codes.{remark_with};
 ghost use Rattle.devdry_explanations.specs.Sections.{HasAdvice, HasHeading, IsSectionOn};
 ghost use Rattle.engine_formats.specs.declared.remark.Remark.TheVariants.{Message};
+ghost use Rattle.engine_formats.specs.declared.remark.Remark.TheVariants as about;
 
 use crate::codes::remark_with;
-use crate::{comments, database, rules, style};
+use crate::{comments, database, lints, rules, style};
 use engine_formats::Remark;
+use rule_types::Lint;
 use text_bytes::MessageKind;
 
 /// The section on a kind of message.
@@ -40,6 +42,28 @@ fn section_on_kind(kind: MessageKind) -> &'static str
     }
 }
 
+/// The section on a lint.
+fn section_on_lint(lint: Lint) -> &'static str
+    ensures heading { HasHeading (about.Lint lint) result.now }
+    ensures advice { HasAdvice (about.Lint lint) result.now }
+{
+    match lint {
+        Lint::ModeNotOctal => lints::W1,
+        Lint::SignOfShell => lints::W2,
+        Lint::RelativeProgram => lints::W3,
+        Lint::LetterCase => lints::W4,
+        Lint::NoSuchDevice => lints::W5,
+        Lint::ImportedBelow => lints::W6,
+        Lint::MeantToCompare => lints::W7,
+        Lint::NameOutsideNet => lints::W8,
+        Lint::LinkWithDev => lints::W9,
+        Lint::QuotedName => lints::W10,
+        Lint::NotAPattern => lints::W11,
+        Lint::AlwaysHolds => lints::W12,
+        Lint::NeverReached => lints::W13,
+    }
+}
+
 /// The section on a remark. Its first line is the heading of the remark, and behind an empty line stand
 /// what it means, a file that earns it, and the mended one.
 pub fn section_on(remark: Remark) -> &'static str
@@ -48,6 +72,7 @@ pub fn section_on(remark: Remark) -> &'static str
 {
     match remark {
         Remark::Message(kind) => section_on_kind(kind),
+        Remark::Lint(lint) => section_on_lint(lint),
         Remark::IdleIgnore => comments::I1,
         Remark::UnknownCode => comments::I2,
     }

@@ -77,12 +77,16 @@ unfolding clap_on_literals devdry
 version_of_query = refl
 
 abbrev verify_words : List Text
-verify_words = codes "verify" ∷ codes "--all" ∷ codes "--format" ∷ codes "gcc" ∷ codes "--ignore" ∷ codes "V6,S2" ∷ codes "--ignore=comments" ∷ codes "a.rules" ∷ []
+verify_words = codes "verify" ∷ codes "--all" ∷ codes "--lint" ∷ codes "--format" ∷ codes "gcc" ∷ codes "--ignore" ∷ codes "V6,S2" ∷ codes "--ignore=comments" ∷ codes "a.rules" ∷ []
 
-verify_is_asked : option_map {U = Option Format × (Bool × List Text)} (λ p. (format_of p.1, (is_set (codes "all") p.1, flat_map cut_at_commas (texts_of (codes "ignore") p.1)))) (subcommand_of devdry verify_words)
-    ≡ Some (Some Gcc, (true, codes "V6" ∷ codes "S2" ∷ codes "comments" ∷ []))
+verify_is_asked : option_map {U = Option Format × (Bool × (Bool × List Text))} (λ p. (format_of p.1, (is_set (codes "all") p.1, (is_set (codes "lint") p.1, flat_map cut_at_commas (texts_of (codes "ignore") p.1))))) (subcommand_of devdry verify_words)
+    ≡ Some (Some Gcc, (true, (true, codes "V6" ∷ codes "S2" ∷ codes "comments" ∷ [])))
 unfolding clap_on_literals devdry
 verify_is_asked = refl
+
+lint_of_update : fault_of devdry (codes "update" ∷ codes "--lint" ∷ []) ≡ kind.UnknownArgument ∷ []
+unfolding clap_on_literals devdry
+lint_of_update = refl
 
 files_are_taken : takes devdry (codes "files" ∷ codes "--root=/mnt" ∷ []) ≡ true
 unfolding clap_on_literals devdry
@@ -152,7 +156,7 @@ first_unknown_is_found : unknown (codes "verify" ∷ codes "--ignore" ∷ codes 
 unfolding clap_on_literals devdry remark_of heading_parts split_once
 first_unknown_is_found = refl
 
-known_codes_are_taken : refused (codes "update" ∷ codes "--ignore" ∷ codes "H1,I1" ∷ codes "--ignore=comments" ∷ []) ≡ Some None
+known_codes_are_taken : refused (codes "update" ∷ codes "--ignore" ∷ codes "H1,W13,I1" ∷ codes "--ignore=comments" ∷ []) ≡ Some None
 unfolding clap_on_literals devdry remark_of heading_parts split_once
 known_codes_are_taken = refl
 

@@ -47,6 +47,7 @@ pub record Reads (verb : Verb) (root : Text) (rows : List Row) (line : Line) : T
   pub modalias : line.modalias.now ≡ text_of (codes "MODALIAS") rows
   pub summary : line.summary ≡ not (is_set (codes "no-summary") rows)
   pub style : line.style ≡ not (is_set (codes "no-style") rows)
+  pub lint : line.lint ≡ is_set (codes "lint") rows
   pub format : line.format ≡ unwrap_or (format_of rows) Plain
   pub all : line.all ≡ is_set (codes "all") rows
   pub ignored : map (λ c. c.now) line.ignored.items ≡ flat_map cut_at_commas (texts_of (codes "ignore") rows)

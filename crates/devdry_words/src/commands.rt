@@ -6,10 +6,10 @@ ghost use Rattle.std.specs.Prelude.{◌≡◌, IfOk, false};
 ghost use Rattle.clap.specs.Words.{app_of, rule_of};
 ghost use Rattle.devdry_words.specs.Commands.{IsCommand, all_rule, code_rule, compare_shape, devdry, events_shape};
 ghost use Rattle.devdry_words.specs.Commands.{explain_shape, files_rule, files_shape, flag_rule, format_rule};
-ghost use Rattle.devdry_words.specs.Commands.{ignore_rule, index_rule, modalias_rule, new_root_rule, no_style_rule};
-ghost use Rattle.devdry_words.specs.Commands.{no_summary_rule, old_rule, program as program_app, query_shape};
-ghost use Rattle.devdry_words.specs.Commands.{required_rule, root_rule, sources_rule, strict_rule, update_shape};
-ghost use Rattle.devdry_words.specs.Commands.{verify_shape, why_rule};
+ghost use Rattle.devdry_words.specs.Commands.{ignore_rule, index_rule, lint_rule, modalias_rule, new_root_rule};
+ghost use Rattle.devdry_words.specs.Commands.{no_style_rule, no_summary_rule, old_rule, program as program_app};
+ghost use Rattle.devdry_words.specs.Commands.{query_shape, required_rule, root_rule, sources_rule, strict_rule};
+ghost use Rattle.devdry_words.specs.Commands.{update_shape, verify_shape, why_rule};
 
 use clap::{Arg, ArgAction, Command};
 use std::alloc::{AllocError, Global};
@@ -102,6 +102,16 @@ fn no_style_flag<'a>(alloc: Global) -> Arg<'a>
     ensures { (rule_of result ≡ no_style_rule) × (result.global ≡ false) }
 {
     flag(alloc, "no-style", "Give no messages about style")
+}
+
+fn lint_flag<'a>(alloc: Global) -> Arg<'a>
+    ensures { (rule_of result ≡ lint_rule) × (result.global ≡ false) }
+{
+    flag(
+        alloc,
+        "lint",
+        "Also tell of rules that are most likely not the ones that were meant",
+    )
 }
 
 fn all_flag<'a>(alloc: Global) -> Arg<'a>
@@ -206,6 +216,7 @@ fn verify_command<'a>(alloc: Global) -> Result<Command<'a>, AllocError>
         .arg(ignore_option(alloc))?
         .arg(no_summary_flag(alloc))?
         .arg(no_style_flag(alloc))?
+        .arg(lint_flag(alloc))?
         .arg(files_argument(alloc, RULES_FILES))
 }
 

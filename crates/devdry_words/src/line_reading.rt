@@ -53,6 +53,7 @@ pub(crate) fn line_with<'a>(
         modalias: text(matches, "MODALIAS"),
         summary: !is_given(matches, "no-summary"),
         style: !is_given(matches, "no-style"),
+        lint: is_given(matches, "lint"),
         format: format_of(matches).unwrap_or(Format::Plain),
         all: is_given(matches, "all"),
         ignored: parts(alloc, matches, "ignore")?,

@@ -1,6 +1,6 @@
 -- With the default format and nothing ignored, what is told is what the messages say.
-use Rattle.std.proofs.Common.{◌≡◌, ℕ, ◌+◌, ◌^◌, ◌==◌, Bool, true, false, not, ◌&&◌, ◌||◌, cond, List, [], ◌∷◌, ◌++◌, length, filter, fold, map, nat_le, refl, ap, sym, ◌∙◌, subst}
-use Rattle.std.specs.List.{AllZip, count_by, flat_map, list_any}
+use Rattle.std.proofs.Common.{◌≡◌, ℕ, ◌+◌, ◌^◌, Bool, true, false, not, ◌&&◌, ◌||◌, cond, List, [], ◌∷◌, ◌++◌, length, filter, fold, map, nat_le, refl, ap, sym, ◌∙◌, subst}
+use Rattle.std.specs.List.{count_by, flat_map}
 use Rattle.std.proofs.lemmas.List.Elements.{filter-append}
 use Rattle.text_bytes.specs.declared.message.Message.{Message}
 use Rattle.text_bytes.specs.declared.source_file.SourceFile.{SourceFile}
@@ -12,6 +12,7 @@ use Rattle.rule_places.specs.Files.{placed_findings}
 use Rattle.rule_places.specs.Laws.{as_message}
 use Rattle.rule_places.specs.declared.placed_finding.PlacedFinding.{PlacedFinding}
 use Rattle.rule_places.proofs.Messages.{findings_told}
+use Rattle.rule_lints.specs.FileLints.{placed_lints}
 use Rattle.engine_ends.specs.Delivery.{Outcome}
 use Rattle.engine_ends.specs.declared.line.Format.TheVariants.{Plain}
 use Rattle.engine_ends.specs.declared.line.Line.{Line}
@@ -23,7 +24,9 @@ use Rattle.engine_reports.specs.Outcomes.{rules_outcome, too_many_rules, verify_
 use Rattle.engine_formats.specs.Diagnostics.{DiagnosticValue}
 use Rattle.engine_formats.specs.Formats.{formatted}
 use Rattle.engine_formats.specs.Made.{AreMadeOf, IsMadeOf}
-use Rattle.engine_checks.specs.Files.{file_text, ignored_by, ignores_counted, rule_diagnostic, rules_found, rules_told}
+use Rattle.engine_checks.specs.Codes.{has_comments}
+use Rattle.engine_checks.specs.Files.{file_text, found_with, ignored_by, ignores_counted, rule_diagnostic, rules_found, rules_told}
+use Rattle.engine_checks.specs.Laws.{messages_in}
 use Rattle.engine_checks.specs.Outcomes.{bad_count, checks_outcome, checks_said, is_named_in, rules_checks}
 use Rattle.engine_checks.specs.Told.{FileText, by_line, file_told, is_told}
 
@@ -32,15 +35,15 @@ none_among [] = refl
 none_among (d ∷ ds) = ap (λ xs. d ∷ xs) (none_among ds)
 
 -- with nothing ignored all is told, or all but what is about style
-pub all_but_style : (style : Bool) (file : FileText) (found : List DiagnosticValue) → file_told style [] file [] found ≡ filter (is_told style [] []) found
+pub all_but_style : (lint style : Bool) (file : FileText) (found : List DiagnosticValue) → file_told lint style [] file [] found ≡ filter (is_told lint style [] []) found
 unfolding file_told
-all_but_style style file found = none_among (filter (is_told style [] []) found)
+all_but_style lint style file found = none_among (filter (is_told lint style [] []) found)
 
 one_made : (file : FileText) (p : PlacedFinding) → IsMadeOf (as_message file.name p) (rule_diagnostic file p)
 one_made file p = record { name = refl; begins = refl; remark = refl; word = refl }
 
 -- the diagnostics of findings are made of their messages
-findings_made : (style : Bool) (file : FileText) (ps : List PlacedFinding) → AreMadeOf (told style (map (as_message file.name) ps)) (filter (is_told style [] []) (map (rule_diagnostic file) ps))
+findings_made : (style : Bool) (file : FileText) (ps : List PlacedFinding) → AreMadeOf (told style (map (as_message file.name) ps)) (filter (is_told false style [] []) (map (rule_diagnostic file) ps))
 unfolding told
 findings_made true file [] = tt
 findings_made true file (p ∷ ps) = (one_made file p, findings_made true file ps)
@@ -51,18 +54,32 @@ findings_made false file (p ∷ ps) = by (is_style p.kind) (findings_made false 
     ms = filter (λ m. not (is_style m.kind)) (map (as_message file.name) ps)
 
     ds : List DiagnosticValue
-    ds = filter (is_told false [] []) (map (rule_diagnostic file) ps)
+    ds = filter (is_told false false [] []) (map (rule_diagnostic file) ps)
 
     by : (b : Bool) → AreMadeOf ms ds → AreMadeOf (cond (not b) (as_message file.name p ∷ ms) ms) (cond ((not b && true) && true) (rule_diagnostic file p ∷ ds) ds)
     by true more = more
     by false more = (one_made file p, more)
 
-file_made : (line : Line) (file : SourceFile) → ignored_by line ≡ [] → AreMadeOf (told line.style (file_messages file)) (rules_told line file)
+-- where no lints are looked for, what is found is the messages
+pub messages_alone : (line : Line) (file : SourceFile) → line.lint ≡ false → has_comments (ignored_by line) ≡ false → rules_found line file ≡ messages_in line file
+messages_alone line file unasked counts =
+    ap (λ b. found_with (file_text line file) (placed_findings file) (cond (b || has_comments (ignored_by line)) (placed_lints file) [])) unasked
+    ∙ ap (λ b. found_with (file_text line file) (placed_findings file) (cond b (placed_lints file) [])) counts
+    ∙ none_among (messages_in line file)
+
+-- with nothing ignored and no lints, the messages are told, or all but those about style
+messages_told : (line : Line) (file : SourceFile) → line.lint ≡ false → ignored_by line ≡ [] → rules_told line file ≡ filter (is_told false line.style [] []) (messages_in line file)
 unfolding rules_told
-file_made line file none =
-    subst (λ ds. AreMadeOf (told line.style (file_messages file)) ds)
-    (sym (ap (λ ignored. file_told line.style ignored (file_text line file) (ignores_counted ignored file) (rules_found line file)) none ∙ all_but_style line.style (file_text line file) (rules_found line file)))
-    (subst (λ ms. AreMadeOf (told line.style ms) (filter (is_told line.style [] []) (rules_found line file))) (findings_told file) (findings_made line.style (file_text line file) (placed_findings file)))
+messages_told line file unasked none =
+    ap (file_told line.lint line.style (ignored_by line) (file_text line file) (ignores_counted (ignored_by line) file)) (messages_alone line file unasked (ap has_comments none))
+    ∙ ap (λ ignored. file_told line.lint line.style ignored (file_text line file) (ignores_counted ignored file) (messages_in line file)) none
+    ∙ ap (λ b. file_told b line.style [] (file_text line file) [] (messages_in line file)) unasked
+    ∙ all_but_style false line.style (file_text line file) (messages_in line file)
+
+file_made : (line : Line) (file : SourceFile) → line.lint ≡ false → ignored_by line ≡ [] → AreMadeOf (told line.style (file_messages file)) (rules_told line file)
+file_made line file unasked none =
+    subst (λ ds. AreMadeOf (told line.style (file_messages file)) ds) (sym (messages_told line file unasked none))
+    (subst (λ ms. AreMadeOf (told line.style ms) (filter (is_told false line.style [] []) (messages_in line file))) (findings_told file) (findings_made line.style (file_text line file) (placed_findings file)))
 
 pub both_made : (ms ns : List Message) (ds es : List DiagnosticValue) → AreMadeOf ms ds → AreMadeOf ns es → AreMadeOf (ms ++ ns) (ds ++ es)
 both_made [] ns [] es f g = g
@@ -80,11 +97,11 @@ unfolding told
 told_none true = refl
 told_none false = refl
 
-files_made : (line : Line) (files : List SourceFile) → ignored_by line ≡ [] → AreMadeOf (told line.style (flat_map file_messages files)) (flat_map (rules_told line) files)
-files_made line [] none = subst (λ ms. AreMadeOf ms []) (sym (told_none line.style)) tt
-files_made line (file ∷ files) none =
+files_made : (line : Line) (files : List SourceFile) → line.lint ≡ false → ignored_by line ≡ [] → AreMadeOf (told line.style (flat_map file_messages files)) (flat_map (rules_told line) files)
+files_made line [] unasked none = subst (λ ms. AreMadeOf ms []) (sym (told_none line.style)) tt
+files_made line (file ∷ files) unasked none =
     subst (λ ms. AreMadeOf ms (rules_told line file ++ flat_map (rules_told line) files)) (sym (told_both line.style (file_messages file) (flat_map file_messages files)))
-    (both_made (told line.style (file_messages file)) (told line.style (flat_map file_messages files)) (rules_told line file) (flat_map (rules_told line) files) (file_made line file none) (files_made line files none))
+    (both_made (told line.style (file_messages file)) (told line.style (flat_map file_messages files)) (rules_told line file) (flat_map (rules_told line) files) (file_made line file unasked none) (files_made line files unasked none))
 
 same_named : (ms : List Message) (ds : List DiagnosticValue) (name : Text) → AreMadeOf ms ds → is_named_in ds name ≡ plain.is_named_in ms name
 same_named [] [] name made = refl
@@ -108,12 +125,12 @@ module _ (plainly : (ms : List Message) (ds : List DiagnosticValue) → AreMadeO
       let said : ℕ → Text → Outcome = λ (n : ℕ) (t : Text). record { output = cond line.summary (summary_line (length files) n) []; messages = t; status = verify_status n } in
       ap (λ n. said n (formatted line.format ds)) count ∙ ap (said (plain.bad_count files ms)) text
 
-  same_rules : (line : Line) (files : List SourceFile) → line.format ≡ Plain → ignored_by line ≡ [] → rules_checks line files ≡ rules_outcome line files
+  same_rules : (line : Line) (files : List SourceFile) → line.format ≡ Plain → line.lint ≡ false → ignored_by line ≡ [] → rules_checks line files ≡ rules_outcome line files
   unfolding rules_checks rules_outcome set_of
-  same_rules line files format none =
+  same_rules line files format unasked none =
       ap (λ o. cond (nat_le (tokens_in (set_of files).rules) (2 ^ 24)) o too_many_rules)
-      (same_said line files (told line.style (set_of files).messages) (flat_map (rules_told line) files) format (files_made line files none))
+      (same_said line files (told line.style (set_of files).messages) (flat_map (rules_told line) files) format (files_made line files unasked none))
 
   -- what `verify` says is as before
-  pub as_before : (line : Line) (files : List SourceFile) → line.format ≡ Plain → ignored_by line ≡ [] → checks_outcome line files ≡ verify_outcome line files
-  as_before line files format none = same_rules line (files_read Rules line files) format none
+  pub as_before : (line : Line) (files : List SourceFile) → line.format ≡ Plain → line.lint ≡ false → ignored_by line ≡ [] → checks_outcome line files ≡ verify_outcome line files
+  as_before line files format unasked none = same_rules line (files_read Rules line files) format unasked none

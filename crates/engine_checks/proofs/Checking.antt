@@ -1,7 +1,6 @@
 -- What tables of codes tell of files is what is told of them.
-use Rattle.std.proofs.Common.{◌≡◌, ℕ, ◌^◌, ◌<◌, ◌≤◌, Bool, true, false, not, ◌&&◌, ◌||◌, cond, List, [], ◌∷◌, ◌++◌, filter, map, Option, Some, None, option_map, refl, ap, sym, ◌∙◌, arith}
+use Rattle.std.proofs.Common.{◌≡◌, ◌^◌, ◌<◌, ◌≤◌, Bool, not, ◌&&◌, ◌||◌, cond, List, [], ◌∷◌, ◌++◌, filter, map, refl, ap, ◌∙◌}
 use Rattle.std.specs.List.{flat_map}
-use Rattle.std.proofs.Math.Dec.{leb}
 use Rattle.std.proofs.lemmas.Bool.{le-leb, lt-leb}
 use Rattle.text_bytes.specs.declared.source_file.SourceFile.{SourceFile}
 use Rattle.text_tables.specs.Texts.{Text, is_among}
@@ -10,9 +9,10 @@ use Rattle.hwdb_core.specs.declared.fault.HwdbFault.{HwdbFault}
 use Rattle.hwdb_core.specs.declared.fault.HwdbFault.TheVariants as hwdb
 use Rattle.rule_types.specs.Rules.{tokens_in}
 use Rattle.rule_core.specs.Rules.{set_of}
+use Rattle.rule_places.specs.Files.{placed_findings}
+use Rattle.rule_lints.specs.FileLints.{placed_lints}
 use Rattle.rule_core.specs.declared.fault.RulesFault.{RulesFault}
 use Rattle.rule_core.specs.declared.fault.RulesFault.TheVariants as rules
-use Rattle.engine_ends.specs.Delivery.{Outcome}
 use Rattle.engine_ends.specs.declared.line.Line.{Line}
 use Rattle.engine_reports.specs.Outcomes.{too_many_rules}
 use Rattle.engine_reports.proofs.Bounds.{entries_refused, outcome_few}
@@ -21,55 +21,63 @@ use Rattle.engine_formats.specs.Diagnostics.{DiagnosticValue}
 use Rattle.engine_formats.specs.Remarks.{code_of}
 use Rattle.engine_formats.specs.declared.remark.Remark.{Remark}
 use Rattle.engine_checks.specs.Codes.{comments_word, has_comments}
-use Rattle.engine_checks.specs.Files.{database_found, database_told, file_text, ignored_by, ignores_counted, rules_found, rules_told, told_of}
+use Rattle.engine_checks.specs.Files.{database_found, database_told, file_text, found_with, ignored_by, rules_found, rules_told, told_of}
 use Rattle.engine_checks.specs.Ignores.{Ignore, ignores_in}
 use Rattle.engine_checks.specs.Outcomes.{checks_said, database_checks, rules_checks, entries_said}
-use Rattle.engine_checks.specs.Tables.{database_told_by, read_by, rules_told_by}
-use Rattle.engine_checks.specs.Told.{FileText, by_line, comment_diagnostics, file_told, is_about_style, is_asked, is_silenced, is_told}
+use Rattle.engine_checks.specs.Tables.{database_told_by, read_by, rules_found_by, rules_told_by}
+use Rattle.engine_checks.specs.Told.{FileText, by_line, comment_diagnostics, file_told, is_about_style, is_asked, is_lint, is_silenced, is_told}
 
 same_filter : {X : Type 0} (p q : X → Bool) (xs : List X) → ((x : X) → p x ≡ q x) → filter p xs ≡ filter q xs
 same_filter p q [] e = refl
 same_filter p q (x ∷ xs) e = ap (λ b. cond b (x ∷ filter p xs) (filter p xs)) (e x) ∙ ap (λ ys. cond (q x) (x ∷ ys) ys) (same_filter p q xs e)
 
 -- what is told hangs on which codes are ignored, and not on how they are listed
-told_alike : (style : Bool) (these those : List Text) (file : FileText) (ignores : List Ignore) (found : List DiagnosticValue)
-    → ((code : Text) → is_among these code ≡ is_among those code) → file_told style these file ignores found ≡ file_told style those file ignores found
+told_alike : (lint style : Bool) (these those : List Text) (file : FileText) (ignores : List Ignore) (found : List DiagnosticValue)
+    → ((code : Text) → is_among these code ≡ is_among those code) → file_told lint style these file ignores found ≡ file_told lint style those file ignores found
 unfolding file_told
-told_alike style these those file ignores found e =
-    let asked : (remark : Remark) → is_asked style these remark ≡ is_asked style those remark = λ (remark : Remark). ap (λ b. (style || not (is_about_style remark)) && not b) (e (code_of remark)) in
-    ap (λ ds. by_line ds (filter (λ d. is_asked style these d.remark) (comment_diagnostics file found ignores)))
-    (same_filter (is_told style these ignores) (is_told style those ignores) found (λ d. ap (λ b. b && not (is_silenced ignores d)) (asked d.remark)))
-    ∙ ap (by_line (filter (is_told style those ignores) found))
-    (same_filter (λ d. is_asked style these d.remark) (λ d. is_asked style those d.remark) (comment_diagnostics file found ignores) (λ d. asked d.remark))
+told_alike lint style these those file ignores found e =
+    let asked : (remark : Remark) → is_asked lint style these remark ≡ is_asked lint style those remark = λ (remark : Remark). ap (λ b. ((not (is_lint remark) || lint) && (style || not (is_about_style remark))) && not b) (e (code_of remark)) in
+    ap (λ ds. by_line ds (filter (λ d. is_asked lint style these d.remark) (comment_diagnostics file found ignores)))
+    (same_filter (is_told lint style these ignores) (is_told lint style those ignores) found (λ d. ap (λ b. b && not (is_silenced ignores d)) (asked d.remark)))
+    ∙ ap (by_line (filter (is_told lint style those ignores) found))
+    (same_filter (λ d. is_asked lint style these d.remark) (λ d. is_asked lint style those d.remark) (comment_diagnostics file found ignores) (λ d. asked d.remark))
 
-module _ (line : Line) (style comments : Bool) (ignored : List Text) (s : style ≡ line.style) (e : (code : Text) → is_among ignored code ≡ is_among (ignored_by line) code) (c : comments ≡ has_comments ignored) where
+module _ (line : Line) (lint style comments : Bool) (ignored : List Text) (l : lint ≡ line.lint) (s : style ≡ line.style) (e : (code : Text) → is_among ignored code ≡ is_among (ignored_by line) code) (c : comments ≡ has_comments ignored) where
   -- what is told of a file, by tables
-  one_file : (file : SourceFile) (found : List DiagnosticValue) → file_told style ignored (file_text line file) (cond comments (ignores_in file) []) found ≡ told_of line line.style file found
+  one_file : (file : SourceFile) (found : List DiagnosticValue) → file_told lint style ignored (file_text line file) (cond comments (ignores_in file) []) found ≡ told_of line file found
   one_file file found =
-      told_alike style ignored (ignored_by line) (file_text line file) (cond comments (ignores_in file) []) found e
-      ∙ ap (λ b. file_told b (ignored_by line) (file_text line file) (cond comments (ignores_in file) []) found) s
-      ∙ ap (λ b. file_told line.style (ignored_by line) (file_text line file) (cond b (ignores_in file) []) found) (c ∙ e comments_word)
+      told_alike lint style ignored (ignored_by line) (file_text line file) (cond comments (ignores_in file) []) found e
+      ∙ ap (λ b. file_told b style (ignored_by line) (file_text line file) (cond comments (ignores_in file) []) found) l
+      ∙ ap (λ b. file_told line.lint b (ignored_by line) (file_text line file) (cond comments (ignores_in file) []) found) s
+      ∙ ap (λ b. file_told line.lint line.style (ignored_by line) (file_text line file) (cond b (ignores_in file) []) found) (c ∙ e comments_word)
 
-  rules_file : (file : SourceFile) → rules_told_by style ignored (read_by line comments file) ≡ rules_told line file
+  -- what is found, by tables
+  found_file : (file : SourceFile) → rules_found_by lint ignored (read_by line comments file) ≡ rules_found line file
+  found_file file =
+      ap (λ b. found_with (file_text line file) (placed_findings file) (cond (b || has_comments ignored) (placed_lints file) [])) l
+      ∙ ap (λ b. found_with (file_text line file) (placed_findings file) (cond (line.lint || b) (placed_lints file) [])) (e comments_word)
+
+  rules_file : (file : SourceFile) → rules_told_by lint style ignored (read_by line comments file) ≡ rules_told line file
   unfolding rules_told
-  rules_file file = one_file file (rules_found line file)
+  rules_file file =
+      ap (file_told lint style ignored (file_text line file) (cond comments (ignores_in file) [])) (found_file file) ∙ one_file file (rules_found line file)
 
-  database_file : (file : SourceFile) → database_told_by style ignored (read_by line comments file) ≡ database_told line file
+  database_file : (file : SourceFile) → database_told_by lint style ignored (read_by line comments file) ≡ database_told line file
   unfolding database_told
   database_file file = one_file file (database_found line file)
 
   -- rules files that are read, by tables
-  pub files_by : (files : List SourceFile) → flat_map (rules_told_by style ignored) (map (read_by line comments) files) ≡ flat_map (rules_told line) files
+  pub files_by : (files : List SourceFile) → flat_map (rules_told_by lint style ignored) (map (read_by line comments) files) ≡ flat_map (rules_told line) files
   files_by [] = refl
   files_by (file ∷ files) =
-      ap (λ ds. ds ++ flat_map (rules_told_by style ignored) (map (read_by line comments) files)) (rules_file file)
+      ap (λ ds. ds ++ flat_map (rules_told_by lint style ignored) (map (read_by line comments) files)) (rules_file file)
       ∙ ap (λ ds. rules_told line file ++ ds) (files_by files)
 
   -- files of a database that are read, by tables
-  pub database_by : (files : List SourceFile) → flat_map (database_told_by style ignored) (map (read_by line comments) files) ≡ flat_map (database_told line) files
+  pub database_by : (files : List SourceFile) → flat_map (database_told_by lint style ignored) (map (read_by line comments) files) ≡ flat_map (database_told line) files
   database_by [] = refl
   database_by (file ∷ files) =
-      ap (λ ds. ds ++ flat_map (database_told_by style ignored) (map (read_by line comments) files)) (database_file file)
+      ap (λ ds. ds ++ flat_map (database_told_by lint style ignored) (map (read_by line comments) files)) (database_file file)
       ∙ ap (λ ds. database_told line file ++ ds) (database_by files)
 
 pub checks_few : (line : Line) (files : List SourceFile) → tokens_in (set_of files).rules ≤ 2 ^ 24 → rules_checks line files ≡ checks_said line files (flat_map (rules_told line) files)

@@ -1,41 +1,61 @@
--- The codes of the kinds of messages, one by one.
-use Rattle.std.proofs.Common.{◌≡◌, ℕ, nat_eq, Bool, true, false, cond, List, [], ◌∷◌, find, Option, Some, None, is_none, refl, ap, ◌∙◌}
+-- The codes of remarks, one by one.
+use Rattle.std.proofs.Common.{◌≡◌, Bool, true, false, cond, List, [], ◌∷◌, find, Option, Some, None, refl, ap, ◌∙◌}
+use Rattle.std.specs.Option.{option_map_or}
 use Rattle.std.specs.Cmp.Lexicographic.{bytes_decides}
 use Rattle.text_bytes.specs.Texts.{split_once}
-use Rattle.text_bytes.specs.declared.message.MessageKind.{MessageKind}
 use Rattle.text_bytes.specs.declared.message.MessageKind.TheVariants.{PropertyWithoutMatch, MatchWithoutProperty, UnindentedLine, NoEquals, EmptyKey, PatternNotSupported, BadSyntax, UnknownKey, OperatorNotAllowed, WrongAttribute, BadValue, BadSubstitution, NoLaterLabel, GivenTwice, LineTooLong, BadPrefix, SetNotSupported, OpenAtEnd, CommaExpected, BlankExpected, ReadAsAssign, LabelUnused}
+use Rattle.rule_types.specs.declared.lint.Lint.TheVariants.{ModeNotOctal, SignOfShell, RelativeProgram, LetterCase, NoSuchDevice, ImportedBelow, MeantToCompare, NameOutsideNet, LinkWithDev, QuotedName, NotAPattern, AlwaysHolds, NeverReached}
 use Rattle.text_tables.specs.Texts.{Text, same_text}
 use Rattle.engine_formats.specs.Codes.{remark_of, remarks}
 use Rattle.engine_formats.specs.Remarks.{code_of, heading_parts}
 use Rattle.engine_formats.specs.declared.remark.Remark.{Remark}
-use Rattle.engine_formats.specs.declared.remark.Remark.TheVariants.{Message, IdleIgnore, UnknownCode}
-use Rattle.engine_checks.specs.Codes.{kind_of, message_kind}
+use Rattle.engine_formats.specs.declared.remark.Remark.TheVariants.{Message, Lint, IdleIgnore, UnknownCode}
+use Rattle.engine_checks.specs.Codes.{is_code, is_found}
 
--- each kind is found by its code
-pub each_found : (kind : MessageKind) → kind_of (code_of (Message kind)) ≡ Some kind
+-- each remark is found by its code
+each_found : (remark : Remark) → remark_of (code_of remark) ≡ Some remark
 unfolding remark_of heading_parts split_once
-each_found PropertyWithoutMatch = refl
-each_found MatchWithoutProperty = refl
-each_found UnindentedLine = refl
-each_found NoEquals = refl
-each_found EmptyKey = refl
-each_found PatternNotSupported = refl
-each_found BadSyntax = refl
-each_found UnknownKey = refl
-each_found OperatorNotAllowed = refl
-each_found WrongAttribute = refl
-each_found BadValue = refl
-each_found BadSubstitution = refl
-each_found NoLaterLabel = refl
-each_found GivenTwice = refl
-each_found LineTooLong = refl
-each_found BadPrefix = refl
-each_found SetNotSupported = refl
-each_found OpenAtEnd = refl
-each_found CommaExpected = refl
-each_found BlankExpected = refl
-each_found ReadAsAssign = refl
-each_found LabelUnused = refl
+each_found (Message PropertyWithoutMatch) = refl
+each_found (Message MatchWithoutProperty) = refl
+each_found (Message UnindentedLine) = refl
+each_found (Message NoEquals) = refl
+each_found (Message EmptyKey) = refl
+each_found (Message PatternNotSupported) = refl
+each_found (Message BadSyntax) = refl
+each_found (Message UnknownKey) = refl
+each_found (Message OperatorNotAllowed) = refl
+each_found (Message WrongAttribute) = refl
+each_found (Message BadValue) = refl
+each_found (Message BadSubstitution) = refl
+each_found (Message NoLaterLabel) = refl
+each_found (Message GivenTwice) = refl
+each_found (Message LineTooLong) = refl
+each_found (Message BadPrefix) = refl
+each_found (Message SetNotSupported) = refl
+each_found (Message OpenAtEnd) = refl
+each_found (Message CommaExpected) = refl
+each_found (Message BlankExpected) = refl
+each_found (Message ReadAsAssign) = refl
+each_found (Message LabelUnused) = refl
+each_found (Lint ModeNotOctal) = refl
+each_found (Lint SignOfShell) = refl
+each_found (Lint RelativeProgram) = refl
+each_found (Lint LetterCase) = refl
+each_found (Lint NoSuchDevice) = refl
+each_found (Lint ImportedBelow) = refl
+each_found (Lint MeantToCompare) = refl
+each_found (Lint NameOutsideNet) = refl
+each_found (Lint LinkWithDev) = refl
+each_found (Lint QuotedName) = refl
+each_found (Lint NotAPattern) = refl
+each_found (Lint AlwaysHolds) = refl
+each_found (Lint NeverReached) = refl
+each_found IdleIgnore = refl
+each_found UnknownCode = refl
+
+-- the code of what can be found is one
+pub found_code : (remark : Remark) → is_found remark ≡ true → is_code (code_of remark) ≡ true
+found_code remark found = ap (λ o. option_map_or is_found o false) (each_found remark) ∙ found
 
 named_in : (rs : List Remark) (code : Text) (remark : Remark) → find (λ r. same_text (code_of r) code) rs ≡ Some remark → code_of remark ≡ code
 named_in [] code remark h = cc
@@ -50,12 +70,10 @@ remark_named : (code : Text) (remark : Remark) → remark_of code ≡ Some remar
 unfolding remark_of
 remark_named code remark h = named_in remarks code remark h
 
--- a code that is one is that of a kind
-pub is_named : (code : Text) → is_none (kind_of code) ≡ false → (kind : MessageKind) × (code_of (Message kind) ≡ code)
+-- a code that is one is that of something that can be found
+pub is_named : (code : Text) → is_code code ≡ true → (remark : Remark) × ((is_found remark ≡ true) × (code_of remark ≡ code))
 is_named code e = by (remark_of code) refl e
   where
-    by : (r : Option Remark) → remark_of code ≡ r → is_none (message_kind r) ≡ false → (kind : MessageKind) × (code_of (Message kind) ≡ code)
+    by : (r : Option Remark) → remark_of code ≡ r → option_map_or is_found r false ≡ true → (remark : Remark) × ((is_found remark ≡ true) × (code_of remark ≡ code))
     by None h k = cc
-    by (Some (Message kind)) h k = (kind, remark_named code (Message kind) h)
-    by (Some IdleIgnore) h k = cc
-    by (Some UnknownCode) h k = cc
+    by (Some remark) h k = (remark, (k, remark_named code remark h))

@@ -1,23 +1,22 @@
 -- What is left out of what was found, and what is said of codes in comments.
-use Rattle.std.proofs.Common.{◌≡◌, ◌⊎◌, inl, inr, ℕ, Bool, true, false, not, ◌&&◌, ◌||◌, ◌==◌, cond, List, [], ◌∷◌, Contains, Option, Some, None, is_none, refl, ap, sym, ◌∙◌, subst, arith}
+use Rattle.std.proofs.Common.{◌≡◌, ◌⊎◌, inl, inr, ℕ, Bool, true, false, not, ◌&&◌, ◌||◌, cond, List, [], ◌∷◌, Contains, Some, None, refl, ap, sym, ◌∙◌, subst, arith}
 use Rattle.std.specs.Cmp.Lexicographic.{bytes_decides}
 use Rattle.std.specs.List.{list_any}
 use Rattle.std.proofs.lemmas.Bool.{and_parts, eq-eqb, eqb-true}
 use Rattle.std.proofs.lemmas.List.Elements.{Contains-append_right}
 use Rattle.std.proofs.lemmas.List.Folds.{list_any_at}
-use Rattle.text_bytes.specs.declared.message.MessageKind.{MessageKind}
 use Rattle.text_tables.specs.Texts.{Text, is_among, same_text}
 use Rattle.engine_formats.specs.Diagnostics.{DiagnosticValue}
 use Rattle.engine_formats.specs.Remarks.{code_of}
 use Rattle.engine_formats.specs.declared.remark.Remark.{Remark}
-use Rattle.engine_formats.specs.declared.remark.Remark.TheVariants.{Message, IdleIgnore, UnknownCode}
-use Rattle.engine_checks.specs.Codes.{kind_of}
+use Rattle.engine_formats.specs.declared.remark.Remark.TheVariants.{IdleIgnore, UnknownCode}
+use Rattle.engine_checks.specs.Codes.{is_code, is_found}
 use Rattle.engine_checks.specs.Ignores.{Ignore}
 use Rattle.engine_checks.specs.Laws.{IsInUse, IsLeftOut, IsSaidOf, IsSilencing, IsUnknown}
-use Rattle.engine_checks.specs.Told.{covers, is_about_style, is_silenced, is_told, is_unknown, remark_on, silences}
+use Rattle.engine_checks.specs.Told.{covers, is_about_style, is_lint, is_silenced, is_told, is_unknown, remark_on, silences}
 use Rattle.engine_checks.specs.declared.ignores.Scope.{Scope}
 use Rattle.engine_checks.specs.declared.ignores.Scope.TheVariants.{File, Next, Unread}
-use Rattle.engine_checks.proofs.EachCode.{each_found, is_named}
+use Rattle.engine_checks.proofs.EachCode.{found_code, is_named}
 
 -- an element that passes
 one_passes : {X : Type 0} (p : X → Bool) (xs : List X) → list_any p xs ≡ true → (x : X) × (Contains xs x × (p x ≡ true))
@@ -57,75 +56,118 @@ is_silencing i d e =
 silencing : (i : Ignore) (d : DiagnosticValue) → IsSilencing i d → silences i d ≡ true
 silencing i d h = ap (λ b. b && same_text (code_of d.remark) i.code) (covering i.scope d.begins h.about) ∙ (bytes_decides (code_of d.remark) i.code).1 h.code
 
+one_fails : (a b : Bool) → (a && b) ≡ false → (a ≡ false) ⊎ (b ≡ false)
+one_fails false b e = inl refl
+one_fails true b e = inr e
+
+turned : (b : Bool) → not b ≡ false → b ≡ true
+turned true e = refl
+turned false e = cc
+
+no_lints : (linted lint : Bool) → (not linted || lint) ≡ false → (lint ≡ false) × (linted ≡ true)
+no_lints true false e = (refl, refl)
+no_lints true true e = cc
+no_lints false lint e = cc
+
+no_style : (style about : Bool) → (style || not about) ≡ false → (style ≡ false) × (about ≡ true)
+no_style false true e = (refl, refl)
+no_style false false e = cc
+no_style true about e = cc
+
 -- what is not told is left out
-pub left_out : (style : Bool) (ignored : List Text) (ignores : List Ignore) (d : DiagnosticValue) → is_told style ignored ignores d ≡ false → IsLeftOut style ignored ignores d
-left_out style ignored ignores d e = by style (is_about_style d.remark) (is_among ignored (code_of d.remark)) (is_silenced ignores d) refl refl refl refl e
+pub left_out : (lint style : Bool) (ignored : List Text) (ignores : List Ignore) (d : DiagnosticValue) → is_told lint style ignored ignores d ≡ false → IsLeftOut lint style ignored ignores d
+left_out lint style ignored ignores d e = silent (one_fails (wanted && not known) (not (is_silenced ignores d)) e)
   where
-    named : is_among ignored (code_of d.remark) ≡ true → IsLeftOut style ignored ignores d
-    named g = inr (inl (among ignored (code_of d.remark) g))
+    known : Bool
+    known = is_among ignored (code_of d.remark)
 
-    silent_by : is_silenced ignores d ≡ true → IsLeftOut style ignored ignores d
-    silent_by h = let one = one_passes (λ i. silences i d) ignores h in inr (inr (one.0, (one.1.0, is_silencing one.0 d one.1.1)))
+    linted : Bool
+    linted = not (is_lint d.remark) || lint
 
-    by : (s about known silent : Bool) → style ≡ s → is_about_style d.remark ≡ about → is_among ignored (code_of d.remark) ≡ known → is_silenced ignores d ≡ silent
-        → (((s || not about) && not known) && not silent) ≡ false → IsLeftOut style ignored ignores d
-    by false true known silent e f g h k = inl (e, f)
-    by false false true silent e f g h k = named g
-    by true about true silent e f g h k = named g
-    by false false false true e f g h k = silent_by h
-    by true about false true e f g h k = silent_by h
-    by false false false false e f g h k = cc
-    by true about false false e f g h k = cc
+    styled : Bool
+    styled = style || not (is_about_style d.remark)
 
-not_style : (s about known silent : Bool) → s ≡ false → about ≡ true → (((s || not about) && not known) && not silent) ≡ true → ⊥
-not_style true about known silent e f k = cc
-not_style false false known silent e f k = cc
-not_style false true known silent e f k = cc
+    wanted : Bool
+    wanted = linted && styled
 
-not_known : (b known silent : Bool) → known ≡ true → ((b && not known) && not silent) ≡ true → ⊥
-not_known b false silent e k = cc
-not_known true true silent e k = cc
-not_known false true silent e k = cc
+    unwanted : (linted ≡ false) ⊎ (styled ≡ false) → IsLeftOut lint style ignored ignores d
+    unwanted (inl h) = inl (no_lints (is_lint d.remark) lint h)
+    unwanted (inr h) = inr (inl (no_style style (is_about_style d.remark) h))
 
-not_silent : (b silent : Bool) → silent ≡ true → (b && not silent) ≡ true → ⊥
-not_silent b false e k = cc
-not_silent true true e k = cc
-not_silent false true e k = cc
+    named : (wanted ≡ false) ⊎ (not known ≡ false) → IsLeftOut lint style ignored ignores d
+    named (inl h) = unwanted (one_fails linted styled h)
+    named (inr h) = inr (inr (inl (among ignored (code_of d.remark) (turned known h))))
+
+    silent : ((wanted && not known) ≡ false) ⊎ (not (is_silenced ignores d) ≡ false) → IsLeftOut lint style ignored ignores d
+    silent (inl h) = named (one_fails wanted (not known) h)
+    silent (inr h) =
+        let one = one_passes (λ i. silences i d) ignores (turned (is_silenced ignores d) h) in
+        inr (inr (inr (one.0, (one.1.0, is_silencing one.0 d one.1.1))))
+
+lint_kept : (linted lint : Bool) → lint ≡ false → linted ≡ true → (not linted || lint) ≡ true → ⊥
+lint_kept true false e f k = cc
+lint_kept true true e f k = cc
+lint_kept false lint e f k = cc
+
+style_kept : (style about : Bool) → style ≡ false → about ≡ true → (style || not about) ≡ true → ⊥
+style_kept true about e f k = cc
+style_kept false true e f k = cc
+style_kept false false e f k = cc
+
+not_kept : (b : Bool) → b ≡ true → not b ≡ true → ⊥
+not_kept true e k = cc
+not_kept false e k = cc
 
 -- what is told is not left out
-pub told_is_kept : (style : Bool) (ignored : List Text) (ignores : List Ignore) (d : DiagnosticValue) → is_told style ignored ignores d ≡ true → IsLeftOut style ignored ignores d → ⊥
-told_is_kept style ignored ignores d e (inl x) = not_style style (is_about_style d.remark) (is_among ignored (code_of d.remark)) (is_silenced ignores d) x.0 x.1 e
-told_is_kept style ignored ignores d e (inr (inl x)) =
-    not_known (style || not (is_about_style d.remark)) (is_among ignored (code_of d.remark)) (is_silenced ignores d) (is_there ignored (code_of d.remark) x) e
-told_is_kept style ignored ignores d e (inr (inr x)) =
-    not_silent ((style || not (is_about_style d.remark)) && not (is_among ignored (code_of d.remark))) (is_silenced ignores d) (passes (λ i. silences i d) ignores x.0 x.1.0 (silencing x.0 d x.1.1)) e
+pub told_is_kept : (lint style : Bool) (ignored : List Text) (ignores : List Ignore) (d : DiagnosticValue) → is_told lint style ignored ignores d ≡ true → IsLeftOut lint style ignored ignores d → ⊥
+told_is_kept lint style ignored ignores d e = by
+  where
+    linted : Bool
+    linted = not (is_lint d.remark) || lint
 
-no_kind : (code : Text) → is_none (kind_of code) ≡ true → (kind : MessageKind) → code_of (Message kind) ≡ code → ⊥
-no_kind code e kind same =
-    let found : kind_of code ≡ Some kind = ap kind_of (sym same) ∙ each_found kind in
-    let there : is_none (kind_of code) ≡ false = ap is_none found in
-    let wrong : true ≡ false = sym e ∙ there in
-    cc
+    styled : Bool
+    styled = style || not (is_about_style d.remark)
+
+    known : Bool
+    known = is_among ignored (code_of d.remark)
+
+    asked : ((linted && styled) && not known) ≡ true
+    asked = (and_parts ((linted && styled) && not known) (not (is_silenced ignores d)) e).0
+
+    wanted : (linted && styled) ≡ true
+    wanted = (and_parts (linted && styled) (not known) asked).0
+
+    by : IsLeftOut lint style ignored ignores d → ⊥
+    by (inl x) = lint_kept (is_lint d.remark) lint x.0 x.1 (and_parts linted styled wanted).0
+    by (inr (inl x)) = style_kept style (is_about_style d.remark) x.0 x.1 (and_parts linted styled wanted).1
+    by (inr (inr (inl x))) = not_kept known (is_there ignored (code_of d.remark) x) (and_parts (linted && styled) (not known) asked).1
+    by (inr (inr (inr x))) =
+        not_kept (is_silenced ignores d) (passes (λ i. silences i d) ignores x.0 x.1.0 (silencing x.0 d x.1.1)) (and_parts ((linted && styled) && not known) (not (is_silenced ignores d)) e).1
+
+no_remark : (code : Text) → not (is_code code) ≡ true → (remark : Remark) → is_found remark ≡ true → code_of remark ≡ code → ⊥
+no_remark code e remark found same =
+    let there : is_code code ≡ true = ap is_code (sym same) ∙ found_code remark found in
+    not_kept (is_code code) there e
 
 unknown : (i : Ignore) → is_unknown i.scope i.code ≡ true → IsUnknown i
 unknown i e = by i.scope refl e
   where
     by : (scope : Scope) → i.scope ≡ scope → is_unknown scope i.code ≡ true → IsUnknown i
-    by File h k = inr (no_kind i.code k)
-    by (Next next) h k = inr (no_kind i.code k)
+    by File h k = inr (no_remark i.code k)
+    by (Next next) h k = inr (no_remark i.code k)
     by Unread h k = inl h
 
 known : (i : Ignore) → is_unknown i.scope i.code ≡ false → IsUnknown i → ⊥
 known i e = by i.scope refl e
   where
-    some_kind : is_none (kind_of i.code) ≡ false → ((kind : MessageKind) → code_of (Message kind) ≡ i.code → ⊥) → ⊥
-    some_kind k none = let named = is_named i.code k in none named.0 named.1
+    some_remark : not (is_code i.code) ≡ false → ((remark : Remark) → is_found remark ≡ true → code_of remark ≡ i.code → ⊥) → ⊥
+    some_remark k none = let named = is_named i.code (turned (is_code i.code) k) in none named.0 named.1.0 named.1.1
 
     by : (scope : Scope) → i.scope ≡ scope → is_unknown scope i.code ≡ false → IsUnknown i → ⊥
     by File h k (inl x) = cc
-    by File h k (inr x) = some_kind k x
+    by File h k (inr x) = some_remark k x
     by (Next next) h k (inl x) = cc
-    by (Next next) h k (inr x) = some_kind k x
+    by (Next next) h k (inr x) = some_remark k x
     by Unread h k x = cc
 
 -- what is said of a code in a comment

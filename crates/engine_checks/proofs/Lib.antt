@@ -7,5 +7,10 @@ pub mod Checking
 pub mod AsBefore
 pub mod EachCode
 pub mod LeftOut
+pub mod Merged
 pub mod Among
+pub mod LintsTold
 pub mod UpdatesBefore
+pub mod Bare
+pub mod Standing
+pub mod Following

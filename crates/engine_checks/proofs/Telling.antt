@@ -1,12 +1,11 @@
 -- What is told of a file, step by step.
-use Rattle.std.proofs.Common.{◌≡◌, ℕ, ◌+◌, ◌<◌, Bool, true, false, not, ◌&&◌, cond, List, [], ◌∷◌, ◌++◌, length, take, get_or, map, filter, Option, Some, None, option_map, option_to_list, nat_lt, refl, ap, sym, ◌∙◌, append_assoc, append-nil}
+use Rattle.std.proofs.Common.{◌≡◌, ℕ, ◌+◌, ◌<◌, Bool, true, false, not, ◌&&◌, cond, List, [], ◌∷◌, ◌++◌, length, take, get_or, map, filter, Option, Some, None, option_map, option_to_list, nat_lt, refl, ap, sym, ◌∙◌, append_assoc}
 use Rattle.std.specs.List.{cons_option, filter_map, list_any, take_while}
-use Rattle.std.proofs.lemmas.List.{take_more, take_all}
+use Rattle.std.proofs.lemmas.List.{take_more}
 use Rattle.std.proofs.lemmas.List.Elements.{filter_map-append}
 use Rattle.text_bytes.specs.Texts.{skip_while}
 use Rattle.text_tables.specs.Texts.{Text}
 use Rattle.engine_formats.specs.Diagnostics.{DiagnosticValue}
-use Rattle.engine_formats.specs.declared.remark.Remark.{Remark}
 use Rattle.engine_formats.specs.declared.remark.Remark.TheVariants.{IdleIgnore, UnknownCode}
 use Rattle.engine_checks.specs.Ignores.{Ignore}
 use Rattle.engine_checks.specs.Tables.{are_silencing, is_met, is_told_by, remark_by}
@@ -61,27 +60,27 @@ filter_made p q f (x ∷ xs) e = ap (λ b. map f (cond b (x ∷ filter p xs) (fi
     by false more = more
 
 -- tables of what comments silence tell which diagnostics are told
-pub told_by : {X : Type 0} (f : X → DiagnosticValue) (style : Bool) (ignored in_file : List Text) (at_lines : List (ℕ × Text)) (ignores : List Ignore) (found : List X)
+pub told_by : {X : Type 0} (f : X → DiagnosticValue) (lint style : Bool) (ignored in_file : List Text) (at_lines : List (ℕ × Text)) (ignores : List Ignore) (found : List X)
     → ((d : DiagnosticValue) → are_silencing in_file at_lines d ≡ is_silenced ignores d)
-    → map f (filter (λ x. is_told_by style ignored in_file at_lines (f x)) found) ≡ filter (is_told style ignored ignores) (map f found)
-told_by f style ignored in_file at_lines ignores found silencing =
-    filter_made (λ x. is_told_by style ignored in_file at_lines (f x)) (is_told style ignored ignores) f found
-    (λ x. ap (λ b. is_asked style ignored (f x).remark && not b) (silencing (f x)))
+    → map f (filter (λ x. is_told_by lint style ignored in_file at_lines (f x)) found) ≡ filter (is_told lint style ignored ignores) (map f found)
+told_by f lint style ignored in_file at_lines ignores found silencing =
+    filter_made (λ x. is_told_by lint style ignored in_file at_lines (f x)) (is_told lint style ignored ignores) f found
+    (λ x. ap (λ b. is_asked lint style ignored (f x).remark && not b) (silencing (f x)))
 
 -- all that is told of a file
-pub all_told : {X : Type 0} (f : X → DiagnosticValue) (style : Bool) (ignored : List Text) (file : FileText) (ignores : List Ignore) (found seen kept : List X) (remarks lent told : List DiagnosticValue)
+pub all_told : {X : Type 0} (f : X → DiagnosticValue) (lint style : Bool) (ignored : List Text) (file : FileText) (ignores : List Ignore) (found seen kept : List X) (remarks lent told : List DiagnosticValue)
     (met_file : List Text) (met_lines : List (ℕ × Text)) (in_file : List Text) (at_lines : List (ℕ × Text))
     → seen ≡ found
     → ((i : Ignore) → is_met met_file met_lines i.scope i.code ≡ list_any (silences i) (map f seen))
     → ((d : DiagnosticValue) → are_silencing in_file at_lines d ≡ is_silenced ignores d)
     → remarks ≡ filter_map (λ i. option_map (comment_diagnostic file i) (remark_by met_file met_lines i)) ignores
-    → lent ≡ filter (λ d. is_asked style ignored d.remark) remarks
-    → kept ≡ filter (λ x. is_told_by style ignored in_file at_lines (f x)) found
+    → lent ≡ filter (λ d. is_asked lint style ignored d.remark) remarks
+    → kept ≡ filter (λ x. is_told_by lint style ignored in_file at_lines (f x)) found
     → told ≡ by_line (map f kept) lent
-    → told ≡ file_told style ignored file ignores (map f found)
+    → told ≡ file_told lint style ignored file ignores (map f found)
 unfolding file_told
-all_told f style ignored file ignores found seen kept remarks lent told met_file met_lines in_file at_lines s met silencing r l k t =
+all_told f lint style ignored file ignores found seen kept remarks lent told met_file met_lines in_file at_lines s met silencing r l k t =
     t
-    ∙ ap (λ ds. by_line ds lent) (ap (map f) k ∙ told_by f style ignored in_file at_lines ignores found silencing)
-    ∙ ap (by_line (filter (is_told style ignored ignores) (map f found)))
-    (l ∙ ap (filter (λ d. is_asked style ignored d.remark)) (r ∙ remarks_by file met_file met_lines (map f found) ignores (λ i. met i ∙ ap (λ xs. list_any (silences i) (map f xs)) s)))
+    ∙ ap (λ ds. by_line ds lent) (ap (map f) k ∙ told_by f lint style ignored in_file at_lines ignores found silencing)
+    ∙ ap (by_line (filter (is_told lint style ignored ignores) (map f found)))
+    (l ∙ ap (filter (λ d. is_asked lint style ignored d.remark)) (r ∙ remarks_by file met_file met_lines (map f found) ignores (λ i. met i ∙ ap (λ xs. list_any (silences i) (map f xs)) s)))

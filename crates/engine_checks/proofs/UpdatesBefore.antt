@@ -14,7 +14,7 @@ use Rattle.text_tables.specs.Texts.{Text}
 use Rattle.text_core.specs.Spell.{spell}
 use Rattle.text_core.specs.declared.glob_fault.GlobFault.{GlobFault}
 use Rattle.text_core.specs.declared.item.Item.{Item}
-use Rattle.hwdb_core.specs.Messages.{about_bare, about_early, about_match, about_pair, about_property, about_rest, about_spelled, cut_messages}
+use Rattle.hwdb_core.specs.Messages.{about_bare, about_early, about_match, about_pair, about_property, about_spelled, cut_messages}
 use Rattle.hwdb_core.specs.Paragraphs.{Cut}
 use Rattle.hwdb_core.specs.Properties.{pair_at, property_text}
 use Rattle.hwdb_core.specs.Sources.{cuts_of, entries_of, messages_of}
@@ -28,7 +28,7 @@ use Rattle.engine_reports.specs.Messages.{message_lines}
 use Rattle.engine_reports.specs.Outcomes.{are_few, database_outcome, too_many_entries, update_outcome, update_status}
 use Rattle.engine_formats.specs.Diagnostics.{DiagnosticValue}
 use Rattle.engine_formats.specs.Formats.{formatted}
-use Rattle.engine_formats.specs.Made.{AreMadeOf, IsMadeOf}
+use Rattle.engine_formats.specs.Made.{AreMadeOf}
 use Rattle.engine_formats.specs.Placing.{placed}
 use Rattle.engine_checks.specs.Files.{database_diagnostic, database_found, database_told, file_text, ignored_by, ignores_counted}
 use Rattle.engine_checks.specs.Outcomes.{database_checks, entries_said, told_update_outcome}
@@ -99,17 +99,17 @@ all_made file (m ∷ ms) h k =
     )
 
 -- without comments and codes all of them are told
-all_told : (style : Bool) (file : FileText) (ms : List Message) → All (IsOf file.name) ms → filter (is_told style [] []) (map (database_diagnostic file) ms) ≡ map (database_diagnostic file) ms
-all_told style file [] h = refl
-all_told style file (m ∷ ms) h = by style (all_told style file ms (All-tail (IsOf file.name) m ms h))
+all_told : (lint style : Bool) (file : FileText) (ms : List Message) → All (IsOf file.name) ms → filter (is_told lint style [] []) (map (database_diagnostic file) ms) ≡ map (database_diagnostic file) ms
+all_told lint style file [] h = refl
+all_told lint style file (m ∷ ms) h = by style (all_told lint style file ms (All-tail (IsOf file.name) m ms h))
   where
     rest : List DiagnosticValue
     rest = map (database_diagnostic file) ms
 
-    by : (s : Bool) → filter (is_told s [] []) rest ≡ rest → filter (is_told s [] []) (database_diagnostic file m ∷ rest) ≡ database_diagnostic file m ∷ rest
+    by : (s : Bool) → filter (is_told lint s [] []) rest ≡ rest → filter (is_told lint s [] []) (database_diagnostic file m ∷ rest) ≡ database_diagnostic file m ∷ rest
     by true more = ap (λ ds. database_diagnostic file m ∷ ds) more
     by false more =
-        ap (λ b. cond ((not b && true) && true) (database_diagnostic file m ∷ filter (is_told false [] []) rest) (filter (is_told false [] []) rest)) (All-head (IsOf file.name) m ms h).style
+        ap (λ b. cond ((not b && true) && true) (database_diagnostic file m ∷ filter (is_told lint false [] []) rest) (filter (is_told lint false [] []) rest)) (All-head (IsOf file.name) m ms h).style
         ∙ ap (λ ds. database_diagnostic file m ∷ ds) more
 
 -- what is known of the words of messages
@@ -121,9 +121,9 @@ unfolding database_told
 file_made line file kept none few =
     subst (λ ds. AreMadeOf (messages_of (file ∷ [])) ds)
     (sym
-    (ap (λ ignored. file_told line.style ignored (file_text line file) (ignores_counted ignored file) (database_found line file)) none
-    ∙ all_but_style line.style (file_text line file) (database_found line file)
-    ∙ all_told line.style (file_text line file) (messages_of (file ∷ [])) (all_of file)))
+    (ap (λ ignored. file_told line.lint line.style ignored (file_text line file) (ignores_counted ignored file) (database_found line file)) none
+    ∙ all_but_style line.lint line.style (file_text line file) (database_found line file)
+    ∙ all_told line.lint line.style (file_text line file) (messages_of (file ∷ [])) (all_of file)))
     (all_made (file_text line file) (messages_of (file ∷ [])) (all_of file) (kept few))
 
 files_made : (line : Line) (files : List SourceFile) → ((file : SourceFile) → KeepsWords file) → ignored_by line ≡ [] → All (λ f. length (lines f.bytes) < 2 ^ 32) files → AreMadeOf (messages_of files) (flat_map (database_told line) files)

@@ -1,6 +1,6 @@
 -- Line by line, the starts that are not behind a line are passed.
-use Rattle.std.proofs.Common.{◌≡◌, ℕ, suc, ◌+◌, ◌<◌, ◌≤◌, Bool, true, false, cond, List, [], ◌∷◌, ◌++◌, drop, Option, Some, None, min, refl, ap, sym, ◌∙◌, append_assoc, append-nil, subst, arith, nat_lt, nat_le}
-use Rattle.std.specs.List.{find, flat_map, prefix_len, slice_get}
+use Rattle.std.proofs.Common.{◌≡◌, ℕ, suc, ◌+◌, ◌≤◌, Bool, true, false, cond, List, [], ◌∷◌, ◌++◌, drop, Option, Some, refl, ap, sym, ◌∙◌, append_assoc, append-nil, subst, arith, nat_le}
+use Rattle.std.specs.List.{prefix_len, slice_get}
 use Rattle.std.proofs.lemmas.Bool.{lt-ltb, le-ltb, leb-true, leb-false}
 use Rattle.text_bytes.specs.Lines.{NumberedLine, lines, numbered_from, numbered_lines}
 use Rattle.text_bytes.specs.Messages.{capped}

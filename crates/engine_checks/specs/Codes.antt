@@ -1,21 +1,21 @@
--- The codes of messages, by which `--ignore` and comments name them.
-use Rattle.std.specs.Prelude.{Bool, List, codes, Option, Some, None}
-use Rattle.text_bytes.specs.declared.message.MessageKind.{MessageKind}
+-- The codes of remarks, by which `--ignore` and comments name them.
+use Rattle.std.specs.Prelude.{Bool, true, false, List, codes}
+use Rattle.std.specs.Option.{option_map_or}
 use Rattle.text_tables.specs.Texts.{Text, is_among}
 use Rattle.engine_formats.specs.Codes.{remark_of}
 use Rattle.engine_formats.specs.declared.remark.Remark.{Remark}
-use Rattle.engine_formats.specs.declared.remark.Remark.TheVariants.{Message, IdleIgnore, UnknownCode}
+use Rattle.engine_formats.specs.declared.remark.Remark.TheVariants.{Message, Lint, IdleIgnore, UnknownCode}
 
--- the kind of message that a remark is, if it is one
-abbrev pub message_kind : Option Remark → Option MessageKind
-message_kind None = None
-message_kind (Some (Message kind)) = Some kind
-message_kind (Some IdleIgnore) = None
-message_kind (Some UnknownCode) = None
+-- whether a remark is on what is found in a file, a message or a lint, and not on a comment
+abbrev pub is_found : Remark → Bool
+is_found (Message kind) = true
+is_found (Lint lint) = true
+is_found IdleIgnore = false
+is_found UnknownCode = false
 
--- the kind of message of a code, if it is one
-abbrev pub kind_of : Text → Option MessageKind
-kind_of code = message_kind (remark_of code)
+-- whether a text is the code of something that can be found in a file
+abbrev pub is_code : Text → Bool
+is_code code = option_map_or is_found (remark_of code) false
 
 -- the word among the codes of `--ignore` that lets comments count
 abbrev pub comments_word : Text

@@ -1,5 +1,5 @@
 -- What is found in a file and told of it.
-use Rattle.std.specs.Prelude.{Bool, if◌then◌else◌, List, [], ◌∷◌, map}
+use Rattle.std.specs.Prelude.{Bool, ◌||◌, if◌then◌else◌, List, [], ◌∷◌, map}
 use Rattle.text_bytes.specs.Lines.{numbered_lines}
 use Rattle.text_bytes.specs.declared.message.Message.{Message}
 use Rattle.text_bytes.specs.declared.source_file.SourceFile.{SourceFile}
@@ -7,6 +7,8 @@ use Rattle.text_tables.specs.Texts.{Text}
 use Rattle.hwdb_core.specs.Sources.{messages_of}
 use Rattle.rule_places.specs.Files.{placed_findings}
 use Rattle.rule_places.specs.declared.placed_finding.PlacedFinding.{PlacedFinding}
+use Rattle.rule_lints.specs.FileLints.{placed_lints}
+use Rattle.rule_lints.specs.declared.placed_lint.PlacedLint.{PlacedLint}
 use Rattle.engine_ends.specs.declared.line.Line.{Line}
 use Rattle.engine_formats.specs.Diagnostics.{DiagnosticValue}
 use Rattle.engine_formats.specs.Paths.{path_of}
@@ -14,7 +16,7 @@ use Rattle.engine_formats.specs.Placing.{line_numbered, placed}
 use Rattle.engine_formats.specs.declared.remark.Remark.TheVariants as about
 use Rattle.engine_checks.specs.Codes.{has_comments}
 use Rattle.engine_checks.specs.Ignores.{Ignore, ignores_in}
-use Rattle.engine_checks.specs.Told.{FileText, file_told}
+use Rattle.engine_checks.specs.Told.{FileText, by_line, file_told}
 
 -- a file that a command line reads, as diagnostics show it
 abbrev pub file_text : Line → SourceFile → FileText
@@ -34,6 +36,20 @@ rule_diagnostic file found = record {
   word = found.word;
 }
 
+-- a lint of a rules file as a diagnostic
+abbrev pub lint_diagnostic : FileText → PlacedLint → DiagnosticValue
+lint_diagnostic file found = record {
+  name = file.name;
+  path = file.path;
+  source = line_numbered file.lines found.line;
+  begins = found.begins;
+  line = found.line;
+  column = found.column;
+  end = found.end;
+  remark = about.Lint found.lint;
+  word = found.word;
+}
+
 -- a message about a database as a diagnostic
 abbrev pub database_diagnostic : FileText → Message → DiagnosticValue
 database_diagnostic file message =
@@ -50,30 +66,38 @@ database_diagnostic file message =
       word = place.word;
     }
 
+-- the texts of `--ignore`
+abbrev pub ignored_by : Line → List Text
+ignored_by line = map (λ t. t.now) line.ignored.items
+
+-- the lints of a rules file, where they are asked for, or comments count, which may silence them
+abbrev pub lints_counted : Bool → List Text → SourceFile → List PlacedLint
+lints_counted lint ignored file = if lint || has_comments ignored then placed_lints file else []
+
+-- what is found in a rules file: its findings with these lints put among them, each behind all that is told of its rule
+abbrev pub found_with : FileText → List PlacedFinding → List PlacedLint → List DiagnosticValue
+found_with file findings lints = by_line (map (rule_diagnostic file) findings) (map (lint_diagnostic file) lints)
+
 -- all that is found in a rules file
 abbrev pub rules_found : Line → SourceFile → List DiagnosticValue
-rules_found line file = map (rule_diagnostic (file_text line file)) (placed_findings file)
+rules_found line file = found_with (file_text line file) (placed_findings file) (lints_counted line.lint (ignored_by line) file)
 
 -- all that is found in a file of a database
 abbrev pub database_found : Line → SourceFile → List DiagnosticValue
 database_found line file = map (database_diagnostic (file_text line file)) (messages_of (file ∷ []))
-
--- the texts of `--ignore`
-abbrev pub ignored_by : Line → List Text
-ignored_by line = map (λ t. t.now) line.ignored.items
 
 -- the codes in comments of a file, where comments count
 abbrev pub ignores_counted : List Text → SourceFile → List Ignore
 ignores_counted ignored file = if has_comments ignored then ignores_in file else []
 
 -- what is told of what was found in a file
-abbrev pub told_of : Line → Bool → SourceFile → List DiagnosticValue → List DiagnosticValue
-told_of line style file found = file_told style (ignored_by line) (file_text line file) (ignores_counted (ignored_by line) file) found
+abbrev pub told_of : Line → SourceFile → List DiagnosticValue → List DiagnosticValue
+told_of line file found = file_told line.lint line.style (ignored_by line) (file_text line file) (ignores_counted (ignored_by line) file) found
 
 -- what is told of a rules file
 unfoldable pub rules_told : Line → SourceFile → List DiagnosticValue
-rules_told line file = told_of line line.style file (rules_found line file)
+rules_told line file = told_of line file (rules_found line file)
 
--- what is told of a file of a database, whose messages are never about style
+-- what is told of a file of a database, which has no lints and no messages about style
 unfoldable pub database_told : Line → SourceFile → List DiagnosticValue
-database_told line file = told_of line line.style file (database_found line file)
+database_told line file = told_of line file (database_found line file)

@@ -1,22 +1,36 @@
 -- What is left out, what is said of codes in comments, and where these stand.
-use Rattle.std.specs.Prelude.{◌≡◌, ◌⊎◌, ◌<◌, ◌≤◌, ◌-◌, ℕ, Bool, true, false, List, ◌∷◌, ◌++◌, filter, not, take, drop, All, Contains, Option, Some, None}
+use Rattle.std.specs.Prelude.{◌≡◌, ◌⊎◌, ◌<◌, ◌≤◌, ◌-◌, ℕ, Bool, true, false, List, ◌∷◌, ◌++◌, filter, map, not, take, drop, All, Contains, Option, Some, None}
 use Rattle.text_bytes.specs.Lines.{numbered_lines}
 use Rattle.text_bytes.specs.Texts.{unindented}
-use Rattle.text_bytes.specs.declared.message.MessageKind.{MessageKind}
+use Rattle.text_bytes.specs.declared.source_file.SourceFile.{SourceFile}
 use Rattle.text_tables.specs.Texts.{Text}
 use Rattle.hwdb_core.specs.Lines.{trimmed}
+use Rattle.rule_places.specs.Files.{placed_findings}
+use Rattle.rule_lints.specs.FileLints.{placed_lints}
+use Rattle.engine_ends.specs.declared.line.Line.{Line}
 use Rattle.engine_formats.specs.Diagnostics.{DiagnosticValue}
 use Rattle.engine_formats.specs.Placing.{line_numbered}
 use Rattle.engine_formats.specs.Remarks.{code_of}
 use Rattle.engine_formats.specs.declared.remark.Remark.{Remark}
-use Rattle.engine_formats.specs.declared.remark.Remark.TheVariants.{Message, IdleIgnore, UnknownCode}
+use Rattle.engine_formats.specs.declared.remark.Remark.TheVariants.{Message, Lint, IdleIgnore, UnknownCode}
+use Rattle.engine_checks.specs.Codes.{is_found}
+use Rattle.engine_checks.specs.Files.{file_text, lint_diagnostic, rule_diagnostic}
 use Rattle.engine_checks.specs.Ignores.{Ignore}
-use Rattle.engine_checks.specs.Told.{is_about_style}
+use Rattle.engine_checks.specs.Told.{is_about_style, is_lint}
 use Rattle.engine_checks.specs.declared.ignores.Scope.TheVariants.{File, Next, Unread}
 
--- whether a remark is a message about a file, and none on a comment
+-- what is about the file among diagnostics, messages and lints, in their order
+abbrev pub found_among : List DiagnosticValue → List DiagnosticValue
+found_among told = filter (λ d. is_found d.remark) told
+
+-- the remarks on comments among diagnostics, in their order
+abbrev pub remarks_among : List DiagnosticValue → List DiagnosticValue
+remarks_among told = filter (λ d. not (is_found d.remark)) told
+
+-- whether a remark is a message
 abbrev pub is_message : Remark → Bool
 is_message (Message kind) = true
+is_message (Lint lint) = false
 is_message IdleIgnore = false
 is_message UnknownCode = false
 
@@ -24,28 +38,37 @@ is_message UnknownCode = false
 abbrev pub messages_among : List DiagnosticValue → List DiagnosticValue
 messages_among told = filter (λ d. is_message d.remark) told
 
--- the remarks on comments among diagnostics, in their order
-abbrev pub remarks_among : List DiagnosticValue → List DiagnosticValue
-remarks_among told = filter (λ d. not (is_message d.remark)) told
+-- the lints among diagnostics, in their order
+abbrev pub lints_among : List DiagnosticValue → List DiagnosticValue
+lints_among told = filter (λ d. is_lint d.remark) told
+
+-- the messages about a rules file
+abbrev pub messages_in : Line → SourceFile → List DiagnosticValue
+messages_in line file = map (rule_diagnostic (file_text line file)) (placed_findings file)
+
+-- the lints of a rules file
+abbrev pub lints_in : Line → SourceFile → List DiagnosticValue
+lints_in line file = map (lint_diagnostic (file_text line file)) (placed_lints file)
 
 -- A code in a comment silences what was found: that has the code, and the comment is about the whole file, or about the line that it is told of.
 pub record IsSilencing (ignore : Ignore) (d : DiagnosticValue) : Type 0 where
   pub code : code_of d.remark ≡ ignore.code
   pub about : (ignore.scope ≡ File) ⊎ (ignore.scope ≡ Next (Some d.begins))
 
--- What was found is left out: it is about style and style is, its code is a text of `--ignore`, or a code in a comment silences it.
-abbrev pub IsLeftOut : Bool → List Text → List Ignore → DiagnosticValue → Type 0
-IsLeftOut style ignored ignores d =
-    ((style ≡ false) × (is_about_style d.remark ≡ true))
-    ⊎ (Contains ignored (code_of d.remark) ⊎ ((ignore : Ignore) × (Contains ignores ignore × IsSilencing ignore d)))
+-- What was found is left out: it is a lint and lints are, it is about style and style is, its code is a text of `--ignore`, or a code in a comment silences it.
+abbrev pub IsLeftOut : Bool → Bool → List Text → List Ignore → DiagnosticValue → Type 0
+IsLeftOut lint style ignored ignores d =
+    ((lint ≡ false) × (is_lint d.remark ≡ true))
+    ⊎ (((style ≡ false) × (is_about_style d.remark ≡ true))
+    ⊎ (Contains ignored (code_of d.remark) ⊎ ((ignore : Ignore) × (Contains ignores ignore × IsSilencing ignore d))))
 
 -- A code in a comment silences something that was found.
 abbrev pub IsInUse : List DiagnosticValue → Ignore → Type 0
 IsInUse found ignore = (d : DiagnosticValue) × (Contains found d × IsSilencing ignore d)
 
--- A code in a comment is the code of no message, or the comment is not understood.
+-- A code in a comment is the code of no message and of no lint, or the comment is not understood.
 abbrev pub IsUnknown : Ignore → Type 0
-IsUnknown ignore = (ignore.scope ≡ Unread) ⊎ ((kind : MessageKind) → code_of (Message kind) ≡ ignore.code → ⊥)
+IsUnknown ignore = (ignore.scope ≡ Unread) ⊎ ((remark : Remark) → is_found remark ≡ true → code_of remark ≡ ignore.code → ⊥)
 
 -- What is to be said of a code in a comment: nothing where it is in use, that it is unknown where it is, and else that it silences nothing.
 abbrev pub IsSaidOf : List DiagnosticValue → Ignore → Option Remark → Type 0
@@ -53,6 +76,7 @@ IsSaidOf found ignore None = IsInUse found ignore
 IsSaidOf found ignore (Some UnknownCode) = IsUnknown ignore
 IsSaidOf found ignore (Some IdleIgnore) = (IsInUse found ignore → ⊥) × (IsUnknown ignore → ⊥)
 IsSaidOf found ignore (Some (Message kind)) = ⊥
+IsSaidOf found ignore (Some (Lint lint)) = ⊥
 
 -- A code in a comment stands in the line of its number at its columns, without the blanks before it and the whitespace behind it.
 pub record StandsInLine (bytes : List ℕ) (ignore : Ignore) : Type 0 where

@@ -1,4 +1,4 @@
--- What `verify` and `update` say with other formats and with messages that are ignored.
+-- What `verify` and `update` say with other formats, with lints, and with messages that are ignored.
 use Rattle.std.specs.Prelude.{ℕ, ◌^◌, Bool, nat_le, if◌then◌else◌, List, [], length, flat_map}
 use Rattle.std.specs.List.{count_by, list_any}
 use Rattle.text_bytes.specs.declared.source_file.SourceFile.{SourceFile}

@@ -12,7 +12,7 @@ use Rattle.hwdb_core.specs.Sources.{messages_of}
 use Rattle.rule_places.specs.Files.{placed_findings}
 use Rattle.engine_ends.specs.declared.line.Line.{Line}
 use Rattle.engine_checks.specs.Ignores.{Ignore, ignores_in}
-use Rattle.engine_checks.specs.Files.{database_diagnostic, file_text, rule_diagnostic}
+use Rattle.engine_checks.specs.Files.{database_diagnostic, file_text, found_with, lints_counted}
 use Rattle.engine_checks.specs.Told.{FileText, file_told, is_asked, is_unknown}
 use Rattle.engine_checks.specs.declared.ignores.Scope.{Scope}
 use Rattle.engine_checks.specs.declared.ignores.Scope.TheVariants.{File, Next, Unread}
@@ -69,8 +69,8 @@ remark_by found at_lines ignore =
     else Some IdleIgnore
 
 -- whether a diagnostic is told, by tables of what is ignored
-abbrev pub is_told_by : Bool → List Text → List Text → List (ℕ × Text) → DiagnosticValue → Bool
-is_told_by style ignored in_file at_lines d = is_asked style ignored d.remark && not (are_silencing in_file at_lines d)
+abbrev pub is_told_by : Bool → Bool → List Text → List Text → List (ℕ × Text) → DiagnosticValue → Bool
+is_told_by lint style ignored in_file at_lines d = is_asked lint style ignored d.remark && not (are_silencing in_file at_lines d)
 
 -- a file that is read for its checks: as diagnostics show it, and with the codes in its comments
 pub record FileRead : Type 0 where
@@ -82,10 +82,14 @@ pub record FileRead : Type 0 where
 abbrev pub read_by : Line → Bool → SourceFile → FileRead
 read_by line comments file = record { file = file; text = file_text line file; ignores = if comments then ignores_in file else [] }
 
+-- all that is found in a rules file that is read
+abbrev pub rules_found_by : Bool → List Text → FileRead → List DiagnosticValue
+rules_found_by lint ignored read = found_with read.text (placed_findings read.file) (lints_counted lint ignored read.file)
+
 -- what is told of a rules file that is read
-abbrev pub rules_told_by : Bool → List Text → FileRead → List DiagnosticValue
-rules_told_by style ignored read = file_told style ignored read.text read.ignores (map (rule_diagnostic read.text) (placed_findings read.file))
+abbrev pub rules_told_by : Bool → Bool → List Text → FileRead → List DiagnosticValue
+rules_told_by lint style ignored read = file_told lint style ignored read.text read.ignores (rules_found_by lint ignored read)
 
 -- what is told of a file of a database that is read
-abbrev pub database_told_by : Bool → List Text → FileRead → List DiagnosticValue
-database_told_by style ignored read = file_told style ignored read.text read.ignores (map (database_diagnostic read.text) (messages_of (read.file ∷ [])))
+abbrev pub database_told_by : Bool → Bool → List Text → FileRead → List DiagnosticValue
+database_told_by lint style ignored read = file_told lint style ignored read.text read.ignores (map (database_diagnostic read.text) (messages_of (read.file ∷ [])))

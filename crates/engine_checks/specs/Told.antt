@@ -1,5 +1,5 @@
 -- Which diagnostics of a file are told, and which remarks on its comments.
-use Rattle.std.specs.Prelude.{ℕ, Bool, true, false, not, ◌==◌, ◌||◌, ◌&&◌, nat_lt, is_none, if◌then◌else◌, List, [], ◌∷◌, ◌++◌, filter, filter_map, Option, Some, None, option_map}
+use Rattle.std.specs.Prelude.{ℕ, Bool, true, false, not, ◌==◌, ◌||◌, ◌&&◌, nat_lt, if◌then◌else◌, List, [], ◌∷◌, ◌++◌, filter, filter_map, Option, Some, None, option_map}
 use Rattle.std.specs.List.{list_any, take_while}
 use Rattle.text_bytes.specs.Lines.{NumberedLine}
 use Rattle.text_bytes.specs.Texts.{skip_while}
@@ -9,8 +9,8 @@ use Rattle.engine_formats.specs.Diagnostics.{DiagnosticValue}
 use Rattle.engine_formats.specs.Placing.{line_numbered}
 use Rattle.engine_formats.specs.Remarks.{code_of}
 use Rattle.engine_formats.specs.declared.remark.Remark.{Remark}
-use Rattle.engine_formats.specs.declared.remark.Remark.TheVariants.{Message, IdleIgnore, UnknownCode}
-use Rattle.engine_checks.specs.Codes.{kind_of}
+use Rattle.engine_formats.specs.declared.remark.Remark.TheVariants.{Message, Lint, IdleIgnore, UnknownCode}
+use Rattle.engine_checks.specs.Codes.{is_code}
 use Rattle.engine_checks.specs.Ignores.{Ignore}
 use Rattle.engine_checks.specs.declared.ignores.Scope.{Scope}
 use Rattle.engine_checks.specs.declared.ignores.Scope.TheVariants.{File, Next, Unread}
@@ -33,21 +33,29 @@ is_silenced ignores d = list_any (λ ignore. silences ignore d) ignores
 -- whether a remark is a message about style
 abbrev pub is_about_style : Remark → Bool
 is_about_style (Message kind) = is_style kind
+is_about_style (Lint lint) = false
 is_about_style IdleIgnore = false
 is_about_style UnknownCode = false
 
--- whether a command line asks for a remark: with or without style, past the codes of `--ignore`
-abbrev pub is_asked : Bool → List Text → Remark → Bool
-is_asked style ignored remark = (style || not (is_about_style remark)) && not (is_among ignored (code_of remark))
+-- whether a remark is a lint
+abbrev pub is_lint : Remark → Bool
+is_lint (Message kind) = false
+is_lint (Lint lint) = true
+is_lint IdleIgnore = false
+is_lint UnknownCode = false
+
+-- whether a command line asks for a remark: with or without lints, with or without style, past the codes of `--ignore`
+abbrev pub is_asked : Bool → Bool → List Text → Remark → Bool
+is_asked lint style ignored remark = ((not (is_lint remark) || lint) && (style || not (is_about_style remark))) && not (is_among ignored (code_of remark))
 
 -- whether what was found is told: it is asked for, and no code in a comment silences it
-abbrev pub is_told : Bool → List Text → List Ignore → DiagnosticValue → Bool
-is_told style ignored ignores d = is_asked style ignored d.remark && not (is_silenced ignores d)
+abbrev pub is_told : Bool → Bool → List Text → List Ignore → DiagnosticValue → Bool
+is_told lint style ignored ignores d = is_asked lint style ignored d.remark && not (is_silenced ignores d)
 
 -- whether a code in a comment is none, or the comment is not understood
 abbrev pub is_unknown : Scope → Text → Bool
-is_unknown File code = is_none (kind_of code)
-is_unknown (Next next) code = is_none (kind_of code)
+is_unknown File code = not (is_code code)
+is_unknown (Next next) code = not (is_code code)
 is_unknown Unread code = true
 
 -- what is to be said of a code in a comment, by all that was found in the file: that there is no such code, or that it silences nothing of this
@@ -87,5 +95,6 @@ by_line [] others = others
 by_line (d ∷ ds) others = take_while (λ o. nat_lt o.begins d.begins) others ++ d ∷ by_line ds (skip_while (λ o. nat_lt o.begins d.begins) others)
 
 -- what is told of a file, by what was found in it and the codes in its comments; what is said of these is asked for, too
-unfoldable pub file_told : Bool → List Text → FileText → List Ignore → List DiagnosticValue → List DiagnosticValue
-file_told style ignored file ignores found = by_line (filter (is_told style ignored ignores) found) (filter (λ d. is_asked style ignored d.remark) (comment_diagnostics file found ignores))
+unfoldable pub file_told : Bool → Bool → List Text → FileText → List Ignore → List DiagnosticValue → List DiagnosticValue
+file_told lint style ignored file ignores found =
+    by_line (filter (is_told lint style ignored ignores) found) (filter (λ d. is_asked lint style ignored d.remark) (comment_diagnostics file found ignores))

@@ -33,10 +33,12 @@ pub(crate) fn has_comments(codes: &Texts<'_>) -> bool
 /// What a line asks for of messages. The error comes where memory is refused.
 pub(crate) fn asked_by<'a>(alloc: Global, line: &Line<'a>) -> Result<Asked<'a>, AllocError>
     ensures style { IfOk result (λ asked. asked.style ≡ line.now.style) }
+    ensures lint { IfOk result (λ asked. asked.lint ≡ line.now.lint) }
     ensures ignored { IfOk result (λ asked. (code : Text) → is_among asked.ignored code ≡ is_among (ignored_by line.now) code) }
 {
     Ok(Asked {
         style: line.style,
+        lint: line.lint,
         ignored: ignored_codes(alloc, &line.ignored)?,
     })
 }

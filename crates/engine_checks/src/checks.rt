@@ -1,4 +1,4 @@
-//! What `verify` says with other formats, and with messages that are ignored.
+//! What `verify` says with other formats, with lints, and with messages that are ignored.
 ghost use Rattle.std.specs.Prelude.{◌≡◌, ◌<◌, flat_map, map, IfOk, IfErr};
 ghost use Rattle.engine_formats.specs.Diagnostics.{shown};
 ghost use Rattle.engine_reports.specs.Checks.{verify_status};
@@ -17,8 +17,8 @@ use rule_core::read_rules;
 use std::alloc::{AllocError, Global};
 use text_bytes::{FileKind, SourceFile};
 
-/// What `verify` says of the files handed in, with the line's format and without the messages that it ignores: what is told,
-/// and how many of the files are bad.
+/// What `verify` says of the files handed in, with the line's format, with lints where the line asks for them, and without the
+/// messages and lints that it ignores: what is told, and how many of the files are bad.
 ///
 /// A text of the line that is no code silences nothing. `TooManyRules` comes exactly where the rules have more than 2^24
 /// tokens, `Memory` where memory is refused.

@@ -1,23 +1,26 @@
-//! The codes of messages.
+//! The codes of remarks.
 ghost use Rattle.std.specs.Prelude.{◌≡◌};
-ghost use Rattle.engine_checks.specs.Codes.{kind_of, message_kind};
+ghost use Rattle.engine_checks.specs.Codes.{is_code, is_found};
 
 use engine_formats::{Remark, remark_of};
-use text_bytes::MessageKind;
 
-/// The kind of message of a code. Codes are told apart by case, and any other text is none; so are those of remarks on comments.
-pub(crate) fn kind_of(code: &[u8]) -> Option<MessageKind>
-    ensures { result ≡ kind_of code.now }
+/// Whether a text is the code of something that can be found in a file. Codes are told apart by case; those of remarks on
+/// comments are none.
+pub(crate) fn is_code(code: &[u8]) -> bool
+    ensures { result ≡ is_code code.now }
 {
-    message_kind(remark_of(code))
+    match remark_of(code) {
+        Some(remark) => is_found(remark),
+        None => false,
+    }
 }
 
-/// The kind of message that a remark is, if it is one.
-fn message_kind(remark: Option<Remark>) -> Option<MessageKind>
-    ensures { result ≡ message_kind remark }
+/// Whether a remark is on what is found in a file, and not on a comment.
+fn is_found(remark: Remark) -> bool
+    ensures { result ≡ is_found remark }
 {
     match remark {
-        Some(Remark::Message(kind)) => Some(kind),
-        _ => None,
+        Remark::Message(_) | Remark::Lint(_) => true,
+        Remark::IdleIgnore | Remark::UnknownCode => false,
     }
 }

@@ -30,7 +30,7 @@ fn told_of_file<'r>(
     asked: &Asked<'_>,
     read: &'r FileRead<'_>,
 ) -> Result<Vec<Diagnostic<'r>>, AllocError>
-    ensures { IfOk result (λ told. map shown told.items ≡ database_told_by asked.now.style asked.now.ignored read.now) }
+    ensures { IfOk result (λ told. map shown told.items ≡ database_told_by asked.now.lint asked.now.style asked.now.ignored read.now) }
 {
     let messages = messages_about(alloc, read.file())?;
     let found = database_diagnostics(alloc, read.text(), &messages)?;
@@ -43,7 +43,7 @@ pub(crate) fn database_told<'r>(
     asked: &Asked<'_>,
     reads: &'r [FileRead<'_>],
 ) -> Result<Vec<Diagnostic<'r>>, AllocError>
-    ensures { IfOk result (λ told. map shown told.items ≡ flat_map (database_told_by asked.now.style asked.now.ignored) reads.now) }
+    ensures { IfOk result (λ told. map shown told.items ≡ flat_map (database_told_by asked.now.lint asked.now.style asked.now.ignored) reads.now) }
 {
     let mut told = Vec::new(alloc);
     for read in reads {

@@ -1,10 +1,12 @@
-//! The checks of files with options: other formats of messages, and messages that are ignored.
+//! The checks of files with options: other formats of messages, lints, and messages that are ignored.
 //!
-//! `--ignore` names codes; messages of these are neither told nor counted. With the word `comments` among them, comments in the
-//! files count too. What is told is put together as diagnostics, file by file, and written in the format that was asked for.
+//! With `--lint` what is told of rules has lints behind the messages about each rule. `--ignore` names codes; messages and lints
+//! of these are neither told nor counted. With the word `comments` among them, comments in the files count too. What is told
+//! is put together as diagnostics, file by file, and written in the format that was asked for.
 #![tactic(auto)]
 
 mod asked;
+mod by_line;
 mod checks;
 mod codes;
 mod comment_laws;
@@ -15,7 +17,10 @@ mod file_text;
 mod found;
 mod ignores;
 mod laws;
+mod lent;
 mod line_codes;
+mod lint_laws;
+mod lints;
 mod met;
 mod reads;
 mod rules_told;
@@ -25,9 +30,15 @@ mod told;
 mod updates;
 
 pub use checks::report_on_checks;
-pub use comment_laws::{comments_silence_or_are_told, found_is_told_or_silenced};
+pub use comment_laws::{
+    codes_stand_in_their_comments, comments_are_about_what_follows, comments_silence_or_are_told,
+    found_is_told_or_silenced,
+};
 pub use ignores::{Ignore, Scope, ignores_in};
 pub use laws::{
     ignored_codes_alone_are_left_out, plain_checks_are_as_before, plain_updates_are_as_before,
+};
+pub use lint_laws::{
+    comments_count_for_lints, lints_are_told_where_asked, messages_are_told_as_without_lints,
 };
 pub use updates::report_on_told_update;

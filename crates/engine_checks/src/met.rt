@@ -7,7 +7,7 @@ ghost use Rattle.engine_checks.specs.Ignores as ignores;
 ghost use Rattle.engine_checks.specs.Tables.{has_code, has_code_at, has_code_in, is_met, remark_by};
 ghost use Rattle.engine_checks.specs.Told.{is_unknown, silences};
 
-use crate::codes::kind_of;
+use crate::codes::is_code;
 use crate::ignores::{Ignore, Scope};
 use crate::line_codes::LineCodes;
 use crate::silenced::{add_text, is_file, next_line};
@@ -68,7 +68,7 @@ fn is_unknown(scope: Scope, code: &[u8]) -> bool
 {
     match scope {
         Scope::Unread => true,
-        _ => kind_of(code).is_none(),
+        _ => !is_code(code),
     }
 }
 

@@ -20,9 +20,9 @@ is_plain Json = false
 is_plain Human = false
 is_plain HumanInColor = false
 
--- whether a line asks for another format of messages, or to leave some out
+-- whether a line asks for lints, for another format of messages, or to leave some out
 abbrev pub asks_checks : Line → Bool
-asks_checks line = not (is_plain line.format) || not (vec_len line.ignored == 0)
+asks_checks line = (line.lint || not (is_plain line.format)) || not (vec_len line.ignored == 0)
 
 -- what `verify` says of the files handed in
 abbrev pub verify_said : Line → List SourceFile → Outcome

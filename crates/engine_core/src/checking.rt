@@ -9,11 +9,11 @@ use engine_reports::{Refusal, Report, report_on_rules, report_on_update};
 use std::alloc::Global;
 use text_bytes::SourceFile;
 
-/// Whether a line asks for another format of messages, or to leave some out.
+/// Whether a line asks for lints, for another format of messages, or to leave some out.
 fn asks_checks(line: &Line<'_>) -> bool
     ensures { result ≡ asks_checks line.now }
 {
-    line.format != Format::Plain || !line.ignored.is_empty()
+    line.lint || line.format != Format::Plain || !line.ignored.is_empty()
 }
 
 /// What `verify` says of the files that were handed in.

@@ -14,7 +14,7 @@ use text_bytes::SourceFile;
 /// Runs a command over files that were read, writes what it says, and gives the status to exit with.
 ///
 /// Messages about the files go to `error`, for `verify` and `update` in the format of `line` and without
-/// those that it ignores; the answer to `output`: for `query` the lines of the
+/// those that it ignores, for `verify` with lints where `line` asks for them; the answer to `output`: for `query` the lines of the
 /// properties as systemd-hwdb(8) gives them, for `update` the index of the database, messages or not,
 /// for `verify`, as in udevadm(8), how many files are bad, and for `events` the answer to each block of
 /// `input`, written and flushed before the next read, with the rule before each line that it comes from

@@ -63,6 +63,8 @@ pub struct Line<'a> {
     pub summary: bool,
     /// Whether `verify` gives messages about style; true for the other subcommands.
     pub style: bool,
+    /// Whether `verify` also tells of rules that are most likely not the ones that were meant.
+    pub lint: bool,
     /// How `verify` and `update` write messages; plain for the other subcommands.
     pub format: Format,
     /// Whether `verify` and `update` go on behind what can't be read.

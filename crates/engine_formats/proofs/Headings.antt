@@ -5,10 +5,13 @@ use Rattle.text_bytes.specs.Names.{colon, newline, space}
 use Rattle.text_bytes.specs.Texts.{split_once}
 use Rattle.text_bytes.specs.declared.message.MessageKind.{MessageKind}
 use Rattle.text_bytes.specs.declared.message.MessageKind.TheVariants.{PropertyWithoutMatch, MatchWithoutProperty, UnindentedLine, NoEquals, EmptyKey, PatternNotSupported, BadSyntax, UnknownKey, OperatorNotAllowed, WrongAttribute, BadValue, BadSubstitution, NoLaterLabel, GivenTwice, LineTooLong, BadPrefix, SetNotSupported, OpenAtEnd, CommaExpected, BlankExpected, ReadAsAssign, LabelUnused}
+use Rattle.rule_types.specs.declared.lint.Lint.{Lint}
+use Rattle.rule_types.specs.declared.lint.Lint.TheVariants.{ModeNotOctal, SignOfShell, RelativeProgram, LetterCase, NoSuchDevice, ImportedBelow, MeantToCompare, NameOutsideNet, LinkWithDev, QuotedName, NotAPattern, AlwaysHolds, NeverReached}
 use Rattle.engine_reports.specs.Checks.{is_style}
 use Rattle.engine_formats.specs.Advice.{advice_of}
 use Rattle.engine_formats.specs.Remarks.{code_of, heading_parts, remark_heading, severity_of, text_of}
 use Rattle.engine_formats.specs.declared.remark.Remark.{Remark}
+use Rattle.engine_formats.specs.declared.remark.Remark.TheVariants as about
 use Rattle.engine_formats.specs.declared.remark.Remark.TheVariants.{Message, IdleIgnore, UnknownCode}
 use Rattle.engine_formats.specs.declared.remark.Severity.TheVariants.{Error, Warning}
 use Rattle.engine_formats.proofs.OneLine.{Lacks, lacks-append}
@@ -38,6 +41,19 @@ in_two_parts (Message CommaExpected) = (refl, refl)
 in_two_parts (Message BlankExpected) = (refl, refl)
 in_two_parts (Message ReadAsAssign) = (refl, refl)
 in_two_parts (Message LabelUnused) = (refl, refl)
+in_two_parts (about.Lint ModeNotOctal) = (refl, refl)
+in_two_parts (about.Lint SignOfShell) = (refl, refl)
+in_two_parts (about.Lint RelativeProgram) = (refl, refl)
+in_two_parts (about.Lint LetterCase) = (refl, refl)
+in_two_parts (about.Lint NoSuchDevice) = (refl, refl)
+in_two_parts (about.Lint ImportedBelow) = (refl, refl)
+in_two_parts (about.Lint MeantToCompare) = (refl, refl)
+in_two_parts (about.Lint NameOutsideNet) = (refl, refl)
+in_two_parts (about.Lint LinkWithDev) = (refl, refl)
+in_two_parts (about.Lint QuotedName) = (refl, refl)
+in_two_parts (about.Lint NotAPattern) = (refl, refl)
+in_two_parts (about.Lint AlwaysHolds) = (refl, refl)
+in_two_parts (about.Lint NeverReached) = (refl, refl)
 in_two_parts IdleIgnore = (refl, refl)
 in_two_parts UnknownCode = (refl, refl)
 
@@ -66,6 +82,22 @@ by_style BlankExpected = refl
 by_style ReadAsAssign = refl
 by_style LabelUnused = refl
 
+-- each lint is a warning
+pub lint_warns : (lint : Lint) → severity_of (about.Lint lint) ≡ Warning
+lint_warns ModeNotOctal = refl
+lint_warns SignOfShell = refl
+lint_warns RelativeProgram = refl
+lint_warns LetterCase = refl
+lint_warns NoSuchDevice = refl
+lint_warns ImportedBelow = refl
+lint_warns MeantToCompare = refl
+lint_warns NameOutsideNet = refl
+lint_warns LinkWithDev = refl
+lint_warns QuotedName = refl
+lint_warns NotAPattern = refl
+lint_warns AlwaysHolds = refl
+lint_warns NeverReached = refl
+
 -- the words on each remark stay on their line
 in_one_line : (remark : Remark) → Lacks newline (code_of remark) × Lacks newline (text_of remark) × Lacks newline (advice_of remark)
 unfolding heading_parts split_once
@@ -91,6 +123,19 @@ in_one_line (Message CommaExpected) = (refl, refl, refl)
 in_one_line (Message BlankExpected) = (refl, refl, refl)
 in_one_line (Message ReadAsAssign) = (refl, refl, refl)
 in_one_line (Message LabelUnused) = (refl, refl, refl)
+in_one_line (about.Lint ModeNotOctal) = (refl, refl, refl)
+in_one_line (about.Lint SignOfShell) = (refl, refl, refl)
+in_one_line (about.Lint RelativeProgram) = (refl, refl, refl)
+in_one_line (about.Lint LetterCase) = (refl, refl, refl)
+in_one_line (about.Lint NoSuchDevice) = (refl, refl, refl)
+in_one_line (about.Lint ImportedBelow) = (refl, refl, refl)
+in_one_line (about.Lint MeantToCompare) = (refl, refl, refl)
+in_one_line (about.Lint NameOutsideNet) = (refl, refl, refl)
+in_one_line (about.Lint LinkWithDev) = (refl, refl, refl)
+in_one_line (about.Lint QuotedName) = (refl, refl, refl)
+in_one_line (about.Lint NotAPattern) = (refl, refl, refl)
+in_one_line (about.Lint AlwaysHolds) = (refl, refl, refl)
+in_one_line (about.Lint NeverReached) = (refl, refl, refl)
 in_one_line IdleIgnore = (refl, refl, refl)
 in_one_line UnknownCode = (refl, refl, refl)
 
@@ -132,5 +177,18 @@ code_has_no_colon (Message CommaExpected) = refl
 code_has_no_colon (Message BlankExpected) = refl
 code_has_no_colon (Message ReadAsAssign) = refl
 code_has_no_colon (Message LabelUnused) = refl
+code_has_no_colon (about.Lint ModeNotOctal) = refl
+code_has_no_colon (about.Lint SignOfShell) = refl
+code_has_no_colon (about.Lint RelativeProgram) = refl
+code_has_no_colon (about.Lint LetterCase) = refl
+code_has_no_colon (about.Lint NoSuchDevice) = refl
+code_has_no_colon (about.Lint ImportedBelow) = refl
+code_has_no_colon (about.Lint MeantToCompare) = refl
+code_has_no_colon (about.Lint NameOutsideNet) = refl
+code_has_no_colon (about.Lint LinkWithDev) = refl
+code_has_no_colon (about.Lint QuotedName) = refl
+code_has_no_colon (about.Lint NotAPattern) = refl
+code_has_no_colon (about.Lint AlwaysHolds) = refl
+code_has_no_colon (about.Lint NeverReached) = refl
 code_has_no_colon IdleIgnore = refl
 code_has_no_colon UnknownCode = refl

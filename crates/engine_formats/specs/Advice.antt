@@ -2,7 +2,10 @@
 use Rattle.std.specs.Prelude.{ℕ, List, codes}
 use Rattle.text_bytes.specs.declared.message.MessageKind.{MessageKind}
 use Rattle.text_bytes.specs.declared.message.MessageKind.TheVariants.{PropertyWithoutMatch, MatchWithoutProperty, UnindentedLine, NoEquals, EmptyKey, PatternNotSupported, BadSyntax, UnknownKey, OperatorNotAllowed, WrongAttribute, BadValue, BadSubstitution, NoLaterLabel, GivenTwice, LineTooLong, BadPrefix, SetNotSupported, OpenAtEnd, CommaExpected, BlankExpected, ReadAsAssign, LabelUnused}
+use Rattle.rule_types.specs.declared.lint.Lint.{Lint}
+use Rattle.rule_types.specs.declared.lint.Lint.TheVariants.{ModeNotOctal, SignOfShell, RelativeProgram, LetterCase, NoSuchDevice, ImportedBelow, MeantToCompare, NameOutsideNet, LinkWithDev, QuotedName, NotAPattern, AlwaysHolds, NeverReached}
 use Rattle.engine_formats.specs.declared.remark.Remark.{Remark}
+use Rattle.engine_formats.specs.declared.remark.Remark.TheVariants as about
 use Rattle.engine_formats.specs.declared.remark.Remark.TheVariants.{Message, IdleIgnore, UnknownCode}
 
 -- the sentence on messages of a kind
@@ -30,8 +33,25 @@ advice_on BlankExpected = codes "Put a space after the comma."
 advice_on ReadAsAssign = codes "The key has no := or += of its own: write =."
 advice_on LabelUnused = codes "Remove the label, or correct the GOTO that should go to it."
 
+-- the sentence on a lint
+abbrev pub advice_on_lint : Lint → List ℕ
+advice_on_lint ModeNotOctal = codes "Write the mode in octal digits, as 0660."
+advice_on_lint SignOfShell = codes "No shell runs the command: put it behind /bin/sh -c, or take the sign away."
+advice_on_lint RelativeProgram = codes "Write the whole path of the program."
+advice_on_lint LetterCase = codes "Write small letters in these attributes, and capital ones in the numbers of a modalias."
+advice_on_lint NoSuchDevice = codes "All ATTRS of a rule are compared at one parent: use a rule for each of the devices."
+advice_on_lint ImportedBelow = codes "Put the import of the property into a rule above this one."
+advice_on_lint MeantToCompare = codes "Write == to compare the value."
+advice_on_lint NameOutsideNet = codes "Only network devices take another name: give other devices a SYMLINK."
+advice_on_lint LinkWithDev = codes "Leave /dev/ out: a link stands there without it."
+advice_on_lint QuotedName = codes "Write the name in braces without quotes."
+advice_on_lint NotAPattern = codes "A pattern has *, ?, [..] and |, and is compared with the whole value."
+advice_on_lint AlwaysHolds = codes "Take the match away, or write ?* for each value but the empty one."
+advice_on_lint NeverReached = codes "Remove this rule, or give the rule above it a match."
+
 -- the sentence on a remark
 abbrev pub advice_of : Remark → List ℕ
 advice_of (Message kind) = advice_on kind
+advice_of (about.Lint lint) = advice_on_lint lint
 advice_of IdleIgnore = codes "Take the code out of the comment, which silences nothing."
 advice_of UnknownCode = codes "Write \"ignore\" or \"ignore-file\", a space, and codes such as V6,S2."

@@ -4,7 +4,10 @@ use Rattle.text_bytes.specs.declared.message.MessageKind.{MessageKind}
 use Rattle.text_bytes.specs.declared.message.MessageKind.TheVariants.{PropertyWithoutMatch, MatchWithoutProperty, UnindentedLine, NoEquals, EmptyKey, PatternNotSupported, BadSyntax, UnknownKey, OperatorNotAllowed, WrongAttribute, BadValue, BadSubstitution, NoLaterLabel, GivenTwice, LineTooLong, BadPrefix, SetNotSupported, OpenAtEnd, CommaExpected, BlankExpected, ReadAsAssign, LabelUnused}
 use Rattle.std.specs.Cmp.Lexicographic.{pointwise}
 use Rattle.engine_formats.specs.Remarks.{code_of}
+use Rattle.rule_types.specs.declared.lint.Lint.{Lint}
+use Rattle.rule_types.specs.declared.lint.Lint.TheVariants.{ModeNotOctal, SignOfShell, RelativeProgram, LetterCase, NoSuchDevice, ImportedBelow, MeantToCompare, NameOutsideNet, LinkWithDev, QuotedName, NotAPattern, AlwaysHolds, NeverReached}
 use Rattle.engine_formats.specs.declared.remark.Remark.{Remark}
+use Rattle.engine_formats.specs.declared.remark.Remark.TheVariants as about
 use Rattle.engine_formats.specs.declared.remark.Remark.TheVariants.{Message, IdleIgnore, UnknownCode}
 
 -- each kind of message
@@ -12,9 +15,14 @@ abbrev pub kinds : List MessageKind
 kinds = BadSyntax ∷ UnknownKey ∷ OperatorNotAllowed ∷ WrongAttribute ∷ BadValue ∷ BadSubstitution ∷ NoLaterLabel ∷ GivenTwice ∷ LineTooLong ∷ BadPrefix ∷ SetNotSupported
     ∷ OpenAtEnd ∷ CommaExpected ∷ BlankExpected ∷ ReadAsAssign ∷ LabelUnused ∷ PropertyWithoutMatch ∷ MatchWithoutProperty ∷ UnindentedLine ∷ NoEquals ∷ EmptyKey ∷ PatternNotSupported ∷ []
 
+-- each lint
+abbrev pub lints : List Lint
+lints = ModeNotOctal ∷ SignOfShell ∷ RelativeProgram ∷ LetterCase ∷ NoSuchDevice ∷ ImportedBelow ∷ MeantToCompare
+    ∷ NameOutsideNet ∷ LinkWithDev ∷ QuotedName ∷ NotAPattern ∷ AlwaysHolds ∷ NeverReached ∷ []
+
 -- each remark
 abbrev pub remarks : List Remark
-remarks = map (λ kind. Message kind) kinds ++ IdleIgnore ∷ UnknownCode ∷ []
+remarks = map (λ kind. Message kind) kinds ++ map (λ lint. about.Lint lint) lints ++ IdleIgnore ∷ UnknownCode ∷ []
 
 -- the remark of a code, if it is one
 unfoldable pub remark_of : List ℕ → Option Remark

@@ -2,15 +2,35 @@
 use Rattle.std.specs.Prelude.{ℕ, ◌||◌, if◌then◌else◌, List, [], codes, unwrap_or}
 use Rattle.text_bytes.specs.Names.{space}
 use Rattle.text_bytes.specs.Texts.{begins_with, split_once}
+use Rattle.rule_types.specs.declared.lint.Lint.{Lint}
+use Rattle.rule_types.specs.declared.lint.Lint.TheVariants.{ModeNotOctal, SignOfShell, RelativeProgram, LetterCase, NoSuchDevice, ImportedBelow, MeantToCompare, NameOutsideNet, LinkWithDev, QuotedName, NotAPattern, AlwaysHolds, NeverReached}
 use Rattle.engine_reports.specs.Messages.{heading_of}
 use Rattle.engine_formats.specs.declared.remark.Remark.{Remark}
+use Rattle.engine_formats.specs.declared.remark.Remark.TheVariants as about
 use Rattle.engine_formats.specs.declared.remark.Remark.TheVariants.{Message, IdleIgnore, UnknownCode}
 use Rattle.engine_formats.specs.declared.remark.Severity.{Severity}
 use Rattle.engine_formats.specs.declared.remark.Severity.TheVariants.{Error, Warning}
 
+-- the code of a lint, and what it says
+abbrev pub lint_heading : Lint → List ℕ
+lint_heading ModeNotOctal = codes "W1 mode is no octal number"
+lint_heading SignOfShell = codes "W2 sign of the shell, and no shell"
+lint_heading RelativeProgram = codes "W3 program without a path"
+lint_heading LetterCase = codes "W4 letter case that the kernel does not write"
+lint_heading NoSuchDevice = codes "W5 attributes of different devices"
+lint_heading ImportedBelow = codes "W6 property imported further down"
+lint_heading MeantToCompare = codes "W7 value assigned that others compare"
+lint_heading NameOutsideNet = codes "W8 name outside net"
+lint_heading LinkWithDev = codes "W9 link begins with /dev/"
+lint_heading QuotedName = codes "W10 name in quotes"
+lint_heading NotAPattern = codes "W11 regular expression in a pattern"
+lint_heading AlwaysHolds = codes "W12 match that always holds"
+lint_heading NeverReached = codes "W13 rule never reached"
+
 -- the code of a remark, and what it says
 abbrev pub remark_heading : Remark → List ℕ
 remark_heading (Message kind) = heading_of kind
+remark_heading (about.Lint lint) = lint_heading lint
 remark_heading IdleIgnore = codes "I1 nothing to ignore"
 remark_heading UnknownCode = codes "I2 unknown code"
 
@@ -32,10 +52,14 @@ letter_i = 73
 abbrev pub letter_s : ℕ
 letter_s = 83
 
--- how severe a remark is, by the letter of its code: S and I are warnings, all others errors
+abbrev pub letter_w : ℕ
+letter_w = 87
+
+-- how severe a remark is, by the letter of its code: S, I and W are warnings, all others errors
 abbrev pub severity_of : Remark → Severity
 severity_of remark =
-    if begins_with letter_s (remark_heading remark) || begins_with letter_i (remark_heading remark) then Warning else Error
+    if begins_with letter_s (remark_heading remark) || begins_with letter_i (remark_heading remark)
+    || begins_with letter_w (remark_heading remark) then Warning else Error
 
 -- the word for how severe something is
 abbrev pub severity_word : Severity → List ℕ

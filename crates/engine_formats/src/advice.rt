@@ -1,8 +1,9 @@
 //! How what a diagnostic is about is mended, in one sentence each.
 ghost use Rattle.std.specs.Prelude.{◌≡◌};
-ghost use Rattle.engine_formats.specs.Advice.{advice_of, advice_on};
+ghost use Rattle.engine_formats.specs.Advice.{advice_of, advice_on, advice_on_lint};
 
 use crate::remark::Remark;
+use rule_types::Lint;
 use text_bytes::MessageKind;
 
 const PROPERTY_WITHOUT_MATCH: &[u8] = b"Put the match above its properties.";
@@ -58,6 +59,37 @@ const READ_AS_ASSIGN: &[u8] = b"The key has no := or += of its own: write =.";
 
 const LABEL_UNUSED: &[u8] = b"Remove the label, or correct the GOTO that should go to it.";
 
+const MODE_NOT_OCTAL: &[u8] = b"Write the mode in octal digits, as 0660.";
+
+const SIGN_OF_SHELL: &[u8] =
+    b"No shell runs the command: put it behind /bin/sh -c, or take the sign away.";
+
+const RELATIVE_PROGRAM: &[u8] = b"Write the whole path of the program.";
+
+const LETTER_CASE: &[u8] =
+    b"Write small letters in these attributes, and capital ones in the numbers of a modalias.";
+
+const NO_SUCH_DEVICE: &[u8] =
+    b"All ATTRS of a rule are compared at one parent: use a rule for each of the devices.";
+
+const IMPORTED_BELOW: &[u8] = b"Put the import of the property into a rule above this one.";
+
+const MEANT_TO_COMPARE: &[u8] = b"Write == to compare the value.";
+
+const NAME_OUTSIDE_NET: &[u8] =
+    b"Only network devices take another name: give other devices a SYMLINK.";
+
+const LINK_WITH_DEV: &[u8] = b"Leave /dev/ out: a link stands there without it.";
+
+const QUOTED_NAME: &[u8] = b"Write the name in braces without quotes.";
+
+const NOT_A_PATTERN: &[u8] =
+    b"A pattern has *, ?, [..] and |, and is compared with the whole value.";
+
+const ALWAYS_HOLDS: &[u8] = b"Take the match away, or write ?* for each value but the empty one.";
+
+const NEVER_REACHED: &[u8] = b"Remove this rule, or give the rule above it a match.";
+
 const IDLE_IGNORE: &[u8] = b"Take the code out of the comment, which silences nothing.";
 
 const UNKNOWN_CODE: &[u8] =
@@ -70,6 +102,7 @@ impl Remark {
     {
         match self {
             Remark::Message(kind) => advice_on(kind),
+            Remark::Lint(lint) => advice_on_lint(lint),
             Remark::IdleIgnore => IDLE_IGNORE,
             Remark::UnknownCode => UNKNOWN_CODE,
         }
@@ -103,5 +136,26 @@ fn advice_on(kind: MessageKind) -> &'static [u8]
         MessageKind::BlankExpected => BLANK_EXPECTED,
         MessageKind::ReadAsAssign => READ_AS_ASSIGN,
         MessageKind::LabelUnused => LABEL_UNUSED,
+    }
+}
+
+/// The sentence on a lint.
+fn advice_on_lint(lint: Lint) -> &'static [u8]
+    ensures { result.now ≡ advice_on_lint lint }
+{
+    match lint {
+        Lint::ModeNotOctal => MODE_NOT_OCTAL,
+        Lint::SignOfShell => SIGN_OF_SHELL,
+        Lint::RelativeProgram => RELATIVE_PROGRAM,
+        Lint::LetterCase => LETTER_CASE,
+        Lint::NoSuchDevice => NO_SUCH_DEVICE,
+        Lint::ImportedBelow => IMPORTED_BELOW,
+        Lint::MeantToCompare => MEANT_TO_COMPARE,
+        Lint::NameOutsideNet => NAME_OUTSIDE_NET,
+        Lint::LinkWithDev => LINK_WITH_DEV,
+        Lint::QuotedName => QUOTED_NAME,
+        Lint::NotAPattern => NOT_A_PATTERN,
+        Lint::AlwaysHolds => ALWAYS_HOLDS,
+        Lint::NeverReached => NEVER_REACHED,
     }
 }

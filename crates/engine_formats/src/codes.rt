@@ -4,10 +4,11 @@ ghost use Rattle.engine_formats.specs.Codes.{remark_of, remarks};
 ghost use Rattle.engine_formats.specs.Remarks.{code_of};
 
 use crate::remark::Remark;
+use rule_types::Lint;
 use text_bytes::MessageKind;
 
 /// Each remark.
-const REMARKS: [Remark; 24] = [
+const REMARKS: [Remark; 37] = [
     Remark::Message(MessageKind::BadSyntax),
     Remark::Message(MessageKind::UnknownKey),
     Remark::Message(MessageKind::OperatorNotAllowed),
@@ -30,11 +31,24 @@ const REMARKS: [Remark; 24] = [
     Remark::Message(MessageKind::NoEquals),
     Remark::Message(MessageKind::EmptyKey),
     Remark::Message(MessageKind::PatternNotSupported),
+    Remark::Lint(Lint::ModeNotOctal),
+    Remark::Lint(Lint::SignOfShell),
+    Remark::Lint(Lint::RelativeProgram),
+    Remark::Lint(Lint::LetterCase),
+    Remark::Lint(Lint::NoSuchDevice),
+    Remark::Lint(Lint::ImportedBelow),
+    Remark::Lint(Lint::MeantToCompare),
+    Remark::Lint(Lint::NameOutsideNet),
+    Remark::Lint(Lint::LinkWithDev),
+    Remark::Lint(Lint::QuotedName),
+    Remark::Lint(Lint::NotAPattern),
+    Remark::Lint(Lint::AlwaysHolds),
+    Remark::Lint(Lint::NeverReached),
     Remark::IdleIgnore,
     Remark::UnknownCode,
 ];
 
-/// Each remark, by code: V, S, H and I.
+/// Each remark, by code: V, S, H, W and I.
 pub fn remarks() -> &'static [Remark]
     ensures { result.now ≡ remarks }
 {

@@ -10,6 +10,7 @@ ghost use Rattle.text_bytes.specs.declared.message.Message.{Message};
 ghost use Rattle.text_bytes.specs.declared.message.MessageKind.{MessageKind};
 ghost use Rattle.text_bytes.specs.declared.source_file.SourceFile.{SourceFile};
 ghost use Rattle.hwdb_core.specs.Sources.{messages_of};
+ghost use Rattle.rule_types.specs.declared.lint.Lint.{Lint};
 ghost use Rattle.engine_ends.specs.declared.line.Format.{Format};
 ghost use Rattle.engine_reports.specs.Checks.{is_style};
 ghost use Rattle.engine_reports.specs.Messages.{message_lines};
@@ -32,10 +33,11 @@ pub fn a_heading_is_its_code_and_text()
     ensures code { (remark : Remark) → list_any (λ b. b == space) (code_of remark) ≡ false }
 {}
 
-/// Messages about style are warnings, and all other messages are errors; so are remarks on comments
-/// warnings.
+/// Messages about style are warnings, and all other messages are errors. Lints and remarks on comments
+/// are warnings.
 pub fn style_is_a_warning()
     ensures message { (kind : MessageKind) → severity_of (about.Message kind) ≡ (if is_style kind then Warning else Error) }
+    ensures lint { (lint : Lint) → severity_of (about.Lint lint) ≡ Warning }
     ensures idle { severity_of about.IdleIgnore ≡ Warning }
     ensures unknown { severity_of about.UnknownCode ≡ Warning }
 {}

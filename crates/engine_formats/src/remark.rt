@@ -1,8 +1,9 @@
 //! What a diagnostic is about.
 ghost use Rattle.std.specs.Prelude.{◌≡◌};
-ghost use Rattle.engine_formats.specs.Remarks.{code_of, heading_parts, remark_heading, severity_of, severity_word, text_of};
+ghost use Rattle.engine_formats.specs.Remarks.{code_of, heading_parts, lint_heading, remark_heading, severity_of, severity_word, text_of};
 
 use engine_reports::heading;
+use rule_types::Lint;
 use text_bytes::{MessageKind, begins_with, split_once};
 
 /// What a diagnostic is about.
@@ -10,6 +11,8 @@ use text_bytes::{MessageKind, begins_with, split_once};
 pub enum Remark {
     /// A message about a file.
     Message(MessageKind),
+    /// W1 to W13: a rule is most likely not the one that was meant.
+    Lint(Lint),
     /// I1: a comment ignores messages of a code, and there is none.
     IdleIgnore,
     /// I2: a comment names a code that there is not, or is not understood.
@@ -32,6 +35,7 @@ impl Remark {
     {
         match self {
             Remark::Message(kind) => heading(kind),
+            Remark::Lint(lint) => lint_heading(lint),
             Remark::IdleIgnore => b"I1 nothing to ignore",
             Remark::UnknownCode => b"I2 unknown code",
         }
@@ -65,16 +69,38 @@ impl Remark {
         }
     }
 
-    /// How severe a remark is, which the letter of its code says: V and H are errors, S and I warnings.
+    /// How severe a remark is, which the letter of its code says: V and H are errors, S, I and W
+    /// warnings.
     pub fn severity(self) -> Severity
         ensures { result ≡ severity_of self }
     {
         let heading = self.heading();
-        if begins_with(b'S', heading) || begins_with(b'I', heading) {
+        if begins_with(b'S', heading) || begins_with(b'I', heading) || begins_with(b'W', heading) {
             Severity::Warning
         } else {
             Severity::Error
         }
+    }
+}
+
+/// The code of a lint, and what it says.
+fn lint_heading(lint: Lint) -> &'static [u8]
+    ensures { result.now ≡ lint_heading lint }
+{
+    match lint {
+        Lint::ModeNotOctal => b"W1 mode is no octal number",
+        Lint::SignOfShell => b"W2 sign of the shell, and no shell",
+        Lint::RelativeProgram => b"W3 program without a path",
+        Lint::LetterCase => b"W4 letter case that the kernel does not write",
+        Lint::NoSuchDevice => b"W5 attributes of different devices",
+        Lint::ImportedBelow => b"W6 property imported further down",
+        Lint::MeantToCompare => b"W7 value assigned that others compare",
+        Lint::NameOutsideNet => b"W8 name outside net",
+        Lint::LinkWithDev => b"W9 link begins with /dev/",
+        Lint::QuotedName => b"W10 name in quotes",
+        Lint::NotAPattern => b"W11 regular expression in a pattern",
+        Lint::AlwaysHolds => b"W12 match that always holds",
+        Lint::NeverReached => b"W13 rule never reached",
     }
 }
 

@@ -65,6 +65,7 @@ fn read(alloc: Global, root: &str) -> Result<Vec<SourceFile>, ReadFault> {
         modalias: "",
         summary: true,
         style: true,
+        lint: false,
         format: Format::Plain,
         all: false,
         ignored: Vec::new(alloc),

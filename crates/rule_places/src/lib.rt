@@ -19,6 +19,7 @@ mod sums;
 mod texts;
 
 pub use file_findings::placed_findings;
+pub use kept::{KeptLines, Place};
 pub use laws::{
     findings_are_the_messages, findings_stand_in_their_lines, joined_lines_are_kept_lines,
     last_commas_stand_behind_tokens, long_lines_are_told_as_a_whole,

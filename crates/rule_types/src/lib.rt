@@ -4,6 +4,7 @@
 #![tactic(auto)]
 
 mod keys;
+mod lint;
 mod operators;
 mod part;
 mod roles;
@@ -15,6 +16,7 @@ mod written;
 mod written_parts;
 
 pub use keys::{Key, key_of};
+pub use lint::Lint;
 pub use operators::{is_read_as_assign, read_as};
 pub use part::{Act, Assignment, Change, Comparison, Deed, Import, Part, PlainMatch, UpMatch};
 pub use roles::{AssignOperator, MatchOperator, PlainKey, Role, Target, UpKey, role_of};

@@ -38,10 +38,25 @@ TEXTS = {
     "H4": "no =",
     "H5": "empty key",
     "H6": "pattern not supported",
+    "W1": "mode is no octal number",
+    "W2": "sign of the shell, and no shell",
+    "W3": "program without a path",
+    "W4": "letter case that the kernel does not write",
+    "W5": "attributes of different devices",
+    "W6": "property imported further down",
+    "W7": "value assigned that others compare",
+    "W8": "name outside net",
+    "W9": "link begins with /dev/",
+    "W10": "name in quotes",
+    "W11": "regular expression in a pattern",
+    "W12": "match that always holds",
+    "W13": "rule never reached",
     "I1": "nothing to ignore",
     "I2": "unknown code",
 }
-MARK = re.compile(rb"<([VSHI]\d+(?: [VSHI]\d+)*)(?:=([^|<>]*))?\|([^<>]*)>")
+MARK = re.compile(rb"<([VSHIW]\d+(?: [VSHIW]\d+)*)(?:=([^|<>]*))?\|([^<>]*)>")
+# Lints of one rule stand by their codes, but for these, which come last.
+LAST_LINTS = [6, 7, 13]
 FORMATS = ["plain", "gcc", "github", "gitlab", "json", "human"]
 
 # A message has so many bytes of a word in `plain`.
@@ -62,7 +77,7 @@ class Found:
 
     @property
     def severity(self):
-        return "warning" if self.code[0] in "SI" else "error"
+        return "warning" if self.code[0] in "SIW" else "error"
 
     @property
     def text(self):
@@ -70,8 +85,11 @@ class Found:
 
     @property
     def turn(self):
-        """Where it stands among the messages of its file: of one rule V by number and place, S by place and number, S4 last."""
+        """Where it stands among the messages of its file: of one rule V by number and place, S by place and number, S4
+        last, then W by number and place, but for the last of them."""
         number, place = int(self.code[1:]), (self.line, self.column)
+        if self.code[0] == "W":
+            return (self.begins, 3, number in LAST_LINTS, number, place)
         if self.code[0] == "S":
             return (self.begins, 2, (), number) if self.code == "S4" else (self.begins, 1, place, number)
         return (self.begins, 0, number, place)

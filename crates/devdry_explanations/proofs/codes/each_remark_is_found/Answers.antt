@@ -1,8 +1,10 @@
 use Rattle.std.proofs.Common.{◌≡◌, Some, refl}
 use Rattle.text_bytes.specs.Texts.{split_once}
 use Rattle.text_bytes.specs.declared.message.MessageKind.TheVariants.{PropertyWithoutMatch, MatchWithoutProperty, UnindentedLine, NoEquals, EmptyKey, PatternNotSupported, BadSyntax, UnknownKey, OperatorNotAllowed, WrongAttribute, BadValue, BadSubstitution, NoLaterLabel, GivenTwice, LineTooLong, BadPrefix, SetNotSupported, OpenAtEnd, CommaExpected, BlankExpected, ReadAsAssign, LabelUnused}
+use Rattle.rule_types.specs.declared.lint.Lint.TheVariants.{ModeNotOctal, SignOfShell, RelativeProgram, LetterCase, NoSuchDevice, ImportedBelow, MeantToCompare, NameOutsideNet, LinkWithDev, QuotedName, NotAPattern, AlwaysHolds, NeverReached}
 use Rattle.engine_formats.specs.Remarks.{code_of, heading_parts}
 use Rattle.engine_formats.specs.declared.remark.Remark.{Remark}
+use Rattle.engine_formats.specs.declared.remark.Remark.TheVariants as about
 use Rattle.engine_formats.specs.declared.remark.Remark.TheVariants.{Message, IdleIgnore, UnknownCode}
 use Rattle.devdry_explanations.specs.Codes.{remark_with}
 use Rattle.devdry_explanations.proofs.codes.each_remark_is_found.Goals as goal
@@ -31,6 +33,19 @@ found (Message CommaExpected) = refl
 found (Message BlankExpected) = refl
 found (Message ReadAsAssign) = refl
 found (Message LabelUnused) = refl
+found (about.Lint ModeNotOctal) = refl
+found (about.Lint SignOfShell) = refl
+found (about.Lint RelativeProgram) = refl
+found (about.Lint LetterCase) = refl
+found (about.Lint NoSuchDevice) = refl
+found (about.Lint ImportedBelow) = refl
+found (about.Lint MeantToCompare) = refl
+found (about.Lint NameOutsideNet) = refl
+found (about.Lint LinkWithDev) = refl
+found (about.Lint QuotedName) = refl
+found (about.Lint NotAPattern) = refl
+found (about.Lint AlwaysHolds) = refl
+found (about.Lint NeverReached) = refl
 found IdleIgnore = refl
 found UnknownCode = refl
 

@@ -14,4 +14,5 @@ returns c =
     let fourth = one_more _ _ _ _ _ third c.ignore_option.ensures c.in_ok-arg-4.ensures in
     let fifth = one_more _ _ _ _ _ fourth c.no_summary_flag.ensures c.in_ok-arg-5.ensures in
     let sixth = one_more _ _ _ _ _ fifth c.no_style_flag.ensures c.in_ok-arg-6.ensures in
-    IfOk-weaker c.arg-7.result _ _ (λ m h. one_more _ _ _ _ _ sixth c.files_argument.ensures h) c.arg-7.ensures
+    let seventh = one_more _ _ _ _ _ sixth c.lint_flag.ensures c.in_ok-arg-7.ensures in
+    IfOk-weaker c.arg-8.result _ _ (λ m h. one_more _ _ _ _ _ seventh c.files_argument.ensures h) c.arg-8.ensures

@@ -1,4 +1,4 @@
-use Rattle.std.proofs.Common.{◌≡◌, ◌+◌, ◌<◌, length, arith, sym, ◌∙◌, ap, [], ◌∷◌, ◌++◌}
+use Rattle.std.proofs.Common.{◌+◌, ◌<◌, length, arith, ◌∙◌, ap, [], ◌∷◌, ◌++◌}
 use Rattle.engine_checks.proofs.Lists.{code_last, code_more, codes_of}
 use Rattle.engine_checks.proofs.ignores.push_list.Goals as goal
 

@@ -1,4 +1,4 @@
-use Rattle.std.proofs.Common.{ap, subst, sym, ◌∙◌}
+use Rattle.std.proofs.Common.{subst, sym}
 use Rattle.std.proofs.lemmas.Result.{err_from_is_err_and}
 use Rattle.trie_build.specs.Sizes.{KeepsBounds}
 use Rattle.trie_build.proofs.Bounding.{never_too_large}

@@ -1,5 +1,8 @@
-use Rattle.engine_formats.proofs.Headings.{by_style}
+use Rattle.engine_formats.proofs.Headings.{by_style, lint_warns}
 use Rattle.engine_formats.proofs.laws.style_is_a_warning.Goals as goal
 
 pub returns-clause-message : goal.returns-clause-message
 returns-clause-message c kind = by_style kind
+
+pub returns-clause-lint : goal.returns-clause-lint
+returns-clause-lint c lint = lint_warns lint

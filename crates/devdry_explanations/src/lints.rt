@@ -1,0 +1,235 @@
+//! The sections on lints: rules that are most likely not the ones that were meant.
+//!
+//! `tests/test_explain.sh` compares them with those of `docs/messages.md`.
+
+/// Mode is no octal number.
+pub(crate) const W1: &str = r#"W1 mode is no octal number
+
+Write the mode in octal digits, as 0660. udev ignores any other mode when the rule is run. A value with `$` or `%` is not looked at, as its text is not known before that.
+
+    $ cat w1.rules
+    KERNEL=="sda", MODE="0888"
+    KERNEL=="sdb", MODE="rw-rw----"
+    $ devdry verify --lint w1.rules
+    w1.rules:1: W1 mode is no octal number: 0888
+    w1.rules:2: W1 mode is no octal number: rw-rw----
+    1 files checked, 0 good, 1 bad
+    $ cat w1-mended.rules
+    KERNEL=="sda", MODE="0660"
+    KERNEL=="sdb", MODE="0660"
+    $ devdry verify --lint w1-mended.rules
+    1 files checked, 1 good, 0 bad
+"#;
+
+/// Sign of the shell, and no shell.
+pub(crate) const W2: &str = r#"W2 sign of the shell, and no shell
+
+No shell runs the command: put it behind `/bin/sh -c`, or take the sign away. The program gets the sign among its arguments. The signs are `|`, `>`, `;` and `&&`, outside of quotes.
+
+    $ cat w2.rules
+    KERNEL=="sda", RUN+="/bin/echo disk > /run/disk"
+    KERNEL=="sdb", PROGRAM=="/bin/true && /bin/id", TAG+="disk"
+    $ devdry verify --lint w2.rules
+    w2.rules:1: W2 sign of the shell, and no shell: /bin/echo disk > /run/disk
+    w2.rules:2: W2 sign of the shell, and no shell: /bin/true && /bin/id
+    1 files checked, 0 good, 1 bad
+    $ cat w2-mended.rules
+    KERNEL=="sda", RUN+="/bin/sh -c 'echo disk > /run/disk'"
+    KERNEL=="sdb", PROGRAM=="/bin/sh -c '/bin/true && /bin/id'", TAG+="disk"
+    $ devdry verify --lint w2-mended.rules
+    1 files checked, 1 good, 0 bad
+"#;
+
+/// Program without a path.
+pub(crate) const W3: &str = r#"W3 program without a path
+
+Write the whole path of the program. udev looks for a program without a path in `/usr/lib/udev` alone. Looked at are the names of commands that stand elsewhere, such as `touch`, `ln` and `systemctl`.
+
+    $ cat w3.rules
+    KERNEL=="sda", RUN+="touch /run/disk"
+    $ devdry verify --lint w3.rules
+    w3.rules:1: W3 program without a path: touch /run/disk
+    1 files checked, 0 good, 1 bad
+    $ cat w3-mended.rules
+    KERNEL=="sda", RUN+="/usr/bin/touch /run/disk"
+    $ devdry verify --lint w3-mended.rules
+    1 files checked, 1 good, 0 bad
+"#;
+
+/// Letter case that the kernel does not write.
+pub(crate) const W4: &str = r#"W4 letter case that the kernel does not write
+
+Write small letters in these attributes, and capital ones in the numbers of a modalias. The kernel writes them so, and a match counts case unless an `i` stands before its quote. The attributes are the identifiers and classes of devices of USB and PCI and of input devices.
+
+    $ cat w4.rules
+    ATTRS{idVendor}=="1D6B", TAG+="hub"
+    ENV{MODALIAS}=="usb:v1d6bp0002*", TAG+="hub"
+    $ devdry verify --lint w4.rules
+    w4.rules:1: W4 letter case that the kernel does not write: 1D6B
+    w4.rules:2: W4 letter case that the kernel does not write: usb:v1d6bp0002*
+    1 files checked, 0 good, 1 bad
+    $ cat w4-mended.rules
+    ATTRS{idVendor}=="1d6b", TAG+="hub"
+    ENV{MODALIAS}=="usb:v1D6Bp0002*", TAG+="hub"
+    $ devdry verify --lint w4-mended.rules
+    1 files checked, 1 good, 0 bad
+"#;
+
+/// Attributes of different devices.
+pub(crate) const W5: &str = r#"W5 attributes of different devices
+
+All ATTRS of a rule are compared at one parent: use a rule for each of the devices. In the example a USB device has the vendor, and each of its interfaces a number: no device has both.
+
+    $ cat w5.rules
+    ATTRS{idVendor}=="1d6b", ATTRS{bInterfaceNumber}=="01", TAG+="second"
+    $ devdry verify --lint w5.rules
+    w5.rules:1: W5 attributes of different devices: bInterfaceNumber
+    1 files checked, 0 good, 1 bad
+    $ cat w5-mended.rules
+    ATTRS{idVendor}=="1d6b", ENV{.OF_LINUX}="1"
+    ENV{.OF_LINUX}=="1", ATTRS{bInterfaceNumber}=="01", TAG+="second"
+    $ devdry verify --lint w5-mended.rules
+    1 files checked, 1 good, 0 bad
+"#;
+
+/// Property imported further down.
+pub(crate) const W6: &str = r#"W6 property imported further down
+
+Put the import of the property into a rule above this one. The matches of a rule are looked at before its imports, so that this rule's own import comes too late, too.
+
+    $ cat w6.rules
+    SUBSYSTEM=="block", ENV{ID_FS_TYPE}=="ext4", TAG+="disk"
+    SUBSYSTEM=="block", IMPORT{builtin}="blkid"
+    $ devdry verify --lint w6.rules
+    w6.rules:1: W6 property imported further down: ID_FS_TYPE
+    1 files checked, 0 good, 1 bad
+    $ cat w6-mended.rules
+    SUBSYSTEM=="block", IMPORT{builtin}="blkid"
+    SUBSYSTEM=="block", ENV{ID_FS_TYPE}=="ext4", TAG+="disk"
+    $ devdry verify --lint w6-mended.rules
+    1 files checked, 1 good, 0 bad
+"#;
+
+/// Value assigned that others compare.
+pub(crate) const W7: &str = r#"W7 value assigned that others compare
+
+Write `==` to compare the value. The file has a match of the same property, or of the same attribute, with this value. Where the value is to be assigned, put the assignment behind the matches of its rule.
+
+    $ cat w7.rules
+    ENV{ID_BUS}=="usb", TAG+="usb"
+    ENV{ID_BUS}="usb", KERNEL=="sd*", TAG+="disk"
+    $ devdry verify --lint w7.rules
+    w7.rules:2: W7 value assigned that others compare: ID_BUS
+    1 files checked, 0 good, 1 bad
+    $ cat w7-mended.rules
+    ENV{ID_BUS}=="usb", TAG+="usb"
+    ENV{ID_BUS}=="usb", KERNEL=="sd*", TAG+="disk"
+    $ devdry verify --lint w7-mended.rules
+    1 files checked, 1 good, 0 bad
+"#;
+
+/// Name outside net.
+pub(crate) const W8: &str = r#"W8 name outside net
+
+Only network devices take another name: give other devices a SYMLINK. The NAME of any other device is ignored.
+
+    $ cat w8.rules
+    SUBSYSTEM=="block", KERNEL=="sda", NAME="disk"
+    $ devdry verify --lint w8.rules
+    w8.rules:1: W8 name outside net: disk
+    1 files checked, 0 good, 1 bad
+    $ cat w8-mended.rules
+    SUBSYSTEM=="block", KERNEL=="sda", SYMLINK+="disk"
+    $ devdry verify --lint w8-mended.rules
+    1 files checked, 1 good, 0 bad
+"#;
+
+/// Link begins with /dev/.
+pub(crate) const W9: &str = r#"W9 link begins with /dev/
+
+Leave `/dev/` out: a link stands there without it.
+
+    $ cat w9.rules
+    KERNEL=="sda", SYMLINK+="/dev/disk"
+    $ devdry verify --lint w9.rules
+    w9.rules:1: W9 link begins with /dev/: /dev/disk
+    1 files checked, 0 good, 1 bad
+    $ cat w9-mended.rules
+    KERNEL=="sda", SYMLINK+="disk"
+    $ devdry verify --lint w9-mended.rules
+    1 files checked, 1 good, 0 bad
+"#;
+
+/// Name in quotes.
+pub(crate) const W10: &str = r#"W10 name in quotes
+
+Write the name in braces without quotes. The quotes would be a part of the name.
+
+    $ cat w10.rules
+    ATTR{"removable"}=="1", TAG+="stick"
+    $ devdry verify --lint w10.rules
+    w10.rules:1: W10 name in quotes: "removable"
+    1 files checked, 0 good, 1 bad
+    $ cat w10-mended.rules
+    ATTR{removable}=="1", TAG+="stick"
+    $ devdry verify --lint w10-mended.rules
+    1 files checked, 1 good, 0 bad
+"#;
+
+/// Regular expression in a pattern.
+pub(crate) const W11: &str = r#"W11 regular expression in a pattern
+
+A pattern has `*`, `?`, `[..]` and `|`, and is compared with the whole value. All other signs stand for themselves, also those of regular expressions and the lists in braces of a shell.
+
+    $ cat w11.rules
+    KERNEL=="^sd[a-z]$", TAG+="disk"
+    KERNEL=="sd{a,b}", TAG+="mine"
+    $ devdry verify --lint w11.rules
+    w11.rules:1: W11 regular expression in a pattern: ^sd[a-z]$
+    w11.rules:2: W11 regular expression in a pattern: sd{a,b}
+    1 files checked, 0 good, 1 bad
+    $ cat w11-mended.rules
+    KERNEL=="sd[a-z]", TAG+="disk"
+    KERNEL=="sda|sdb", TAG+="mine"
+    $ devdry verify --lint w11-mended.rules
+    1 files checked, 1 good, 0 bad
+"#;
+
+/// Match that always holds.
+pub(crate) const W12: &str = r#"W12 match that always holds
+
+Take the match away, or write `?*` for each value but the empty one. A `*` fits the empty value, too, and so a property that is not there.
+
+    $ cat w12.rules
+    KERNEL=="*", TAG+="seen"
+    ENV{ID_SERIAL}=="*", SYMLINK+="serial/$env{ID_SERIAL}"
+    $ devdry verify --lint w12.rules
+    w12.rules:1: W12 match that always holds: KERNEL
+    w12.rules:2: W12 match that always holds: ENV
+    1 files checked, 0 good, 1 bad
+    $ cat w12-mended.rules
+    TAG+="seen"
+    ENV{ID_SERIAL}=="?*", SYMLINK+="serial/$env{ID_SERIAL}"
+    $ devdry verify --lint w12-mended.rules
+    1 files checked, 1 good, 0 bad
+"#;
+
+/// Rule never reached.
+pub(crate) const W13: &str = r#"W13 rule never reached
+
+Remove this rule, or give the rule above it a match. That rule has none, so that it jumps for each device, and this one has no label to jump to. The word is the label that it jumps to.
+
+    $ cat w13.rules
+    GOTO="disks_end"
+    KERNEL=="sd*", TAG+="disk"
+    LABEL="disks_end"
+    $ devdry verify --lint w13.rules
+    w13.rules:2: W13 rule never reached: disks_end
+    1 files checked, 0 good, 1 bad
+    $ cat w13-mended.rules
+    SUBSYSTEM!="block", GOTO="disks_end"
+    KERNEL=="sd*", TAG+="disk"
+    LABEL="disks_end"
+    $ devdry verify --lint w13-mended.rules
+    1 files checked, 1 good, 0 bad
+"#;

@@ -1,0 +1,57 @@
+//! Diagnostics that are put among others.
+ghost use Rattle.std.specs.Prelude.{◌≡◌, ◌≤◌, nat_lt, length, map, IfOk};
+ghost use Rattle.std.specs.List.{prefix_len, take_while};
+ghost use Rattle.text_bytes.specs.Texts.{skip_while};
+ghost use Rattle.engine_formats.specs.Diagnostics.{shown};
+ghost use Rattle.engine_checks.specs.Told.{by_line};
+
+use crate::lent::{Lent, push_lent};
+use engine_formats::Diagnostic;
+use std::alloc::{AllocError, Global};
+
+/// How many of others at the front are told of lines before one.
+fn count_before(others: &[Lent<'_, '_>], line: u32) -> usize
+    ensures value { result ≡ prefix_len (λ o. nat_lt o.begins line) others.now }
+    ensures within { result ≤ length others.now }
+{
+    others
+        .iter()
+        .take_while(|other| other.line() < line)
+        .count()
+}
+
+/// The others at the front that are told of lines before one.
+fn before<'s, 'r, 'w>(others: &'s [Lent<'r, 'w>], line: u32) -> &'s [Lent<'r, 'w>]
+    ensures { result.now ≡ take_while (λ o. nat_lt o.begins line) others.now }
+{
+    let (before, _) = others.split_at(count_before(others, line));
+    before
+}
+
+/// The others behind these.
+fn behind<'s, 'r, 'w>(others: &'s [Lent<'r, 'w>], line: u32) -> &'s [Lent<'r, 'w>]
+    ensures { result.now ≡ skip_while (λ o. nat_lt o.begins line) others.now }
+{
+    let (_, behind) = others.split_at(count_before(others, line));
+    behind
+}
+
+/// Diagnostics with others put among them, each behind all that are told of its line or of one before it.
+pub(crate) fn by_line<'r>(
+    alloc: Global,
+    found: Vec<Diagnostic<'r>>,
+    others: &[Lent<'r, '_>],
+) -> Result<Vec<Diagnostic<'r>>, AllocError>
+    ensures { IfOk result (λ told. map shown told.items ≡ by_line (map shown found.entry.items) others.now) }
+{
+    let mut told = Vec::new(alloc);
+    let mut rest = others;
+    for diagnostic in found {
+        let line = diagnostic.begins;
+        push_lent(alloc, &mut told, before(rest, line))?;
+        told.push(diagnostic)?;
+        rest = behind(rest, line);
+    }
+    push_lent(alloc, &mut told, rest)?;
+    Ok(told)
+}

@@ -1,0 +1,87 @@
+//! Diagnostics with words that stand elsewhere.
+ghost use Rattle.std.specs.Prelude.{◌≡◌, ◌++◌, map, IfOk, OnOk};
+ghost use Rattle.engine_formats.specs.Diagnostics.{shown};
+
+use engine_formats::{Diagnostic, Remark};
+use std::alloc::{AllocError, Global};
+use std::marker::Model;
+use text_bytes::Bytes;
+
+/// A diagnostic with a word that stands elsewhere, which may be put among others. Its fields are those of a diagnostic.
+#[derive(Drop)]
+pub(crate) struct Lent<'r, 'w> {
+    pub(crate) name: &'r [u8],
+    pub(crate) path: &'r [u8],
+    pub(crate) source: &'r [u8],
+    pub(crate) begins: u32,
+    pub(crate) line: u32,
+    pub(crate) column: u32,
+    pub(crate) end: u32,
+    pub(crate) remark: Remark,
+    pub(crate) word: &'w [u8],
+}
+
+impl<'r, 'w> Model for Lent<'r, 'w> {
+    ghost use Rattle.engine_formats.specs.Diagnostics as diagnostics;
+
+    ghost Value = { diagnostics.DiagnosticValue };
+
+    ghost view = { λ d. record {
+      name = d.name.now;
+      path = d.path.now;
+      source = d.source.now;
+      begins = d.begins;
+      line = d.line;
+      column = d.column;
+      end = d.end;
+      remark = d.remark;
+      word = d.word.now;
+    } };
+}
+
+impl<'r, 'w> Lent<'r, 'w> {
+    /// The line that it is told of.
+    pub(crate) fn line(&self) -> u32
+        ensures { result ≡ self.now.begins }
+    {
+        self.begins
+    }
+
+    /// What is said of it.
+    pub(crate) fn remark(&self) -> Remark
+        ensures { result ≡ self.now.remark }
+    {
+        self.remark
+    }
+
+    /// The same with a word of its own. The error comes where memory is refused.
+    fn diagnostic(&self, alloc: Global) -> Result<Diagnostic<'r>, AllocError>
+        ensures { IfOk result (λ d. shown d ≡ self.now) }
+    {
+        Ok(Diagnostic {
+            name: self.name,
+            path: self.path,
+            source: self.source,
+            begins: self.begins,
+            line: self.line,
+            column: self.column,
+            end: self.end,
+            remark: self.remark,
+            word: Bytes::copy_of(alloc, self.word)?,
+        })
+    }
+}
+
+/// Puts such diagnostics behind others.
+pub(crate) fn push_lent<'r>(
+    alloc: Global,
+    told: &mut Vec<Diagnostic<'r>>,
+    lent: &[Lent<'r, '_>],
+) -> Result<(), AllocError>
+    ensures { OnOk result (map shown told.new.items ≡ map shown told.old.items ++ lent.now) }
+{
+    for diagnostic in lent {
+        told.push(diagnostic.diagnostic(alloc)?)?;
+    }
+    Ok(())
+}

@@ -1,0 +1,35 @@
+//! What lints change in what is told.
+//!
+//! Each function does nothing: its contract is a law of the definitions.
+ghost use Rattle.std.specs.Prelude.{◌≡◌, ◌&&◌, ◌||◌, not, true, false, [], filter};
+ghost use Rattle.text_bytes.specs.declared.source_file.SourceFile.{SourceFile};
+ghost use Rattle.text_tables.specs.Texts.{is_among};
+ghost use Rattle.engine_ends.specs.declared.line.Line.{Line};
+ghost use Rattle.engine_formats.specs.Remarks.{code_of};
+ghost use Rattle.engine_checks.specs.Codes.{has_comments};
+ghost use Rattle.engine_checks.specs.Files.{database_told, ignored_by, ignores_counted, rules_found, rules_told};
+ghost use Rattle.engine_checks.specs.Laws.{lints_among, lints_in, messages_among, messages_in};
+ghost use Rattle.engine_checks.specs.Told.{is_about_style, is_silenced, is_told};
+
+/// Lints are told exactly where they are asked for, in their order, but for those that the line or a comment silences; never of
+/// a database.
+pub fn lints_are_told_where_asked()
+    ensures asked { (line : Line) (file : SourceFile) → line.lint ≡ true
+        → lints_among (rules_told line file) ≡ filter (λ d. not (is_among (ignored_by line) (code_of d.remark)) && not (is_silenced (ignores_counted (ignored_by line) file) d)) (lints_in line file) }
+    ensures unasked { (line : Line) (file : SourceFile) → line.lint ≡ false → lints_among (rules_told line file) ≡ [] }
+    ensures database { (line : Line) (file : SourceFile) → lints_among (database_told line file) ≡ [] }
+{}
+
+/// Lints change nothing in which messages are told. Where they are not asked for and comments don't count, all that is told is
+/// messages.
+pub fn messages_are_told_as_without_lints()
+    ensures messages { (line : Line) (file : SourceFile)
+        → messages_among (rules_told line file) ≡ filter (is_told false line.style (ignored_by line) (ignores_counted (ignored_by line) file)) (messages_in line file) }
+    ensures unasked { (line : Line) (file : SourceFile) → line.lint ≡ false → has_comments (ignored_by line) ≡ false
+        → rules_told line file ≡ filter (λ d. (line.style || not (is_about_style d.remark)) && not (is_among (ignored_by line) (code_of d.remark))) (messages_in line file) }
+{}
+
+/// Where comments count, lints are found whether they are told or not, so that a code in a comment that silences one is in use.
+pub fn comments_count_for_lints()
+    ensures { (line : Line) (file : SourceFile) → has_comments (ignored_by line) ≡ true → lints_among (rules_found line file) ≡ lints_in line file }
+{}

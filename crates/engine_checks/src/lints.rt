@@ -1,0 +1,60 @@
+//! The lints of a rules file, as diagnostics.
+ghost use Rattle.std.specs.Prelude.{◌≡◌, map, IfOk};
+ghost use Rattle.engine_checks.specs.Files.{lint_diagnostic, lints_counted};
+
+use crate::asked::has_comments;
+use crate::file_text::FileText;
+use crate::lent::Lent;
+use crate::told::Asked;
+use engine_formats::Remark;
+use rule_lints::{PlacedLint, placed_lints};
+use std::alloc::{AllocError, Global};
+use text_bytes::SourceFile;
+
+/// The lints of a rules file; none is looked for where none is asked for and comments, which may silence lints, don't count.
+/// The error comes where memory is refused.
+pub(crate) fn lints_counted(
+    alloc: Global,
+    asked: &Asked<'_>,
+    file: &SourceFile,
+) -> Result<Vec<PlacedLint>, AllocError>
+    ensures { IfOk result (λ lints. lints.items ≡ lints_counted asked.now.lint asked.now.ignored file.now) }
+{
+    if asked.lint || has_comments(&asked.ignored) {
+        placed_lints(alloc, file)
+    } else {
+        Ok(Vec::new(alloc))
+    }
+}
+
+/// A lint of a rules file as a diagnostic.
+fn lint_diagnostic<'r, 'w>(file: &'r FileText<'_>, lint: &'w PlacedLint) -> Lent<'r, 'w>
+    ensures { result ≡ lint_diagnostic file.now lint.now }
+{
+    Lent {
+        name: file.name(),
+        path: file.path(),
+        source: file.line(lint.line),
+        begins: lint.begins,
+        line: lint.line,
+        column: lint.column,
+        end: lint.end,
+        remark: Remark::Lint(lint.lint),
+        word: lint.word.as_slice(),
+    }
+}
+
+/// Lints of a rules file as diagnostics. The error comes where memory is refused.
+pub(crate) fn lint_diagnostics<'r, 'w>(
+    alloc: Global,
+    file: &'r FileText<'_>,
+    lints: &'w [PlacedLint],
+) -> Result<Vec<Lent<'r, 'w>>, AllocError>
+    ensures { IfOk result (λ found. found.items ≡ map (lint_diagnostic file.now) lints.now) }
+{
+    let mut found = Vec::with_capacity(alloc, lints.len())?;
+    for lint in lints {
+        found.push(lint_diagnostic(file, lint))?;
+    }
+    Ok(found)
+}

@@ -1,0 +1,13 @@
+pub mod Octal
+pub mod ModeLaw
+pub mod SignLaw
+pub mod FitLaws
+pub mod AliasLaw
+pub mod DeviceLaw
+pub mod BraceLaw
+pub mod ParenthesisLaw
+pub mod Reading
+pub mod Meaning
+pub mod Passing
+pub mod Filing
+pub mod FileLemmas

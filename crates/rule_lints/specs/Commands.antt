@@ -1,0 +1,106 @@
+-- The commands of a rule, and what of them is for a shell.
+use Rattle.std.specs.Prelude.{ℕ, Bool, false, not, ◌&&◌, ◌||◌, ◌==◌, if◌then◌else◌, List, [], ◌∷◌, Option, Some, None, is_none, take, codes}
+use Rattle.std.specs.List.{prefix_len}
+use Rattle.std.specs.Option.{option_and_then}
+use Rattle.text_bytes.specs.Names.{bar, double_quote, is_blank, single_quote, slash}
+use Rattle.text_bytes.specs.Texts.{begins_with, unindented}
+use Rattle.rule_types.specs.declared.part.Change.{Change}
+use Rattle.rule_types.specs.declared.part.Change.TheVariants as change
+use Rattle.rule_types.specs.declared.part.Deed.{Deed}
+use Rattle.rule_types.specs.declared.part.Deed.TheVariants as deed
+use Rattle.rule_types.specs.declared.part.Import.TheVariants as import
+use Rattle.rule_types.specs.declared.part.Part.{Part}
+use Rattle.rule_types.specs.declared.part.Part.TheVariants as part
+use Rattle.rule_types.specs.declared.types.RunType.TheVariants as run_of
+use Rattle.text_tables.specs.Texts.{is_among}
+use Rattle.rule_lints.specs.Parts.{change_of}
+use Rattle.rule_lints.specs.Texts.{behind_last}
+
+-- the byte `&`
+abbrev pub ampersand : ℕ
+ampersand = 38
+
+-- the byte `;`
+abbrev pub semicolon : ℕ
+semicolon = 59
+
+-- the byte `>`
+abbrev pub greater : ℕ
+greater = 62
+
+-- the program that RUN runs in the end, with its words
+abbrev pub run_command : Change → Option (List ℕ)
+run_command (change.Run None t) = Some t.written
+run_command (change.Run (Some run_of.Program) t) = Some t.written
+run_command _ = None
+
+-- the program that PROGRAM or IMPORT runs, with its words
+abbrev pub asked_command : Deed → Option (List ℕ)
+asked_command (deed.Program t) = Some t.written
+asked_command (deed.Import (import.Program t)) = Some t.written
+asked_command _ = None
+
+-- the program that a part of a rule runs, with its words
+abbrev pub command_of : Part → Option (List ℕ)
+command_of (part.Set a) = run_command a.change
+command_of (part.Act a) = asked_command a.deed
+command_of _ = None
+
+-- a byte that begins and ends a quoted part
+abbrev pub is_quote : ℕ → Bool
+is_quote b = b == single_quote || b == double_quote
+
+-- the quote that is open behind a byte, by that which is open before it
+abbrev pub open_behind : Option ℕ → ℕ → Option ℕ
+open_behind None b = if is_quote b then Some b else None
+open_behind (Some quote) b = if b == quote then None else Some quote
+
+-- whether a byte is a sign of the shell before this text: `|`, `>` or `;`, or `&` and one more of it
+abbrev pub is_shell_sign : ℕ → List ℕ → Bool
+is_shell_sign b text = (b == bar || (b == greater || b == semicolon)) || (b == ampersand && begins_with ampersand text)
+
+-- whether a text has a sign of the shell outside of quotes, where this quote is open before it
+abbrev pub has_sign_behind : Option ℕ → List ℕ → Bool
+has_sign_behind opened [] = false
+has_sign_behind opened (b ∷ text) = (is_none opened && is_shell_sign b text) || has_sign_behind (open_behind opened b) text
+
+-- whether a command has a sign of the shell outside of quotes
+abbrev pub has_shell_sign : List ℕ → Bool
+has_shell_sign command = has_sign_behind None command
+
+-- the first word of a command
+abbrev pub first_word : List ℕ → List ℕ
+first_word command = let words = unindented command in take (prefix_len (λ b. not (is_blank b)) words) words
+
+-- the name of the program of a command: what stands behind the last `/` of its first word
+abbrev pub program_name : List ℕ → List ℕ
+program_name command = behind_last slash (first_word command)
+
+-- the shells
+abbrev pub shells : List (List ℕ)
+shells = codes "sh" ∷ codes "ash" ∷ codes "bash" ∷ codes "dash" ∷ codes "ksh" ∷ codes "zsh" ∷ []
+
+-- a command with a sign of the shell that no shell runs
+abbrev pub lacks_shell : List ℕ → Option (List ℕ)
+lacks_shell command = if has_shell_sign command && not (is_among shells (program_name command)) then Some command else None
+
+-- the value that W2 is told of
+abbrev pub shell_command : Part → Option (List ℕ)
+shell_command p = option_and_then lacks_shell (command_of p)
+
+-- commands that stand in /usr/bin or /usr/sbin, and not in /usr/lib/udev, where udev looks for a program without a path
+abbrev pub commands_elsewhere : List (List ℕ)
+commands_elsewhere =
+    codes "bash" ∷ codes "chgrp" ∷ codes "chmod" ∷ codes "chown" ∷ codes "cp" ∷ codes "date" ∷ codes "echo" ∷ codes "ethtool"
+    ∷ codes "hdparm" ∷ codes "ifconfig" ∷ codes "ip" ∷ codes "iw" ∷ codes "kill" ∷ codes "ln" ∷ codes "logger" ∷ codes "mkdir"
+    ∷ codes "modprobe" ∷ codes "mount" ∷ codes "mv" ∷ codes "nmcli" ∷ codes "python" ∷ codes "python3" ∷ codes "rm"
+    ∷ codes "rmmod" ∷ codes "setfacl" ∷ codes "sh" ∷ codes "sleep" ∷ codes "su" ∷ codes "sudo" ∷ codes "systemctl"
+    ∷ codes "systemd-run" ∷ codes "sysctl" ∷ codes "tee" ∷ codes "touch" ∷ codes "udevadm" ∷ codes "umount" ∷ []
+
+-- a command whose first word is the name of one that stands elsewhere
+abbrev pub lacks_path : List ℕ → Option (List ℕ)
+lacks_path command = if is_among commands_elsewhere (first_word command) then Some command else None
+
+-- the value that W3 is told of
+abbrev pub relative_program : Part → Option (List ℕ)
+relative_program p = option_and_then lacks_path (option_and_then run_command (change_of p))

@@ -1,0 +1,114 @@
+-- What the lints of one rule come to, said of texts and not of how they are read.
+use Rattle.std.specs.Prelude.{◌≡◌, ◌<◌, ◌≤◌, ◌^◌, ℕ, ◌+◌, ◌*◌, Bool, true, false, ◌&&◌, ◌||◌, nat_eq, nat_le, List, [], ◌∷◌, ◌++◌, length, map, flat_map, take, drop, codes, Result, Ok, Err, is_some}
+use Rattle.std.specs.List.{AllByRecursion, list_any, slice_split, starts_with}
+use Rattle.text_bytes.specs.Names.{close_brace, comma, digit_zero, open_brace}
+use Rattle.text_core.specs.Choices.{choice, is_bar}
+use Rattle.text_core.specs.declared.glob_fault.GlobFault.{GlobFault}
+use Rattle.text_core.specs.declared.item.Item.{Item}
+use Rattle.rule_lints.specs.Commands.{is_quote, is_shell_sign}
+use Rattle.rule_lints.specs.Devices.{group_of, is_other}
+use Rattle.rule_lints.specs.LetterCase.{is_miswritten}
+use Rattle.rule_lints.specs.Modes.{greatest_mode}
+use Rattle.rule_lints.specs.Patterns.{are_expressions, close_parenthesis, open_parenthesis, take_all}
+use Rattle.rule_lints.specs.Texts.{has_byte}
+use Rattle.rule_lints.specs.Written.{WrittenPart}
+use Rattle.rule_lints.specs.declared.devices.Group.{Group}
+use Rattle.rule_lints.specs.declared.letter_case.Writing.{Writing}
+
+-- the number that octal digits write, each by its place
+abbrev pub by_places : List ℕ → ℕ
+by_places [] = 0
+by_places (d ∷ digits) = d * 8 ^ length digits + by_places digits
+
+-- A text is one octal digit or more, each written as `0` to `7`, of a number that a mode may be.
+pub record WritesMode (text : List ℕ) : Type 0 where
+  pub digits : List ℕ
+  pub some : 0 < length digits
+  pub octal : AllByRecursion (λ d. d < 8) digits
+  pub written : text ≡ map (λ d. digit_zero + d) digits
+  pub least : by_places digits ≤ greatest_mode
+
+-- a piece of a command: a byte outside of quotes, or a quote with what stands in it
+pub data Piece : Type 0 where
+  bare : ℕ → Piece
+  quoted : ℕ → List ℕ → Piece
+
+-- how a piece is written: what is quoted stands between two of its quote
+abbrev pub written : Piece → List ℕ
+written (bare b) = b ∷ []
+written (quoted quote within) = quote ∷ (within ++ quote ∷ [])
+
+-- a byte outside of quotes is none, and within quotes the quote does not stand
+abbrev pub IsPiece : Piece → Type 0
+IsPiece (bare b) = is_quote b ≡ false
+IsPiece (quoted quote within) = (is_quote quote ≡ true) × (has_byte quote within ≡ false)
+
+-- A command is some pieces, and behind them a sign of the shell, whatever follows.
+pub record HasSignOutside (command : List ℕ) : Type 0 where
+  pub before : List Piece
+  pub pieces : AllByRecursion IsPiece before
+  pub sign : ℕ
+  pub behind : List ℕ
+  pub is_sign : is_shell_sign sign behind ≡ true
+  pub whole : command ≡ flat_map written before ++ sign ∷ behind
+
+-- whether a text has a letter `A` to `Z`
+abbrev pub has_capital : List ℕ → Bool
+has_capital text = list_any (λ b. nat_le 65 b && nat_le b 90) text
+
+-- whether a digit `a` to `f` is among so many bytes of a text behind the first so many
+abbrev pub has_small : ℕ → ℕ → List ℕ → Bool
+has_small start size text = list_any (λ b. nat_le 97 b && nat_le b 102) (take size (drop start text))
+
+-- whether a text is the alias of a USB or PCI device, with a small digit in the number of its vendor or of its product
+abbrev pub is_small_text : List ℕ → Bool
+is_small_text text =
+    (starts_with nat_eq text (codes "usb:v") && (has_small 5 4 text || has_small 10 4 text))
+    || (starts_with nat_eq text (codes "pci:v") && (has_small 5 8 text || has_small 14 8 text))
+
+-- whether one of the patterns passes a test, if they were read
+abbrev pub some_pattern : (List Item → Bool) → Result (List (List Item)) GlobFault → Bool
+some_pattern test (Ok patterns) = list_any test patterns
+some_pattern test (Err fault) = false
+
+-- whether W4 is told of a text with which something is compared that the kernel writes so
+abbrev pub is_told_as : Writing → List ℕ → Bool
+is_told_as writing text = some_pattern (is_miswritten writing) (choice text)
+
+-- whether W11 is told of a text with which something is compared
+abbrev pub is_told_as_expression : List ℕ → Bool
+is_told_as_expression text = are_expressions (slice_split is_bar text)
+
+-- whether W12 is told of a text with which something is compared that is always there
+abbrev pub is_told_to_hold : List ℕ → Bool
+is_told_to_hold text = some_pattern take_all (choice text)
+
+-- The attributes that a rule asks one device for are not those of different devices: there are devices of which no token's attribute is another's.
+pub record AreOfOneGroup (tokens : List WrittenPart) : Type 0 where
+  pub group : Group
+  pub none_other : AllByRecursion (λ w. is_other group (group_of w) ≡ false) tokens
+
+-- A token is the first whose attribute is of other devices than one before it: tokens stand before it, of which some ask for an attribute of a group, and none for one of another group, while it does.
+pub record IsStranger (tokens : List WrittenPart) (w : WrittenPart) : Type 0 where
+  pub group : Group
+  pub before : List WrittenPart
+  pub behind : List WrittenPart
+  pub whole : tokens ≡ before ++ w ∷ behind
+  pub some : list_any (λ v. is_some (group_of v)) before ≡ true
+  pub none_other : AllByRecursion (λ v. is_other group (group_of v) ≡ false) before
+  pub other : is_other group (group_of w) ≡ true
+
+-- A text has a `{`, behind it a `,`, and behind that a `}`.
+pub record HasBraces (text : List ℕ) : Type 0 where
+  pub before : List ℕ
+  pub first : List ℕ
+  pub second : List ℕ
+  pub behind : List ℕ
+  pub whole : text ≡ before ++ open_brace ∷ (first ++ comma ∷ (second ++ close_brace ∷ behind))
+
+-- A text has a `(` behind which no `)` stands.
+pub record HasOpenParenthesis (text : List ℕ) : Type 0 where
+  pub before : List ℕ
+  pub behind : List ℕ
+  pub none : has_byte close_parenthesis behind ≡ false
+  pub whole : text ≡ before ++ open_parenthesis ∷ behind

@@ -1,0 +1,66 @@
+-- W8, W9 and W10: names that are given to a device, and a name in quotes.
+use Rattle.std.specs.Prelude.{ℕ, Bool, true, false, not, ◌&&◌, nat_eq, if◌then◌else◌, List, Option, Some, None, codes}
+use Rattle.std.specs.List.{list_any, slice_split, starts_with}
+use Rattle.std.specs.Option.{option_and_then}
+use Rattle.text_bytes.specs.Names.{double_quote, is_blank}
+use Rattle.text_core.specs.Choices.{choice_fits}
+use Rattle.rule_tokens.specs.Grammar.{Placed}
+use Rattle.rule_types.specs.declared.part.Change.{Change}
+use Rattle.rule_types.specs.declared.part.Change.TheVariants as change
+use Rattle.rule_types.specs.declared.part.Comparison.{Comparison}
+use Rattle.rule_types.specs.declared.part.Part.{Part}
+use Rattle.rule_types.specs.declared.part.Part.TheVariants as part
+use Rattle.rule_types.specs.declared.roles.PlainKey.{PlainKey}
+use Rattle.rule_types.specs.declared.roles.PlainKey.TheVariants as plain
+use Rattle.rule_types.specs.declared.roles.Target.TheVariants as target
+use Rattle.rule_lints.specs.Parts.{change_of, is_equal}
+use Rattle.rule_lints.specs.Texts.{has_byte}
+use Rattle.rule_lints.specs.Written.{WrittenPart}
+
+-- whether a text meets a comparison
+abbrev pub meets : List ℕ → Comparison → Bool
+meets text wanted = if is_equal wanted.operator then choice_fits wanted.choice text else not (choice_fits wanted.choice text)
+
+-- whether a match looks at SUBSYSTEM
+abbrev pub is_subsystem : PlainKey → Bool
+is_subsystem plain.Subsystem = true
+is_subsystem _ = false
+
+-- whether a part is a match of SUBSYSTEM that `net` does not meet
+abbrev pub excludes_net : Part → Bool
+excludes_net (part.Plain m) = is_subsystem m.key && not (meets (codes "net") m.wanted)
+excludes_net _ = false
+
+-- whether a rule is for no network device
+abbrev pub is_outside_net : List WrittenPart → Bool
+is_outside_net tokens = list_any (λ w. excludes_net w.part) tokens
+
+-- the text that a change gives to NAME
+abbrev pub name_in : Change → Option (List ℕ)
+name_in (change.Text target.Name t) = Some t.written
+name_in _ = None
+
+-- the value that W8 is told of, in a rule that is for no network device
+abbrev pub name_given : Part → Option (List ℕ)
+name_given p = option_and_then name_in (change_of p)
+
+-- the text that a change gives to SYMLINK
+abbrev pub links_in : Change → Option (List ℕ)
+links_in (change.Text target.Symlink t) = Some t.written
+links_in _ = None
+
+-- links of which one begins with `/dev/`
+abbrev pub links_with_dev : List ℕ → Option (List ℕ)
+links_with_dev links = if list_any (λ link. starts_with nat_eq link (codes "/dev/")) (slice_split is_blank links) then Some links else None
+
+-- the value that W9 is told of
+abbrev pub dev_link : Part → Option (List ℕ)
+dev_link p = option_and_then links_with_dev (option_and_then links_in (change_of p))
+
+-- a text that has a `"`
+abbrev pub with_quote : List ℕ → Option (List ℕ)
+with_quote text = if has_byte double_quote text then Some text else None
+
+-- the text in braces that W10 is told of
+abbrev pub quoted_name : Placed → Option (List ℕ)
+quoted_name t = option_and_then with_quote t.parts.head.attribute

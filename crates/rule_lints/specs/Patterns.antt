@@ -1,0 +1,114 @@
+-- W11 and W12: patterns that are written as regular expressions, and matches that always hold.
+use Rattle.std.specs.Prelude.{ℕ, Bool, true, false, not, ◌&&◌, ◌||◌, ◌==◌, nat_eq, if◌then◌else◌, List, [], ◌∷◌, Option, Some, None, codes}
+use Rattle.std.specs.List.{list_all, list_any, slice_split, starts_with}
+use Rattle.std.specs.Option.{option_and_then}
+use Rattle.text_bytes.specs.Names.{backslash, caret, close_brace, comma, dollar, open_brace}
+use Rattle.text_bytes.specs.Texts.{begins_with, ends_in, is_empty}
+use Rattle.text_core.specs.Choices.{is_bar}
+use Rattle.text_core.specs.declared.item.Item.{Item}
+use Rattle.rule_types.specs.declared.part.Comparison.{Comparison}
+use Rattle.rule_types.specs.declared.part.Part.{Part}
+use Rattle.rule_types.specs.declared.part.Part.TheVariants as part
+use Rattle.rule_types.specs.declared.roles.PlainKey.{PlainKey}
+use Rattle.rule_types.specs.declared.roles.PlainKey.TheVariants as plain
+use Rattle.rule_types.specs.declared.roles.UpKey.{UpKey}
+use Rattle.rule_types.specs.declared.roles.UpKey.TheVariants as up
+use Rattle.rule_lints.specs.LetterCase.{is_many}
+use Rattle.rule_lints.specs.Parts.{comparison_of, is_equal}
+use Rattle.rule_lints.specs.Texts.{before_first, behind_first, behind_last, has_byte}
+
+-- the byte `(`
+abbrev pub open_parenthesis : ℕ
+open_parenthesis = 40
+
+-- the byte `)`
+abbrev pub close_parenthesis : ℕ
+close_parenthesis = 41
+
+-- `d`, `w` or `s`, which stand for digits, letters and blanks behind a `\` of a regular expression
+abbrev pub is_class_letter : ℕ → Bool
+is_class_letter b = b == 100 || (b == 119 || b == 115)
+
+-- whether a text begins with such a letter
+abbrev pub begins_with_class : List ℕ → Bool
+begins_with_class [] = false
+begins_with_class (b ∷ text) = is_class_letter b
+
+-- whether a `\` with such a letter behind it stands in a text
+abbrev pub has_class : List ℕ → Bool
+has_class [] = false
+has_class (b ∷ text) = (b == backslash && begins_with_class text) || has_class text
+
+-- whether a `(` behind which no `)` stands is in a text: one behind the last `)`
+abbrev pub has_open_parenthesis : List ℕ → Bool
+has_open_parenthesis text = has_byte open_parenthesis (behind_last close_parenthesis text)
+
+-- whether a `)` before which no `(` stands is in a text: one before the first `(`
+abbrev pub has_close_parenthesis : List ℕ → Bool
+has_close_parenthesis text = has_byte close_parenthesis (before_first open_parenthesis text)
+
+-- whether texts between bars are those of a group in parentheses: one of them opens it, and one closes it
+abbrev pub are_of_group : List (List ℕ) → Bool
+are_of_group texts = list_any has_open_parenthesis texts && list_any has_close_parenthesis texts
+
+-- whether a text has a `{`, behind it a `,`, and behind that a `}`
+abbrev pub has_braces : List ℕ → Bool
+has_braces text = has_byte close_brace (behind_first comma (behind_first open_brace text))
+
+-- whether a text is written as a regular expression or with braces, which are none of a pattern's signs
+abbrev pub is_expression : List ℕ → Bool
+is_expression text =
+    (begins_with caret text || (starts_with nat_eq text (codes ".*") || ends_in dollar text))
+    || (has_class text || has_braces text)
+
+-- whether one of the texts between bars is so written, or they are those of a group
+abbrev pub are_expressions : List (List ℕ) → Bool
+are_expressions texts = list_any is_expression texts || are_of_group texts
+
+-- the value of a comparison of which the alternatives, as texts between bars, are so written
+abbrev pub expression_in : Comparison → Option (List ℕ)
+expression_in wanted = if are_expressions (slice_split is_bar wanted.written) then Some wanted.written else None
+
+-- the value that W11 is told of
+abbrev pub expression : Part → Option (List ℕ)
+expression p = option_and_then expression_in (comparison_of p)
+
+-- whether items take any text
+abbrev pub take_all : List Item → Bool
+take_all items = not (is_empty items) && list_all is_many items
+
+-- whether what a match of the event looks at is there for each event
+abbrev pub is_always_there : PlainKey → Bool
+is_always_there plain.Action = true
+is_always_there plain.Devpath = true
+is_always_there plain.Kernel = true
+is_always_there plain.Subsystem = true
+is_always_there plain.Driver = true
+is_always_there (plain.Env name) = true
+is_always_there _ = false
+
+-- whether what a match of one device of the chain looks at is there for each device
+abbrev pub is_always_there_above : UpKey → Bool
+is_always_there_above up.Kernels = true
+is_always_there_above up.Subsystems = true
+is_always_there_above up.Drivers = true
+is_always_there_above _ = false
+
+-- whether a part looks at what is always there
+abbrev pub looks_at_all : Part → Bool
+looks_at_all (part.Plain m) = is_always_there m.key
+looks_at_all (part.Up m) = is_always_there_above m.key
+looks_at_all _ = false
+
+-- whether a comparison by `==` holds of any text
+abbrev pub is_met_by_all : Comparison → Bool
+is_met_by_all wanted = is_equal wanted.operator && list_any take_all wanted.choice
+
+-- whether a comparison is there, and is met by any text
+abbrev pub some_met_by_all : Option Comparison → Bool
+some_met_by_all None = false
+some_met_by_all (Some wanted) = is_met_by_all wanted
+
+-- whether W12 is told of a part
+abbrev pub always_holds : Part → Bool
+always_holds p = looks_at_all p && some_met_by_all (comparison_of p)

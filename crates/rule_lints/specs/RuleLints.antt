@@ -1,0 +1,71 @@
+-- What is told of a rule by itself.
+use Rattle.std.specs.Prelude.{ℕ, Bool, true, false, if◌then◌else◌, List, [], ◌∷◌, ◌++◌, Option, Some, None, option_map}
+use Rattle.std.specs.List.{filter_map}
+use Rattle.rule_tokens.specs.Grammar.{Placed}
+use Rattle.rule_types.specs.declared.lint.Lint.{Lint}
+use Rattle.rule_types.specs.declared.lint.Lint.TheVariants.{ModeNotOctal, SignOfShell, RelativeProgram, LetterCase, NoSuchDevice, NameOutsideNet, LinkWithDev, QuotedName, NotAPattern, AlwaysHolds}
+use Rattle.rule_lints.specs.Commands.{relative_program, shell_command}
+use Rattle.rule_lints.specs.Devices.{asked_name, stranger}
+use Rattle.rule_lints.specs.LetterCase.{wrong_case}
+use Rattle.rule_lints.specs.Modes.{wrong_mode}
+use Rattle.rule_lints.specs.Names.{dev_link, is_outside_net, name_given, quoted_name}
+use Rattle.rule_lints.specs.Patterns.{always_holds, expression}
+use Rattle.rule_lints.specs.Spots.{key_spot, value_spot}
+use Rattle.rule_lints.specs.Written.{WrittenPart}
+use Rattle.rule_lints.specs.declared.spot.LintSpot.{LintSpot}
+
+-- the text that a lint of one token is told of this one with, if it is told
+abbrev pub word_of : Lint → WrittenPart → Option (List ℕ)
+word_of ModeNotOctal w = wrong_mode w.part
+word_of SignOfShell w = shell_command w.part
+word_of RelativeProgram w = relative_program w.part
+word_of LetterCase w = wrong_case w.part
+word_of NoSuchDevice w = asked_name w.part
+word_of NameOutsideNet w = name_given w.part
+word_of LinkWithDev w = dev_link w.part
+word_of QuotedName w = quoted_name w.token
+word_of NotAPattern w = expression w.part
+word_of AlwaysHolds w = if always_holds w.part then Some w.token.parts.head.key else None
+word_of _ w = None
+
+-- whether a lint is about a token's key, and not about its value
+abbrev pub is_of_key : Lint → Bool
+is_of_key NoSuchDevice = true
+is_of_key QuotedName = true
+is_of_key AlwaysHolds = true
+is_of_key _ = false
+
+-- a lint about a token, told with a text
+abbrev pub spot_of : Lint → Placed → List ℕ → LintSpot
+spot_of lint t word = if is_of_key lint then key_spot lint word t else value_spot lint word t
+
+-- what a lint of one token tells of this one
+abbrev pub told_of : Lint → WrittenPart → Option LintSpot
+told_of lint w = option_map (spot_of lint w.token) (word_of lint w)
+
+-- what a lint of one token tells of these, in written order
+abbrev pub told : Lint → List WrittenPart → List LintSpot
+told lint tokens = filter_map (told_of lint) tokens
+
+-- what a lint of one token tells of the token that there may be
+abbrev pub told_if_there : Lint → Option WrittenPart → List LintSpot
+told_if_there lint None = []
+told_if_there lint (Some w) = told lint (w ∷ [])
+
+-- what W8 tells of a rule's tokens
+abbrev pub names_told : List WrittenPart → List LintSpot
+names_told tokens = if is_outside_net tokens then told NameOutsideNet tokens else []
+
+-- what is told of a rule's tokens: the lints in the order of their codes, those of one code in written order
+unfoldable pub rule_lints : List WrittenPart → List LintSpot
+rule_lints tokens =
+    ((((((((told ModeNotOctal tokens
+    ++ told SignOfShell tokens)
+    ++ told RelativeProgram tokens)
+    ++ told LetterCase tokens)
+    ++ told_if_there NoSuchDevice (stranger tokens))
+    ++ names_told tokens)
+    ++ told LinkWithDev tokens)
+    ++ told QuotedName tokens)
+    ++ told NotAPattern tokens)
+    ++ told AlwaysHolds tokens

@@ -1,0 +1,190 @@
+//! W2 and W3: the commands of a rule, and what of them is for a shell.
+ghost use Rattle.std.specs.Prelude.{◌≡◌, ◌≤◌, length, not, option_map};
+ghost use Rattle.std.specs.List.{prefix_len};
+ghost use Rattle.text_bytes.specs.Names.{is_blank};
+ghost use Rattle.rule_lints.specs.Commands.{asked_command, command_of, first_word, is_quote, is_shell_sign, has_shell_sign, lacks_path, lacks_shell, open_behind, program_name, relative_program, run_command, shell_command};
+
+use crate::parts::{change_of, is_among};
+use crate::texts::behind_last;
+use rule_types::{Change, Deed, Import, Part, RunType};
+use text_bytes::{begins_with, is_blank, unindented};
+
+/// The shells, by the names of their programs.
+const SHELLS: [&[u8]; 6] = [b"sh", b"ash", b"bash", b"dash", b"ksh", b"zsh"];
+
+/// Commands that stand in /usr/bin or /usr/sbin, and not in /usr/lib/udev, where udev looks for a program
+/// without a path.
+const COMMANDS: [&[u8]; 36] = [
+    b"bash",
+    b"chgrp",
+    b"chmod",
+    b"chown",
+    b"cp",
+    b"date",
+    b"echo",
+    b"ethtool",
+    b"hdparm",
+    b"ifconfig",
+    b"ip",
+    b"iw",
+    b"kill",
+    b"ln",
+    b"logger",
+    b"mkdir",
+    b"modprobe",
+    b"mount",
+    b"mv",
+    b"nmcli",
+    b"python",
+    b"python3",
+    b"rm",
+    b"rmmod",
+    b"setfacl",
+    b"sh",
+    b"sleep",
+    b"su",
+    b"sudo",
+    b"systemctl",
+    b"systemd-run",
+    b"sysctl",
+    b"tee",
+    b"touch",
+    b"udevadm",
+    b"umount",
+];
+
+/// The value that W2 is told of: a command with a sign of the shell that no shell runs.
+pub(crate) fn shell_command(part: &Part) -> Option<&[u8]>
+    ensures { option_map (λ text. text.now) result ≡ shell_command part.now }
+{
+    lacks_shell(command_of(part)?)
+}
+
+/// The value that W3 is told of: a command of RUN whose program stands elsewhere than where udev looks
+/// for one without a path.
+pub(crate) fn relative_program(part: &Part) -> Option<&[u8]>
+    ensures { option_map (λ text. text.now) result ≡ relative_program part.now }
+{
+    lacks_path(run_command(change_of(part)?)?)
+}
+
+/// The program that a part of a rule runs, with its words.
+fn command_of(part: &Part) -> Option<&[u8]>
+    ensures { option_map (λ text. text.now) result ≡ command_of part.now }
+{
+    match part {
+        Part::Set(assignment) => run_command(&assignment.change),
+        Part::Act(act) => asked_command(&act.deed),
+        _ => None,
+    }
+}
+
+/// The program that RUN runs in the end, with its words.
+fn run_command(change: &Change) -> Option<&[u8]>
+    ensures { option_map (λ text. text.now) result ≡ run_command change.now }
+{
+    match change {
+        Change::Run(None, template) => Some(template.written()),
+        Change::Run(Some(RunType::Program), template) => Some(template.written()),
+        _ => None,
+    }
+}
+
+/// The program that PROGRAM or IMPORT runs, with its words.
+fn asked_command(deed: &Deed) -> Option<&[u8]>
+    ensures { option_map (λ text. text.now) result ≡ asked_command deed.now }
+{
+    match deed {
+        Deed::Program(template) => Some(template.written()),
+        Deed::Import(Import::Program(template)) => Some(template.written()),
+        _ => None,
+    }
+}
+
+/// A command with a sign of the shell that no shell runs.
+fn lacks_shell(command: &[u8]) -> Option<&[u8]>
+    ensures { option_map (λ text. text.now) result ≡ lacks_shell command.now }
+{
+    if has_shell_sign(command) && !is_among(&SHELLS, program_name(command)) {
+        Some(command)
+    } else {
+        None
+    }
+}
+
+/// Whether a command has a sign of the shell outside of quotes.
+fn has_shell_sign(command: &[u8]) -> bool
+    ensures { result ≡ has_shell_sign command.now }
+{
+    let mut opened = None;
+    let mut rest = command;
+    while let Some((byte, behind)) = rest.split_first() {
+        if opened.is_none() && is_shell_sign(*byte, behind) {
+            return true;
+        }
+        opened = open_behind(opened, *byte);
+        rest = behind;
+    }
+    false
+}
+
+/// The quote that is open behind a byte, by that which is open before it.
+fn open_behind(opened: Option<u8>, byte: u8) -> Option<u8>
+    ensures { result ≡ open_behind opened byte }
+{
+    match opened {
+        None if is_quote(byte) => Some(byte),
+        None => None,
+        Some(quote) if byte == quote => None,
+        Some(quote) => Some(quote),
+    }
+}
+
+/// Whether a byte begins and ends a quoted part.
+fn is_quote(byte: u8) -> bool
+    ensures { result ≡ is_quote byte }
+{
+    byte == b'\'' || byte == b'"'
+}
+
+/// Whether a byte is a sign of the shell before this text.
+fn is_shell_sign(byte: u8, behind: &[u8]) -> bool
+    ensures { result ≡ is_shell_sign byte behind.now }
+{
+    byte == b'|' || byte == b'>' || byte == b';' || (byte == b'&' && begins_with(b'&', behind))
+}
+
+/// The name of the program of a command: what stands behind the last `/` of its first word.
+fn program_name(command: &[u8]) -> &[u8]
+    ensures { result.now ≡ program_name command.now }
+{
+    behind_last(b'/', first_word(command))
+}
+
+/// The first word of a command.
+pub(crate) fn first_word(command: &[u8]) -> &[u8]
+    ensures { result.now ≡ first_word command.now }
+{
+    let words = unindented(command);
+    let (word, _) = words.split_at(word_length(words));
+    word
+}
+
+/// How many bytes that are no blanks a text begins with.
+fn word_length(text: &[u8]) -> usize
+    ensures value { result ≡ prefix_len (λ b. not (is_blank b)) text.now }
+    ensures within { result ≤ length text.now }
+{
+    text.iter().take_while(|byte| !is_blank(**byte)).count()
+}
+
+/// A command whose first word is the name of one that stands elsewhere.
+fn lacks_path(command: &[u8]) -> Option<&[u8]>
+    ensures { option_map (λ text. text.now) result ≡ lacks_path command.now }
+{
+    if is_among(&COMMANDS, first_word(command)) {
+        Some(command)
+    } else {
+        None
+    }
+}

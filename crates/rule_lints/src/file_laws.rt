@@ -1,0 +1,42 @@
+//! Laws of the lints of a file, each the contract of a function that does nothing.
+ghost use Rattle.std.specs.Prelude.{◌≡◌, List, ℕ, is_some, map};
+ghost use Rattle.text_bytes.specs.declared.source_file.SourceFile as files;
+ghost use Rattle.rule_core.specs.Drafts.{draft_of};
+ghost use Rattle.rule_lints.specs.FileLaws.{FirstIsReached, ImportsFurtherDown, NoneBehindMatches, NoneUncompared, ReachedBehindLostJumps, ReachedBehindMatches, ReachedByLabels, is_read, told_in, told_of};
+ghost use Rattle.rule_lints.specs.FileLints.{file_spots, placed_lints};
+ghost use Rattle.rule_lints.specs.FileRules.{file_rules, landed_rules, tokens_of_rule};
+
+/// A joined line is a rule for lints just where `rule_core` reads it as one.
+#[tactic(auto, using(crate::proofs::FileLemmas::lines_read))]
+pub fn lines_are_rules_where_they_are_read()
+    ensures { (line : List ℕ) → is_some (tokens_of_rule line) ≡ is_read (draft_of line) }
+{}
+
+/// W6 tells of properties that the rule or one further down imports, and that no rule before it imports, assigns or may
+/// import.
+pub fn imports_stand_further_down()
+    ensures { ImportsFurtherDown }
+{}
+
+/// W7 tells of no assignment behind all matches of its rule, and of none where nothing is compared.
+#[tactic(auto, using(crate::proofs::FileLemmas::none_behind, crate::proofs::FileLemmas::none_uncompared))]
+pub fn assignments_stand_before_matches()
+    ensures behind { NoneBehindMatches }
+    ensures uncompared { NoneUncompared }
+{}
+
+/// W13 tells neither of the first rule of a file, nor of one behind a rule that may end or whose jump has no later
+/// label, nor of one with a label.
+#[tactic(auto, using(crate::proofs::FileLemmas::behind_matches, crate::proofs::FileLemmas::behind_lost, crate::proofs::FileLemmas::by_labels))]
+pub fn rules_that_are_reached_are_not_told_of()
+    ensures first { FirstIsReached }
+    ensures ending { ReachedBehindMatches }
+    ensures lost { ReachedBehindLostJumps }
+    ensures labelled { ReachedByLabels }
+{}
+
+/// Without their places, the lints of a file are those of its rules.
+#[tactic(auto, using(crate::proofs::FileLemmas::lints_of_rules))]
+pub fn lints_are_those_of_the_rules()
+    ensures { (file : files.SourceFile) → map told_in (placed_lints file) ≡ map told_of (file_spots (landed_rules (file_rules file.bytes))) }
+{}

@@ -1,0 +1,150 @@
+//! Laws of the lints of one rule, each the contract of a function that does nothing.
+ghost use Rattle.std.specs.Prelude.{◌≡◌, ◌↔◌, ℕ, List, None, Some, true, false, codes};
+ghost use Rattle.std.specs.List.{list_any};
+ghost use Rattle.text_core.specs.Fits.{fits};
+ghost use Rattle.text_core.specs.declared.item.Item.{Item};
+ghost use Rattle.rule_lints.specs.Commands.{has_shell_sign, lacks_path, lacks_shell};
+ghost use Rattle.rule_lints.specs.Devices.{stranger};
+ghost use Rattle.rule_lints.specs.Laws.{AreOfOneGroup, HasBraces, HasOpenParenthesis, HasSignOutside, IsStranger, WritesMode, has_capital, is_small_text, is_told_as, is_told_as_expression, is_told_to_hold};
+ghost use Rattle.rule_lints.specs.LetterCase.{is_capital, is_small_alias, items_in_place};
+ghost use Rattle.rule_lints.specs.Modes.{is_mode, no_mode};
+ghost use Rattle.rule_lints.specs.Names.{links_with_dev};
+ghost use Rattle.rule_lints.specs.Patterns.{has_braces, has_open_parenthesis, is_expression, take_all};
+ghost use Rattle.rule_lints.specs.declared.letter_case.Writing.TheVariants.{Alias, Lower, Prefixed};
+ghost use Rattle.rule_lints.specs.Written.{WrittenPart};
+
+/// A text gives a mode exactly where it is one octal digit or more, and nothing else, of a number of at
+/// most 7777.
+#[tactic(auto, using(crate::proofs::ModeLaw::modes_written))]
+pub fn modes_are_octal_numbers()
+    ensures { (text : List ℕ) → (is_mode text ≡ true) ↔ WritesMode text }
+{}
+
+/// A sign of the shell is told of exactly where it stands behind bytes and whole quoted parts, so
+/// outside of quotes.
+#[tactic(auto, using(crate::proofs::SignLaw::signs_outside))]
+pub fn signs_stand_outside_of_quotes()
+    ensures { (command : List ℕ) → (has_shell_sign command ≡ true) ↔ HasSignOutside command }
+{}
+
+/// A pattern that is told of for its capital letters fits no text without one, so nothing that the
+/// kernel writes in small letters.
+#[tactic(auto, using(crate::proofs::FitLaws::capital_kept))]
+pub fn capital_letters_are_never_written()
+    ensures { (items : List Item) (text : List ℕ) → list_any is_capital items ≡ true → fits items text ≡ true → has_capital text ≡ true }
+{}
+
+/// A pattern of an alias that is told of fits aliases alone that have a small digit in a number of
+/// their device, which the kernel writes with capital ones.
+#[tactic(auto, using(crate::proofs::AliasLaw::aliases_kept))]
+pub fn small_digits_of_aliases_are_never_written()
+    ensures { (items : List Item) (text : List ℕ) → is_small_alias (items_in_place items) ≡ true → fits items text ≡ true → is_small_text text ≡ true }
+{}
+
+/// No token is told of for its device exactly where no two attributes of the rule are of different
+/// groups.
+#[tactic(auto, using(crate::proofs::DeviceLaw::strangers))]
+pub fn strangers_are_of_two_groups()
+    ensures { (tokens : List WrittenPart) → (stranger tokens ≡ None) ↔ AreOfOneGroup tokens }
+{}
+
+/// The token that is told of for its device is the first of another group than one before it.
+#[tactic(auto, using(crate::proofs::DeviceLaw::stranger_found))]
+pub fn the_first_stranger_is_told()
+    ensures { (tokens : List WrittenPart) (told : WrittenPart) → stranger tokens ≡ Some told → IsStranger tokens told }
+{}
+
+/// Braces are told of exactly where a comma stands between them.
+#[tactic(auto, using(crate::proofs::BraceLaw::braces))]
+pub fn braces_have_a_comma()
+    ensures { (text : List ℕ) → (has_braces text ≡ true) ↔ HasBraces text }
+{}
+
+/// A parenthesis that is open is told of exactly where none that closes stands behind it.
+#[tactic(auto, using(crate::proofs::ParenthesisLaw::parentheses))]
+pub fn open_parentheses_are_not_closed()
+    ensures { (text : List ℕ) → (has_open_parenthesis text ≡ true) ↔ HasOpenParenthesis text }
+{}
+
+/// A match is told of as one that always holds exactly where each text fits it.
+#[tactic(auto, using(crate::proofs::FitLaws::any_text_fits))]
+pub fn what_always_holds_fits_each_text()
+    ensures { (items : List Item) → (take_all items ≡ true) ↔ ((text : List ℕ) → fits items text ≡ true) }
+{}
+
+/// Values of MODE, of which one is told of.
+pub fn some_modes()
+    ensures zeros { no_mode (codes "0007777") ≡ None }
+    ensures nine { no_mode (codes "0669") ≡ Some (codes "0669") }
+    ensures great { no_mode (codes "10000") ≡ Some (codes "10000") }
+    ensures empty { no_mode (codes "") ≡ Some (codes "") }
+    ensures substituted { no_mode (codes "$env{MODE}") ≡ None }
+{}
+
+/// Commands, of which some are told of.
+pub fn some_commands()
+    ensures quoted { lacks_shell (codes "/usr/bin/logger 'a > b | c'") ≡ None }
+    ensures shell { lacks_shell (codes " /bin/sh -c 'a' | b") ≡ None }
+    ensures other { lacks_shell (codes "/bin/fish -c a; b") ≡ Some (codes "/bin/fish -c a; b") }
+    ensures single { lacks_shell (codes "/bin/get a&b") ≡ None }
+    ensures double { lacks_shell (codes "/bin/a && b") ≡ Some (codes "/bin/a && b") }
+    ensures bare { lacks_path (codes " logger x") ≡ Some (codes " logger x") }
+    ensures own { lacks_path (codes "cdrom_id --lock-media") ≡ None }
+    ensures longer { lacks_path (codes "logger2") ≡ None }
+    ensures path { lacks_path (codes "/bin/logger x") ≡ None }
+    ensures blanks { lacks_path (codes "  ") ≡ None }
+{}
+
+/// Values with which an alias is compared, of which some are told of.
+#[tactic(auto, unfolding(text_core::specs::Choices::choice, text_core::specs::Choices::choice_by, text_core::specs::Spell::front, text_core::specs::Spell::bracket))]
+pub fn some_aliases()
+    ensures capital { is_told_as Alias (codes "usb:v1D6Bp0002d*") ≡ false }
+    ensures vendor { is_told_as Alias (codes "usb:v1d6Bp*") ≡ true }
+    ensures product { is_told_as Alias (codes "usb:v1D6Bp000a*") ≡ true }
+    ensures later { is_told_as Alias (codes "usb:v*p000a*") ≡ false }
+    ensures set { is_told_as Alias (codes "usb:v1D6Bp000[0-9a-f]*") ≡ false }
+    ensures pci { is_told_as Alias (codes "pci:v00008086d0000100e*") ≡ true }
+    ensures second { is_told_as Alias (codes "usb:v1D6B*|pci:v0000808a*") ≡ true }
+    ensures other { is_told_as Alias (codes "acpi:device:") ≡ false }
+{}
+
+/// Values with which hexadecimal numbers are compared, of which some are told of.
+#[tactic(auto, unfolding(text_core::specs::Choices::choice, text_core::specs::Choices::choice_by, text_core::specs::Spell::front, text_core::specs::Spell::bracket))]
+pub fn some_numbers()
+    ensures small { is_told_as Lower (codes "046d|c52b") ≡ false }
+    ensures capital { is_told_as Lower (codes "046d|C52b") ≡ true }
+    ensures set { is_told_as Lower (codes "046[dD]") ≡ false }
+    ensures prefixed { is_told_as Prefixed (codes "0x8086|0x10DE") ≡ true }
+    ensures prefix { is_told_as Prefixed (codes "0X8086") ≡ true }
+    ensures name { is_told_as Prefixed (codes "ATA     ") ≡ false }
+{}
+
+/// Values with which something is compared that is always there, of which some are told of.
+#[tactic(auto, unfolding(text_core::specs::Choices::choice, text_core::specs::Choices::choice_by, text_core::specs::Spell::front, text_core::specs::Spell::bracket))]
+pub fn some_stars()
+    ensures star { is_told_to_hold (codes "*") ≡ true }
+    ensures second { is_told_to_hold (codes "sd*|**") ≡ true }
+    ensures some { is_told_to_hold (codes "?*") ≡ false }
+    ensures none { is_told_to_hold (codes "") ≡ false }
+{}
+
+/// Links, of which some are told of.
+pub fn some_links()
+    ensures second { links_with_dev (codes "a /dev/b") ≡ Some (codes "a /dev/b") }
+    ensures within { links_with_dev (codes "a/dev/b dev/c") ≡ None }
+{}
+
+/// Patterns, of which some are told of.
+pub fn some_patterns()
+    ensures start { is_expression (codes "^sd") ≡ true }
+    ensures end { is_expression (codes "sd[a-z]$") ≡ true }
+    ensures any { is_expression (codes ".*disk") ≡ true }
+    ensures digit { is_expression (codes "sd\\d") ≡ true }
+    ensures group { is_told_as_expression (codes "(sda|sdb)1") ≡ true }
+    ensures three { is_told_as_expression (codes "sd(a|b|c)") ≡ true }
+    ensures closed { is_told_as_expression (codes "Disk (USB)|Disk (SATA)") ≡ false }
+    ensures cut { is_told_as_expression (codes "Flash Disk (Gen|Disk (USB)") ≡ false }
+    ensures count { is_expression (codes "sd[a-z]{1,2}") ≡ true }
+    ensures braces { is_expression (codes "{1} a,b") ≡ false }
+    ensures plain { is_expression (codes "dm-[0-9]*.part?") ≡ false }
+{}

@@ -1,0 +1,115 @@
+//! W8, W9 and W10: names that are given to a device, and a name in quotes.
+ghost use Rattle.std.specs.Prelude.{◌≡◌, codes, nat_eq, option_map};
+ghost use Rattle.std.specs.List.{list_any, slice_split, starts_with};
+ghost use Rattle.text_bytes.specs.Names.{is_blank};
+ghost use Rattle.rule_lints.specs.Names.{dev_link, excludes_net, is_outside_net, is_subsystem, links_in, links_with_dev, meets, name_given, name_in, quoted_name, with_quote};
+
+use crate::parts::change_of;
+use crate::texts::has_byte;
+use crate::written::WrittenPart;
+use rule_tokens::Token;
+use rule_types::{Change, Comparison, MatchOperator, Part, PlainKey, Target};
+use text_bytes::is_blank;
+
+/// Whether a rule is for no network device.
+pub(crate) fn is_outside_net(tokens: &[WrittenPart<'_>]) -> bool
+    ensures { result ≡ is_outside_net tokens.now }
+{
+    tokens.iter().any(|written| excludes_net(&written.part))
+}
+
+/// Whether a part is a match of SUBSYSTEM that `net` does not meet.
+fn excludes_net(part: &Part) -> bool
+    ensures { result ≡ excludes_net part.now }
+{
+    match part {
+        Part::Plain(asked) => is_subsystem(&asked.key) && !meets(b"net", &asked.wanted),
+        _ => false,
+    }
+}
+
+/// Whether a match looks at SUBSYSTEM.
+fn is_subsystem(key: &PlainKey) -> bool
+    ensures { result ≡ is_subsystem key.now }
+{
+    matches!(key, PlainKey::Subsystem)
+}
+
+/// Whether a text meets a comparison.
+fn meets(text: &[u8], wanted: &Comparison) -> bool
+    ensures { result ≡ meets text.now wanted.now }
+{
+    let fits = wanted.choice.fits(text);
+    match wanted.operator {
+        MatchOperator::Equal => fits,
+        MatchOperator::NotEqual => !fits,
+    }
+}
+
+/// The value that W8 is told of, in a rule that is for no network device.
+pub(crate) fn name_given(part: &Part) -> Option<&[u8]>
+    ensures { option_map (λ text. text.now) result ≡ name_given part.now }
+{
+    name_in(change_of(part)?)
+}
+
+/// The text that a change gives to NAME.
+fn name_in(change: &Change) -> Option<&[u8]>
+    ensures { option_map (λ text. text.now) result ≡ name_in change.now }
+{
+    match change {
+        Change::Text(Target::Name, template) => Some(template.written()),
+        _ => None,
+    }
+}
+
+/// The value that W9 is told of: links of which one begins with `/dev/`.
+pub(crate) fn dev_link(part: &Part) -> Option<&[u8]>
+    ensures { option_map (λ text. text.now) result ≡ dev_link part.now }
+{
+    links_with_dev(links_in(change_of(part)?)?)
+}
+
+/// The text that a change gives to SYMLINK.
+fn links_in(change: &Change) -> Option<&[u8]>
+    ensures { option_map (λ text. text.now) result ≡ links_in change.now }
+{
+    match change {
+        Change::Text(Target::Symlink, template) => Some(template.written()),
+        _ => None,
+    }
+}
+
+/// Links of which one begins with `/dev/`.
+fn links_with_dev(links: &[u8]) -> Option<&[u8]>
+    ensures { option_map (λ text. text.now) result ≡ links_with_dev links.now }
+{
+    if has_dev(links) { Some(links) } else { None }
+}
+
+/// Whether one of the links begins with `/dev/`.
+fn has_dev(links: &[u8]) -> bool
+    ensures { result ≡ list_any (λ link. starts_with nat_eq link (codes "/dev/")) (slice_split is_blank links.now) }
+{
+    links
+        .split(|byte| is_blank(*byte))
+        .any(|link| link.starts_with(b"/dev/"))
+}
+
+/// The text in braces that W10 is told of.
+pub(crate) fn quoted_name<'a>(token: &Token<'a>) -> Option<&'a [u8]>
+    ensures { option_map (λ text. text.now) result ≡ quoted_name token.now }
+{
+    with_quote(token.attribute()?)
+}
+
+/// A text that has a `"`.
+fn with_quote(text: &[u8]) -> Option<&[u8]>
+    ensures { option_map (λ text. text.now) result ≡ with_quote text.now }
+{
+    if has_byte(b'"', text) {
+        Some(text)
+    } else {
+        None
+    }
+}

@@ -1,0 +1,201 @@
+//! W11 and W12: patterns that are written as regular expressions, and matches that always hold.
+ghost use Rattle.std.specs.Prelude.{◌≡◌, option_map};
+ghost use Rattle.std.specs.List.{list_all, list_any, slice_split};
+ghost use Rattle.text_core.specs.Choices.{is_bar};
+ghost use Rattle.rule_lints.specs.LetterCase.{is_many};
+ghost use Rattle.rule_lints.specs.Patterns.{always_holds, are_of_group, begins_with_class, expression, expression_in, has_braces, has_class, has_close_parenthesis, has_open_parenthesis, is_always_there, is_always_there_above, is_class_letter, is_expression, is_met_by_all, looks_at_all, some_met_by_all, take_all};
+
+use crate::letter_case::is_many;
+use crate::parts::{comparison_of, is_equal};
+use crate::texts::{before_first, behind_first, behind_last, has_byte};
+use rule_types::{Comparison, Part, PlainKey, UpKey};
+use text_bytes::{begins_with, ends_in};
+use text_core::{Item, Pattern};
+
+/// The value that W11 is told of.
+pub(crate) fn expression(part: &Part) -> Option<&[u8]>
+    ensures { option_map (λ text. text.now) result ≡ expression part.now }
+{
+    expression_in(comparison_of(part)?)
+}
+
+/// The value of a comparison of which the alternatives, as texts between bars, are written as regular
+/// expressions or with braces.
+fn expression_in(wanted: &Comparison) -> Option<&[u8]>
+    ensures { option_map (λ text. text.now) result ≡ expression_in wanted.now }
+{
+    let written = wanted.written.as_slice();
+    if has_expression(written) || is_group(written) {
+        Some(written)
+    } else {
+        None
+    }
+}
+
+/// Whether texts between bars are those of a group in parentheses.
+fn is_group(written: &[u8]) -> bool
+    ensures { result ≡ are_of_group (slice_split is_bar written.now) }
+{
+    opens_group(written) && closes_group(written)
+}
+
+/// Whether a text between bars opens a group in parentheses.
+fn opens_group(written: &[u8]) -> bool
+    ensures { result ≡ list_any has_open_parenthesis (slice_split is_bar written.now) }
+{
+    written
+        .split(|byte| *byte == b'|')
+        .any(|text| has_open_parenthesis(text))
+}
+
+/// Whether a text between bars closes a group in parentheses.
+fn closes_group(written: &[u8]) -> bool
+    ensures { result ≡ list_any has_close_parenthesis (slice_split is_bar written.now) }
+{
+    written
+        .split(|byte| *byte == b'|')
+        .any(|text| has_close_parenthesis(text))
+}
+
+/// Whether a text between bars is written as a regular expression or with braces.
+fn has_expression(written: &[u8]) -> bool
+    ensures { result ≡ list_any is_expression (slice_split is_bar written.now) }
+{
+    written
+        .split(|byte| *byte == b'|')
+        .any(|text| is_expression(text))
+}
+
+/// Whether a text is written as a regular expression or with braces.
+fn is_expression(text: &[u8]) -> bool
+    ensures { result ≡ is_expression text.now }
+{
+    begins_with(b'^', text)
+        || text.starts_with(b".*")
+        || ends_in(b'$', text)
+        || has_class(text)
+        || has_braces(text)
+}
+
+/// Whether a `\d`, `\w` or `\s` stands in a text.
+fn has_class(text: &[u8]) -> bool
+    ensures { result ≡ has_class text.now }
+{
+    let mut rest = text;
+    while let Some((byte, behind)) = rest.split_first() {
+        if *byte == b'\\' && begins_with_class(behind) {
+            return true;
+        }
+        rest = behind;
+    }
+    false
+}
+
+/// Whether a text begins with the letter of a class.
+fn begins_with_class(text: &[u8]) -> bool
+    ensures { result ≡ begins_with_class text.now }
+{
+    match text.first() {
+        None => false,
+        Some(byte) => *byte == b'd' || *byte == b'w' || *byte == b's',
+    }
+}
+
+/// Whether a `(` behind which no `)` stands is in a text.
+fn has_open_parenthesis(text: &[u8]) -> bool
+    ensures { result ≡ has_open_parenthesis text.now }
+{
+    has_byte(b'(', behind_last(b')', text))
+}
+
+/// Whether a `)` before which no `(` stands is in a text.
+fn has_close_parenthesis(text: &[u8]) -> bool
+    ensures { result ≡ has_close_parenthesis text.now }
+{
+    has_byte(b')', before_first(b'(', text))
+}
+
+/// Whether a text has a `{`, behind it a `,`, and behind that a `}`.
+fn has_braces(text: &[u8]) -> bool
+    ensures { result ≡ has_braces text.now }
+{
+    has_byte(b'}', behind_first(b',', behind_first(b'{', text)))
+}
+
+/// Whether W12 is told of a part: a match that holds of any text.
+pub(crate) fn always_holds(part: &Part) -> bool
+    ensures { result ≡ always_holds part.now }
+{
+    looks_at_all(part) && some_met_by_all(comparison_of(part))
+}
+
+/// Whether a part looks at what is always there.
+fn looks_at_all(part: &Part) -> bool
+    ensures { result ≡ looks_at_all part.now }
+{
+    match part {
+        Part::Plain(asked) => is_always_there(&asked.key),
+        Part::Up(asked) => is_always_there_above(&asked.key),
+        _ => false,
+    }
+}
+
+/// Whether what a match of the event looks at is there for each event.
+fn is_always_there(key: &PlainKey) -> bool
+    ensures { result ≡ is_always_there key.now }
+{
+    matches!(
+        key,
+        PlainKey::Action
+            | PlainKey::Devpath
+            | PlainKey::Kernel
+            | PlainKey::Subsystem
+            | PlainKey::Driver
+            | PlainKey::Env(_)
+    )
+}
+
+/// Whether what a match of one device of the chain looks at is there for each device.
+fn is_always_there_above(key: &UpKey) -> bool
+    ensures { result ≡ is_always_there_above key.now }
+{
+    matches!(key, UpKey::Kernels | UpKey::Subsystems | UpKey::Drivers)
+}
+
+/// Whether a comparison is there, and is met by any text.
+fn some_met_by_all(wanted: Option<&Comparison>) -> bool
+    ensures { result ≡ some_met_by_all (option_map (λ c. c.now) wanted.entry) }
+{
+    match wanted {
+        None => false,
+        Some(wanted) => is_met_by_all(wanted),
+    }
+}
+
+/// Whether a comparison by `==` holds of any text.
+fn is_met_by_all(wanted: &Comparison) -> bool
+    ensures { result ≡ is_met_by_all wanted.now }
+{
+    is_equal(wanted.operator) && some_take_all(wanted.choice.parts())
+}
+
+/// Whether one of the patterns takes any text.
+fn some_take_all(patterns: &[Pattern]) -> bool
+    ensures { result ≡ list_any take_all patterns.now }
+{
+    patterns.iter().any(|pattern| take_all(pattern.items()))
+}
+
+/// Whether items take any text.
+fn take_all(items: &[Item]) -> bool
+    ensures { result ≡ take_all items.now }
+{
+    !items.is_empty() && all_many(items)
+}
+
+/// Whether each item takes any bytes.
+fn all_many(items: &[Item]) -> bool
+    ensures { result ≡ list_all is_many items.now }
+{
+    items.iter().all(|item| is_many(item))
+}

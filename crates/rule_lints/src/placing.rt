@@ -1,0 +1,69 @@
+//! The lints of a file with their places.
+ghost use Rattle.std.specs.Prelude.{◌≡◌, ◌++◌, IfOk, OnOk, map};
+ghost use Rattle.rule_lints.specs.FileLints.{placed_lint, placed_lints};
+
+use crate::file_lints::{FileSpot, file_lints};
+use crate::file_rules::file_rules;
+use crate::landed::landed_rules;
+use crate::placed_lint::PlacedLint;
+use crate::sums::sum_of;
+use rule_core::joined_lines;
+use rule_places::KeptLines;
+use std::alloc::{AllocError, Global};
+use text_bytes::SourceFile;
+
+/// The lints of a rules file in the order of its rules, each with the physical line and the columns that it is about.
+/// Of a line that is no rule none is told.
+///
+/// Of one rule first those come that are found of it by itself, then W6 and W7, each in written order, and W13 last. A
+/// place in several physical lines is told as far as it stands in the first of them. A number of a line or of a column
+/// over 2^32 - 1 is given as that one.
+///
+/// The error comes where memory is refused.
+pub fn placed_lints(alloc: Global, file: &SourceFile) -> Result<Vec<PlacedLint>, AllocError>
+    ensures { IfOk result (λ found. found.items ≡ placed_lints file.now) }
+{
+    let bytes = file.bytes.as_slice();
+    let kept = KeptLines::of(alloc, bytes)?;
+    let joined = joined_lines(alloc, bytes)?;
+    let rules = file_rules(alloc, joined.lines())?;
+    let landed = landed_rules(alloc, rules)?;
+    let spots = file_lints(alloc, &landed)?;
+    let mut found = Vec::new(alloc);
+    place_all(&mut found, &kept, spots)?;
+    Ok(found)
+}
+
+/// Adds lints with their places.
+fn place_all(
+    found: &mut Vec<PlacedLint>,
+    kept: &KeptLines,
+    spots: Vec<FileSpot>,
+) -> Result<(), AllocError>
+    ensures { OnOk result (found.new.items ≡ found.old.items ++ map (placed_lint kept.now) spots.items) }
+{
+    for spot in spots {
+        found.push(placed_lint(kept, spot)?)?;
+    }
+    Ok(())
+}
+
+/// A lint with its place.
+fn placed_lint(kept: &KeptLines, found: FileSpot) -> Result<PlacedLint, AllocError>
+    ensures { IfOk result (λ placed. placed ≡ placed_lint kept.now found) }
+{
+    let FileSpot {
+        number,
+        start,
+        spot,
+    } = found;
+    let place = kept.place_in(sum_of(start, spot.start)?, spot.size);
+    Ok(PlacedLint {
+        begins: number,
+        line: place.line,
+        column: place.column,
+        end: place.end,
+        lint: spot.lint,
+        word: spot.word,
+    })
+}

@@ -1,0 +1,146 @@
+//! What is told of a rule by itself.
+ghost use Rattle.std.specs.Prelude.{◌≡◌, ◌∷◌, ◌++◌, [], IfOk, OnOk, option_map};
+ghost use Rattle.rule_types.specs.declared.lint.Lint.TheVariants.{AlwaysHolds, NoSuchDevice};
+ghost use Rattle.rule_lints.specs.Devices.{stranger};
+ghost use Rattle.rule_lints.specs.RuleLints.{names_told, rule_lints, spot_of, told, told_if_there, word_of};
+
+use crate::commands::{relative_program, shell_command};
+use crate::devices::{asked_name, stranger};
+use crate::letter_case::wrong_case;
+use crate::modes::wrong_mode;
+use crate::names::{dev_link, is_outside_net, name_given, quoted_name};
+use crate::patterns::{always_holds, expression};
+use crate::spot::{LintSpot, key_spot, value_spot};
+use crate::written::WrittenPart;
+use rule_tokens::Token;
+use rule_types::Lint;
+use std::alloc::{AllocError, Global};
+
+/// What is told of a rule's tokens: the lints of a rule by itself in the order of their codes, those of
+/// one code in written order. The error comes where memory is refused.
+#[tactic(auto, unfolding(crate::specs::RuleLints::rule_lints))]
+pub(crate) fn rule_lints(
+    alloc: Global,
+    tokens: &[WrittenPart<'_>],
+) -> Result<Vec<LintSpot>, AllocError>
+    ensures { IfOk result (λ spots. spots.items ≡ rule_lints tokens.now) }
+{
+    let mut spots = Vec::new(alloc);
+    add(alloc, &mut spots, Lint::ModeNotOctal, tokens)?;
+    add(alloc, &mut spots, Lint::SignOfShell, tokens)?;
+    add(alloc, &mut spots, Lint::RelativeProgram, tokens)?;
+    add(alloc, &mut spots, Lint::LetterCase, tokens)?;
+    add_stranger(alloc, &mut spots, tokens)?;
+    add_names(alloc, &mut spots, tokens)?;
+    add(alloc, &mut spots, Lint::LinkWithDev, tokens)?;
+    add(alloc, &mut spots, Lint::QuotedName, tokens)?;
+    add(alloc, &mut spots, Lint::NotAPattern, tokens)?;
+    add(alloc, &mut spots, Lint::AlwaysHolds, tokens)?;
+    Ok(spots)
+}
+
+/// Adds what W5 tells of a rule's tokens.
+fn add_stranger(
+    alloc: Global,
+    spots: &mut Vec<LintSpot>,
+    tokens: &[WrittenPart<'_>],
+) -> Result<(), AllocError>
+    ensures { OnOk result (spots.new.items ≡ spots.old.items ++ told_if_there NoSuchDevice (stranger tokens.now)) }
+{
+    match stranger(tokens) {
+        None => Ok(()),
+        Some(written) => add_one(alloc, spots, Lint::NoSuchDevice, written),
+    }
+}
+
+/// Adds what W8 tells of a rule's tokens.
+fn add_names(
+    alloc: Global,
+    spots: &mut Vec<LintSpot>,
+    tokens: &[WrittenPart<'_>],
+) -> Result<(), AllocError>
+    ensures { OnOk result (spots.new.items ≡ spots.old.items ++ names_told tokens.now) }
+{
+    if is_outside_net(tokens) {
+        add(alloc, spots, Lint::NameOutsideNet, tokens)
+    } else {
+        Ok(())
+    }
+}
+
+/// Adds what a lint of one token tells of these.
+fn add(
+    alloc: Global,
+    spots: &mut Vec<LintSpot>,
+    lint: Lint,
+    tokens: &[WrittenPart<'_>],
+) -> Result<(), AllocError>
+    ensures { OnOk result (spots.new.items ≡ spots.old.items ++ told lint tokens.now) }
+{
+    for written in tokens {
+        add_one(alloc, spots, lint, written)?;
+    }
+    Ok(())
+}
+
+/// Adds what a lint of one token tells of this one.
+fn add_one(
+    alloc: Global,
+    spots: &mut Vec<LintSpot>,
+    lint: Lint,
+    written: &WrittenPart<'_>,
+) -> Result<(), AllocError>
+    ensures { OnOk result (spots.new.items ≡ spots.old.items ++ told lint (written.now ∷ [])) }
+{
+    if let Some(word) = word_of(lint, written) {
+        spots.push(spot_of(alloc, lint, word, &written.token)?)?;
+    }
+    Ok(())
+}
+
+/// A lint about a token, told with a text.
+fn spot_of(
+    alloc: Global,
+    lint: Lint,
+    word: &[u8],
+    token: &Token<'_>,
+) -> Result<LintSpot, AllocError>
+    ensures { IfOk result (λ spot. spot ≡ spot_of lint token.now word.now) }
+{
+    match lint {
+        Lint::NoSuchDevice | Lint::QuotedName | Lint::AlwaysHolds => key_spot(
+            alloc, lint, word, token,
+        ),
+        _ => value_spot(alloc, lint, word, token),
+    }
+}
+
+/// The text that a lint of one token is told of this one with, if it is told.
+fn word_of<'w>(lint: Lint, written: &'w WrittenPart<'_>) -> Option<&'w [u8]>
+    ensures { option_map (λ word. word.now) result ≡ word_of lint written.now }
+{
+    match lint {
+        Lint::ModeNotOctal => wrong_mode(&written.part),
+        Lint::SignOfShell => shell_command(&written.part),
+        Lint::RelativeProgram => relative_program(&written.part),
+        Lint::LetterCase => wrong_case(&written.part),
+        Lint::NoSuchDevice => asked_name(&written.part),
+        Lint::NameOutsideNet => name_given(&written.part),
+        Lint::LinkWithDev => dev_link(&written.part),
+        Lint::QuotedName => quoted_name(&written.token),
+        Lint::NotAPattern => expression(&written.part),
+        Lint::AlwaysHolds => holding_key(written),
+        _ => None,
+    }
+}
+
+/// The key of a token that is a match that always holds.
+fn holding_key<'w>(written: &'w WrittenPart<'_>) -> Option<&'w [u8]>
+    ensures { option_map (λ word. word.now) result ≡ word_of AlwaysHolds written.now }
+{
+    if always_holds(&written.part) {
+        Some(written.token.key())
+    } else {
+        None
+    }
+}

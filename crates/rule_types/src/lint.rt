@@ -1,0 +1,32 @@
+//! What may be told of a rule beside its faults: that it is a rule, and most likely not the one that was meant.
+
+/// Why a rule is most likely not the one that was meant, where neither udevadm(8) nor the manual pages find fault with it.
+#[derive(Clone, Copy, Debug, PartialEq, Eq)]
+pub enum Lint {
+    /// W1: MODE is no octal number.
+    ModeNotOctal,
+    /// W2: a command has a sign of the shell, and no shell runs it.
+    SignOfShell,
+    /// W3: RUN names its program without a path.
+    RelativeProgram,
+    /// W4: a letter has the case that the kernel does not write.
+    LetterCase,
+    /// W5: the attributes of a rule are those of different devices, which no one device has.
+    NoSuchDevice,
+    /// W6: a property is compared before the rule that imports it.
+    ImportedBelow,
+    /// W7: a value is assigned among matches that other rules compare.
+    MeantToCompare,
+    /// W8: NAME is given to a device that is no network device.
+    NameOutsideNet,
+    /// W9: a link begins with `/dev/`.
+    LinkWithDev,
+    /// W10: a name in braces has quotes.
+    QuotedName,
+    /// W11: a pattern is written as a regular expression or with braces.
+    NotAPattern,
+    /// W12: a match holds for every device.
+    AlwaysHolds,
+    /// W13: no rule leads to this one.
+    NeverReached,
+}

@@ -1,0 +1,18 @@
+"""Rows of `verify --lint` over one rules file."""
+from tables.kinds.marked import TEXTS
+from tables.kinds.verified import verified
+
+
+def lint(number, word=""):
+    """What is said by a lint of this number."""
+    return f"W{number} {TEXTS[f'W{number}']}" + (f": {word}" if word else "")
+
+
+def linted(name, *lines, words="verify --lint"):
+    """A run over a file of these lines, with what is said of each."""
+    return verified(name, *lines, words=words)
+
+
+def told(number, *pairs):
+    """Lines that each earn one lint of this number: pairs of a line and the word."""
+    return [(line, lint(number, word)) for line, word in pairs]

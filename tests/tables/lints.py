@@ -24,36 +24,37 @@ W1 = [
 
 SHELLS = ["sh", "ash", "bash", "dash", "ksh", "zsh"]
 W2 = [
-    linted("W2 of RUN", *each_value(2, "RUN+=", ["/bin/a > /run/b", "/bin/a|/bin/b", "/bin/a; /bin/b", "/bin/a && /bin/b", "/bin/a >> b",
-        "/bin/a || /bin/b", "/bin/a;", "%c > b", "$env{A} | b", " /bin/a > b"])),
+    linted("W2 of RUN", *each_value(2, "RUN+=", ["/bin/a > /run/b", "/bin/a | /bin/b", "/bin/a; /bin/b", "/bin/a && /bin/b", "/bin/a >> b",
+        "/bin/a || /bin/b", "/bin/a;", "%c > b", "$env{A} | b", " /bin/a > b", "/bin/a >/run/b", "/bin/a 2>&1", "/bin/a>>b", "/bin/a |"])),
     linted("W2 of other commands", *told(2, ('RUN{program}+="/bin/a > b"', "/bin/a > b"), ('RUN="/bin/a > b"', "/bin/a > b"),
         ('RUN:="/bin/a > b"', "/bin/a > b"), ('PROGRAM=="/bin/a | b"', "/bin/a | b"), ('PROGRAM!="a | b"', "a | b"), ('PROGRAM="a | b"', "a | b"),
         ('IMPORT{program}=="a; b"', "a; b"), ('IMPORT{program}="a && b"', "a && b"))),
-    linted("W2 behind quotes", *each_value(2, "RUN+=", ["/bin/a 'b' > c", "/bin/a 'b'>'c'", "/bin/a '>' | 'x'"]),
+    linted("W2 behind quotes", *each_value(2, "RUN+=", ["/bin/a 'b' > c", "/bin/a 'b'>/run/c", "/bin/a '>' | 'x'"]),
         *told(2, ('RUN+=e"/bin/a \\"b\\" > c"', '/bin/a "b" > c'), ('RUN+=e"/bin/a \'\\"\' > c"', "/bin/a '\"' > c"))),
-    linted("W2 of programs that only look like a shell", *each_value(2, "RUN+=", ["/bin/shx -c a>b", "/bin/xsh -c a>b", "/bin/sh/a > b",
-        "/bin/fish -c a>b", "/bin/SH -c a>b", "/bin/a /bin/sh > b"])),
+    linted("W2 of programs that only look like a shell", *each_value(2, "RUN+=", ["/bin/shx -c a >b > c", "/bin/xsh -c a > b", "/bin/sh/a > b",
+        "/bin/fish -c a > b", "/bin/SH -c a > b", "/bin/a /bin/sh > b"])),
     linted("W2 before W3", ('RUN+="cp > b"', lint(2, "cp > b"), lint(3, "cp > b")),
         ('RUN+="cp > b", RUN+="ln; d"', lint(2, "cp > b"), lint(2, "ln; d"), lint(3, "cp > b"))),
-    linted("no W2 of a shell", *(f'RUN+="{folder}{shell} -c a>b|c;d&&e"' for folder in ["/bin/", "/usr/local/bin/"] for shell in SHELLS),
-        'RUN+="  /bin/sh -c a>b"', 'RUN+="\t/bin/sh\t-c a>b"', 'PROGRAM=="sh -c a>b"'),
+    linted("no W2 of a shell", *(f'RUN+="{folder}{shell} -c a > b | c; d && e"' for folder in ["/bin/", "/usr/local/bin/"] for shell in SHELLS),
+        'RUN+="  /bin/sh -c a > b"', 'RUN+="\t/bin/sh\t-c a > b"', 'PROGRAM=="sh -c a > b"'),
     linted("no W2 in quotes", "RUN+=\"/bin/a '|' '>' ';' '&&'\"", "RUN+=\"/bin/a 'b > c' d\"", 'RUN+=e"/bin/a \\"b > c\\""',
         'RUN+=e"/bin/a \\"it\'s > c\\""', "RUN+=\"/bin/a 'b > c\"", 'RUN+=e"/bin/a \'\\" > \'"'),
+    linted("no W2 within a word", *(f'RUN+="/bin/a {word}"' for word in ["^fs.(a|b)", "http://h/?a=1;b=2", "a>b", "--only=a|b", "a;b", "1>2"])),
     linted("no W2 of other signs", 'RUN+="/bin/a & b & c"', 'RUN+="/bin/a < b"', 'RUN+="/bin/a * ? [b] (c) {d,e} ! # ~"',
         "RUN+=\"/bin/a &'&' b\""),
-    linted("no W2 of what is no command", 'RUN{builtin}+="kmod load a|b"', 'IMPORT{builtin}="hwdb a;b"', 'IMPORT{file}="/run/a|b"',
-        'TEST=="a|b"', 'ENV{A}="a > b"', 'RESULT=="a|b"', 'ATTR{a}="x;y"'),
+    linted("no W2 of what is no command", 'RUN{builtin}+="kmod load a | b"', 'IMPORT{builtin}="hwdb a; b"', 'IMPORT{file}="/run/a | b"',
+        'TEST=="a | b"', 'ENV{A}="a > b"', 'RESULT=="a | b"', 'ATTR{a}="x; y"'),
 ]
 
 COMMANDS = """\
-bash chgrp chmod chown cp date echo ethtool hdparm ifconfig ip iw kill ln logger mkdir modprobe mount mv nmcli python python3 rm rmmod setfacl sh
+bash chgrp chmod chown cp date echo ethtool ifconfig ip iw kill ln logger mkdir modprobe mount mv nmcli python python3 rm rmmod setfacl sh
 sleep su sudo systemctl systemd-run sysctl tee touch udevadm umount""".split()
 W3 = [
     linted("W3 of each command", *each_value(3, "RUN+=", [f"{command} /run/a" for command in COMMANDS])),
     linted("W3 of a command alone", *each_value(3, "RUN+=", ["touch", " ln", "cp ", "  rm $env{A}", "mv %k"])),
     linted("W3 by each operator and type", *told(3, ('RUN="touch"', "touch"), ('RUN:="ln a"', "ln a"), ('RUN{program}+="rm"', "rm"))),
     linted("W3 behind a tab", *told(3, ('RUN+="\ttouch\ta"', "\\x09touch\\x09a"))),
-    linted("no W3", *(f'RUN+="{value}"' for value in ["/bin/touch a", "helper %k", "a", "./touch a", "bin/touch", "Touch a", "touchx", "xtouch",
+    linted("no W3", *(f'RUN+="{value}"' for value in ["/bin/touch a", "helper %k", "hdparm", "a", "./touch a", "bin/touch", "Touch a", "touchx", "xtouch",
         "'touch' a", "touch,a", "a touch", "$env{A} touch", "%c", "", "  ", "sync"])),
     linted("no W3 of other commands", 'RUN{builtin}+="kmod load a"', 'RUN{builtin}+="touch"', 'PROGRAM=="touch a"', 'PROGRAM="touch"',
         'IMPORT{program}="touch"', 'IMPORT{builtin}="hwdb"'),
@@ -111,7 +112,7 @@ def below(name, key, *imports):
 
 # Each builtin with properties that it sets.
 SET_BY = [("blkid", "ID_FS_TYPE"), ("blkid", "ID_PART_ENTRY_TYPE"), ("path_id", "ID_PATH"), ("path_id", "ID_PATH_TAG"), ("input_id", "ID_INPUT"),
-    ("input_id", "ID_INPUT_KEY"), ("net_id", "ID_NET_NAME"), ("net_id", "ID_NET_NAME_SLOT"), ("usb_id", "ID_USB_VENDOR")]
+    ("input_id", "ID_INPUT_KEY"), ("net_id", "ID_NET_NAME_SLOT"), ("usb_id", "ID_USB_VENDOR")]
 W6 = [
     *(row for builtin, key in SET_BY for row in below(f"{key} by {builtin}", key, f'IMPORT{{builtin}}="{builtin}"')),
     *below("a builtin with words behind its name", "ID_FS_TYPE", 'IMPORT{builtin}="blkid --noraid"'),
@@ -120,20 +121,21 @@ W6 = [
     *below("the command line of the kernel", "mine", 'IMPORT{cmdline}="mine"'),
     *below("other rules between", "mine", 'TAG+="t"', 'IMPORT{cmdline}="other"', 'ENV{other}=="x"', 'IMPORT{cmdline}="mine"'),
     linted("W6 in the rule of the import", *told(6, ('ENV{mine}=="x", IMPORT{cmdline}="mine"', "mine"))),
-    linted("W6 in a rule that may have it itself", *told(6, ('ENV{mine}=="x", IMPORT{db}="mine", IMPORT{parent}="*"', "mine")), 'IMPORT{cmdline}="mine"'),
+    linted("W6 in a rule that may have it itself", *told(6, ('ENV{mine}=="x", IMPORT{db}="mine", IMPORT{parent}="*", IMPORT{file}="/a"', "mine")), 'IMPORT{cmdline}="mine"'),
     linted("W6 of each match", ('ENV{ID_PATH}=="x", ENV{ID_PATH_TAG}=="?*"', lint(6, "ID_PATH"), lint(6, "ID_PATH_TAG")),
         *told(6, ('ENV{ID_PATH}=="y"', "ID_PATH")), 'IMPORT{builtin}="path_id"', 'ENV{ID_PATH}=="z"'),
     linted("W6 in a rule that assigns it", *told(6, ('ENV{mine}=="?*", ENV{mine}+="x"', "mine")), 'IMPORT{cmdline}="mine"'),
-    linted("W6 below imports of other properties", 'IMPORT{db}="ID_PATH_TAG"', 'IMPORT{parent}="ID_PAT"', 'IMPORT{file}="ID_PATH"', 'ENV{ID_PAT}="x"',
+    linted("W6 below imports of other properties", 'IMPORT{db}="ID_PATH_TAG"', 'IMPORT{parent}="ID_PAT"', 'IMPORT{builtin}="blkid"', 'ENV{ID_PAT}="x"',
         *told(6, ('ENV{ID_PATH}=="x"', "ID_PATH")), 'IMPORT{builtin}="path_id"'),
     *(linted(f"no W6 of what a rule above may have by {line}", line, 'ENV{ID_PATH}=="x"', 'IMPORT{builtin}="path_id"')
       for line in ['ENV{ID_PATH}="x"', 'ENV{ID_PATH}+="x"', 'IMPORT{db}="ID_PATH"', 'IMPORT{parent}="ID_PATH"', 'IMPORT{parent}="ID_*"', 'IMPORT{parent}="A*"',
-                   'IMPORT{parent}="?"', 'IMPORT{parent}="[A]"', 'IMPORT{parent}="A|B"']),
+                   'IMPORT{parent}="?"', 'IMPORT{parent}="[A]"', 'IMPORT{parent}="A|B"', 'IMPORT{program}="/bin/a"', 'IMPORT{file}="/run/a"',
+                   'IMPORT{builtin}="hwdb"', 'IMPORT{builtin}=="net_setup_link"']),
     linted("no W6 where nothing imports it", 'ENV{ID_FS_TYPE}=="x"', 'ENV{mine}=="x"', 'IMPORT{cmdline}="mine_too"', 'IMPORT{db}="mine"',
         'IMPORT{builtin}="path_id"'),
     linted("no W6 of the empty text", 'ENV{mine}==""', 'ENV{mine}=="|x"', *told(12, ('ENV{mine}=="*"', "ENV")), 'IMPORT{cmdline}="mine"'),
     linted("no W6 by !=", 'ENV{mine}!="x"', 'IMPORT{cmdline}="mine"'),
-    linted("no W6 of names beside those of builtins", *(f'ENV{{{name}}}=="x"' for name in ["ID_FS", "ID_PAR", "ID_USB", "ID_NET", "XID_PATH"]),
+    linted("no W6 of names beside those of builtins", *(f'ENV{{{name}}}=="x"' for name in ["ID_FS", "ID_PAR", "ID_USB", "ID_NET_NAME", "XID_PATH"]),
         *(f'IMPORT{{builtin}}="{builtin}"' for builtin in ["blkid", "usb_id", "path_id", "net_id", "input_id"])),
     linted("no W6 by other imports", 'ENV{ID_FS_TYPE}=="x"', 'IMPORT{program}="blkid"', 'IMPORT{file}="/run/blkid"',
         'IMPORT{parent}="ID_FS_TYPE"', 'IMPORT{builtin}="hwdb"', 'IMPORT{builtin}="keyboard"', 'IMPORT{builtin}="blkidx"',
@@ -200,13 +202,13 @@ W11 = [
         'IMPORT{parent}="^A"'),
 ]
 
-ALWAYS = ["ACTION", "DEVPATH", "KERNEL", "SUBSYSTEM", "DRIVER", "ENV{A}", "KERNELS", "SUBSYSTEMS", "DRIVERS"]
+ALWAYS = ["ACTION", "DEVPATH", "KERNEL", "SUBSYSTEM", "DRIVER", "ENV{A}"]
 W12 = [
     linted("W12 of each key", *told(12, *((f'{key}=="*"', key.partition("{")[0]) for key in ALWAYS))),
     linted("W12 of other patterns", *told(12, *((f'KERNEL=={value}', "KERNEL") for value in ['"**"', '"a|*"', '"*|a"', '"|***"', 'i"*"']))),
     linted("W12 of each match", ('KERNEL=="*", ENV{A}=="*"', lint(12, "KERNEL"), lint(12, "ENV"))),
     linted("no W12", 'KERNEL!="*"', *(f'KERNEL=="{value}"' for value in ["?*", "*?", "*a", "[*]", "", "|"]), 'ENV{A}=="?*"'),
-    linted("no W12 of other keys", *(f'{key}=="*"' for key in ["NAME", "SYMLINK", "ATTR{a}", "ATTRS{a}", "SYSCTL{a}", "CONST{virt}", "TAG", "TAGS",
+    linted("no W12 of other keys", *(f'{key}=="*"' for key in ["KERNELS", "SUBSYSTEMS", "DRIVERS", "NAME", "SYMLINK", "ATTR{a}", "ATTRS{a}", "SYSCTL{a}", "CONST{virt}", "TAG", "TAGS",
         "RESULT"])),
 ]
 

@@ -24,7 +24,7 @@ Write the mode in octal digits, as 0660. udev ignores any other mode when the ru
 /// Sign of the shell, and no shell.
 pub(crate) const W2: &str = r#"W2 sign of the shell, and no shell
 
-No shell runs the command: put it behind `/bin/sh -c`, or take the sign away. The program gets the sign among its arguments. The signs are `|`, `>`, `;` and `&&`, outside of quotes.
+No shell runs the command: put it behind `/bin/sh -c`, or take the sign away. The program gets the sign among its arguments. The signs stand outside of quotes: `|` and `;` at the end of a word, `>` before a space, a `/`, a `&` or one more `>`, and `&&`.
 
     $ cat w2.rules
     KERNEL=="sda", RUN+="/bin/echo disk > /run/disk"
@@ -59,7 +59,7 @@ Write the whole path of the program. udev looks for a program without a path in 
 /// Letter case that the kernel does not write.
 pub(crate) const W4: &str = r#"W4 letter case that the kernel does not write
 
-Write small letters in these attributes, and capital ones in the numbers of a modalias. The kernel writes them so, and a match counts case unless an `i` stands before its quote. The attributes are the identifiers and classes of devices of USB and PCI and of input devices.
+Write small letters in these attributes, and capital ones in the numbers of a modalias. The kernel writes them so, and a match counts case unless an `i` stands before its quote. The attributes are the identifiers and classes of devices of USB and PCI and of input devices. An alternative with the wrong letters never fits, also beside a right one.
 
     $ cat w4.rules
     ATTRS{idVendor}=="1D6B", TAG+="hub"
@@ -95,7 +95,7 @@ All ATTRS of a rule are compared at one parent: use a rule for each of the devic
 /// Property imported further down.
 pub(crate) const W6: &str = r#"W6 property imported further down
 
-Put the import of the property into a rule above this one. The matches of a rule are looked at before its imports, so that this rule's own import comes too late, too.
+Put the import of the property into a rule above this one. The matches of a rule are looked at before its imports, so that this rule's own import comes too late, too. What a file before this one imports is not known: ignore W6 there.
 
     $ cat w6.rules
     SUBSYSTEM=="block", ENV{ID_FS_TYPE}=="ext4", TAG+="disk"
@@ -113,7 +113,7 @@ Put the import of the property into a rule above this one. The matches of a rule
 /// Value assigned that others compare.
 pub(crate) const W7: &str = r#"W7 value assigned that others compare
 
-Write `==` to compare the value. The file has a match of the same property, or of the same attribute, with this value. Where the value is to be assigned, put the assignment behind the matches of its rule.
+Write `==` to compare the value, or put the assignment behind the matches. The file has a match of the same property, or of the same attribute, with this value. A flag that is set before the matches of its rule is told of, too.
 
     $ cat w7.rules
     ENV{ID_BUS}=="usb", TAG+="usb"

@@ -74,7 +74,8 @@ const NO_SUCH_DEVICE: &[u8] =
 
 const IMPORTED_BELOW: &[u8] = b"Put the import of the property into a rule above this one.";
 
-const MEANT_TO_COMPARE: &[u8] = b"Write == to compare the value.";
+const MEANT_TO_COMPARE: &[u8] =
+    b"Write == to compare the value, or put the assignment behind the matches.";
 
 const NAME_OUTSIDE_NET: &[u8] =
     b"Only network devices take another name: give other devices a SYMLINK.";

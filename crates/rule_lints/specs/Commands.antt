@@ -1,5 +1,5 @@
 -- The commands of a rule, and what of them is for a shell.
-use Rattle.std.specs.Prelude.{ℕ, Bool, false, not, ◌&&◌, ◌||◌, ◌==◌, if◌then◌else◌, List, [], ◌∷◌, Option, Some, None, is_none, take, codes}
+use Rattle.std.specs.Prelude.{ℕ, Bool, true, false, not, ◌&&◌, ◌||◌, ◌==◌, if◌then◌else◌, List, [], ◌∷◌, Option, Some, None, is_none, take, codes}
 use Rattle.std.specs.List.{prefix_len}
 use Rattle.std.specs.Option.{option_and_then}
 use Rattle.text_bytes.specs.Names.{bar, double_quote, is_blank, single_quote, slash}
@@ -55,9 +55,18 @@ abbrev pub open_behind : Option ℕ → ℕ → Option ℕ
 open_behind None b = if is_quote b then Some b else None
 open_behind (Some quote) b = if b == quote then None else Some quote
 
--- whether a byte is a sign of the shell before this text: `|`, `>` or `;`, or `&` and one more of it
+-- whether a word ends before this text: it begins with a space or a tab, or is empty
+abbrev pub is_word_end : List ℕ → Bool
+is_word_end [] = true
+is_word_end (b ∷ text) = is_blank b
+
+-- whether a text goes on as one behind a `>` of the shell: with the end of a word, a path, a `&` or one more `>`
+abbrev pub is_redirected : List ℕ → Bool
+is_redirected text = (is_word_end text || begins_with slash text) || (begins_with ampersand text || begins_with greater text)
+
+-- whether a byte is a sign of the shell before this text: `|` or `;` at the end of a word, `>` before where it leads to, or `&` and one more of it
 abbrev pub is_shell_sign : ℕ → List ℕ → Bool
-is_shell_sign b text = (b == bar || (b == greater || b == semicolon)) || (b == ampersand && begins_with ampersand text)
+is_shell_sign b text = ((b == bar || b == semicolon) && is_word_end text) || ((b == greater && is_redirected text) || (b == ampersand && begins_with ampersand text))
 
 -- whether a text has a sign of the shell outside of quotes, where this quote is open before it
 abbrev pub has_sign_behind : Option ℕ → List ℕ → Bool
@@ -92,7 +101,7 @@ shell_command p = option_and_then lacks_shell (command_of p)
 abbrev pub commands_elsewhere : List (List ℕ)
 commands_elsewhere =
     codes "bash" ∷ codes "chgrp" ∷ codes "chmod" ∷ codes "chown" ∷ codes "cp" ∷ codes "date" ∷ codes "echo" ∷ codes "ethtool"
-    ∷ codes "hdparm" ∷ codes "ifconfig" ∷ codes "ip" ∷ codes "iw" ∷ codes "kill" ∷ codes "ln" ∷ codes "logger" ∷ codes "mkdir"
+    ∷ codes "ifconfig" ∷ codes "ip" ∷ codes "iw" ∷ codes "kill" ∷ codes "ln" ∷ codes "logger" ∷ codes "mkdir"
     ∷ codes "modprobe" ∷ codes "mount" ∷ codes "mv" ∷ codes "nmcli" ∷ codes "python" ∷ codes "python3" ∷ codes "rm"
     ∷ codes "rmmod" ∷ codes "setfacl" ∷ codes "sh" ∷ codes "sleep" ∷ codes "su" ∷ codes "sudo" ∷ codes "systemctl"
     ∷ codes "systemd-run" ∷ codes "sysctl" ∷ codes "tee" ∷ codes "touch" ∷ codes "udevadm" ∷ codes "umount" ∷ []

@@ -32,7 +32,7 @@ families =
     ∷ (codes "blkid", codes "ID_PART_*")
     ∷ (codes "path_id", codes "ID_PATH*")
     ∷ (codes "input_id", codes "ID_INPUT*")
-    ∷ (codes "net_id", codes "ID_NET_NAME*")
+    ∷ (codes "net_id", codes "ID_NET_NAME_*")
     ∷ (codes "usb_id", codes "ID_USB_*")
     ∷ []
 
@@ -58,8 +58,16 @@ any_property = codes "*"
 abbrev pub names_several : Text → Bool
 names_several value = list_any (λ b. b == star || (b == question_mark || (b == open_bracket || b == bar))) value
 
--- what an IMPORT may import, which udev alone knows: the property that it names of the database or of the parent, or each one
+-- each property, where there are no families
+abbrev pub else_any : List Text → List Text
+else_any [] = any_property ∷ []
+else_any (family ∷ families) = []
+
+-- what an IMPORT may import, which udev alone knows: of the database or of the parent the property that it names, or each one, as by a program, a file, or a builtin without a family here
 abbrev pub names_perhaps : Import → List Text
+names_perhaps (import.Program t) = any_property ∷ []
+names_perhaps (import.File t) = any_property ∷ []
+names_perhaps (import.Builtin t) = else_any (families_in families (first_word t.written))
 names_perhaps (import.Db name) = name ∷ []
 names_perhaps (import.Parent choice value) = (if names_several value then any_property else value) ∷ []
 names_perhaps _ = []

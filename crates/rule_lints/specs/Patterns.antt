@@ -87,17 +87,9 @@ is_always_there plain.Driver = true
 is_always_there (plain.Env name) = true
 is_always_there _ = false
 
--- whether what a match of one device of the chain looks at is there for each device
-abbrev pub is_always_there_above : UpKey → Bool
-is_always_there_above up.Kernels = true
-is_always_there_above up.Subsystems = true
-is_always_there_above up.Drivers = true
-is_always_there_above _ = false
-
--- whether a part looks at what is always there
+-- whether a part looks at what is always there; a match of one device of the chain is none, as it selects that device for substitutions
 abbrev pub looks_at_all : Part → Bool
 looks_at_all (part.Plain m) = is_always_there m.key
-looks_at_all (part.Up m) = is_always_there_above m.key
 looks_at_all _ = false
 
 -- whether a comparison by `==` holds of any text

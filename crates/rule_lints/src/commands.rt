@@ -2,7 +2,7 @@
 ghost use Rattle.std.specs.Prelude.{◌≡◌, ◌≤◌, length, not, option_map};
 ghost use Rattle.std.specs.List.{prefix_len};
 ghost use Rattle.text_bytes.specs.Names.{is_blank};
-ghost use Rattle.rule_lints.specs.Commands.{asked_command, command_of, first_word, is_quote, is_shell_sign, has_shell_sign, lacks_path, lacks_shell, open_behind, program_name, relative_program, run_command, shell_command};
+ghost use Rattle.rule_lints.specs.Commands.{asked_command, command_of, first_word, is_quote, is_redirected, is_shell_sign, is_word_end, has_shell_sign, lacks_path, lacks_shell, open_behind, program_name, relative_program, run_command, shell_command};
 
 use crate::parts::{change_of, is_among};
 use crate::texts::behind_last;
@@ -14,7 +14,7 @@ const SHELLS: [&[u8]; 6] = [b"sh", b"ash", b"bash", b"dash", b"ksh", b"zsh"];
 
 /// Commands that stand in /usr/bin or /usr/sbin, and not in /usr/lib/udev, where udev looks for a program
 /// without a path.
-const COMMANDS: [&[u8]; 36] = [
+const COMMANDS: [&[u8]; 35] = [
     b"bash",
     b"chgrp",
     b"chmod",
@@ -23,7 +23,6 @@ const COMMANDS: [&[u8]; 36] = [
     b"date",
     b"echo",
     b"ethtool",
-    b"hdparm",
     b"ifconfig",
     b"ip",
     b"iw",
@@ -151,7 +150,29 @@ fn is_quote(byte: u8) -> bool
 fn is_shell_sign(byte: u8, behind: &[u8]) -> bool
     ensures { result ≡ is_shell_sign byte behind.now }
 {
-    byte == b'|' || byte == b'>' || byte == b';' || (byte == b'&' && begins_with(b'&', behind))
+    ((byte == b'|' || byte == b';') && is_word_end(behind))
+        || (byte == b'>' && is_redirected(behind))
+        || (byte == b'&' && begins_with(b'&', behind))
+}
+
+/// Whether a text goes on as one behind a `>` of the shell.
+fn is_redirected(behind: &[u8]) -> bool
+    ensures { result ≡ is_redirected behind.now }
+{
+    is_word_end(behind)
+        || begins_with(b'/', behind)
+        || begins_with(b'&', behind)
+        || begins_with(b'>', behind)
+}
+
+/// Whether a word ends before this text.
+fn is_word_end(behind: &[u8]) -> bool
+    ensures { result ≡ is_word_end behind.now }
+{
+    match behind.first() {
+        None => true,
+        Some(byte) => is_blank(*byte),
+    }
 }
 
 /// The name of the program of a command: what stands behind the last `/` of its first word.

@@ -1,7 +1,7 @@
 //! The properties that rules import or assign.
-ghost use Rattle.std.specs.Prelude.{◌≡◌, OnOk, if◌then◌else◌, map};
+ghost use Rattle.std.specs.Prelude.{◌≡◌, ◌∷◌, [], OnOk, if◌then◌else◌, map};
 ghost use Rattle.text_tables.specs.Texts.{with_texts};
-ghost use Rattle.rule_lints.specs.Imported.{any_property, assigned_in, families_in, given_by, has_family, has_property, imported_by, imported_in, is_given, is_of, names_in_deed, names_in_import, names_perhaps, names_several, perhaps_in, perhaps_in_deed};
+ghost use Rattle.rule_lints.specs.Imported.{any_property, assigned_in, else_any, families, families_in, given_by, has_family, has_property, imported_by, imported_in, is_given, is_of, names_in_deed, names_in_import, names_perhaps, names_several, perhaps_in, perhaps_in_deed};
 
 use crate::commands::first_word;
 use crate::written::WrittenPart;
@@ -15,7 +15,7 @@ const FAMILIES: [(&[u8], &[u8]); 6] = [
     (b"blkid", b"ID_PART_*"),
     (b"path_id", b"ID_PATH*"),
     (b"input_id", b"ID_INPUT*"),
-    (b"net_id", b"ID_NET_NAME*"),
+    (b"net_id", b"ID_NET_NAME_*"),
     (b"usb_id", b"ID_USB_*"),
 ];
 
@@ -124,15 +124,41 @@ fn add_named<'a>(names: &mut Texts<'a>, import: &'a Import) -> Result<(), AllocE
     ensures { OnOk result (names.new ≡ with_texts names.old (names_perhaps import.now)) }
 {
     match import {
+        Import::Program(_) | Import::File(_) => {
+            names.add(ANY_PROPERTY)?;
+        }
+        Import::Builtin(command) => add_unless_known(names, first_word(command.written()))?,
         Import::Db(name) => {
             names.add(name.as_slice())?;
         }
         Import::Parent(_, value) => {
             names.add(named_of_parent(value.as_slice()))?;
         }
-        _ => {}
+        Import::Cmdline(_) => {}
     }
     Ok(())
+}
+
+/// Adds each property where a builtin has no family here.
+fn add_unless_known(names: &mut Texts<'_>, builtin: &[u8]) -> Result<(), AllocError>
+    ensures { OnOk result (names.new ≡ with_texts names.old (else_any (families_in families builtin.now))) }
+{
+    if !has_families(&FAMILIES, builtin) {
+        names.add(ANY_PROPERTY)?;
+    }
+    Ok(())
+}
+
+/// Whether one of these rows is a builtin's.
+fn has_families(rows: &[(&[u8], &[u8])], builtin: &[u8]) -> bool
+    ensures { else_any (families_in (map (λ row. (row.0.now, row.1.now)) rows.now) builtin.now) ≡ (if result then [] else any_property ∷ []) }
+{
+    for row in rows {
+        if row.0 == builtin {
+            return true;
+        }
+    }
+    false
 }
 
 /// The property that is imported from the parent, or each one.

@@ -72,7 +72,7 @@ pub fn what_always_holds_fits_each_text()
     ensures { (items : List Item) → (take_all items ≡ true) ↔ ((text : List ℕ) → fits items text ≡ true) }
 {}
 
-/// Values of MODE, of which one is told of.
+/// Values of MODE, of which some are told of.
 pub fn some_modes()
     ensures zeros { no_mode (codes "0007777") ≡ None }
     ensures nine { no_mode (codes "0669") ≡ Some (codes "0669") }
@@ -85,6 +85,10 @@ pub fn some_modes()
 pub fn some_commands()
     ensures quoted { lacks_shell (codes "/usr/bin/logger 'a > b | c'") ≡ None }
     ensures shell { lacks_shell (codes " /bin/sh -c 'a' | b") ≡ None }
+    ensures bar { lacks_shell (codes "/bin/a | b") ≡ Some (codes "/bin/a | b") }
+    ensures within { lacks_shell (codes "/sbin/sysctl -p ^fs.(a|b) -q") ≡ None }
+    ensures address { lacks_shell (codes "/bin/get http://h/?a=1;b>2") ≡ None }
+    ensures errors { lacks_shell (codes "/bin/a 2>&1") ≡ Some (codes "/bin/a 2>&1") }
     ensures other { lacks_shell (codes "/bin/fish -c a; b") ≡ Some (codes "/bin/fish -c a; b") }
     ensures single { lacks_shell (codes "/bin/get a&b") ≡ None }
     ensures double { lacks_shell (codes "/bin/a && b") ≡ Some (codes "/bin/a && b") }

@@ -3,12 +3,12 @@ ghost use Rattle.std.specs.Prelude.{◌≡◌, option_map};
 ghost use Rattle.std.specs.List.{list_all, list_any, slice_split};
 ghost use Rattle.text_core.specs.Choices.{is_bar};
 ghost use Rattle.rule_lints.specs.LetterCase.{is_many};
-ghost use Rattle.rule_lints.specs.Patterns.{always_holds, are_of_group, begins_with_class, expression, expression_in, has_braces, has_class, has_close_parenthesis, has_open_parenthesis, is_always_there, is_always_there_above, is_class_letter, is_expression, is_met_by_all, looks_at_all, some_met_by_all, take_all};
+ghost use Rattle.rule_lints.specs.Patterns.{always_holds, are_of_group, begins_with_class, expression, expression_in, has_braces, has_class, has_close_parenthesis, has_open_parenthesis, is_always_there, is_class_letter, is_expression, is_met_by_all, looks_at_all, some_met_by_all, take_all};
 
 use crate::letter_case::is_many;
 use crate::parts::{comparison_of, is_equal};
 use crate::texts::{before_first, behind_first, behind_last, has_byte};
-use rule_types::{Comparison, Part, PlainKey, UpKey};
+use rule_types::{Comparison, Part, PlainKey};
 use text_bytes::{begins_with, ends_in};
 use text_core::{Item, Pattern};
 
@@ -135,7 +135,6 @@ fn looks_at_all(part: &Part) -> bool
 {
     match part {
         Part::Plain(asked) => is_always_there(&asked.key),
-        Part::Up(asked) => is_always_there_above(&asked.key),
         _ => false,
     }
 }
@@ -153,13 +152,6 @@ fn is_always_there(key: &PlainKey) -> bool
             | PlainKey::Driver
             | PlainKey::Env(_)
     )
-}
-
-/// Whether what a match of one device of the chain looks at is there for each device.
-fn is_always_there_above(key: &UpKey) -> bool
-    ensures { result ≡ is_always_there_above key.now }
-{
-    matches!(key, UpKey::Kernels | UpKey::Subsystems | UpKey::Drivers)
 }
 
 /// Whether a comparison is there, and is met by any text.

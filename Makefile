@@ -1,7 +1,7 @@
 # Builds, checks, installs and packs devdry.
 #
 # Only a proved program is built, so the first `make` proves every crate that it stands on, which
-# takes about half an hour; after a change what changed is proved again, and what stands on it.
+# takes an hour on four processors; after a change what changed is proved again, and what stands on it.
 # Crates that don't stand on one another are proved side by side: `make JOBS=1` proves them one behind
 # another, where memory is short.
 
@@ -40,12 +40,13 @@ KIT := $(wildcard $(dir $(realpath $(RT)))../KIT-ID)
 all: build/devdry
 
 # Proves each crate that the program stands on, where one of its files or of those below it has changed, and builds the
-# program. A line tells of each crate that is done; what was said of all stands in build/proofs.log.
+# program. A line tells of each crate that is done; what was said of all stands in build/proofs.log. `rt all test` proves the
+# program as it builds it, where `rt all check` would prove it once and `rt run` once more; it then runs the program without
+# words, which ends in 2. So it is `rt run` that tells whether a proved program is there: it builds it again where not.
 build/devdry: $(FILES) crates.txt $(KIT) | build
-	@cd crates/devdry && $(RT) all check --jobs $(JOBS) 2>&1 | tee $(CURDIR)/build/proofs.log | \
+	@cd crates/devdry && $(RT) all test --jobs $(JOBS) 2>&1 | tee $(CURDIR)/build/proofs.log | \
 	    awk -v all=$(words $(CRATES)) '/^== [a-z_]+$$/ && $$2 != "summary" { print ++done " of " all ": " $$2; fflush() }'
-	@tail -n 1 build/proofs.log | grep -q '^$(words $(CRATES)) of $(words $(CRATES)) crates ok$$' || { cat build/proofs.log; exit 1; }
-	@cd crates/devdry && $(RT) run -- --version
+	@cd crates/devdry && $(RT) run -- --version || { cat $(CURDIR)/build/proofs.log; exit 1; }
 	@cp crates/devdry/out/devdry $@
 
 build:

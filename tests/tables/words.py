@@ -94,6 +94,7 @@ Options:
       --no-summary       Do not count the good and the bad files
       --no-style         Give no messages about style
       --lint             Also tell of rules that are most likely not the ones that were meant
+      --udev             Read rules as udev itself reads them
   -h, --help             Print help
   -V, --version          Print version
 """
@@ -213,8 +214,8 @@ For more information, try '--help'.
 """
 
 NO_SUCH_CODE = """\
-error: invalid value 'V13' for '<CODE>'
-  [possible values: V1, V2, V3, V4, V5, V6, V7, V8, V9, V10, V11, V12, S1, S2, S3, S4, H1, H2, H3, H4, H5, H6, W1, W2, W3, W4, W5, W6, W7, W8, W9, W10, W11, W12, W13, I1, I2]
+error: invalid value 'V27' for '<CODE>'
+  [possible values: V1, V2, V3, V4, V5, V6, V7, V8, V9, V10, V11, V12, V13, V14, V15, V16, V17, V18, V19, V20, V21, V22, V23, V24, V25, V26, S1, S2, S3, S4, S5, S6, H1, H2, H3, H4, H5, H6, W1, W2, W3, W4, W5, W6, W7, W8, W9, W10, W11, W12, W13, I1, I2]
 
 For more information, try '--help'.
 """
@@ -269,10 +270,13 @@ NOT_UNDERSTOOD = [
     ("files a.rules", "error: unexpected argument 'a.rules' found\n"),
     ("explain", "error: the following required arguments were not provided:\n  <CODE>\n"),
     ("explain V1 V2", "error: unexpected argument 'V2' found\n"),
-    ("explain V13", NO_SUCH_CODE),
+    ("explain V27", NO_SUCH_CODE),
     ("query m --all", "error: unexpected argument '--all' found\n"),
     ("events --lint", "error: unexpected argument '--lint' found\n"),
     ("verify --lint --lint", "error: the argument '--lint' cannot be used multiple times\n"),
+    ("events --udev", "error: unexpected argument '--udev' found\n"),
+    ("update --udev", "error: unexpected argument '--udev' found\n"),
+    ("verify --udev --udev", "error: the argument '--udev' cannot be used multiple times\n"),
     ("events --format gcc", "error: unexpected argument '--format' found\n"),
     ("events --ignore V6", "error: unexpected argument '--ignore' found\n"),
     ("verify --format", "error: a value is required for '--format <FORMAT>' but none was supplied\n"),

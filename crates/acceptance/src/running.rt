@@ -6,7 +6,7 @@ use engine_core::{Format, Line, MemorySink, MemorySource, Verb, serve};
 use std::alloc::{AllocError, Global};
 use std::process::Abort;
 use std::test::Fail;
-use text_bytes::{Bytes, FileKind, SourceFile};
+use text_bytes::{Bytes, FileKind, Profile, SourceFile};
 
 /// A file of a folder: its kind, its rank, its name and its text.
 pub(crate) type Given<'a> = (FileKind, u8, &'a str, &'a str);
@@ -90,6 +90,7 @@ pub(crate) fn line<'a>(alloc: Global, verb: Verb, modalias: &'a str) -> Line<'a>
         format: Format::Plain,
         all: false,
         ignored: Vec::new(alloc),
+        profile: Profile::Manual,
     }
 }
 

@@ -33,6 +33,7 @@ shown_line colors line = record {
   format = shown_format colors line.format;
   all = line.all;
   ignored = line.ignored;
+  profile = line.profile;
 }
 
 -- a request with the format that is shown: `files` and `compare` have no messages

@@ -10,6 +10,7 @@ mod lints;
 mod rules;
 mod sections;
 mod style;
+mod udev;
 
 pub use codes::{each_remark_is_found, remark_with};
 pub use sections::{explanation, section_on};

@@ -71,7 +71,7 @@ Use `==` or `!=` to compare, another operator to assign: this key takes only som
 /// Attribute missing or not allowed.
 pub(crate) const V4: &str = r#"V4 attribute missing or not allowed
 
-ATTR, ENV and a few more need a name in braces, most other keys have none. The few are ATTRS, SYSCTL, SECLABEL, CONST and IMPORT. RUN and TEST may have one of a few.
+ATTR, ENV and a few more need a name in braces, most other keys have none. The few are ATTRS, SYSCTL, SECLABEL, CONST and IMPORT. RUN and TEST may have one of a few. With `--udev` CONST has `arch` or `virt` alone, and TEST any mode up to 7777.
 
     $ cat v4.rules
     ATTR=="1", TAG+="x"
@@ -96,7 +96,7 @@ ATTR, ENV and a few more need a name in braces, most other keys have none. The f
 /// Bad value.
 pub(crate) const V5: &str = r#"V5 bad value
 
-Use one of the values that this key takes. The value is an option of OPTIONS that there is not, an empty name of LABEL or GOTO, or `i"..."` where it has no meaning. `last_rule`, which old udevs had, has no successor; a jump to the end of the file leaves at least the rules of this file.
+Use one of the values that this key takes. The value is an option of OPTIONS that there is not, an empty name of LABEL or GOTO, or `i"..."` where it has no meaning. `last_rule`, which old udevs had, has no successor; a jump to the end of the file leaves at least the rules of this file. With `--udev` a rule with an unknown option is kept, an empty name is a name like others, and the value of `log_level` is looked at, too.
 
     $ cat v5.rules
     KERNEL=="sda", OPTIONS+="last_rule"
@@ -119,7 +119,7 @@ Use one of the values that this key takes. The value is an option of OPTIONS tha
 /// Bad substitution.
 pub(crate) const V6: &str = r#"V6 bad substitution
 
-Behind `$` and `%` stands one of udev's names or letters; the signs themselves are `$$` and `%%`. They are listed in behaviour.md. Of those that udev still takes, write `$devnode` for `$tempnode` and `$attr{..}` for `$sysfs{..}`; for `%d`, `%D` and `%L` see differences.md.
+Behind `$` and `%` stands one of udev's names or letters; the signs themselves are `$$` and `%%`. They are listed in behaviour.md. Of those that udev still takes, write `$devnode` for `$tempnode` and `$attr{..}` for `$sysfs{..}`; for `%d`, `%D` and `%L` see differences.md. With `--udev` all of these are substitutions, and a rule with a bad one is kept.
 
     $ cat v6.rules
     KERNEL=="sda", SYMLINK+="disk/$device"
@@ -164,7 +164,7 @@ A jump goes forward only, and stays in its file: give a later rule this label. T
 /// Label or goto given twice.
 pub(crate) const V8: &str = r#"V8 label or goto given twice
 
-A rule has one label and one jump; the later ones are dropped.
+A rule has one label and one jump; the later ones are dropped. With `--udev` the earlier labels are dropped, and the later jumps.
 
     $ cat v8.rules
     KERNEL=="sd*", GOTO="disk"
@@ -184,7 +184,7 @@ A rule has one label and one jump; the later ones are dropped.
 /// Line too long.
 pub(crate) const V9: &str = r#"V9 line too long
 
-A rule has at most 16,384 bytes, its continued lines together.
+A rule has at most 16,384 bytes, its continued lines together. With `--udev` continued lines have at most 16,383 together, and a single line that is longer is V26.
 
     $ { printf 'KERNEL=="sda"'; for i in $(seq 1000); do printf ', ENV{NUMBER_%s}="1"' $i; done; echo; } > v9.rules
     $ devdry verify v9.rules
@@ -217,7 +217,7 @@ Before a value may stand `e`, for escapes, and behind `==` and `!=` also `i`, to
 /// Set not supported.
 pub(crate) const V11: &str = r#"V11 set not supported
 
-A class of the C library depends on the locale: write its members out.
+A class of the C library depends on the locale: write its members out. With `--udev` classes are read as udev reads them, and no match is refused.
 
     $ cat v11.rules
     KERNEL=="sd[[:alpha:]]", TAG+="disk"
@@ -233,7 +233,7 @@ A class of the C library depends on the locale: write its members out.
 /// Line continuation at the file's end.
 pub(crate) const V12: &str = r#"V12 line continuation at the file's end
 
-Take the backslash away, or write the line that is to follow. A backslash at the end says that the rule goes on, and nothing follows: half of a rule could do the wrong thing, so it is none.
+Take the backslash away, or write the line that is to follow. A backslash at the end says that the rule goes on, and nothing follows: half of a rule could do the wrong thing, so it is none. With `--udev` the number is that of the file's last line.
 
     $ cat v12.rules
     KERNEL=="sd*", \

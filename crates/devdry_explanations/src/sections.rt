@@ -6,7 +6,7 @@ ghost use Rattle.engine_formats.specs.declared.remark.Remark.TheVariants.{Messag
 ghost use Rattle.engine_formats.specs.declared.remark.Remark.TheVariants as about;
 
 use crate::codes::remark_with;
-use crate::{comments, database, lints, rules, style};
+use crate::{comments, database, lints, rules, style, udev};
 use engine_formats::Remark;
 use rule_types::Lint;
 use text_bytes::MessageKind;
@@ -35,10 +35,26 @@ fn section_on_kind(kind: MessageKind) -> &'static str
         MessageKind::BadPrefix => rules::V10,
         MessageKind::SetNotSupported => rules::V11,
         MessageKind::OpenAtEnd => rules::V12,
+        MessageKind::ReservedProperty => udev::V13,
+        MessageKind::NameWithoutEffect => udev::V14,
+        MessageKind::UnknownBuiltin => udev::V15,
+        MessageKind::MatchesExclude => udev::V16,
+        MessageKind::SaidTwice => udev::V17,
+        MessageKind::RuleWithoutEffect => udev::V18,
+        MessageKind::ResultBeforeProgram => udev::V19,
+        MessageKind::EmptyValue => udev::V20,
+        MessageKind::BadAttributeSubstitution => udev::V21,
+        MessageKind::AttributeElsewhere => udev::V22,
+        MessageKind::OldSubsystemName => udev::V23,
+        MessageKind::AssignExpected => udev::V24,
+        MessageKind::UnknownAccount => udev::V25,
+        MessageKind::FileGivenUp => udev::V26,
         MessageKind::CommaExpected => style::S1,
         MessageKind::BlankExpected => style::S2,
         MessageKind::ReadAsAssign => style::S3,
         MessageKind::LabelUnused => style::S4,
+        MessageKind::LeadingComma => udev::S5,
+        MessageKind::BlankBeforeComma => udev::S6,
     }
 }
 

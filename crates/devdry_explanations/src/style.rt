@@ -43,7 +43,7 @@ Put a space after the comma.
 /// Operator read as =.
 pub(crate) const S3: &str = r#"S3 operator read as =
 
-The key has no `:=` or `+=` of its own: write `=`.
+The key has no `:=` or `+=` of its own: write `=`. With `--udev` this is V24.
 
     $ cat s3.rules
     KERNEL=="sda", ENV{ID_MINE}:="1"

@@ -13,8 +13,10 @@ use Rattle.engine_ends.specs.declared.line.Format.{Format}
 use Rattle.engine_ends.specs.declared.line.Format.TheVariants.{Plain, Gcc, Github, Gitlab, Json, Human, HumanInColor}
 use Rattle.devdry_words.specs.declared.refusals.Refusal.{Refusal}
 use Rattle.devdry_words.specs.declared.refusals.Refusal.TheVariants.{TwoDatabases, EmptyRoot, EmptySide, UnknownFormat, UnknownPart}
-use Rattle.devdry_words.specs.Lines.{format_name, format_named, format_of}
+use Rattle.devdry_words.specs.Lines.{format_name, format_named, format_of, profile_of}
 use Rattle.text_bytes.specs.Texts.{split_once}
+use Rattle.text_bytes.specs.declared.profile.Profile.{Profile}
+use Rattle.text_bytes.specs.declared.profile.Profile.TheVariants.{Manual, Udev}
 use Rattle.engine_formats.specs.Codes.{remark_of, remarks}
 use Rattle.engine_formats.specs.Remarks.{code_of, heading_parts}
 use Rattle.devdry_words.specs.Refusals.{known_codes, refusal_of, unknown_part}
@@ -87,6 +89,23 @@ verify_is_asked = refl
 lint_of_update : fault_of devdry (codes "update" ∷ codes "--lint" ∷ []) ≡ kind.UnknownArgument ∷ []
 unfolding clap_on_literals devdry
 lint_of_update = refl
+
+udev_is_asked : option_map {U = Profile × List Text} (λ p. (profile_of p.1, texts_of (codes "FILE") p.1)) (subcommand_of devdry (codes "verify" ∷ codes "--udev" ∷ codes "a.rules" ∷ []))
+    ≡ Some (Udev, codes "a.rules" ∷ [])
+unfolding clap_on_literals devdry
+udev_is_asked = refl
+
+manual_is_asked : option_map {U = Profile} (λ p. profile_of p.1) (subcommand_of devdry verify_words) ≡ Some Manual
+unfolding clap_on_literals devdry
+manual_is_asked = refl
+
+udev_of_events : fault_of devdry (codes "events" ∷ codes "--udev" ∷ []) ≡ kind.UnknownArgument ∷ []
+unfolding clap_on_literals devdry
+udev_of_events = refl
+
+udev_is_given_once : fault_of devdry (codes "verify" ∷ codes "--udev" ∷ codes "--udev" ∷ []) ≡ kind.ArgumentConflict ∷ []
+unfolding clap_on_literals devdry
+udev_is_given_once = refl
 
 files_are_taken : takes devdry (codes "files" ∷ codes "--root=/mnt" ∷ []) ≡ true
 unfolding clap_on_literals devdry

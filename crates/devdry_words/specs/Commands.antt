@@ -58,6 +58,10 @@ no_style_rule = flag_rule (codes "no-style")
 abbrev pub lint_rule : Rule
 lint_rule = flag_rule (codes "lint")
 
+-- `--udev`
+abbrev pub udev_rule : Rule
+udev_rule = flag_rule (codes "udev")
+
 -- `--all`
 abbrev pub all_rule : Rule
 all_rule = flag_rule (codes "all")
@@ -104,10 +108,10 @@ abbrev pub query_shape : Shape
 query_shape = with_rules (codes "query")
     (root_rule ∷ sources_rule ∷ index_rule ∷ modalias_rule ∷ files_rule ∷ [])
 
--- `verify [-r DIR] [--all] [--format FORMAT] [--ignore CODES].. [--no-summary] [--no-style] [--lint] [FILE]..`
+-- `verify [-r DIR] [--all] [--format FORMAT] [--ignore CODES].. [--no-summary] [--no-style] [--lint] [--udev] [FILE]..`
 abbrev pub verify_shape : Shape
 verify_shape = with_rules (codes "verify")
-    (root_rule ∷ all_rule ∷ format_rule ∷ ignore_rule ∷ no_summary_rule ∷ no_style_rule ∷ lint_rule ∷ files_rule ∷ [])
+    (root_rule ∷ all_rule ∷ format_rule ∷ ignore_rule ∷ no_summary_rule ∷ no_style_rule ∷ lint_rule ∷ udev_rule ∷ files_rule ∷ [])
 
 -- `events [-r DIR] [--sources] [--why FILE[:LINE]].. [--index FILE] [FILE]..`
 abbrev pub events_shape : Shape

@@ -1,5 +1,5 @@
 -- The line that the matches of a subcommand stand for.
-use Rattle.std.specs.Prelude.{◌≡◌, ◌∷◌, List, [], Option, Some, find, flat_map, map, not, unwrap_or, codes}
+use Rattle.std.specs.Prelude.{◌≡◌, ◌∷◌, if◌then◌else◌, List, [], Option, Some, find, flat_map, map, not, unwrap_or, codes}
 use Rattle.std.specs.Option.{option_map, option_map_or}
 use Rattle.std.specs.Str.{bytes_eq}
 use Rattle.clap.specs.Words.{Row, Text, first_of}
@@ -8,6 +8,8 @@ use Rattle.engine_ends.specs.declared.line.Format.TheVariants.{Plain, Gcc, Githu
 use Rattle.engine_ends.specs.declared.line.Line.{Line}
 use Rattle.engine_ends.specs.declared.line.Verb.{Verb}
 use Rattle.engine_ends.specs.declared.line.Verb.TheVariants.{Update, Query, Verify, Events}
+use Rattle.text_bytes.specs.declared.profile.Profile.{Profile}
+use Rattle.text_bytes.specs.declared.profile.Profile.TheVariants.{Manual, Udev}
 use Rattle.devdry_words.specs.Values.{cut_at_commas, is_set, text_of, texts_of}
 
 -- the subcommand of a verb
@@ -35,6 +37,10 @@ format_named name = find (λ f. bytes_eq name (format_name f)) (Plain ∷ Gcc �
 abbrev pub format_of : List Row → Option Format
 format_of rows = option_map_or format_named (first_of (codes "format") rows) (Some Plain)
 
+-- by whose word rules are read: by udev's where `--udev` is given, else by the manual's
+abbrev pub profile_of : List Row → Profile
+profile_of rows = if is_set (codes "udev") rows then Udev else Manual
+
 -- the line is that of the verb, below the root, and its other fields are the values of the matches
 pub record Reads (verb : Verb) (root : Text) (rows : List Row) (line : Line) : Type 0 where
   pub verb_is : line.verb ≡ verb
@@ -51,3 +57,4 @@ pub record Reads (verb : Verb) (root : Text) (rows : List Row) (line : Line) : T
   pub format : line.format ≡ unwrap_or (format_of rows) Plain
   pub all : line.all ≡ is_set (codes "all") rows
   pub ignored : map (λ c. c.now) line.ignored.items ≡ flat_map cut_at_commas (texts_of (codes "ignore") rows)
+  pub profile : line.profile ≡ profile_of rows

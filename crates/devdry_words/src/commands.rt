@@ -9,7 +9,7 @@ ghost use Rattle.devdry_words.specs.Commands.{explain_shape, files_rule, files_s
 ghost use Rattle.devdry_words.specs.Commands.{ignore_rule, index_rule, lint_rule, modalias_rule, new_root_rule};
 ghost use Rattle.devdry_words.specs.Commands.{no_style_rule, no_summary_rule, old_rule, program as program_app};
 ghost use Rattle.devdry_words.specs.Commands.{query_shape, required_rule, root_rule, sources_rule, strict_rule};
-ghost use Rattle.devdry_words.specs.Commands.{update_shape, verify_shape, why_rule};
+ghost use Rattle.devdry_words.specs.Commands.{udev_rule, update_shape, verify_shape, why_rule};
 
 use clap::{Arg, ArgAction, Command};
 use std::alloc::{AllocError, Global};
@@ -112,6 +112,12 @@ fn lint_flag<'a>(alloc: Global) -> Arg<'a>
         "lint",
         "Also tell of rules that are most likely not the ones that were meant",
     )
+}
+
+fn udev_flag<'a>(alloc: Global) -> Arg<'a>
+    ensures { (rule_of result ≡ udev_rule) × (result.global ≡ false) }
+{
+    flag(alloc, "udev", "Read rules as udev itself reads them")
 }
 
 fn all_flag<'a>(alloc: Global) -> Arg<'a>
@@ -217,6 +223,7 @@ fn verify_command<'a>(alloc: Global) -> Result<Command<'a>, AllocError>
         .arg(no_summary_flag(alloc))?
         .arg(no_style_flag(alloc))?
         .arg(lint_flag(alloc))?
+        .arg(udev_flag(alloc))?
         .arg(files_argument(alloc, RULES_FILES))
 }
 

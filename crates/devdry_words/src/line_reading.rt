@@ -1,12 +1,13 @@
 //! The line that the matches of a parse stand for.
 ghost use Rattle.std.specs.Prelude.{◌≡◌, IfOk};
 ghost use Rattle.clap.specs.Words.{found_of, rows_of};
-ghost use Rattle.devdry_words.specs.Lines.{Reads, format_named, format_of};
+ghost use Rattle.devdry_words.specs.Lines.{Reads, format_named, format_of, profile_of};
 
 use crate::values::{is_given, parts, text, texts, value};
 use clap::ArgMatches;
 use engine_ends::{Format, Line, Verb};
 use std::alloc::{AllocError, Global};
+use text_bytes::Profile;
 
 /// The format of a name.
 fn format_named(name: &str) -> Option<Format>
@@ -30,6 +31,17 @@ pub(crate) fn format_of(matches: &ArgMatches<'_>) -> Option<Format>
     match value(matches, "format") {
         Some(name) => format_named(name),
         None => Some(Format::Plain),
+    }
+}
+
+/// By whose word matches ask to read rules.
+fn profile_of(matches: &ArgMatches<'_>) -> Profile
+    ensures { result ≡ profile_of (rows_of (found_of matches.now)) }
+{
+    if is_given(matches, "udev") {
+        Profile::Udev
+    } else {
+        Profile::Manual
     }
 }
 
@@ -57,5 +69,6 @@ pub(crate) fn line_with<'a>(
         format: format_of(matches).unwrap_or(Format::Plain),
         all: is_given(matches, "all"),
         ignored: parts(alloc, matches, "ignore")?,
+        profile: profile_of(matches),
     })
 }

@@ -5,14 +5,13 @@ use Rattle.std.proofs.lemmas.List.Elements.{All-cons, All-filter, All-map, All-n
 use Rattle.text_bytes.specs.declared.source_file.SourceFile.{SourceFile}
 use Rattle.text_tables.specs.Texts.{Text, is_among}
 use Rattle.hwdb_core.specs.Sources.{messages_of}
-use Rattle.rule_places.specs.Files.{placed_findings}
 use Rattle.engine_ends.specs.declared.line.Line.{Line}
 use Rattle.engine_formats.specs.Diagnostics.{DiagnosticValue}
 use Rattle.engine_formats.specs.Remarks.{code_of}
 use Rattle.engine_formats.specs.declared.remark.Remark.{Remark}
 use Rattle.engine_formats.specs.declared.remark.Remark.TheVariants.{Message, Lint, IdleIgnore, UnknownCode}
 use Rattle.engine_checks.specs.Codes.{has_comments, is_found}
-use Rattle.engine_checks.specs.Files.{database_diagnostic, database_found, database_told, file_text, ignored_by, ignores_counted, lint_diagnostic, lints_counted, rule_diagnostic, rules_found, rules_told}
+use Rattle.engine_checks.specs.Files.{database_diagnostic, database_found, database_told, file_text, findings_of, ignored_by, ignores_counted, lint_diagnostic, lints_counted, rule_diagnostic, rules_found, rules_told}
 use Rattle.engine_checks.specs.Ignores.{Ignore, ignores_in}
 use Rattle.engine_checks.specs.Laws.{found_among, messages_in, remarks_among}
 use Rattle.engine_checks.specs.Told.{FileText, comment_diagnostic, comment_diagnostics, file_told, is_about_style, is_asked, is_lint, is_told, is_unknown, silences}
@@ -68,40 +67,40 @@ module _ (lint style : Bool) (ignored : List Text) (file : FileText) (ignores : 
 
 rules_are_found : (line : Line) (file : SourceFile) → All (λ d. is_found d.remark ≡ true) (rules_found line file)
 rules_are_found line file =
-    both_hold (λ d. is_found d.remark ≡ true) (messages_in line file) (map (lint_diagnostic (file_text line file)) (lints_counted line.lint (ignored_by line) file))
-    (All-map (λ d. is_found d.remark ≡ true) (rule_diagnostic (file_text line file)) (placed_findings file) (λ k d h. refl))
-    (All-map (λ d. is_found d.remark ≡ true) (lint_diagnostic (file_text line file)) (lints_counted line.lint (ignored_by line) file) (λ k d h. refl))
+    both_hold (λ d. is_found d.remark ≡ true) (messages_in line file) (map (lint_diagnostic (file_text line file)) (lints_counted line.profile line.lint (ignored_by line) file))
+    (All-map (λ d. is_found d.remark ≡ true) (rule_diagnostic (file_text line file)) (findings_of line.profile file) (λ k d h. refl))
+    (All-map (λ d. is_found d.remark ≡ true) (lint_diagnostic (file_text line file)) (lints_counted line.profile line.lint (ignored_by line) file) (λ k d h. refl))
 
 database_is_found : (line : Line) (file : SourceFile) → All (λ d. is_found d.remark ≡ true) (database_found line file)
 database_is_found line file = All-map (λ d. is_found d.remark ≡ true) (database_diagnostic (file_text line file)) (messages_of (file ∷ [])) (λ k d h. refl)
 
 module _ (line : Line) (file : SourceFile) (counts : has_comments (ignored_by line) ≡ true) where
-  counted : ignores_counted (ignored_by line) file ≡ ignores_in file
-  counted = ap (λ b. cond b (ignores_in file) []) counts
+  counted : ignores_counted line.profile (ignored_by line) file ≡ ignores_in line.profile file
+  counted = ap (λ b. cond b (ignores_in line.profile file) []) counts
 
-  pub rules_found_told : found_among (rules_told line file) ≡ filter (is_told line.lint line.style (ignored_by line) (ignores_in file)) (rules_found line file)
+  pub rules_found_told : found_among (rules_told line file) ≡ filter (is_told line.lint line.style (ignored_by line) (ignores_in line.profile file)) (rules_found line file)
   unfolding rules_told
   rules_found_told =
       ap (λ is. found_among (file_told line.lint line.style (ignored_by line) (file_text line file) is (rules_found line file))) counted
-      ∙ told_found line.lint line.style (ignored_by line) (file_text line file) (ignores_in file) (rules_found line file) (rules_are_found line file)
+      ∙ told_found line.lint line.style (ignored_by line) (file_text line file) (ignores_in line.profile file) (rules_found line file) (rules_are_found line file)
 
-  pub database_found_told : found_among (database_told line file) ≡ filter (is_told line.lint line.style (ignored_by line) (ignores_in file)) (database_found line file)
+  pub database_found_told : found_among (database_told line file) ≡ filter (is_told line.lint line.style (ignored_by line) (ignores_in line.profile file)) (database_found line file)
   unfolding database_told
   database_found_told =
       ap (λ is. found_among (file_told line.lint line.style (ignored_by line) (file_text line file) is (database_found line file))) counted
-      ∙ told_found line.lint line.style (ignored_by line) (file_text line file) (ignores_in file) (database_found line file) (database_is_found line file)
+      ∙ told_found line.lint line.style (ignored_by line) (file_text line file) (ignores_in line.profile file) (database_found line file) (database_is_found line file)
 
-  pub rules_remarks_told : remarks_among (rules_told line file) ≡ filter (λ d. not (is_among (ignored_by line) (code_of d.remark))) (comment_diagnostics (file_text line file) (rules_found line file) (ignores_in file))
+  pub rules_remarks_told : remarks_among (rules_told line file) ≡ filter (λ d. not (is_among (ignored_by line) (code_of d.remark))) (comment_diagnostics (file_text line file) (rules_found line file) (ignores_in line.profile file))
   unfolding rules_told
   rules_remarks_told =
       ap (λ is. remarks_among (file_told line.lint line.style (ignored_by line) (file_text line file) is (rules_found line file))) counted
-      ∙ told_remarks line.lint line.style (ignored_by line) (file_text line file) (ignores_in file) (rules_found line file) (rules_are_found line file)
+      ∙ told_remarks line.lint line.style (ignored_by line) (file_text line file) (ignores_in line.profile file) (rules_found line file) (rules_are_found line file)
 
-  pub database_remarks_told : remarks_among (database_told line file) ≡ filter (λ d. not (is_among (ignored_by line) (code_of d.remark))) (comment_diagnostics (file_text line file) (database_found line file) (ignores_in file))
+  pub database_remarks_told : remarks_among (database_told line file) ≡ filter (λ d. not (is_among (ignored_by line) (code_of d.remark))) (comment_diagnostics (file_text line file) (database_found line file) (ignores_in line.profile file))
   unfolding database_told
   database_remarks_told =
       ap (λ is. remarks_among (file_told line.lint line.style (ignored_by line) (file_text line file) is (database_found line file))) counted
-      ∙ told_remarks line.lint line.style (ignored_by line) (file_text line file) (ignores_in file) (database_found line file) (database_is_found line file)
+      ∙ told_remarks line.lint line.style (ignored_by line) (file_text line file) (ignores_in line.profile file) (database_found line file) (database_is_found line file)
 
 quiet : (b known : Bool) → (((true && b) && not known) && not false) ≡ (b && not known)
 quiet true true = refl
@@ -127,8 +126,8 @@ asked_lint true lint e = e
 asked_lint false lint e = refl
 
 module _ (line : Line) (file : SourceFile) (counts : has_comments (ignored_by line) ≡ false) where
-  uncounted : ignores_counted (ignored_by line) file ≡ []
-  uncounted = ap (λ b. cond b (ignores_in file) []) counts
+  uncounted : ignores_counted line.profile (ignored_by line) file ≡ []
+  uncounted = ap (λ b. cond b (ignores_in line.profile file) []) counts
 
   -- lints are found only where they are asked for
   rules_counted : All (λ d. is_counted line.lint d ≡ true) (rules_found line file)
@@ -138,7 +137,7 @@ module _ (line : Line) (file : SourceFile) (counts : has_comments (ignored_by li
       by true e = All-weaker (λ d. is_found d.remark ≡ true) (λ d. is_counted line.lint d ≡ true) (λ d h. asked_lint (is_lint d.remark) line.lint e) (rules_found line file) (rules_are_found line file)
       by false e =
           subst (λ ds. All (λ d. is_counted line.lint d ≡ true) ds) (sym (messages_alone line file e counts))
-          (All-map (λ d. is_counted line.lint d ≡ true) (rule_diagnostic (file_text line file)) (placed_findings file) (λ k d h. refl))
+          (All-map (λ d. is_counted line.lint d ≡ true) (rule_diagnostic (file_text line file)) (findings_of line.profile file) (λ k d h. refl))
 
   pub rules_plainly_told : rules_told line file ≡ filter (λ d. (line.style || not (is_about_style d.remark)) && not (is_among (ignored_by line) (code_of d.remark))) (rules_found line file)
   unfolding rules_told

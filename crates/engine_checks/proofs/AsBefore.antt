@@ -1,17 +1,20 @@
 -- With the default format and nothing ignored, what is told is what the messages say.
 use Rattle.std.proofs.Common.{◌≡◌, ℕ, ◌+◌, ◌^◌, Bool, true, false, not, ◌&&◌, ◌||◌, cond, List, [], ◌∷◌, ◌++◌, length, filter, fold, map, nat_le, refl, ap, sym, ◌∙◌, subst}
 use Rattle.std.specs.List.{count_by, flat_map}
+use Rattle.std.proofs.lemmas.List.{map-id}
 use Rattle.std.proofs.lemmas.List.Elements.{filter-append}
 use Rattle.text_bytes.specs.declared.message.Message.{Message}
+use Rattle.text_bytes.specs.declared.profile.Profile.TheVariants.{Manual}
 use Rattle.text_bytes.specs.declared.source_file.SourceFile.{SourceFile}
 use Rattle.text_bytes.specs.declared.source_file.FileKind.TheVariants.{Rules}
 use Rattle.text_tables.specs.Texts.{Text, same_text}
 use Rattle.rule_types.specs.Rules.{tokens_in}
-use Rattle.rule_core.specs.Rules.{file_messages, set_of}
-use Rattle.rule_places.specs.Files.{placed_findings}
+use Rattle.rule_core.specs.Ends.{file_as_read}
+use Rattle.rule_core.specs.Rules.{file_messages, set_of_as}
 use Rattle.rule_places.specs.Laws.{as_message}
 use Rattle.rule_places.specs.declared.placed_finding.PlacedFinding.{PlacedFinding}
 use Rattle.rule_places.proofs.Messages.{findings_told}
+use Rattle.rule_remarks.specs.Findings.{findings_as}
 use Rattle.rule_lints.specs.FileLints.{placed_lints}
 use Rattle.engine_ends.specs.Delivery.{Outcome}
 use Rattle.engine_ends.specs.declared.line.Format.TheVariants.{Plain}
@@ -25,7 +28,7 @@ use Rattle.engine_formats.specs.Diagnostics.{DiagnosticValue}
 use Rattle.engine_formats.specs.Formats.{formatted}
 use Rattle.engine_formats.specs.Made.{AreMadeOf, IsMadeOf}
 use Rattle.engine_checks.specs.Codes.{has_comments}
-use Rattle.engine_checks.specs.Files.{file_text, found_with, ignored_by, ignores_counted, rule_diagnostic, rules_found, rules_told}
+use Rattle.engine_checks.specs.Files.{file_text, findings_of, found_with, ignored_by, ignores_counted, rule_diagnostic, rules_found, rules_told}
 use Rattle.engine_checks.specs.Laws.{messages_in}
 use Rattle.engine_checks.specs.Outcomes.{bad_count, checks_outcome, checks_said, is_named_in, rules_checks}
 use Rattle.engine_checks.specs.Told.{FileText, by_line, file_told, is_told}
@@ -63,23 +66,24 @@ findings_made false file (p ∷ ps) = by (is_style p.kind) (findings_made false 
 -- where no lints are looked for, what is found is the messages
 pub messages_alone : (line : Line) (file : SourceFile) → line.lint ≡ false → has_comments (ignored_by line) ≡ false → rules_found line file ≡ messages_in line file
 messages_alone line file unasked counts =
-    ap (λ b. found_with (file_text line file) (placed_findings file) (cond (b || has_comments (ignored_by line)) (placed_lints file) [])) unasked
-    ∙ ap (λ b. found_with (file_text line file) (placed_findings file) (cond b (placed_lints file) [])) counts
+    ap (λ b. found_with (file_text line file) (findings_of line.profile file) (cond (b || has_comments (ignored_by line)) (placed_lints line.profile file) [])) unasked
+    ∙ ap (λ b. found_with (file_text line file) (findings_of line.profile file) (cond b (placed_lints line.profile file) [])) counts
     ∙ none_among (messages_in line file)
 
 -- with nothing ignored and no lints, the messages are told, or all but those about style
 messages_told : (line : Line) (file : SourceFile) → line.lint ≡ false → ignored_by line ≡ [] → rules_told line file ≡ filter (is_told false line.style [] []) (messages_in line file)
 unfolding rules_told
 messages_told line file unasked none =
-    ap (file_told line.lint line.style (ignored_by line) (file_text line file) (ignores_counted (ignored_by line) file)) (messages_alone line file unasked (ap has_comments none))
-    ∙ ap (λ ignored. file_told line.lint line.style ignored (file_text line file) (ignores_counted ignored file) (messages_in line file)) none
+    ap (file_told line.lint line.style (ignored_by line) (file_text line file) (ignores_counted line.profile (ignored_by line) file)) (messages_alone line file unasked (ap has_comments none))
+    ∙ ap (λ ignored. file_told line.lint line.style ignored (file_text line file) (ignores_counted line.profile ignored file) (messages_in line file)) none
     ∙ ap (λ b. file_told b line.style [] (file_text line file) [] (messages_in line file)) unasked
     ∙ all_but_style false line.style (file_text line file) (messages_in line file)
 
-file_made : (line : Line) (file : SourceFile) → line.lint ≡ false → ignored_by line ≡ [] → AreMadeOf (told line.style (file_messages file)) (rules_told line file)
-file_made line file unasked none =
-    subst (λ ds. AreMadeOf (told line.style (file_messages file)) ds) (sym (messages_told line file unasked none))
-    (subst (λ ms. AreMadeOf (told line.style ms) (filter (is_told false line.style [] []) (messages_in line file))) (findings_told file) (findings_made line.style (file_text line file) (placed_findings file)))
+file_made : (line : Line) (file : SourceFile) → line.profile ≡ Manual → line.lint ≡ false → ignored_by line ≡ [] → AreMadeOf (told line.style (file_messages Manual file)) (rules_told line file)
+unfolding findings_as
+file_made line file plain unasked none =
+    subst (λ ds. AreMadeOf (told line.style (file_messages Manual file)) ds) (sym (messages_told line file unasked none))
+    (subst (λ ms. AreMadeOf (told line.style ms) (filter (is_told false line.style [] []) (messages_in line file))) (ap (λ by. map (as_message file.name) (findings_of by file)) plain ∙ findings_told Manual file) (findings_made line.style (file_text line file) (findings_of line.profile file)))
 
 pub both_made : (ms ns : List Message) (ds es : List DiagnosticValue) → AreMadeOf ms ds → AreMadeOf ns es → AreMadeOf (ms ++ ns) (ds ++ es)
 both_made [] ns [] es f g = g
@@ -97,11 +101,11 @@ unfolding told
 told_none true = refl
 told_none false = refl
 
-files_made : (line : Line) (files : List SourceFile) → line.lint ≡ false → ignored_by line ≡ [] → AreMadeOf (told line.style (flat_map file_messages files)) (flat_map (rules_told line) files)
-files_made line [] unasked none = subst (λ ms. AreMadeOf ms []) (sym (told_none line.style)) tt
-files_made line (file ∷ files) unasked none =
-    subst (λ ms. AreMadeOf ms (rules_told line file ++ flat_map (rules_told line) files)) (sym (told_both line.style (file_messages file) (flat_map file_messages files)))
-    (both_made (told line.style (file_messages file)) (told line.style (flat_map file_messages files)) (rules_told line file) (flat_map (rules_told line) files) (file_made line file unasked none) (files_made line files unasked none))
+files_made : (line : Line) (files : List SourceFile) → line.profile ≡ Manual → line.lint ≡ false → ignored_by line ≡ [] → AreMadeOf (told line.style (flat_map (file_messages Manual) files)) (flat_map (rules_told line) files)
+files_made line [] plain unasked none = subst (λ ms. AreMadeOf ms []) (sym (told_none line.style)) tt
+files_made line (file ∷ files) plain unasked none =
+    subst (λ ms. AreMadeOf ms (rules_told line file ++ flat_map (rules_told line) files)) (sym (told_both line.style (file_messages Manual file) (flat_map (file_messages Manual) files)))
+    (both_made (told line.style (file_messages Manual file)) (told line.style (flat_map (file_messages Manual) files)) (rules_told line file) (flat_map (rules_told line) files) (file_made line file plain unasked none) (files_made line files plain unasked none))
 
 same_named : (ms : List Message) (ds : List DiagnosticValue) (name : Text) → AreMadeOf ms ds → is_named_in ds name ≡ plain.is_named_in ms name
 same_named [] [] name made = refl
@@ -125,12 +129,16 @@ module _ (plainly : (ms : List Message) (ds : List DiagnosticValue) → AreMadeO
       let said : ℕ → Text → Outcome = λ (n : ℕ) (t : Text). record { output = cond line.summary (summary_line (length files) n) []; messages = t; status = verify_status n } in
       ap (λ n. said n (formatted line.format ds)) count ∙ ap (said (plain.bad_count files ms)) text
 
-  same_rules : (line : Line) (files : List SourceFile) → line.format ≡ Plain → line.lint ≡ false → ignored_by line ≡ [] → rules_checks line files ≡ rules_outcome line files
-  unfolding rules_checks rules_outcome set_of
-  same_rules line files format unasked none =
-      ap (λ o. cond (nat_le (tokens_in (set_of files).rules) (2 ^ 24)) o too_many_rules)
-      (same_said line files (told line.style (set_of files).messages) (flat_map (rules_told line) files) format (files_made line files unasked none))
+  same_rules : (line : Line) (files : List SourceFile) → line.profile ≡ Manual → line.format ≡ Plain → line.lint ≡ false → ignored_by line ≡ [] → rules_checks line files ≡ rules_outcome line files
+  unfolding rules_checks rules_outcome set_of_as
+  same_rules line files plain format unasked none =
+      ap (λ by. cond (nat_le (tokens_in (set_of_as by files).rules) (2 ^ 24)) (checks_said line files (flat_map (rules_told line) files)) too_many_rules) plain
+      ∙ ap (λ o. cond (nat_le (tokens_in (set_of_as Manual files).rules) (2 ^ 24)) o too_many_rules)
+      (same_said line files (told line.style (set_of_as Manual files).messages) (flat_map (rules_told line) files) format (files_made line files plain unasked none))
 
   -- what `verify` says is as before
-  pub as_before : (line : Line) (files : List SourceFile) → line.format ≡ Plain → line.lint ≡ false → ignored_by line ≡ [] → checks_outcome line files ≡ verify_outcome line files
-  as_before line files format unasked none = same_rules line (files_read Rules line files) format unasked none
+  pub as_before : (line : Line) (files : List SourceFile) → line.profile ≡ Manual → line.format ≡ Plain → line.lint ≡ false → ignored_by line ≡ [] → checks_outcome line files ≡ verify_outcome line files
+  as_before line files plain format unasked none =
+      ap (λ by. rules_checks line (map (file_as_read by) (files_read Rules line files))) plain
+      ∙ ap (rules_checks line) (map-id (files_read Rules line files))
+      ∙ same_rules line (files_read Rules line files) plain format unasked none

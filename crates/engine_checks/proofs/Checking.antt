@@ -2,14 +2,14 @@
 use Rattle.std.proofs.Common.{◌≡◌, ◌^◌, ◌<◌, ◌≤◌, Bool, not, ◌&&◌, ◌||◌, cond, List, [], ◌∷◌, ◌++◌, filter, map, refl, ap, ◌∙◌}
 use Rattle.std.specs.List.{flat_map}
 use Rattle.std.proofs.lemmas.Bool.{le-leb, lt-leb}
+use Rattle.text_bytes.specs.declared.profile.Profile.{Profile}
 use Rattle.text_bytes.specs.declared.source_file.SourceFile.{SourceFile}
 use Rattle.text_tables.specs.Texts.{Text, is_among}
 use Rattle.hwdb_core.specs.Sources.{WithinBounds, entries_of, messages_of}
 use Rattle.hwdb_core.specs.declared.fault.HwdbFault.{HwdbFault}
 use Rattle.hwdb_core.specs.declared.fault.HwdbFault.TheVariants as hwdb
 use Rattle.rule_types.specs.Rules.{tokens_in}
-use Rattle.rule_core.specs.Rules.{set_of}
-use Rattle.rule_places.specs.Files.{placed_findings}
+use Rattle.rule_core.specs.Rules.{set_of_as}
 use Rattle.rule_lints.specs.FileLints.{placed_lints}
 use Rattle.rule_core.specs.declared.fault.RulesFault.{RulesFault}
 use Rattle.rule_core.specs.declared.fault.RulesFault.TheVariants as rules
@@ -21,7 +21,7 @@ use Rattle.engine_formats.specs.Diagnostics.{DiagnosticValue}
 use Rattle.engine_formats.specs.Remarks.{code_of}
 use Rattle.engine_formats.specs.declared.remark.Remark.{Remark}
 use Rattle.engine_checks.specs.Codes.{comments_word, has_comments}
-use Rattle.engine_checks.specs.Files.{database_found, database_told, file_text, found_with, ignored_by, rules_found, rules_told, told_of}
+use Rattle.engine_checks.specs.Files.{database_found, database_told, file_text, findings_of, found_with, ignored_by, rules_found, rules_told, told_of}
 use Rattle.engine_checks.specs.Ignores.{Ignore, ignores_in}
 use Rattle.engine_checks.specs.Outcomes.{checks_said, database_checks, rules_checks, entries_said}
 use Rattle.engine_checks.specs.Tables.{database_told_by, read_by, rules_found_by, rules_told_by}
@@ -42,35 +42,36 @@ told_alike lint style these those file ignores found e =
     ∙ ap (by_line (filter (is_told lint style those ignores) found))
     (same_filter (λ d. is_asked lint style these d.remark) (λ d. is_asked lint style those d.remark) (comment_diagnostics file found ignores) (λ d. asked d.remark))
 
-module _ (line : Line) (lint style comments : Bool) (ignored : List Text) (l : lint ≡ line.lint) (s : style ≡ line.style) (e : (code : Text) → is_among ignored code ≡ is_among (ignored_by line) code) (c : comments ≡ has_comments ignored) where
+module _ (line : Line) (profile : Profile) (lint style comments : Bool) (ignored : List Text) (p : profile ≡ line.profile) (l : lint ≡ line.lint) (s : style ≡ line.style) (e : (code : Text) → is_among ignored code ≡ is_among (ignored_by line) code) (c : comments ≡ has_comments ignored) where
   -- what is told of a file, by tables
-  one_file : (file : SourceFile) (found : List DiagnosticValue) → file_told lint style ignored (file_text line file) (cond comments (ignores_in file) []) found ≡ told_of line file found
+  one_file : (file : SourceFile) (found : List DiagnosticValue) → file_told lint style ignored (file_text line file) (cond comments (ignores_in line.profile file) []) found ≡ told_of line file found
   one_file file found =
-      told_alike lint style ignored (ignored_by line) (file_text line file) (cond comments (ignores_in file) []) found e
-      ∙ ap (λ b. file_told b style (ignored_by line) (file_text line file) (cond comments (ignores_in file) []) found) l
-      ∙ ap (λ b. file_told line.lint b (ignored_by line) (file_text line file) (cond comments (ignores_in file) []) found) s
-      ∙ ap (λ b. file_told line.lint line.style (ignored_by line) (file_text line file) (cond b (ignores_in file) []) found) (c ∙ e comments_word)
+      told_alike lint style ignored (ignored_by line) (file_text line file) (cond comments (ignores_in line.profile file) []) found e
+      ∙ ap (λ b. file_told b style (ignored_by line) (file_text line file) (cond comments (ignores_in line.profile file) []) found) l
+      ∙ ap (λ b. file_told line.lint b (ignored_by line) (file_text line file) (cond comments (ignores_in line.profile file) []) found) s
+      ∙ ap (λ b. file_told line.lint line.style (ignored_by line) (file_text line file) (cond b (ignores_in line.profile file) []) found) (c ∙ e comments_word)
 
   -- what is found, by tables
-  found_file : (file : SourceFile) → rules_found_by lint ignored (read_by line comments file) ≡ rules_found line file
+  found_file : (file : SourceFile) → rules_found_by profile lint ignored (read_by line comments file) ≡ rules_found line file
   found_file file =
-      ap (λ b. found_with (file_text line file) (placed_findings file) (cond (b || has_comments ignored) (placed_lints file) [])) l
-      ∙ ap (λ b. found_with (file_text line file) (placed_findings file) (cond (line.lint || b) (placed_lints file) [])) (e comments_word)
+      ap (λ by. rules_found_by by lint ignored (read_by line comments file)) p
+      ∙ ap (λ b. found_with (file_text line file) (findings_of line.profile file) (cond (b || has_comments ignored) (placed_lints line.profile file) [])) l
+      ∙ ap (λ b. found_with (file_text line file) (findings_of line.profile file) (cond (line.lint || b) (placed_lints line.profile file) [])) (e comments_word)
 
-  rules_file : (file : SourceFile) → rules_told_by lint style ignored (read_by line comments file) ≡ rules_told line file
+  rules_file : (file : SourceFile) → rules_told_by profile lint style ignored (read_by line comments file) ≡ rules_told line file
   unfolding rules_told
   rules_file file =
-      ap (file_told lint style ignored (file_text line file) (cond comments (ignores_in file) [])) (found_file file) ∙ one_file file (rules_found line file)
+      ap (file_told lint style ignored (file_text line file) (cond comments (ignores_in line.profile file) [])) (found_file file) ∙ one_file file (rules_found line file)
 
   database_file : (file : SourceFile) → database_told_by lint style ignored (read_by line comments file) ≡ database_told line file
   unfolding database_told
   database_file file = one_file file (database_found line file)
 
   -- rules files that are read, by tables
-  pub files_by : (files : List SourceFile) → flat_map (rules_told_by lint style ignored) (map (read_by line comments) files) ≡ flat_map (rules_told line) files
+  pub files_by : (files : List SourceFile) → flat_map (rules_told_by profile lint style ignored) (map (read_by line comments) files) ≡ flat_map (rules_told line) files
   files_by [] = refl
   files_by (file ∷ files) =
-      ap (λ ds. ds ++ flat_map (rules_told_by lint style ignored) (map (read_by line comments) files)) (rules_file file)
+      ap (λ ds. ds ++ flat_map (rules_told_by profile lint style ignored) (map (read_by line comments) files)) (rules_file file)
       ∙ ap (λ ds. rules_told line file ++ ds) (files_by files)
 
   -- files of a database that are read, by tables
@@ -80,16 +81,16 @@ module _ (line : Line) (lint style comments : Bool) (ignored : List Text) (l : l
       ap (λ ds. ds ++ flat_map (database_told_by lint style ignored) (map (read_by line comments) files)) (database_file file)
       ∙ ap (λ ds. database_told line file ++ ds) (database_by files)
 
-pub checks_few : (line : Line) (files : List SourceFile) → tokens_in (set_of files).rules ≤ 2 ^ 24 → rules_checks line files ≡ checks_said line files (flat_map (rules_told line) files)
+pub checks_few : (line : Line) (files : List SourceFile) → tokens_in (set_of_as line.profile files).rules ≤ 2 ^ 24 → rules_checks line files ≡ checks_said line files (flat_map (rules_told line) files)
 unfolding rules_checks
-checks_few line files w = ap (λ b. cond b (checks_said line files (flat_map (rules_told line) files)) too_many_rules) (le-leb (tokens_in (set_of files).rules) (2 ^ 24) w)
+checks_few line files w = ap (λ b. cond b (checks_said line files (flat_map (rules_told line) files)) too_many_rules) (le-leb (tokens_in (set_of_as line.profile files).rules) (2 ^ 24) w)
 
-checks_many : (line : Line) (files : List SourceFile) → 2 ^ 24 < tokens_in (set_of files).rules → rules_checks line files ≡ too_many_rules
+checks_many : (line : Line) (files : List SourceFile) → 2 ^ 24 < tokens_in (set_of_as line.profile files).rules → rules_checks line files ≡ too_many_rules
 unfolding rules_checks
-checks_many line files h = ap (λ b. cond b (checks_said line files (flat_map (rules_told line) files)) too_many_rules) (lt-leb (tokens_in (set_of files).rules) (2 ^ 24) h)
+checks_many line files h = ap (λ b. cond b (checks_said line files (flat_map (rules_told line) files)) too_many_rules) (lt-leb (tokens_in (set_of_as line.profile files).rules) (2 ^ 24) h)
 
 -- what becomes of a fault of rules is what is said of their files
-pub checks_refused : (line : Line) (files : List SourceFile) (fault : RulesFault) → (fault ≡ rules.TooMany → 2 ^ 24 < tokens_in (set_of files).rules) → IsSaid (refused_rules fault) (rules_checks line files)
+pub checks_refused : (line : Line) (files : List SourceFile) (fault : RulesFault) → (fault ≡ rules.TooMany → 2 ^ 24 < tokens_in (set_of_as line.profile files).rules) → IsSaid (refused_rules fault) (rules_checks line files)
 checks_refused line files rules.TooMany h = checks_many line files (h refl)
 checks_refused line files rules.Memory h = tt
 

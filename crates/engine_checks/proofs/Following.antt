@@ -2,6 +2,7 @@
 use Rattle.std.proofs.Common.{◌≡◌, ℕ, ◌+◌, ◌≤◌, Bool, true, false, cond, List, [], ◌∷◌, codes, length, All, Option, Some, None, nat_lt, refl, ap, sym, subst}
 use Rattle.std.proofs.lemmas.Bool.{ltb-true, ltb-false}
 use Rattle.std.proofs.lemmas.List.Elements.{All-append, All-cons, All-nil, All-weaker}
+use Rattle.text_bytes.specs.declared.profile.Profile.{Profile}
 use Rattle.text_bytes.specs.Lines.{NumberedLine, numbered_lines}
 use Rattle.text_bytes.specs.Messages.{capped}
 use Rattle.text_bytes.specs.declared.source_file.FileKind.{FileKind}
@@ -55,6 +56,6 @@ lines_about kind starts (l ∷ ls) =
     (lines_about kind starts ls)
 
 -- the comments of a file
-pub all_about : (file : SourceFile) → All (IsAboutNext (starts_of file.kind file.bytes)) (ignores_in file)
+pub all_about : (by : Profile) (file : SourceFile) → All (IsAboutNext (starts_of by file.kind file.bytes)) (ignores_in by file)
 unfolding ignores_in
-all_about file = lines_about file.kind (starts_of file.kind file.bytes) (numbered_lines file.bytes)
+all_about by file = lines_about file.kind (starts_of by file.kind file.bytes) (numbered_lines file.bytes)

@@ -4,7 +4,6 @@ use Rattle.std.proofs.lemmas.List.Elements.{All-map}
 use Rattle.text_bytes.specs.declared.source_file.SourceFile.{SourceFile}
 use Rattle.text_tables.specs.Texts.{Text, is_among}
 use Rattle.hwdb_core.specs.Sources.{messages_of}
-use Rattle.rule_places.specs.Files.{placed_findings}
 use Rattle.rule_lints.specs.FileLints.{placed_lints}
 use Rattle.engine_ends.specs.declared.line.Line.{Line}
 use Rattle.engine_formats.specs.Diagnostics.{DiagnosticValue}
@@ -12,7 +11,7 @@ use Rattle.engine_formats.specs.Remarks.{code_of}
 use Rattle.engine_formats.specs.declared.remark.Remark.{Remark}
 use Rattle.engine_formats.specs.declared.remark.Remark.TheVariants.{Message, Lint, IdleIgnore, UnknownCode}
 use Rattle.engine_checks.specs.Codes.{has_comments, is_found}
-use Rattle.engine_checks.specs.Files.{database_diagnostic, database_found, database_told, file_text, ignored_by, ignores_counted, lint_diagnostic, lints_counted, rule_diagnostic, rules_found, rules_told}
+use Rattle.engine_checks.specs.Files.{database_diagnostic, database_found, database_told, file_text, findings_of, ignored_by, ignores_counted, lint_diagnostic, lints_counted, rule_diagnostic, rules_found, rules_told}
 use Rattle.engine_checks.specs.Ignores.{Ignore}
 use Rattle.engine_checks.specs.Laws.{is_message, lints_among, lints_in, messages_among, messages_in}
 use Rattle.engine_checks.specs.Told.{is_lint, is_silenced, is_told}
@@ -50,46 +49,46 @@ module _ (line : Line) (file : SourceFile) where
   ignored = ignored_by line
 
   abbrev comments : List Ignore
-  comments = ignores_counted (ignored_by line) file
+  comments = ignores_counted line.profile (ignored_by line) file
 
   abbrev told : DiagnosticValue → Bool
-  told = is_told line.lint line.style (ignored_by line) (ignores_counted (ignored_by line) file)
+  told = is_told line.lint line.style (ignored_by line) (ignores_counted line.profile (ignored_by line) file)
 
   abbrev looked_for : List DiagnosticValue
-  looked_for = map (lint_diagnostic (file_text line file)) (lints_counted line.lint (ignored_by line) file)
+  looked_for = map (lint_diagnostic (file_text line file)) (lints_counted line.profile line.lint (ignored_by line) file)
 
   found_lints : lints_among (rules_found line file) ≡ looked_for
   found_lints =
       others_left (λ d. is_lint d.remark) (messages_in line file) looked_for
-      (All-map (λ d. is_lint d.remark ≡ false) (rule_diagnostic (file_text line file)) (placed_findings file) (λ k d h. refl))
+      (All-map (λ d. is_lint d.remark ≡ false) (rule_diagnostic (file_text line file)) (findings_of line.profile file) (λ k d h. refl))
       ∙ filter_all (λ d. is_lint d.remark) looked_for
-      (All-map (λ d. is_lint d.remark ≡ true) (lint_diagnostic (file_text line file)) (lints_counted line.lint (ignored_by line) file) (λ k d h. refl))
+      (All-map (λ d. is_lint d.remark ≡ true) (lint_diagnostic (file_text line file)) (lints_counted line.profile line.lint (ignored_by line) file) (λ k d h. refl))
 
   found_messages : messages_among (rules_found line file) ≡ messages_in line file
   found_messages =
       first_left (λ d. is_message d.remark) (messages_in line file) looked_for
-      (All-map (λ d. is_message d.remark ≡ false) (lint_diagnostic (file_text line file)) (lints_counted line.lint (ignored_by line) file) (λ k d h. refl))
+      (All-map (λ d. is_message d.remark ≡ false) (lint_diagnostic (file_text line file)) (lints_counted line.profile line.lint (ignored_by line) file) (λ k d h. refl))
       ∙ filter_all (λ d. is_message d.remark) (messages_in line file)
-      (All-map (λ d. is_message d.remark ≡ true) (rule_diagnostic (file_text line file)) (placed_findings file) (λ k d h. refl))
+      (All-map (λ d. is_message d.remark ≡ true) (rule_diagnostic (file_text line file)) (findings_of line.profile file) (λ k d h. refl))
 
   -- where comments count all lints are found
   pub commented_lints : has_comments (ignored_by line) ≡ true → lints_among (rules_found line file) ≡ lints_in line file
   commented_lints counts =
       found_lints
-      ∙ ap (λ b. map (lint_diagnostic (file_text line file)) (cond (line.lint || b) (placed_lints file) [])) counts
-      ∙ ap (λ b. map (lint_diagnostic (file_text line file)) (cond b (placed_lints file) [])) (or_true line.lint)
+      ∙ ap (λ b. map (lint_diagnostic (file_text line file)) (cond (line.lint || b) (placed_lints line.profile file) [])) counts
+      ∙ ap (λ b. map (lint_diagnostic (file_text line file)) (cond b (placed_lints line.profile file) [])) (or_true line.lint)
 
   lints_part : lints_among (rules_told line file) ≡ filter told looked_for
   unfolding rules_told
   lints_part = told_part line.lint line.style ignored (file_text line file) comments (rules_found line file) is_lint lint_is_found ∙ ap (filter told) found_lints
 
   -- the lints that are told where they are asked for
-  pub asked_lints : line.lint ≡ true → lints_among (rules_told line file) ≡ filter (λ d. not (is_among (ignored_by line) (code_of d.remark)) && not (is_silenced (ignores_counted (ignored_by line) file) d)) (lints_in line file)
+  pub asked_lints : line.lint ≡ true → lints_among (rules_told line file) ≡ filter (λ d. not (is_among (ignored_by line) (code_of d.remark)) && not (is_silenced (ignores_counted line.profile (ignored_by line) file) d)) (lints_in line file)
   asked_lints e =
       lints_part
-      ∙ ap (λ b. filter told (map (lint_diagnostic (file_text line file)) (cond (b || has_comments (ignored_by line)) (placed_lints file) []))) e
-      ∙ filter_alike told (λ d. not (is_among (ignored_by line) (code_of d.remark)) && not (is_silenced (ignores_counted (ignored_by line) file) d)) (lints_in line file)
-      (All-map (λ d. told d ≡ (not (is_among (ignored_by line) (code_of d.remark)) && not (is_silenced (ignores_counted (ignored_by line) file) d))) (lint_diagnostic (file_text line file)) (placed_lints file)
+      ∙ ap (λ b. filter told (map (lint_diagnostic (file_text line file)) (cond (b || has_comments (ignored_by line)) (placed_lints line.profile file) []))) e
+      ∙ filter_alike told (λ d. not (is_among (ignored_by line) (code_of d.remark)) && not (is_silenced (ignores_counted line.profile (ignored_by line) file) d)) (lints_in line file)
+      (All-map (λ d. told d ≡ (not (is_among (ignored_by line) (code_of d.remark)) && not (is_silenced (ignores_counted line.profile (ignored_by line) file) d))) (lint_diagnostic (file_text line file)) (placed_lints line.profile file)
       (λ k d h. lint_told line.lint line.style _ _ e))
 
   -- none is told where they are not
@@ -97,17 +96,17 @@ module _ (line : Line) (file : SourceFile) where
   unasked_lints e =
       lints_part
       ∙ filter_none told looked_for
-      (All-map (λ d. told d ≡ false) (lint_diagnostic (file_text line file)) (lints_counted line.lint (ignored_by line) file)
+      (All-map (λ d. told d ≡ false) (lint_diagnostic (file_text line file)) (lints_counted line.profile line.lint (ignored_by line) file)
       (λ k d h. lint_untold line.lint line.style _ _ e))
 
   -- the messages that are told
-  pub same_messages : messages_among (rules_told line file) ≡ filter (is_told false line.style (ignored_by line) (ignores_counted (ignored_by line) file)) (messages_in line file)
+  pub same_messages : messages_among (rules_told line file) ≡ filter (is_told false line.style (ignored_by line) (ignores_counted line.profile (ignored_by line) file)) (messages_in line file)
   unfolding rules_told
   same_messages =
       told_part line.lint line.style ignored (file_text line file) comments (rules_found line file) is_message message_is_found
       ∙ ap (filter told) found_messages
       ∙ filter_alike told (is_told false line.style ignored comments) (messages_in line file)
-      (All-map (λ d. told d ≡ is_told false line.style ignored comments d) (rule_diagnostic (file_text line file)) (placed_findings file) (λ k d h. refl))
+      (All-map (λ d. told d ≡ is_told false line.style ignored comments d) (rule_diagnostic (file_text line file)) (findings_of line.profile file) (λ k d h. refl))
 
   -- no lint is told of a database
   pub database_lints : lints_among (database_told line file) ≡ []

@@ -4,6 +4,7 @@ use Rattle.std.specs.List.{onto_first, prefix_len, slice_split, suffix_len}
 use Rattle.std.proofs.lemmas.List.{drop-append-le, drop-drop, drop_at, length-take-le, take-append-le}
 use Rattle.std.proofs.lemmas.List.Elements.{All-append, All-cons, All-from_get_or, All-get_or, All-head, All-nil, All-tail}
 use Rattle.std.proofs.lemmas.List.Sums.{prefix_len-le-length}
+use Rattle.text_bytes.specs.declared.profile.Profile.{Profile}
 use Rattle.text_bytes.specs.Lines.{NumberedLine, lines, numbered_from, numbered_lines}
 use Rattle.text_bytes.specs.Messages.{capped}
 use Rattle.text_bytes.specs.Names.{comma, is_blank, is_whitespace}
@@ -188,6 +189,6 @@ lines_stand bytes kind starts (l ∷ ls) h =
     (line_stands bytes l told.there told.short kind (next_behind starts (capped l.number))) (lines_stand bytes kind starts ls (All-tail (IsTold bytes) l ls h))
 
 -- the codes of a file stand in its lines
-pub codes_stand : (file : SourceFile) → length (lines file.bytes) < 2 ^ 32 → All (λ t. length t < 2 ^ 32 - 1) (lines file.bytes) → All (StandsInLine file.bytes) (ignores_in file)
+pub codes_stand : (by : Profile) (file : SourceFile) → length (lines file.bytes) < 2 ^ 32 → All (λ t. length t < 2 ^ 32 - 1) (lines file.bytes) → All (StandsInLine file.bytes) (ignores_in by file)
 unfolding ignores_in
-codes_stand file few short = lines_stand file.bytes file.kind (starts_of file.kind file.bytes) (numbered_lines file.bytes) (all_told file.bytes few short)
+codes_stand by file few short = lines_stand file.bytes file.kind (starts_of by file.kind file.bytes) (numbered_lines file.bytes) (all_told file.bytes few short)

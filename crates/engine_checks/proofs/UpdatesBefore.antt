@@ -121,7 +121,7 @@ unfolding database_told
 file_made line file kept none few =
     subst (λ ds. AreMadeOf (messages_of (file ∷ [])) ds)
     (sym
-    (ap (λ ignored. file_told line.lint line.style ignored (file_text line file) (ignores_counted ignored file) (database_found line file)) none
+    (ap (λ ignored. file_told line.lint line.style ignored (file_text line file) (ignores_counted line.profile ignored file) (database_found line file)) none
     ∙ all_but_style line.lint line.style (file_text line file) (database_found line file)
     ∙ all_told line.lint line.style (file_text line file) (messages_of (file ∷ [])) (all_of file)))
     (all_made (file_text line file) (messages_of (file ∷ [])) (all_of file) (kept few))

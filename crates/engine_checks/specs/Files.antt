@@ -2,10 +2,12 @@
 use Rattle.std.specs.Prelude.{Bool, ◌||◌, if◌then◌else◌, List, [], ◌∷◌, map}
 use Rattle.text_bytes.specs.Lines.{numbered_lines}
 use Rattle.text_bytes.specs.declared.message.Message.{Message}
+use Rattle.text_bytes.specs.declared.profile.Profile.{Profile}
 use Rattle.text_bytes.specs.declared.source_file.SourceFile.{SourceFile}
 use Rattle.text_tables.specs.Texts.{Text}
 use Rattle.hwdb_core.specs.Sources.{messages_of}
-use Rattle.rule_places.specs.Files.{placed_findings}
+use Rattle.rule_pairs.specs.Accounts.{nobody}
+use Rattle.rule_remarks.specs.Findings.{findings_as}
 use Rattle.rule_places.specs.declared.placed_finding.PlacedFinding.{PlacedFinding}
 use Rattle.rule_lints.specs.FileLints.{placed_lints}
 use Rattle.rule_lints.specs.declared.placed_lint.PlacedLint.{PlacedLint}
@@ -70,9 +72,13 @@ database_diagnostic file message =
 abbrev pub ignored_by : Line → List Text
 ignored_by line = map (λ t. t.now) line.ignored.items
 
+-- what is told of the rules of a file; of the names of users and groups nothing is known
+abbrev pub findings_of : Profile → SourceFile → List PlacedFinding
+findings_of profile file = findings_as profile nobody file
+
 -- the lints of a rules file, where they are asked for, or comments count, which may silence them
-abbrev pub lints_counted : Bool → List Text → SourceFile → List PlacedLint
-lints_counted lint ignored file = if lint || has_comments ignored then placed_lints file else []
+abbrev pub lints_counted : Profile → Bool → List Text → SourceFile → List PlacedLint
+lints_counted profile lint ignored file = if lint || has_comments ignored then placed_lints profile file else []
 
 -- what is found in a rules file: its findings with these lints put among them, each behind all that is told of its rule
 abbrev pub found_with : FileText → List PlacedFinding → List PlacedLint → List DiagnosticValue
@@ -80,19 +86,19 @@ found_with file findings lints = by_line (map (rule_diagnostic file) findings) (
 
 -- all that is found in a rules file
 abbrev pub rules_found : Line → SourceFile → List DiagnosticValue
-rules_found line file = found_with (file_text line file) (placed_findings file) (lints_counted line.lint (ignored_by line) file)
+rules_found line file = found_with (file_text line file) (findings_of line.profile file) (lints_counted line.profile line.lint (ignored_by line) file)
 
 -- all that is found in a file of a database
 abbrev pub database_found : Line → SourceFile → List DiagnosticValue
 database_found line file = map (database_diagnostic (file_text line file)) (messages_of (file ∷ []))
 
 -- the codes in comments of a file, where comments count
-abbrev pub ignores_counted : List Text → SourceFile → List Ignore
-ignores_counted ignored file = if has_comments ignored then ignores_in file else []
+abbrev pub ignores_counted : Profile → List Text → SourceFile → List Ignore
+ignores_counted profile ignored file = if has_comments ignored then ignores_in profile file else []
 
 -- what is told of what was found in a file
 abbrev pub told_of : Line → SourceFile → List DiagnosticValue → List DiagnosticValue
-told_of line file found = file_told line.lint line.style (ignored_by line) (file_text line file) (ignores_counted (ignored_by line) file) found
+told_of line file found = file_told line.lint line.style (ignored_by line) (file_text line file) (ignores_counted line.profile (ignored_by line) file) found
 
 -- what is told of a rules file
 unfoldable pub rules_told : Line → SourceFile → List DiagnosticValue

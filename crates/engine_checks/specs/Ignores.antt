@@ -5,6 +5,7 @@ use Rattle.text_bytes.specs.Lines.{NumberedLine, numbered_lines}
 use Rattle.text_bytes.specs.Messages.{capped}
 use Rattle.text_bytes.specs.Names.{comma}
 use Rattle.text_bytes.specs.Texts.{unindented}
+use Rattle.text_bytes.specs.declared.profile.Profile.{Profile}
 use Rattle.text_bytes.specs.declared.source_file.FileKind.{FileKind}
 use Rattle.text_bytes.specs.declared.source_file.FileKind.TheVariants.{Hwdb, Rules}
 use Rattle.text_bytes.specs.declared.source_file.SourceFile.{SourceFile}
@@ -88,15 +89,15 @@ ignores_of_line kind next l = ignores_behind l next (behind (codes "# devdry:") 
 abbrev pub next_behind : List ℕ → ℕ → Option ℕ
 next_behind starts line = find (nat_lt line) starts
 
--- the lines in which rules begin, also the one that is open where the file ends; in a database the lines that are no comments
-abbrev pub starts_of : FileKind → List ℕ → List ℕ
-starts_of Rules bytes = map (λ l. l.number) (joined_lines bytes).lines ++ option_to_list (joined_lines bytes).open_at
-starts_of Hwdb bytes = map (λ l. capped l.number) (filter (λ l. not (is_comment l.text)) (numbered_lines bytes))
+-- the lines that rules have the numbers of, also the one that is open where the file ends; in a database the lines that are no comments
+abbrev pub starts_of : Profile → FileKind → List ℕ → List ℕ
+starts_of profile Rules bytes = map (λ l. l.number) (joined_lines profile bytes).lines ++ option_to_list (joined_lines profile bytes).open_at
+starts_of profile Hwdb bytes = map (λ l. capped l.number) (filter (λ l. not (is_comment l.text)) (numbered_lines bytes))
 
 -- the codes in lines, each comment on the next rule being about the first of these starts behind it
 abbrev pub ignores_among : FileKind → List ℕ → List NumberedLine → List Ignore
 ignores_among kind starts lines = flat_map (λ l. ignores_of_line kind (next_behind starts (capped l.number)) l) lines
 
 -- the codes that comments in a file ask to ignore, in the order of their places
-unfoldable pub ignores_in : SourceFile → List Ignore
-ignores_in file = ignores_among file.kind (starts_of file.kind file.bytes) (numbered_lines file.bytes)
+unfoldable pub ignores_in : Profile → SourceFile → List Ignore
+ignores_in profile file = ignores_among file.kind (starts_of profile file.kind file.bytes) (numbered_lines file.bytes)

@@ -5,7 +5,6 @@ use Rattle.text_bytes.specs.Texts.{unindented}
 use Rattle.text_bytes.specs.declared.source_file.SourceFile.{SourceFile}
 use Rattle.text_tables.specs.Texts.{Text}
 use Rattle.hwdb_core.specs.Lines.{trimmed}
-use Rattle.rule_places.specs.Files.{placed_findings}
 use Rattle.rule_lints.specs.FileLints.{placed_lints}
 use Rattle.engine_ends.specs.declared.line.Line.{Line}
 use Rattle.engine_formats.specs.Diagnostics.{DiagnosticValue}
@@ -14,7 +13,7 @@ use Rattle.engine_formats.specs.Remarks.{code_of}
 use Rattle.engine_formats.specs.declared.remark.Remark.{Remark}
 use Rattle.engine_formats.specs.declared.remark.Remark.TheVariants.{Message, Lint, IdleIgnore, UnknownCode}
 use Rattle.engine_checks.specs.Codes.{is_found}
-use Rattle.engine_checks.specs.Files.{file_text, lint_diagnostic, rule_diagnostic}
+use Rattle.engine_checks.specs.Files.{file_text, findings_of, lint_diagnostic, rule_diagnostic}
 use Rattle.engine_checks.specs.Ignores.{Ignore}
 use Rattle.engine_checks.specs.Told.{is_about_style, is_lint}
 use Rattle.engine_checks.specs.declared.ignores.Scope.TheVariants.{File, Next, Unread}
@@ -44,11 +43,11 @@ lints_among told = filter (λ d. is_lint d.remark) told
 
 -- the messages about a rules file
 abbrev pub messages_in : Line → SourceFile → List DiagnosticValue
-messages_in line file = map (rule_diagnostic (file_text line file)) (placed_findings file)
+messages_in line file = map (rule_diagnostic (file_text line file)) (findings_of line.profile file)
 
 -- the lints of a rules file
 abbrev pub lints_in : Line → SourceFile → List DiagnosticValue
-lints_in line file = map (lint_diagnostic (file_text line file)) (placed_lints file)
+lints_in line file = map (lint_diagnostic (file_text line file)) (placed_lints line.profile file)
 
 -- A code in a comment silences what was found: that has the code, and the comment is about the whole file, or about the line that it is told of.
 pub record IsSilencing (ignore : Ignore) (d : DiagnosticValue) : Type 0 where

@@ -1,5 +1,5 @@
 -- What `verify` and `update` say with other formats, with lints, and with messages that are ignored.
-use Rattle.std.specs.Prelude.{ℕ, ◌^◌, Bool, nat_le, if◌then◌else◌, List, [], length, flat_map}
+use Rattle.std.specs.Prelude.{ℕ, ◌^◌, Bool, nat_le, if◌then◌else◌, List, [], length, flat_map, map}
 use Rattle.std.specs.List.{count_by, list_any}
 use Rattle.text_bytes.specs.declared.source_file.SourceFile.{SourceFile}
 use Rattle.text_bytes.specs.declared.source_file.FileKind.TheVariants.{Hwdb, Rules}
@@ -7,7 +7,8 @@ use Rattle.text_bytes.specs.declared.message.Message.{Message}
 use Rattle.text_tables.specs.Texts.{Text, same_text}
 use Rattle.hwdb_lookup.specs.declared.entry.Entry.{Entry}
 use Rattle.rule_types.specs.Rules.{tokens_in}
-use Rattle.rule_core.specs.Rules.{set_of}
+use Rattle.rule_core.specs.Ends.{file_as_read}
+use Rattle.rule_core.specs.Rules.{set_of_as}
 use Rattle.trie_core.specs.Image.{image}
 use Rattle.engine_ends.specs.Delivery.{Outcome}
 use Rattle.engine_ends.specs.declared.line.Line.{Line}
@@ -37,12 +38,12 @@ checks_said line files told = record {
 -- what `verify` says of rules files
 unfoldable pub rules_checks : Line → List SourceFile → Outcome
 rules_checks line files =
-    if nat_le (tokens_in (set_of files).rules) (2 ^ 24) then checks_said line files (flat_map (rules_told line) files)
+    if nat_le (tokens_in (set_of_as line.profile files).rules) (2 ^ 24) then checks_said line files (flat_map (rules_told line) files)
     else too_many_rules
 
--- what `verify` says of the files handed in
+-- what `verify` says of the files handed in, whose ends of lines are read as the profile has them
 abbrev pub checks_outcome : Line → List SourceFile → Outcome
-checks_outcome line files = rules_checks line (files_read Rules line files)
+checks_outcome line files = rules_checks line (map (file_as_read line.profile) (files_read Rules line files))
 
 -- what `update` says of the entries of the database and of the text of so many diagnostics: the entries as an index
 abbrev pub updated_by : Line → Text → ℕ → List Entry → Outcome

@@ -32,11 +32,13 @@ pub(crate) fn has_comments(codes: &Texts<'_>) -> bool
 
 /// What a line asks for of messages. The error comes where memory is refused.
 pub(crate) fn asked_by<'a>(alloc: Global, line: &Line<'a>) -> Result<Asked<'a>, AllocError>
+    ensures profile { IfOk result (λ asked. asked.profile ≡ line.now.profile) }
     ensures style { IfOk result (λ asked. asked.style ≡ line.now.style) }
     ensures lint { IfOk result (λ asked. asked.lint ≡ line.now.lint) }
     ensures ignored { IfOk result (λ asked. (code : Text) → is_among asked.ignored code ≡ is_among (ignored_by line.now) code) }
 {
     Ok(Asked {
+        profile: line.profile,
         style: line.style,
         lint: line.lint,
         ignored: ignored_codes(alloc, &line.ignored)?,

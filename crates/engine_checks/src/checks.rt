@@ -13,11 +13,11 @@ use crate::rules_told::rules_told;
 use engine_ends::Line;
 use engine_formats::{Diagnostic, formatted};
 use engine_reports::{Refusal, Report, counted, files_read};
-use rule_core::read_rules;
+use rule_core::{files_as_read, read_rules_as};
 use std::alloc::{AllocError, Global};
 use text_bytes::{FileKind, SourceFile};
 
-/// What `verify` says of the files handed in, with the line's format, with lints where the line asks for them, and without the
+/// What `verify` says of the files handed in, by the line's profile, with its format, with lints where the line asks for them, and without the
 /// messages and lints that it ignores: what is told, and how many of the files are bad.
 ///
 /// A text of the line that is no code silences nothing. `TooManyRules` comes exactly where the rules have more than 2^24
@@ -32,6 +32,7 @@ pub fn report_on_checks(
     ensures refused { IfErr result (λ e. IsSaid e (checks_outcome line.now files.items)) }
 {
     let files = files_read(alloc, FileKind::Rules, line, files)?;
+    let files = files_as_read(alloc, line.profile, files)?;
     report_on_these(alloc, line, &files)
 }
 
@@ -41,7 +42,7 @@ fn report_on_these(alloc: Global, line: &Line<'_>, files: &[SourceFile]) -> Resu
     ensures status { IfOk result (λ r. r.status < 3) }
     ensures refused { IfErr result (λ e. IsSaid e (rules_checks line.now files.now)) }
 {
-    let rules = read_rules(alloc, files)?;
+    let rules = read_rules_as(alloc, line.profile, files)?;
     drop(rules);
     let report = checked(alloc, line, files)?;
     Ok(report)

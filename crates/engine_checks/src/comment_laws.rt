@@ -3,6 +3,7 @@
 //! Each function does nothing: its contract is a law of the definitions.
 ghost use Rattle.std.specs.Prelude.{◌≡◌, ◌<◌, ◌-◌, ◌^◌, not, Bool, true, false, All, List, filter, filter_map, length, option_map};
 ghost use Rattle.text_bytes.specs.Lines.{lines};
+ghost use Rattle.text_bytes.specs.declared.profile.Profile.{Profile};
 ghost use Rattle.text_bytes.specs.declared.source_file.SourceFile.{SourceFile};
 ghost use Rattle.text_tables.specs.Texts.{Text, is_among};
 ghost use Rattle.engine_ends.specs.declared.line.Line.{Line};
@@ -19,9 +20,9 @@ ghost use Rattle.engine_checks.specs.Told.{comment_diagnostic, is_told, remark_o
 /// line or a comment silences; nothing else is left out.
 pub fn found_is_told_or_silenced()
     ensures rules { (line : Line) (file : SourceFile) → has_comments (ignored_by line) ≡ true
-        → found_among (rules_told line file) ≡ filter (is_told line.lint line.style (ignored_by line) (ignores_in file)) (rules_found line file) }
+        → found_among (rules_told line file) ≡ filter (is_told line.lint line.style (ignored_by line) (ignores_in line.profile file)) (rules_found line file) }
     ensures database { (line : Line) (file : SourceFile) → has_comments (ignored_by line) ≡ true
-        → found_among (database_told line file) ≡ filter (is_told line.lint line.style (ignored_by line) (ignores_in file)) (database_found line file) }
+        → found_among (database_told line file) ≡ filter (is_told line.lint line.style (ignored_by line) (ignores_in line.profile file)) (database_found line file) }
     ensures silenced { (lint style : Bool) (ignored : List Text) (comments : List ignores.Ignore) (d : DiagnosticValue) → is_told lint style ignored comments d ≡ false → IsLeftOut lint style ignored comments d }
     ensures told { (lint style : Bool) (ignored : List Text) (comments : List ignores.Ignore) (d : DiagnosticValue) → is_told lint style ignored comments d ≡ true → IsLeftOut lint style ignored comments d → ⊥ }
 {}
@@ -30,20 +31,20 @@ pub fn found_is_told_or_silenced()
 /// line ignores them.
 pub fn comments_silence_or_are_told()
     ensures rules { (line : Line) (file : SourceFile) → has_comments (ignored_by line) ≡ true
-        → remarks_among (rules_told line file) ≡ filter (λ d. not (is_among (ignored_by line) (code_of d.remark))) (filter_map (λ i. option_map (comment_diagnostic (file_text line file) i) (remark_on (rules_found line file) i)) (ignores_in file)) }
+        → remarks_among (rules_told line file) ≡ filter (λ d. not (is_among (ignored_by line) (code_of d.remark))) (filter_map (λ i. option_map (comment_diagnostic (file_text line file) i) (remark_on (rules_found line file) i)) (ignores_in line.profile file)) }
     ensures database { (line : Line) (file : SourceFile) → has_comments (ignored_by line) ≡ true
-        → remarks_among (database_told line file) ≡ filter (λ d. not (is_among (ignored_by line) (code_of d.remark))) (filter_map (λ i. option_map (comment_diagnostic (file_text line file) i) (remark_on (database_found line file) i)) (ignores_in file)) }
+        → remarks_among (database_told line file) ≡ filter (λ d. not (is_among (ignored_by line) (code_of d.remark))) (filter_map (λ i. option_map (comment_diagnostic (file_text line file) i) (remark_on (database_found line file) i)) (ignores_in line.profile file)) }
     ensures said { (found : List DiagnosticValue) (ignore : ignores.Ignore) → IsSaidOf found ignore (remark_on found ignore) }
 {}
 
 /// The code of a comment stands in its line at its columns, and has no blanks around it.
 pub fn codes_stand_in_their_comments()
-    ensures { (file : SourceFile) → length (lines file.bytes) < 2 ^ 32 → All (λ line. length line < 2 ^ 32 - 1) (lines file.bytes)
-        → All (StandsInLine file.bytes) (ignores_in file) }
+    ensures { (profile : Profile) (file : SourceFile) → length (lines file.bytes) < 2 ^ 32 → All (λ line. length line < 2 ^ 32 - 1) (lines file.bytes)
+        → All (StandsInLine file.bytes) (ignores_in profile file) }
 {}
 
-/// A comment on the next rule is about the first line behind its own in which a rule begins, in a database the first that is no
+/// A comment on the next rule is about the first line behind its own of which a rule has the number, in a database the first that is no
 /// comment; it is about none where none follows.
 pub fn comments_are_about_what_follows()
-    ensures { (file : SourceFile) → All (IsAboutNext (starts_of file.kind file.bytes)) (ignores_in file) }
+    ensures { (profile : Profile) (file : SourceFile) → All (IsAboutNext (starts_of profile file.kind file.bytes)) (ignores_in profile file) }
 {}

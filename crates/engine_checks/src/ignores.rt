@@ -13,7 +13,7 @@ use crate::starts::{behind_line, starts_of};
 use hwdb_core::trimmed;
 use std::alloc::{AllocError, Global};
 use std::marker::Model;
-use text_bytes::{FileKind, Line, Lines, SourceFile, capped, split_once, unindented};
+use text_bytes::{FileKind, Line, Lines, Profile, SourceFile, capped, split_once, unindented};
 
 /// What a code in a comment is about.
 #[derive(Clone, Copy, Debug, PartialEq, Eq)]
@@ -181,10 +181,14 @@ fn ignores_among<'a>(
 
 /// The codes that comments in a file ask to ignore, in the order of their places. The error comes where memory is refused.
 #[tactic(auto, unfolding(crate::specs::Ignores::ignores_in))]
-pub fn ignores_in(alloc: Global, file: &SourceFile) -> Result<Vec<Ignore<'_>>, AllocError>
-    ensures { IfOk result (λ ignores. ignores.items ≡ ignores_in file.now) }
+pub fn ignores_in(
+    alloc: Global,
+    profile: Profile,
+    file: &SourceFile,
+) -> Result<Vec<Ignore<'_>>, AllocError>
+    ensures { IfOk result (λ ignores. ignores.items ≡ ignores_in profile file.now) }
 {
     let bytes = file.bytes.as_slice();
-    let starts = starts_of(alloc, file.kind, bytes)?;
+    let starts = starts_of(alloc, profile, file.kind, bytes)?;
     ignores_among(alloc, file.kind, &starts, bytes)
 }

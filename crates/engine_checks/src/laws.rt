@@ -3,6 +3,7 @@
 //! Each function does nothing: its contract is a law of the definitions.
 ghost use Rattle.std.specs.Prelude.{◌≡◌, ◌<◌, ◌^◌, ◌&&◌, ◌||◌, not, true, false, All, List, [], filter, length};
 ghost use Rattle.text_bytes.specs.Lines.{lines};
+ghost use Rattle.text_bytes.specs.declared.profile.Profile.{Profile};
 ghost use Rattle.text_bytes.specs.declared.source_file.FileKind as kinds;
 ghost use Rattle.text_bytes.specs.declared.source_file.SourceFile.{SourceFile};
 ghost use Rattle.text_tables.specs.Texts.{is_among};
@@ -18,9 +19,9 @@ ghost use Rattle.engine_checks.specs.Told.{is_about_style};
 
 use engine_formats::{messages_are_plain_diagnostics, messages_stand_at_their_words};
 
-/// With the default format, without lints and with nothing ignored `verify` says what it says without these options.
+/// By the manual, with the default format, without lints and with nothing ignored `verify` says what it says without these options.
 pub fn plain_checks_are_as_before()
-    ensures { (line : Line) (files : List SourceFile) → line.format ≡ Format.Plain → line.lint ≡ false → ignored_by line ≡ [] → checks_outcome line files ≡ verify_outcome line files }
+    ensures { (line : Line) (files : List SourceFile) → line.profile ≡ Profile.Manual → line.format ≡ Format.Plain → line.lint ≡ false → ignored_by line ≡ [] → checks_outcome line files ≡ verify_outcome line files }
 {
     messages_are_plain_diagnostics();
 }

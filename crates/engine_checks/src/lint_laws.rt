@@ -15,7 +15,7 @@ ghost use Rattle.engine_checks.specs.Told.{is_about_style, is_silenced, is_told}
 /// a database.
 pub fn lints_are_told_where_asked()
     ensures asked { (line : Line) (file : SourceFile) → line.lint ≡ true
-        → lints_among (rules_told line file) ≡ filter (λ d. not (is_among (ignored_by line) (code_of d.remark)) && not (is_silenced (ignores_counted (ignored_by line) file) d)) (lints_in line file) }
+        → lints_among (rules_told line file) ≡ filter (λ d. not (is_among (ignored_by line) (code_of d.remark)) && not (is_silenced (ignores_counted line.profile (ignored_by line) file) d)) (lints_in line file) }
     ensures unasked { (line : Line) (file : SourceFile) → line.lint ≡ false → lints_among (rules_told line file) ≡ [] }
     ensures database { (line : Line) (file : SourceFile) → lints_among (database_told line file) ≡ [] }
 {}
@@ -24,7 +24,7 @@ pub fn lints_are_told_where_asked()
 /// messages.
 pub fn messages_are_told_as_without_lints()
     ensures messages { (line : Line) (file : SourceFile)
-        → messages_among (rules_told line file) ≡ filter (is_told false line.style (ignored_by line) (ignores_counted (ignored_by line) file)) (messages_in line file) }
+        → messages_among (rules_told line file) ≡ filter (is_told false line.style (ignored_by line) (ignores_counted line.profile (ignored_by line) file)) (messages_in line file) }
     ensures unasked { (line : Line) (file : SourceFile) → line.lint ≡ false → has_comments (ignored_by line) ≡ false
         → rules_told line file ≡ filter (λ d. (line.style || not (is_about_style d.remark)) && not (is_among (ignored_by line) (code_of d.remark))) (messages_in line file) }
 {}

@@ -18,10 +18,10 @@ pub(crate) fn lints_counted(
     asked: &Asked<'_>,
     file: &SourceFile,
 ) -> Result<Vec<PlacedLint>, AllocError>
-    ensures { IfOk result (λ lints. lints.items ≡ lints_counted asked.now.lint asked.now.ignored file.now) }
+    ensures { IfOk result (λ lints. lints.items ≡ lints_counted asked.now.profile asked.now.lint asked.now.ignored file.now) }
 {
     if asked.lint || has_comments(&asked.ignored) {
-        placed_lints(alloc, file)
+        placed_lints(alloc, asked.profile, file)
     } else {
         Ok(Vec::new(alloc))
     }

@@ -36,7 +36,7 @@ impl<'a> FileRead<'a> {
         ensures { IfOk result (λ read. read ≡ read_by line.now comments file.now) }
     {
         let ignores = if comments {
-            ignores_in(alloc, file)?
+            ignores_in(alloc, line.profile, file)?
         } else {
             Vec::new(alloc)
         };

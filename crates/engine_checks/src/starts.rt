@@ -6,24 +6,29 @@ ghost use Rattle.engine_checks.specs.Ignores.{starts_of};
 
 use rule_core::{JoinedLine, joined_lines};
 use std::alloc::{AllocError, Global};
-use text_bytes::{FileKind, Lines, begins_with, capped};
+use text_bytes::{FileKind, Lines, Profile, begins_with, capped};
 
-/// The lines of a file that a comment on the next rule can be about: those in which rules begin, also the one that is still
-/// open where the file ends, and in a database those that are no comments. The error comes where memory is refused.
-pub(crate) fn starts_of(alloc: Global, kind: FileKind, bytes: &[u8]) -> Result<Vec<u32>, AllocError>
-    ensures { IfOk result (λ starts. starts.items ≡ starts_of kind bytes.now) }
+/// The lines of a file that a comment on the next rule can be about: those that rules have the numbers of, also the one that is
+/// still open where the file ends, and in a database those that are no comments. The error comes where memory is refused.
+pub(crate) fn starts_of(
+    alloc: Global,
+    profile: Profile,
+    kind: FileKind,
+    bytes: &[u8],
+) -> Result<Vec<u32>, AllocError>
+    ensures { IfOk result (λ starts. starts.items ≡ starts_of profile kind bytes.now) }
 {
     match kind {
-        FileKind::Rules => rule_starts(alloc, bytes),
+        FileKind::Rules => rule_starts(alloc, profile, bytes),
         FileKind::Hwdb => plain_starts(alloc, bytes),
     }
 }
 
-/// The lines in which rules begin.
-fn rule_starts(alloc: Global, bytes: &[u8]) -> Result<Vec<u32>, AllocError>
-    ensures { IfOk result (λ starts. starts.items ≡ starts_of FileKind.Rules bytes.now) }
+/// The lines that rules have the numbers of.
+fn rule_starts(alloc: Global, profile: Profile, bytes: &[u8]) -> Result<Vec<u32>, AllocError>
+    ensures { IfOk result (λ starts. starts.items ≡ starts_of profile FileKind.Rules bytes.now) }
 {
-    let joined = joined_lines(alloc, bytes)?;
+    let joined = joined_lines(alloc, profile, bytes)?;
     let mut starts = numbers_of(alloc, joined.lines())?;
     if let Some(open) = joined.open_at() {
         starts.push(open)?;
@@ -44,7 +49,7 @@ fn numbers_of(alloc: Global, lines: &[JoinedLine<'_>]) -> Result<Vec<u32>, Alloc
 
 /// The lines that are no comments of a database.
 fn plain_starts(alloc: Global, bytes: &[u8]) -> Result<Vec<u32>, AllocError>
-    ensures { IfOk result (λ starts. starts.items ≡ starts_of FileKind.Hwdb bytes.now) }
+    ensures { IfOk result (λ starts. starts.items ≡ starts_of Profile.Manual FileKind.Hwdb bytes.now) }
 {
     let mut starts = Vec::new(alloc);
     for line in Lines::new(bytes) {

@@ -14,11 +14,14 @@ use crate::silenced::Silenced;
 use engine_formats::{Diagnostic, Remark};
 use engine_reports::is_style;
 use std::alloc::{AllocError, Global};
+use text_bytes::Profile;
 use text_tables::Texts;
 
 /// Which remarks a command line asks for.
 #[derive(Drop)]
 pub(crate) struct Asked<'a> {
+    /// By whose word rules are read.
+    pub(crate) profile: Profile,
     /// Whether those about style are told.
     pub(crate) style: bool,
     /// Whether lints are told.

@@ -1,5 +1,7 @@
 -- What `verify` and `update` say, by plain messages or as the line's options ask.
 use Rattle.std.specs.Prelude.{Bool, true, false, not, ◌||◌, ◌==◌, if◌then◌else◌, List, vec_len}
+use Rattle.text_bytes.specs.declared.profile.Profile.{Profile}
+use Rattle.text_bytes.specs.declared.profile.Profile.TheVariants.{Manual, Udev}
 use Rattle.text_bytes.specs.declared.source_file.SourceFile.{SourceFile}
 use Rattle.text_bytes.specs.declared.source_file.FileKind.TheVariants.{Hwdb}
 use Rattle.engine_checks.specs.Outcomes.{checks_outcome, told_update_outcome}
@@ -20,9 +22,14 @@ is_plain Json = false
 is_plain Human = false
 is_plain HumanInColor = false
 
--- whether a line asks for lints, for another format of messages, or to leave some out
+-- whether rules are read as udev itself reads them
+abbrev pub is_udev : Profile → Bool
+is_udev Manual = false
+is_udev Udev = true
+
+-- whether a line asks for udev's own reading, for lints, for another format of messages, or to leave some out
 abbrev pub asks_checks : Line → Bool
-asks_checks line = (line.lint || not (is_plain line.format)) || not (vec_len line.ignored == 0)
+asks_checks line = ((is_udev line.profile || line.lint) || not (is_plain line.format)) || not (vec_len line.ignored == 0)
 
 -- what `verify` says of the files handed in
 abbrev pub verify_said : Line → List SourceFile → Outcome

@@ -7,13 +7,16 @@ use engine_checks::{report_on_checks, report_on_told_update};
 use engine_ends::{Format, Line};
 use engine_reports::{Refusal, Report, report_on_rules, report_on_update};
 use std::alloc::Global;
-use text_bytes::SourceFile;
+use text_bytes::{Profile, SourceFile};
 
-/// Whether a line asks for lints, for another format of messages, or to leave some out.
+/// Whether a line asks for udev's own reading, for lints, for another format of messages, or to leave some out.
 fn asks_checks(line: &Line<'_>) -> bool
     ensures { result ≡ asks_checks line.now }
 {
-    line.lint || line.format != Format::Plain || !line.ignored.is_empty()
+    line.profile == Profile::Udev
+        || line.lint
+        || line.format != Format::Plain
+        || !line.ignored.is_empty()
 }
 
 /// What `verify` says of the files that were handed in.

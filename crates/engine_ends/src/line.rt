@@ -6,6 +6,7 @@
 
 use std::error::Error;
 use std::fmt;
+use text_bytes::Profile;
 
 /// The subcommand.
 #[derive(Clone, Copy, Debug, PartialEq, Eq)]
@@ -72,6 +73,8 @@ pub struct Line<'a> {
     /// The codes of the messages that `verify` and `update` leave out, in the order given; `comments`
     /// among them says that comments in the files are asked, too.
     pub ignored: Vec<&'a str>,
+    /// By whose word `verify` reads rules; the manual's for the other subcommands.
+    pub profile: Profile,
 }
 
 /// What the words of a command line ask for.

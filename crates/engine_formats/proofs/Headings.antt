@@ -4,7 +4,7 @@ use Rattle.std.specs.List.{list_any}
 use Rattle.text_bytes.specs.Names.{colon, newline, space}
 use Rattle.text_bytes.specs.Texts.{split_once}
 use Rattle.text_bytes.specs.declared.message.MessageKind.{MessageKind}
-use Rattle.text_bytes.specs.declared.message.MessageKind.TheVariants.{PropertyWithoutMatch, MatchWithoutProperty, UnindentedLine, NoEquals, EmptyKey, PatternNotSupported, BadSyntax, UnknownKey, OperatorNotAllowed, WrongAttribute, BadValue, BadSubstitution, NoLaterLabel, GivenTwice, LineTooLong, BadPrefix, SetNotSupported, OpenAtEnd, CommaExpected, BlankExpected, ReadAsAssign, LabelUnused}
+use Rattle.text_bytes.specs.declared.message.MessageKind.TheVariants.{PropertyWithoutMatch, MatchWithoutProperty, UnindentedLine, NoEquals, EmptyKey, PatternNotSupported, BadSyntax, UnknownKey, OperatorNotAllowed, WrongAttribute, BadValue, BadSubstitution, NoLaterLabel, GivenTwice, LineTooLong, BadPrefix, SetNotSupported, OpenAtEnd, ReservedProperty, NameWithoutEffect, UnknownBuiltin, MatchesExclude, SaidTwice, RuleWithoutEffect, ResultBeforeProgram, EmptyValue, BadAttributeSubstitution, AttributeElsewhere, OldSubsystemName, AssignExpected, UnknownAccount, FileGivenUp, CommaExpected, BlankExpected, ReadAsAssign, LabelUnused, LeadingComma, BlankBeforeComma}
 use Rattle.rule_types.specs.declared.lint.Lint.{Lint}
 use Rattle.rule_types.specs.declared.lint.Lint.TheVariants.{ModeNotOctal, SignOfShell, RelativeProgram, LetterCase, NoSuchDevice, ImportedBelow, MeantToCompare, NameOutsideNet, LinkWithDev, QuotedName, NotAPattern, AlwaysHolds, NeverReached}
 use Rattle.engine_reports.specs.Checks.{is_style}
@@ -37,10 +37,26 @@ in_two_parts (Message LineTooLong) = (refl, refl)
 in_two_parts (Message BadPrefix) = (refl, refl)
 in_two_parts (Message SetNotSupported) = (refl, refl)
 in_two_parts (Message OpenAtEnd) = (refl, refl)
+in_two_parts (Message ReservedProperty) = (refl, refl)
+in_two_parts (Message NameWithoutEffect) = (refl, refl)
+in_two_parts (Message UnknownBuiltin) = (refl, refl)
+in_two_parts (Message MatchesExclude) = (refl, refl)
+in_two_parts (Message SaidTwice) = (refl, refl)
+in_two_parts (Message RuleWithoutEffect) = (refl, refl)
+in_two_parts (Message ResultBeforeProgram) = (refl, refl)
+in_two_parts (Message EmptyValue) = (refl, refl)
+in_two_parts (Message BadAttributeSubstitution) = (refl, refl)
+in_two_parts (Message AttributeElsewhere) = (refl, refl)
+in_two_parts (Message OldSubsystemName) = (refl, refl)
+in_two_parts (Message AssignExpected) = (refl, refl)
+in_two_parts (Message UnknownAccount) = (refl, refl)
+in_two_parts (Message FileGivenUp) = (refl, refl)
 in_two_parts (Message CommaExpected) = (refl, refl)
 in_two_parts (Message BlankExpected) = (refl, refl)
 in_two_parts (Message ReadAsAssign) = (refl, refl)
 in_two_parts (Message LabelUnused) = (refl, refl)
+in_two_parts (Message LeadingComma) = (refl, refl)
+in_two_parts (Message BlankBeforeComma) = (refl, refl)
 in_two_parts (about.Lint ModeNotOctal) = (refl, refl)
 in_two_parts (about.Lint SignOfShell) = (refl, refl)
 in_two_parts (about.Lint RelativeProgram) = (refl, refl)
@@ -77,10 +93,26 @@ by_style LineTooLong = refl
 by_style BadPrefix = refl
 by_style SetNotSupported = refl
 by_style OpenAtEnd = refl
+by_style ReservedProperty = refl
+by_style NameWithoutEffect = refl
+by_style UnknownBuiltin = refl
+by_style MatchesExclude = refl
+by_style SaidTwice = refl
+by_style RuleWithoutEffect = refl
+by_style ResultBeforeProgram = refl
+by_style EmptyValue = refl
+by_style BadAttributeSubstitution = refl
+by_style AttributeElsewhere = refl
+by_style OldSubsystemName = refl
+by_style AssignExpected = refl
+by_style UnknownAccount = refl
+by_style FileGivenUp = refl
 by_style CommaExpected = refl
 by_style BlankExpected = refl
 by_style ReadAsAssign = refl
 by_style LabelUnused = refl
+by_style LeadingComma = refl
+by_style BlankBeforeComma = refl
 
 -- each lint is a warning
 pub lint_warns : (lint : Lint) → severity_of (about.Lint lint) ≡ Warning
@@ -119,10 +151,26 @@ in_one_line (Message LineTooLong) = (refl, refl, refl)
 in_one_line (Message BadPrefix) = (refl, refl, refl)
 in_one_line (Message SetNotSupported) = (refl, refl, refl)
 in_one_line (Message OpenAtEnd) = (refl, refl, refl)
+in_one_line (Message ReservedProperty) = (refl, refl, refl)
+in_one_line (Message NameWithoutEffect) = (refl, refl, refl)
+in_one_line (Message UnknownBuiltin) = (refl, refl, refl)
+in_one_line (Message MatchesExclude) = (refl, refl, refl)
+in_one_line (Message SaidTwice) = (refl, refl, refl)
+in_one_line (Message RuleWithoutEffect) = (refl, refl, refl)
+in_one_line (Message ResultBeforeProgram) = (refl, refl, refl)
+in_one_line (Message EmptyValue) = (refl, refl, refl)
+in_one_line (Message BadAttributeSubstitution) = (refl, refl, refl)
+in_one_line (Message AttributeElsewhere) = (refl, refl, refl)
+in_one_line (Message OldSubsystemName) = (refl, refl, refl)
+in_one_line (Message AssignExpected) = (refl, refl, refl)
+in_one_line (Message UnknownAccount) = (refl, refl, refl)
+in_one_line (Message FileGivenUp) = (refl, refl, refl)
 in_one_line (Message CommaExpected) = (refl, refl, refl)
 in_one_line (Message BlankExpected) = (refl, refl, refl)
 in_one_line (Message ReadAsAssign) = (refl, refl, refl)
 in_one_line (Message LabelUnused) = (refl, refl, refl)
+in_one_line (Message LeadingComma) = (refl, refl, refl)
+in_one_line (Message BlankBeforeComma) = (refl, refl, refl)
 in_one_line (about.Lint ModeNotOctal) = (refl, refl, refl)
 in_one_line (about.Lint SignOfShell) = (refl, refl, refl)
 in_one_line (about.Lint RelativeProgram) = (refl, refl, refl)
@@ -173,10 +221,26 @@ code_has_no_colon (Message LineTooLong) = refl
 code_has_no_colon (Message BadPrefix) = refl
 code_has_no_colon (Message SetNotSupported) = refl
 code_has_no_colon (Message OpenAtEnd) = refl
+code_has_no_colon (Message ReservedProperty) = refl
+code_has_no_colon (Message NameWithoutEffect) = refl
+code_has_no_colon (Message UnknownBuiltin) = refl
+code_has_no_colon (Message MatchesExclude) = refl
+code_has_no_colon (Message SaidTwice) = refl
+code_has_no_colon (Message RuleWithoutEffect) = refl
+code_has_no_colon (Message ResultBeforeProgram) = refl
+code_has_no_colon (Message EmptyValue) = refl
+code_has_no_colon (Message BadAttributeSubstitution) = refl
+code_has_no_colon (Message AttributeElsewhere) = refl
+code_has_no_colon (Message OldSubsystemName) = refl
+code_has_no_colon (Message AssignExpected) = refl
+code_has_no_colon (Message UnknownAccount) = refl
+code_has_no_colon (Message FileGivenUp) = refl
 code_has_no_colon (Message CommaExpected) = refl
 code_has_no_colon (Message BlankExpected) = refl
 code_has_no_colon (Message ReadAsAssign) = refl
 code_has_no_colon (Message LabelUnused) = refl
+code_has_no_colon (Message LeadingComma) = refl
+code_has_no_colon (Message BlankBeforeComma) = refl
 code_has_no_colon (about.Lint ModeNotOctal) = refl
 code_has_no_colon (about.Lint SignOfShell) = refl
 code_has_no_colon (about.Lint RelativeProgram) = refl

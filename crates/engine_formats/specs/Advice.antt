@@ -1,7 +1,7 @@
 -- How what a diagnostic is about is mended.
 use Rattle.std.specs.Prelude.{ℕ, List, codes}
 use Rattle.text_bytes.specs.declared.message.MessageKind.{MessageKind}
-use Rattle.text_bytes.specs.declared.message.MessageKind.TheVariants.{PropertyWithoutMatch, MatchWithoutProperty, UnindentedLine, NoEquals, EmptyKey, PatternNotSupported, BadSyntax, UnknownKey, OperatorNotAllowed, WrongAttribute, BadValue, BadSubstitution, NoLaterLabel, GivenTwice, LineTooLong, BadPrefix, SetNotSupported, OpenAtEnd, CommaExpected, BlankExpected, ReadAsAssign, LabelUnused}
+use Rattle.text_bytes.specs.declared.message.MessageKind.TheVariants.{PropertyWithoutMatch, MatchWithoutProperty, UnindentedLine, NoEquals, EmptyKey, PatternNotSupported, BadSyntax, UnknownKey, OperatorNotAllowed, WrongAttribute, BadValue, BadSubstitution, NoLaterLabel, GivenTwice, LineTooLong, BadPrefix, SetNotSupported, OpenAtEnd, ReservedProperty, NameWithoutEffect, UnknownBuiltin, MatchesExclude, SaidTwice, RuleWithoutEffect, ResultBeforeProgram, EmptyValue, BadAttributeSubstitution, AttributeElsewhere, OldSubsystemName, AssignExpected, UnknownAccount, FileGivenUp, CommaExpected, BlankExpected, ReadAsAssign, LabelUnused, LeadingComma, BlankBeforeComma}
 use Rattle.rule_types.specs.declared.lint.Lint.{Lint}
 use Rattle.rule_types.specs.declared.lint.Lint.TheVariants.{ModeNotOctal, SignOfShell, RelativeProgram, LetterCase, NoSuchDevice, ImportedBelow, MeantToCompare, NameOutsideNet, LinkWithDev, QuotedName, NotAPattern, AlwaysHolds, NeverReached}
 use Rattle.engine_formats.specs.declared.remark.Remark.{Remark}
@@ -28,10 +28,26 @@ advice_on LineTooLong = codes "A rule has at most 16,384 bytes, its continued li
 advice_on BadPrefix = codes "Before a value may stand e, for escapes, and behind == and != also i, to ignore case."
 advice_on SetNotSupported = codes "A class of the C library depends on the locale: write its members out."
 advice_on OpenAtEnd = codes "Take the backslash away, or write the line that is to follow."
+advice_on ReservedProperty = codes "Only udev itself sets this property: assign another one, or use NAME or SYMLINK."
+advice_on NameWithoutEffect = codes "Write another name than the kernel's, or take NAME away."
+advice_on UnknownBuiltin = codes "Begin the value with the name of one of udev's builtins, as usb_id."
+advice_on MatchesExclude = codes "Write the two values as one with | between them, or take one of the matches away."
+advice_on SaidTwice = codes "Take one of the two away."
+advice_on RuleWithoutEffect = codes "Let the rule assign something, or take it away."
+advice_on ResultBeforeProgram = codes "Put PROGRAM before RESULT."
+advice_on EmptyValue = codes "Write a value, or take the key away."
+advice_on BadAttributeSubstitution = codes "In the name of an attribute, too, one of udev's names or letters stands behind $ and %."
+advice_on AttributeElsewhere = codes "Leave device/ and ../ out: ATTRS looks at each parent."
+advice_on OldSubsystemName = codes "Write subsystem, which fits the same devices."
+advice_on AssignExpected = codes "The key has no := or += of its own: write =."
+advice_on UnknownAccount = codes "Write the name of a user or a group that there is, or a number."
+advice_on FileGivenUp = codes "Break the line up: udev reads nothing of a file with a line of 16,384 bytes or more."
 advice_on CommaExpected = codes "Put one comma between two tokens, and none after the last."
 advice_on BlankExpected = codes "Put a space after the comma."
 advice_on ReadAsAssign = codes "The key has no := or += of its own: write =."
 advice_on LabelUnused = codes "Remove the label, or correct the GOTO that should go to it."
+advice_on LeadingComma = codes "Take the comma before the first token away."
+advice_on BlankBeforeComma = codes "Take the blank before the comma away."
 
 -- the sentence on a lint
 abbrev pub advice_on_lint : Lint → List ℕ

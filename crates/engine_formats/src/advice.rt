@@ -51,6 +51,37 @@ const SET_NOT_SUPPORTED: &[u8] =
 
 const OPEN_AT_END: &[u8] = b"Take the backslash away, or write the line that is to follow.";
 
+const RESERVED_PROPERTY: &[u8] =
+    b"Only udev itself sets this property: assign another one, or use NAME or SYMLINK.";
+
+const NAME_WITHOUT_EFFECT: &[u8] = b"Write another name than the kernel's, or take NAME away.";
+
+const UNKNOWN_BUILTIN: &[u8] =
+    b"Begin the value with the name of one of udev's builtins, as usb_id.";
+
+const MATCHES_EXCLUDE: &[u8] =
+    b"Write the two values as one with | between them, or take one of the matches away.";
+
+const SAID_TWICE: &[u8] = b"Take one of the two away.";
+
+const RULE_WITHOUT_EFFECT: &[u8] = b"Let the rule assign something, or take it away.";
+
+const RESULT_BEFORE_PROGRAM: &[u8] = b"Put PROGRAM before RESULT.";
+
+const EMPTY_VALUE: &[u8] = b"Write a value, or take the key away.";
+
+const BAD_ATTRIBUTE_SUBSTITUTION: &[u8] =
+    b"In the name of an attribute, too, one of udev's names or letters stands behind $ and %.";
+
+const ATTRIBUTE_ELSEWHERE: &[u8] = b"Leave device/ and ../ out: ATTRS looks at each parent.";
+
+const OLD_SUBSYSTEM_NAME: &[u8] = b"Write subsystem, which fits the same devices.";
+
+const UNKNOWN_ACCOUNT: &[u8] = b"Write the name of a user or a group that there is, or a number.";
+
+const FILE_GIVEN_UP: &[u8] =
+    b"Break the line up: udev reads nothing of a file with a line of 16,384 bytes or more.";
+
 const COMMA_EXPECTED: &[u8] = b"Put one comma between two tokens, and none after the last.";
 
 const BLANK_EXPECTED: &[u8] = b"Put a space after the comma.";
@@ -58,6 +89,10 @@ const BLANK_EXPECTED: &[u8] = b"Put a space after the comma.";
 const READ_AS_ASSIGN: &[u8] = b"The key has no := or += of its own: write =.";
 
 const LABEL_UNUSED: &[u8] = b"Remove the label, or correct the GOTO that should go to it.";
+
+const LEADING_COMMA: &[u8] = b"Take the comma before the first token away.";
+
+const BLANK_BEFORE_COMMA: &[u8] = b"Take the blank before the comma away.";
 
 const MODE_NOT_OCTAL: &[u8] = b"Write the mode in octal digits, as 0660.";
 
@@ -133,10 +168,25 @@ fn advice_on(kind: MessageKind) -> &'static [u8]
         MessageKind::BadPrefix => BAD_PREFIX,
         MessageKind::SetNotSupported => SET_NOT_SUPPORTED,
         MessageKind::OpenAtEnd => OPEN_AT_END,
+        MessageKind::ReservedProperty => RESERVED_PROPERTY,
+        MessageKind::NameWithoutEffect => NAME_WITHOUT_EFFECT,
+        MessageKind::UnknownBuiltin => UNKNOWN_BUILTIN,
+        MessageKind::MatchesExclude => MATCHES_EXCLUDE,
+        MessageKind::SaidTwice => SAID_TWICE,
+        MessageKind::RuleWithoutEffect => RULE_WITHOUT_EFFECT,
+        MessageKind::ResultBeforeProgram => RESULT_BEFORE_PROGRAM,
+        MessageKind::EmptyValue => EMPTY_VALUE,
+        MessageKind::BadAttributeSubstitution => BAD_ATTRIBUTE_SUBSTITUTION,
+        MessageKind::AttributeElsewhere => ATTRIBUTE_ELSEWHERE,
+        MessageKind::OldSubsystemName => OLD_SUBSYSTEM_NAME,
+        MessageKind::UnknownAccount => UNKNOWN_ACCOUNT,
+        MessageKind::FileGivenUp => FILE_GIVEN_UP,
         MessageKind::CommaExpected => COMMA_EXPECTED,
         MessageKind::BlankExpected => BLANK_EXPECTED,
-        MessageKind::ReadAsAssign => READ_AS_ASSIGN,
+        MessageKind::ReadAsAssign | MessageKind::AssignExpected => READ_AS_ASSIGN,
         MessageKind::LabelUnused => LABEL_UNUSED,
+        MessageKind::LeadingComma => LEADING_COMMA,
+        MessageKind::BlankBeforeComma => BLANK_BEFORE_COMMA,
     }
 }
 

@@ -8,7 +8,7 @@ use rule_types::Lint;
 use text_bytes::MessageKind;
 
 /// Each remark.
-const REMARKS: [Remark; 37] = [
+const REMARKS: [Remark; 53] = [
     Remark::Message(MessageKind::BadSyntax),
     Remark::Message(MessageKind::UnknownKey),
     Remark::Message(MessageKind::OperatorNotAllowed),
@@ -21,10 +21,26 @@ const REMARKS: [Remark; 37] = [
     Remark::Message(MessageKind::BadPrefix),
     Remark::Message(MessageKind::SetNotSupported),
     Remark::Message(MessageKind::OpenAtEnd),
+    Remark::Message(MessageKind::ReservedProperty),
+    Remark::Message(MessageKind::NameWithoutEffect),
+    Remark::Message(MessageKind::UnknownBuiltin),
+    Remark::Message(MessageKind::MatchesExclude),
+    Remark::Message(MessageKind::SaidTwice),
+    Remark::Message(MessageKind::RuleWithoutEffect),
+    Remark::Message(MessageKind::ResultBeforeProgram),
+    Remark::Message(MessageKind::EmptyValue),
+    Remark::Message(MessageKind::BadAttributeSubstitution),
+    Remark::Message(MessageKind::AttributeElsewhere),
+    Remark::Message(MessageKind::OldSubsystemName),
+    Remark::Message(MessageKind::AssignExpected),
+    Remark::Message(MessageKind::UnknownAccount),
+    Remark::Message(MessageKind::FileGivenUp),
     Remark::Message(MessageKind::CommaExpected),
     Remark::Message(MessageKind::BlankExpected),
     Remark::Message(MessageKind::ReadAsAssign),
     Remark::Message(MessageKind::LabelUnused),
+    Remark::Message(MessageKind::LeadingComma),
+    Remark::Message(MessageKind::BlankBeforeComma),
     Remark::Message(MessageKind::PropertyWithoutMatch),
     Remark::Message(MessageKind::MatchWithoutProperty),
     Remark::Message(MessageKind::UnindentedLine),

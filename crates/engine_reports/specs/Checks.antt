@@ -4,7 +4,7 @@ use Rattle.std.specs.List.{count_by, list_any}
 use Rattle.text_bytes.specs.declared.source_file.SourceFile.{SourceFile}
 use Rattle.text_bytes.specs.declared.message.Message.{Message}
 use Rattle.text_bytes.specs.declared.message.MessageKind.{MessageKind}
-use Rattle.text_bytes.specs.declared.message.MessageKind.TheVariants.{CommaExpected, BlankExpected, ReadAsAssign, LabelUnused}
+use Rattle.text_bytes.specs.declared.message.MessageKind.TheVariants.{CommaExpected, BlankExpected, ReadAsAssign, LabelUnused, LeadingComma, BlankBeforeComma}
 use Rattle.text_tables.specs.Texts.{same_text}
 use Rattle.engine_ends.specs.Delivery.{Outcome}
 use Rattle.engine_reports.specs.Messages.{message_lines}
@@ -15,6 +15,8 @@ is_style CommaExpected = true
 is_style BlankExpected = true
 is_style ReadAsAssign = true
 is_style LabelUnused = true
+is_style LeadingComma = true
+is_style BlankBeforeComma = true
 is_style _ = false
 
 -- the messages that are given: all, or without style those that are not about it

@@ -4,7 +4,7 @@ use Rattle.text_bytes.specs.Names.{newline}
 use Rattle.engine_ends.specs.Places.{place_of, word_part}
 use Rattle.text_bytes.specs.declared.message.Message.{Message}
 use Rattle.text_bytes.specs.declared.message.MessageKind.{MessageKind}
-use Rattle.text_bytes.specs.declared.message.MessageKind.TheVariants.{PropertyWithoutMatch, MatchWithoutProperty, UnindentedLine, NoEquals, EmptyKey, PatternNotSupported, BadSyntax, UnknownKey, OperatorNotAllowed, WrongAttribute, BadValue, BadSubstitution, NoLaterLabel, GivenTwice, LineTooLong, BadPrefix, SetNotSupported, OpenAtEnd, CommaExpected, BlankExpected, ReadAsAssign, LabelUnused}
+use Rattle.text_bytes.specs.declared.message.MessageKind.TheVariants.{PropertyWithoutMatch, MatchWithoutProperty, UnindentedLine, NoEquals, EmptyKey, PatternNotSupported, BadSyntax, UnknownKey, OperatorNotAllowed, WrongAttribute, BadValue, BadSubstitution, NoLaterLabel, GivenTwice, LineTooLong, BadPrefix, SetNotSupported, OpenAtEnd, ReservedProperty, NameWithoutEffect, UnknownBuiltin, MatchesExclude, SaidTwice, RuleWithoutEffect, ResultBeforeProgram, EmptyValue, BadAttributeSubstitution, AttributeElsewhere, OldSubsystemName, AssignExpected, UnknownAccount, FileGivenUp, CommaExpected, BlankExpected, ReadAsAssign, LabelUnused, LeadingComma, BlankBeforeComma}
 
 -- the code of a kind of message, and what it says
 abbrev pub heading_of : MessageKind → List ℕ
@@ -26,10 +26,26 @@ heading_of LineTooLong = codes "V9 line too long"
 heading_of BadPrefix = codes "V10 bad quote prefix"
 heading_of SetNotSupported = codes "V11 set not supported"
 heading_of OpenAtEnd = codes "V12 line continuation at the file's end"
+heading_of ReservedProperty = codes "V13 reserved property"
+heading_of NameWithoutEffect = codes "V14 name without effect"
+heading_of UnknownBuiltin = codes "V15 unknown builtin"
+heading_of MatchesExclude = codes "V16 matches exclude each other"
+heading_of SaidTwice = codes "V17 said twice"
+heading_of RuleWithoutEffect = codes "V18 rule without effect"
+heading_of ResultBeforeProgram = codes "V19 RESULT before PROGRAM"
+heading_of EmptyValue = codes "V20 empty value"
+heading_of BadAttributeSubstitution = codes "V21 bad substitution in an attribute"
+heading_of AttributeElsewhere = codes "V22 attribute of another device"
+heading_of OldSubsystemName = codes "V23 old name of a subsystem"
+heading_of AssignExpected = codes "V24 operator read as ="
+heading_of UnknownAccount = codes "V25 unknown user or group"
+heading_of FileGivenUp = codes "V26 file with a line too long"
 heading_of CommaExpected = codes "S1 one comma expected"
 heading_of BlankExpected = codes "S2 blank after a comma expected"
 heading_of ReadAsAssign = codes "S3 operator read as ="
 heading_of LabelUnused = codes "S4 label unused"
+heading_of LeadingComma = codes "S5 comma before the first token"
+heading_of BlankBeforeComma = codes "S6 blank before a comma"
 
 -- the line of a message
 unfoldable pub message_line : Message → List ℕ

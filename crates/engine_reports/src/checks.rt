@@ -96,7 +96,9 @@ pub fn is_style(kind: MessageKind) -> bool
         MessageKind::CommaExpected
         | MessageKind::BlankExpected
         | MessageKind::ReadAsAssign
-        | MessageKind::LabelUnused => true,
+        | MessageKind::LabelUnused
+        | MessageKind::LeadingComma
+        | MessageKind::BlankBeforeComma => true,
         _ => false,
     }
 }

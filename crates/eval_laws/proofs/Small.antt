@@ -8,8 +8,8 @@ use Rattle.std.specs.Option.{unwrap_or}
 use Rattle.text_bytes.specs.Numbers.{decimal, decimal_below, is_decimal}
 use Rattle.text_bytes.specs.declared.message.MessageKind.TheVariants.{BadValue, LineTooLong}
 use Rattle.text_bytes.specs.declared.source_file.SourceFile.{SourceFile}
+use Rattle.text_bytes.specs.declared.profile.Profile.TheVariants.{Manual}
 use Rattle.rule_tokens.specs.Grammar.{Item, Placed}
-use Rattle.rule_tokens.specs.Lines.{items_of}
 use Rattle.rule_core.specs.Lines.{NumberedLine, joined_lines}
 use Rattle.rule_types.specs.Names.{key_of}
 use Rattle.rule_types.specs.Operators.{read_as}
@@ -30,10 +30,10 @@ use Rattle.rule_types.specs.declared.part.Change.{Change}
 use Rattle.rule_types.specs.declared.part.Change.TheVariants as change
 use Rattle.rule_types.specs.declared.part.Part.{Part}
 use Rattle.rule_types.specs.declared.part.Part.TheVariants as part
-use Rattle.rule_core.specs.Drafts.{Draft, assignment_in, draft_of, draft_with, most_bytes, part_of_item, parts_of, with_part}
+use Rattle.rule_core.specs.Drafts.{Draft, assignment_in, draft_of, draft_with, items_as, most_bytes, part_of_item, parts_of, with_part}
 use Rattle.rule_core.specs.Turns.{by_turn, of_turn, turn_of_assignment, turns_from}
 use Rattle.rule_types.specs.Rules.{Rule}
-use Rattle.rule_core.specs.Rules.{Reading, file_rules, line_rules, names_of, reading_of, readings_of, set_of}
+use Rattle.rule_core.specs.Rules.{Reading, file_rules, line_rules, names_of, reading_of, readings_of, set_of, set_of_as}
 
 -- a number of 32 bits
 abbrev pub IsSmall : ℤ → Type 0
@@ -118,7 +118,7 @@ word_fits (row ∷ rows) text h = by (pointwise nat_eq row.0 text) (word_fits ro
     by true more = h.0
     by false more = more
 
-option_fits : (text : List ℕ) → IfSome (option_of text) OptionFits
+option_fits : (text : List ℕ) → IfSome (option_of Manual text) OptionFits
 unfolding option_of
 option_fits text = by (behind (codes "link_priority=") text)
   where
@@ -152,41 +152,41 @@ known_fits : (o : _) (text : List ℕ) (known : Option RuleOption) → IfSome kn
 known_fits o text (Some known) h = h
 known_fits o text None h = tt
 
-role_fits : (r : Role) (blind : Bool) (text : List ℕ) → ResultFits (part_by r blind text)
+role_fits : (r : Role) (blind : Bool) (text : List ℕ) → ResultFits (part_by Manual r blind text)
 unfolding part_by read_option
-role_fits (role.Plain key o) blind text = made_fits _ (λ x. tt) (comparison o blind text)
-role_fits (role.Up key o) blind text = made_fits _ (λ x. tt) (comparison o blind text)
-role_fits (role.Result o) blind text = made_fits _ (λ x. tt) (comparison o blind text)
-role_fits (role.Test mask o) blind text = made_fits _ (λ x. tt) (read_template text)
-role_fits (role.Program o) blind text = made_fits _ (λ x. tt) (read_template text)
-role_fits (role.Import type o) blind text = made_fits _ (λ x. tt) (import_by type text)
-role_fits (role.Set target o) blind text = made_fits _ (λ x. tt) (read_template text)
-role_fits (role.Run type o) blind text = made_fits _ (λ x. tt) (read_template text)
-role_fits (role.Option o) blind text = known_fits o text (option_of text) (option_fits text)
-role_fits role.Label blind text = made_fits _ (λ x. tt) (read_name text)
-role_fits role.Goto blind text = made_fits _ (λ x. tt) (read_name text)
+role_fits (role.Plain key o) blind text = made_fits _ (λ x. tt) (comparison Manual o blind text)
+role_fits (role.Up key o) blind text = made_fits _ (λ x. tt) (comparison Manual o blind text)
+role_fits (role.Result o) blind text = made_fits _ (λ x. tt) (comparison Manual o blind text)
+role_fits (role.Test mask o) blind text = made_fits _ (λ x. tt) (read_template Manual text)
+role_fits (role.Program o) blind text = made_fits _ (λ x. tt) (read_template Manual text)
+role_fits (role.Import type o) blind text = made_fits _ (λ x. tt) (import_by Manual type text)
+role_fits (role.Set target o) blind text = made_fits _ (λ x. tt) (read_template Manual text)
+role_fits (role.Run type o) blind text = made_fits _ (λ x. tt) (read_template Manual text)
+role_fits (role.Option o) blind text = known_fits o text (option_of Manual text) (option_fits text)
+role_fits role.Label blind text = made_fits _ (λ x. tt) (read_name Manual text)
+role_fits role.Goto blind text = made_fits _ (λ x. tt) (read_name Manual text)
 
-value_fits : (r : Role) (blind : Bool) (text : List ℕ) → ResultFits (value_part r blind text)
+value_fits : (r : Role) (blind : Bool) (text : List ℕ) → ResultFits (value_part Manual r blind text)
 unfolding value_part
 value_fits r blind text = by (blind && not (is_match r))
   where
-    by : (b : Bool) → ResultFits (if b then Err (finding BadValue text) else part_by r blind text)
+    by : (b : Bool) → ResultFits (if b then Err (finding BadValue text) else part_by Manual r blind text)
     by true = tt
     by false = role_fits r blind text
 
-part_fits : (t : Placed) → ResultFits (part_of t)
+part_fits : (t : Placed) → ResultFits (part_of Manual t)
 unfolding part_of
 part_fits t =
     found_fits _ _ (λ key.
     found_fits _ _ (λ about.
     found_fits _ _ (λ r. value_fits r (ignores_case t.parts.quote) (meaning_of t))
     (role_of about (read_as key t.parts.head.operator)))
-    (topic_of key t.parts.head.attribute))
+    (topic_of Manual key t.parts.head.attribute))
     (key_of t.parts.head.key)
 
 -- ---- a rule
 
-item_fits : (line : List ℕ) (i : Item) → ResultFits (part_of_item line i)
+item_fits : (line : List ℕ) (i : Item) → ResultFits (part_of_item Manual line i)
 item_fits line (Ok t) = part_fits t
 item_fits line (Err fault) = tt
 
@@ -199,9 +199,9 @@ with_fits (Ok p) (Ok parts) a b = (a, b)
 with_fits (Ok p) (Err wrong) a b = tt
 with_fits (Err wrong) rest a b = tt
 
-parts_fit : (line : List ℕ) (items : List Item) → PartsFit (parts_of line items)
+parts_fit : (line : List ℕ) (items : List Item) → PartsFit (parts_of Manual line items)
 parts_fit line [] = tt
-parts_fit line (i ∷ items) = with_fits (part_of_item line i) (parts_of line items) (item_fits line i) (parts_fit line items)
+parts_fit line (i ∷ items) = with_fits (part_of_item Manual line i) (parts_of Manual line items) (item_fits line i) (parts_fit line items)
 
 -- assignments that assign no other priority
 abbrev pub SetsFit : List Assignment → Type 0
@@ -221,25 +221,25 @@ assignments_fit [] h = tt
 assignments_fit (p ∷ parts) h =
     each_some (λ (a : Assignment). ChangeFits a.change) (assignment_in p) (filter_map assignment_in parts) (assignment_fits p h.0) (assignments_fit parts h.1)
 
-sorted_fit : (sets : List Assignment) → SetsFit sets → SetsFit (by_turn turn_of_assignment 12 sets)
+sorted_fit : (sets : List Assignment) → SetsFit sets → SetsFit (by_turn (turn_of_assignment Manual) 12 sets)
 sorted_fit sets h =
-    each_flat_map (λ (a : Assignment). ChangeFits a.change) (of_turn turn_of_assignment sets) (λ t. each_filter (λ (a : Assignment). ChangeFits a.change) (λ x. turn_of_assignment x == t) sets h) (turns_from 0 12)
+    each_flat_map (λ (a : Assignment). ChangeFits a.change) (of_turn (turn_of_assignment Manual) sets) (λ t. each_filter (λ (a : Assignment). ChangeFits a.change) (λ x. turn_of_assignment Manual x == t) sets h) (turns_from 0 12)
 
 abbrev DraftFits : Result Draft Finding → Type 0
 DraftFits (Ok d) = SetsFit d.sets
 DraftFits (Err wrong) = ⊤
 
-draft_with_fits : (line : List ℕ) (parts : Result (List Part) Finding) → PartsFit parts → DraftFits (draft_with line parts)
+draft_with_fits : (line : List ℕ) (parts : Result (List Part) Finding) → PartsFit parts → DraftFits (draft_with Manual line parts)
 draft_with_fits line (Ok parts) h = sorted_fit (filter_map assignment_in parts) (assignments_fit parts h)
 draft_with_fits line (Err wrong) h = tt
 
-draft_fits : (line : List ℕ) → DraftFits (draft_of line)
+draft_fits : (line : List ℕ) → DraftFits (draft_of Manual line)
 unfolding draft_of
-draft_fits line = by (nat_lt most_bytes (length line))
+draft_fits line = by (nat_lt (most_bytes Manual) (length line))
   where
-    by : (b : Bool) → DraftFits (if b then Err (finding LineTooLong []) else draft_with line (parts_of line (items_of line)))
+    by : (b : Bool) → DraftFits (if b then Err (finding LineTooLong []) else draft_with Manual line (parts_of Manual line (items_as Manual line)))
     by true = tt
-    by false = draft_with_fits line (parts_of line (items_of line)) (parts_fit line (items_of line))
+    by false = draft_with_fits line (parts_of Manual line (items_as Manual line)) (parts_fit line (items_as Manual line))
 
 -- rules that assign no other priority
 abbrev pub RulesFit : List Rule → Type 0
@@ -249,16 +249,16 @@ line_fits : (name : List ℕ) (line : ℕ) (read : Result Draft Finding) (l : La
 line_fits name line (Ok d) l h = (h, tt)
 line_fits name line (Err wrong) l h = tt
 
-lines_fit : (name : List ℕ) (lines : List NumberedLine) (ls : List Landing) → RulesFit (flat_map (λ (x : Reading × Landing). line_rules name x.0.line x.0.read x.1) (zip (map reading_of lines) ls))
+lines_fit : (name : List ℕ) (lines : List NumberedLine) (ls : List Landing) → RulesFit (flat_map (λ (x : Reading × Landing). line_rules name x.0.line x.0.read x.1) (zip (map (reading_of Manual) lines) ls))
 lines_fit name [] ls = tt
 lines_fit name (l ∷ lines) [] = tt
 lines_fit name (l ∷ lines) (landing ∷ ls) =
-    each_append (λ (r : Rule). SetsFit r.sets) (line_rules name l.number (draft_of l.text) landing) _ (line_fits name l.number (draft_of l.text) landing (draft_fits l.text)) (lines_fit name lines ls)
+    each_append (λ (r : Rule). SetsFit r.sets) (line_rules name l.number (draft_of Manual l.text) landing) _ (line_fits name l.number (draft_of Manual l.text) landing (draft_fits l.text)) (lines_fit name lines ls)
 
-file_fits : (f : SourceFile) → RulesFit (file_rules f)
-file_fits f = lines_fit f.name (joined_lines f.bytes).lines (landings (map (λ r. names_of r.read) (readings_of f)))
+file_fits : (f : SourceFile) → RulesFit (file_rules Manual f)
+file_fits f = lines_fit f.name (joined_lines Manual f.bytes).lines (landings (map (λ r. names_of r.read) (readings_of Manual f)))
 
 -- the rules of files
 pub set_fits : (files : List SourceFile) → RulesFit (set_of files).rules
-unfolding set_of
-set_fits files = each_flat_map (λ (r : Rule). SetsFit r.sets) file_rules file_fits files
+unfolding set_of_as
+set_fits files = each_flat_map (λ (r : Rule). SetsFit r.sets) (file_rules Manual) file_fits files

@@ -6,7 +6,7 @@ use devdry_files::{
 use engine_ends::{Format, Line, Verb};
 use std::alloc::{AllocError, Global};
 use std::test::Fail;
-use text_bytes::SourceFile;
+use text_bytes::{Profile, SourceFile};
 
 const ENTRIES: [MemoryEntry; 4] = [
     MemoryEntry {
@@ -69,6 +69,7 @@ fn read(alloc: Global, root: &str) -> Result<Vec<SourceFile>, ReadFault> {
         format: Format::Plain,
         all: false,
         ignored: Vec::new(alloc),
+        profile: Profile::Manual,
     };
     let wanted = wanted(alloc, &line)?;
     read_all(alloc, &DISK, &wanted)

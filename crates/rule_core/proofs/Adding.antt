@@ -6,7 +6,8 @@ use Rattle.std.proofs.lemmas.List.{map-id, take-append-drop}
 use Rattle.std.proofs.lemmas.List.Concat.{flat_map-append}
 use Rattle.std.proofs.lemmas.List.Sums.{sum_by-append}
 use Rattle.rule_types.specs.Rules.{Rule, rule_tokens, tokens_in}
-use Rattle.rule_core.specs.Rules.{RuleSet, file_messages, file_rules, set_of}
+use Rattle.rule_core.specs.Rules.{RuleSet, file_messages, file_rules, set_of_as}
+use Rattle.text_bytes.specs.declared.profile.Profile.{Profile}
 use Rattle.text_bytes.specs.declared.message.Message.{Message}
 use Rattle.text_bytes.specs.declared.source_file.SourceFile.{SourceFile}
 use Rattle.rule_core.specs.Gathering.{Adds, FailsAt}
@@ -57,20 +58,20 @@ abbrev pub set_as : List Rule → List Message → RuleSet
 set_as rules messages = record { rules = rules; messages = messages }
 
 -- all files were read
-pub set_read : (files : List SourceFile) (start now rules : List Rule) (before messages : List Message) → start ≡ [] → before ≡ [] → now ≡ start ++ flat_map file_rules files → messages ≡ before ++ flat_map file_messages files → rules ≡ now
-    → set_as rules messages ≡ set_of files
-unfolding set_of
-set_read files start now rules before messages s b r m i =
-    ap (λ (x : List Rule). set_as x messages) (i ∙ r ∙ ap (λ (x : List Rule). x ++ flat_map file_rules files) s)
-    ∙ ap (λ (x : List Message). set_as (flat_map file_rules files) x) (m ∙ ap (λ (x : List Message). x ++ flat_map file_messages files) b)
+pub set_read : (by : Profile) (files : List SourceFile) (start now rules : List Rule) (before messages : List Message) → start ≡ [] → before ≡ [] → now ≡ start ++ flat_map (file_rules by) files → messages ≡ before ++ flat_map (file_messages by) files → rules ≡ now
+    → set_as rules messages ≡ set_of_as by files
+unfolding set_of_as
+set_read by files start now rules before messages s b r m i =
+    ap (λ (x : List Rule). set_as x messages) (i ∙ r ∙ ap (λ (x : List Rule). x ++ flat_map (file_rules by) files) s)
+    ∙ ap (λ (x : List Message). set_as (flat_map (file_rules by) files) x) (m ∙ ap (λ (x : List Message). x ++ flat_map (file_messages by) files) b)
 
-pub within_read : (files : List SourceFile) (start now : List Rule) → start ≡ [] → now ≡ start ++ flat_map file_rules files → tokens_in now ≤ 2 ^ 24 → tokens_in (set_of files).rules ≤ 2 ^ 24
-unfolding set_of
-within_read files start now s r w = subst (λ (x : List Rule). tokens_in x ≤ 2 ^ 24) (r ∙ ap (λ (x : List Rule). x ++ flat_map file_rules files) s) w
+pub within_read : (by : Profile) (files : List SourceFile) (start now : List Rule) → start ≡ [] → now ≡ start ++ flat_map (file_rules by) files → tokens_in now ≤ 2 ^ 24 → tokens_in (set_of_as by files).rules ≤ 2 ^ 24
+unfolding set_of_as
+within_read by files start now s r w = subst (λ (x : List Rule). tokens_in x ≤ 2 ^ 24) (r ∙ ap (λ (x : List Rule). x ++ flat_map (file_rules by) files) s) w
 
-pub too_many_read : {T : Type 0} (files : List SourceFile) (start : List Rule) (r : Result T RulesFault) (y e : RulesFault) → r ≡ Err y → y ≡ e → start ≡ [] → FailsAt start (flat_map file_rules files) e
-    → IfErr r (λ x. x ≡ TooMany → 2 ^ 24 < tokens_in (set_of files).rules)
-unfolding set_of
-too_many_read {T} files start r y e f g s h =
-    subst (λ (x : Result T RulesFault). IfErr x (λ x. x ≡ TooMany → 2 ^ 24 < tokens_in (flat_map file_rules files))) (sym (f ∙ ap Err g))
-    (too_many_from_none start (flat_map file_rules files) e s h)
+pub too_many_read : {T : Type 0} (by : Profile) (files : List SourceFile) (start : List Rule) (r : Result T RulesFault) (y e : RulesFault) → r ≡ Err y → y ≡ e → start ≡ [] → FailsAt start (flat_map (file_rules by) files) e
+    → IfErr r (λ x. x ≡ TooMany → 2 ^ 24 < tokens_in (set_of_as by files).rules)
+unfolding set_of_as
+too_many_read {T} by files start r y e f g s h =
+    subst (λ (x : Result T RulesFault). IfErr x (λ x. x ≡ TooMany → 2 ^ 24 < tokens_in (flat_map (file_rules by) files))) (sym (f ∙ ap Err g))
+    (too_many_from_none start (flat_map (file_rules by) files) e s h)

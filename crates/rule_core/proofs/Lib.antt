@@ -7,3 +7,5 @@ pub mod Bounds
 mod Capping
 mod Adding
 mod Filing
+mod Passing
+mod Counting

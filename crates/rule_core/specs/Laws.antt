@@ -2,6 +2,8 @@
 use Rattle.std.specs.Prelude.{◌≡◌, ℕ, ◌+◌, ◌<◌, ◌≤◌, false, List, [], ◌∷◌, ◌++◌, ⊤, drop, filter_map, length}
 use Rattle.text_bytes.specs.Names.{comma, is_blank}
 use Rattle.text_bytes.specs.declared.message.MessageKind.TheVariants.{GivenTwice}
+use Rattle.text_bytes.specs.declared.profile.Profile.{Profile}
+use Rattle.text_bytes.specs.declared.profile.Profile.TheVariants.{Manual}
 use Rattle.rule_tokens.specs.Grammar.{AllAre, Placed}
 use Rattle.rule_parts.specs.Parts.{is_read_as_assign}
 use Rattle.rule_parts.specs.Values.{finding}
@@ -22,9 +24,9 @@ pub record IsInOrder {X : Type 0} (turn : X → ℕ) (written sorted : List X) :
   pub rises : RisesFrom turn 0 sorted
 
 -- the acts and the assignments of each draft stand in the order of evaluation
-pub record AreInOrder (line : List ℕ) (parts : List Part) : Type 0 where
-  pub acts : IsInOrder turn_of_act (filter_map act_in parts) (draft line parts).acts
-  pub sets : IsInOrder turn_of_assignment (filter_map assignment_in parts) (draft line parts).sets
+pub record AreInOrder (by : Profile) (line : List ℕ) (parts : List Part) : Type 0 where
+  pub acts : IsInOrder turn_of_act (filter_map act_in parts) (draft by line parts).acts
+  pub sets : IsInOrder (turn_of_assignment by) (filter_map assignment_in parts) (draft by line parts).sets
 
 -- each part is in one of five lists, or gives a label or a jump
 abbrev pub NoneIsLost : List Part → Type 0
@@ -46,10 +48,10 @@ pub record IsGivenAmong (parts : List Part) (p : Part) (name : List ℕ) : Type 
   pub cut : parts ≡ before ++ earlier ∷ behind
   pub again : GivesAgain earlier p name
 
--- Behind parts a part is told of as one given twice exactly where one of its key stands among them, and else nothing is said.
+-- Behind parts a part is told of by the manual as one given twice exactly where one of its key stands among them, and else nothing is said.
 pub record IsToldWhereAgain (parts : List Part) (p : Part) : Type 0 where
-  pub again : (name : List ℕ) → IsGivenAmong parts p name → given_again_behind [] (parts ++ p ∷ []) ≡ given_again_behind [] parts ++ finding GivenTwice name ∷ []
-  pub once : ((name : List ℕ) → IsGivenAmong parts p name → ⊥) → given_again_behind [] (parts ++ p ∷ []) ≡ given_again_behind [] parts
+  pub again : (name : List ℕ) → IsGivenAmong parts p name → given_again_behind Manual [] (parts ++ p ∷ []) ≡ given_again_behind Manual [] parts ++ finding GivenTwice name ∷ []
+  pub once : ((name : List ℕ) → IsGivenAmong parts p name → ⊥) → given_again_behind Manual [] (parts ++ p ∷ []) ≡ given_again_behind Manual [] parts
 
 -- blanks, one comma, and blanks, of which there is at least one
 pub record IsPlainGap (gap : List ℕ) : Type 0 where

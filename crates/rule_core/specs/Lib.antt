@@ -1,6 +1,8 @@
 pub mod Texts
 pub mod Steps
+pub mod Ends
 pub mod Lines
+pub mod Effects
 pub mod Drafts
 pub mod Turns
 pub mod Laws

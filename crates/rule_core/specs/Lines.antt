@@ -1,6 +1,8 @@
 -- The joined lines of a rules file.
 use Rattle.std.specs.Prelude.{ℕ, ◌-◌, Bool, true, not, ◌&&◌, if◌then◌else◌, List, [], ◌∷◌, ◌++◌, length, take, map, filter, Option, Some, None}
 use Rattle.std.specs.List.{onto_first}
+use Rattle.text_bytes.specs.declared.profile.Profile.{Profile}
+use Rattle.text_bytes.specs.declared.profile.Profile.TheVariants.{Manual, Udev}
 use Rattle.text_bytes.specs.Names.{hash, backslash}
 use Rattle.text_bytes.specs.Texts.{begins_with, ends_in, unindented as text_unindented}
 pub use Rattle.text_bytes.specs.Messages.{capped}
@@ -45,19 +47,35 @@ run_text [] = []
 run_text (p ∷ ps) = p.text ++ run_text ps
 
 -- the number of a run's first line
-abbrev pub run_number : List Piece → ℕ
-run_number [] = 0
-run_number (p ∷ ps) = p.number
+abbrev pub first_number : List Piece → ℕ
+first_number [] = 0
+first_number (p ∷ ps) = p.number
+
+-- the number of a run's last line
+abbrev pub last_number : List Piece → ℕ
+last_number [] = 0
+last_number (p ∷ []) = p.number
+last_number (p ∷ q ∷ ps) = last_number (q ∷ ps)
+
+-- the number by which a run is told: that of its first line, for udev that of its last
+abbrev pub run_number : Profile → List Piece → ℕ
+run_number Manual run = first_number run
+run_number Udev run = last_number run
 
 -- the joined lines: of the runs that are not open, those that are not empty
-abbrev pub lines_of_runs : List (List Piece) → List NumberedLine
-lines_of_runs [] = []
-lines_of_runs (r ∷ rs) = if is_open r then lines_of_runs rs else (if is_empty (run_text r) then lines_of_runs rs else record { number = capped (run_number r); text = run_text r } ∷ lines_of_runs rs)
+abbrev pub lines_of_runs : Profile → List (List Piece) → List NumberedLine
+lines_of_runs by [] = []
+lines_of_runs by (r ∷ rs) = if is_open r then lines_of_runs by rs else (if is_empty (run_text r) then lines_of_runs by rs else record { number = capped (run_number by r); text = run_text r } ∷ lines_of_runs by rs)
 
--- the number of the run that is open, if one is
-abbrev pub open_of_runs : List (List Piece) → Option ℕ
-open_of_runs [] = None
-open_of_runs (r ∷ rs) = if is_open r then Some (capped (run_number r)) else open_of_runs rs
+-- the number by which a run is told that is open at the end: that of its first line, for udev that of the file's last
+abbrev pub open_number : Profile → ℕ → List Piece → ℕ
+open_number Manual last run = first_number run
+open_number Udev last run = last
+
+-- the number of the run that is open, if one is, in a file with a last line of this number
+abbrev pub open_of_runs : Profile → ℕ → List (List Piece) → Option ℕ
+open_of_runs by last [] = None
+open_of_runs by last (r ∷ rs) = if is_open r then Some (capped (open_number by last r)) else open_of_runs by last rs
 
 -- the joined lines of a file, and the number of the one that is still open at its end
 pub record Joined : Type 0 where
@@ -68,10 +86,10 @@ pub record Joined : Type 0 where
 abbrev pub joined_as : List NumberedLine → Option ℕ → Joined
 joined_as ls o = record { lines = ls; open_at = o }
 
--- the joined lines that pieces make
-abbrev pub joined : List Piece → Joined
-joined ps = joined_as (lines_of_runs (runs ps)) (open_of_runs (runs ps))
+-- the joined lines that the pieces of a file make, whose last line has this number
+abbrev pub joined : Profile → ℕ → List Piece → Joined
+joined by last ps = joined_as (lines_of_runs by (runs ps)) (open_of_runs by last (runs ps))
 
 -- the joined lines of a file, whose lines are counted from 1
-abbrev pub joined_lines : List ℕ → Joined
-joined_lines bytes = joined (map piece_of (kept (numbered_from 1 (lines bytes))))
+abbrev pub joined_lines : Profile → List ℕ → Joined
+joined_lines by bytes = joined by (length (lines bytes)) (map piece_of (kept (numbered_from 1 (lines bytes))))

@@ -1,13 +1,14 @@
 -- Serves the proofs of this crate alone: what is to be said where a token ends before, and where none does.
 use Rattle.std.specs.Prelude.{ℕ, List, [], ◌∷◌, ⊤, drop, Option, Some, None}
+use Rattle.text_bytes.specs.declared.profile.Profile.{Profile}
 use Rattle.rule_tokens.specs.Grammar.{AllAre, Placed, is_gap_byte}
 use Rattle.rule_parts.specs.declared.finding.Finding.{Finding}
-use Rattle.rule_core.specs.Style.{between, end_findings, gap_findings, style_behind, style_findings}
+use Rattle.rule_core.specs.Style.{between, end_findings, front_findings, gap_findings, style_behind, style_findings}
 
 -- the gap before a token, from the place where the token before it ends, if there is one
-abbrev pub findings_before : List ℕ → Option ℕ → Placed → List Finding
-findings_before line None t = []
-findings_before line (Some place) t = gap_findings (between place t.span.start line) t.parts.head.key
+abbrev pub findings_before : Profile → List ℕ → Option ℕ → Placed → List Finding
+findings_before by line None t = front_findings by (between 0 t.span.start line)
+findings_before by line (Some place) t = gap_findings by (between place t.span.start line) t.parts.head.key
 
 -- the gap at the end of a line, from the place where its last token ends, if there is one
 abbrev pub findings_at_end : List ℕ → Option ℕ → List Finding
@@ -15,9 +16,9 @@ findings_at_end line None = []
 findings_at_end line (Some place) = end_findings (drop place line)
 
 -- the tokens behind the place where a token ends, or all of them
-abbrev pub findings_from : List ℕ → Option ℕ → List Placed → List Finding
-findings_from line None tokens = style_findings line tokens
-findings_from line (Some place) tokens = style_behind line place tokens
+abbrev pub findings_from : Profile → List ℕ → Option ℕ → List Placed → List Finding
+findings_from by line None tokens = style_findings by line tokens
+findings_from by line (Some place) tokens = style_behind by line place tokens
 
 -- behind a place where a token ends, gaps are blanks and commas, as in the grammar of lines
 abbrev pub AreGapsBehind : List ℕ → ℕ → List Placed → Type 0

@@ -1,8 +1,11 @@
 -- The rules of files, and the messages about them.
 use Rattle.std.specs.Prelude.{ℕ, if◌then◌else◌, List, [], ◌∷◌, ◌++◌, map, zip, flat_map, Option, Some, None, Result, Ok, Err}
 use Rattle.text_bytes.specs.declared.message.Message.{Message}
-use Rattle.text_bytes.specs.declared.message.MessageKind.TheVariants.{NoLaterLabel, OpenAtEnd, LabelUnused}
+use Rattle.text_bytes.specs.declared.message.MessageKind.TheVariants.{NoLaterLabel, OpenAtEnd, LabelUnused, FileGivenUp}
+use Rattle.text_bytes.specs.declared.profile.Profile.{Profile}
+use Rattle.text_bytes.specs.declared.profile.Profile.TheVariants.{Manual}
 use Rattle.text_bytes.specs.declared.source_file.SourceFile.{SourceFile}
+use Rattle.rule_core.specs.Ends.{given_up}
 use Rattle.rule_core.specs.Lines.{NumberedLine, joined_lines}
 use Rattle.rule_parts.specs.Values.{finding}
 use Rattle.rule_parts.specs.declared.finding.Finding.{Finding}
@@ -22,12 +25,12 @@ pub record Reading : Type 0 where
   pub read : Result Draft Finding
 
 -- a joined line, read as a rule
-abbrev pub reading_of : NumberedLine → Reading
-reading_of l = record { line = l.number; read = draft_of l.text }
+abbrev pub reading_of : Profile → NumberedLine → Reading
+reading_of by l = record { line = l.number; read = draft_of by l.text }
 
 -- the joined lines of a file, read as rules
-abbrev pub readings_of : SourceFile → List Reading
-readings_of file = map reading_of (joined_lines file.bytes).lines
+abbrev pub readings_of : Profile → SourceFile → List Reading
+readings_of by file = map (reading_of by) (joined_lines by file.bytes).lines
 
 -- the names for jumps of a line; one that is no rule has none
 abbrev pub names_of : Result Draft Finding → Names
@@ -83,16 +86,30 @@ abbrev pub open_messages : List ℕ → Option ℕ → List Message
 open_messages name None = []
 open_messages name (Some line) = message_at name line (finding OpenAtEnd []) ∷ []
 
+-- the rules of a file in order, none where it is given up for a line
+abbrev pub rules_unless : Profile → SourceFile → Option ℕ → List Rule
+rules_unless by f (Some line) = []
+rules_unless by f None = flat_map (λ x. line_rules f.name x.0.line x.0.read x.1) (landed (readings_of by f))
+
 -- the rules of a file, in order
-abbrev pub file_rules : SourceFile → List Rule
-file_rules f = flat_map (λ x. line_rules f.name x.0.line x.0.read x.1) (landed (readings_of f))
+abbrev pub file_rules : Profile → SourceFile → List Rule
+file_rules by f = rules_unless by f (given_up by f.bytes)
+
+-- the messages about a file by line, one alone where it is given up for a line
+abbrev pub messages_unless : Profile → SourceFile → Option ℕ → List Message
+messages_unless by f (Some line) = message_at f.name line (finding FileGivenUp []) ∷ []
+messages_unless by f None =
+    flat_map (λ x. line_messages f.name x.0.line x.0.read x.1) (landed (readings_of by f))
+    ++ open_messages f.name (joined_lines by f.bytes).open_at
 
 -- the messages about a file, by line
-abbrev pub file_messages : SourceFile → List Message
-file_messages f =
-    flat_map (λ x. line_messages f.name x.0.line x.0.read x.1) (landed (readings_of f))
-    ++ open_messages f.name (joined_lines f.bytes).open_at
+abbrev pub file_messages : Profile → SourceFile → List Message
+file_messages by f = messages_unless by f (given_up by f.bytes)
 
 -- the rules of files, and the messages about them
-unfoldable pub set_of : List SourceFile → RuleSet
-set_of files = record { rules = flat_map file_rules files; messages = flat_map file_messages files }
+unfoldable pub set_of_as : Profile → List SourceFile → RuleSet
+set_of_as by files = record { rules = flat_map (file_rules by) files; messages = flat_map (file_messages by) files }
+
+-- the same by the manual
+abbrev pub set_of : List SourceFile → RuleSet
+set_of files = set_of_as Manual files

@@ -2,6 +2,8 @@
 use Rattle.std.specs.Prelude.{ℕ, if◌then◌else◌, List, [], ◌∷◌, ◌++◌, Option, Some, None}
 use Rattle.rule_core.specs.Lines.{NumberedLine, Piece, Joined, is_empty, joined_as}
 use Rattle.text_bytes.specs.Messages.{capped}
+use Rattle.text_bytes.specs.declared.profile.Profile.{Profile}
+use Rattle.text_bytes.specs.declared.profile.Profile.TheVariants.{Manual, Udev}
 
 -- the joined lines so far, and the piece that the lines of an open one make
 pub record SoFar : Type 0 where
@@ -12,24 +14,34 @@ pub record SoFar : Type 0 where
 abbrev pub sofar : List NumberedLine → Option Piece → SoFar
 sofar ls o = record { lines = ls; pending = o }
 
+-- the number by which two pieces in a row are told together
+abbrev pub number_of_both : Profile → ℕ → ℕ → ℕ
+number_of_both Manual earlier later = earlier
+number_of_both Udev earlier later = later
+
 -- a piece behind the open one, as one piece
-abbrev pub onto : Option Piece → Piece → Piece
-onto None p = p
-onto (Some q) p = record { number = q.number; text = q.text ++ p.text; continues = p.continues }
+abbrev pub onto : Profile → Option Piece → Piece → Piece
+onto by None p = p
+onto by (Some q) p = record { number = number_of_both by q.number p.number; text = q.text ++ p.text; continues = p.continues }
 
 -- a piece as a joined line, or as none where it is empty
 abbrev pub line_of : Piece → List NumberedLine
 line_of p = if is_empty p.text then [] else record { number = capped p.number; text = p.text } ∷ []
 
 -- one piece more: it continues the open one or begins another, and where it is not continued itself, it ends it
-abbrev pub after : SoFar → Piece → SoFar
-after s p = if p.continues then sofar s.lines (Some (onto s.pending p)) else sofar (s.lines ++ line_of (onto s.pending p)) None
+abbrev pub after : Profile → SoFar → Piece → SoFar
+after by s p = if p.continues then sofar s.lines (Some (onto by s.pending p)) else sofar (s.lines ++ line_of (onto by s.pending p)) None
 
--- the number of the open piece
-abbrev pub open_number : Option Piece → Option ℕ
-open_number None = None
-open_number (Some p) = Some (capped p.number)
+-- the number by which an open piece is told where the last line of its file has this one
+abbrev pub told_open : Profile → ℕ → ℕ → ℕ
+told_open Manual last number = number
+told_open Udev last number = last
 
--- no piece more
-abbrev pub ended : SoFar → Joined
-ended s = joined_as s.lines (open_number s.pending)
+-- the number by which the open piece is told, if there is one
+abbrev pub open_at : Profile → ℕ → Option Piece → Option ℕ
+open_at by last None = None
+open_at by last (Some p) = Some (capped (told_open by last p.number))
+
+-- no piece more, in a file whose last line has this number
+abbrev pub ended : Profile → ℕ → SoFar → Joined
+ended by last s = joined_as s.lines (open_at by last s.pending)

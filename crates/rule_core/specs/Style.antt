@@ -1,8 +1,11 @@
 -- How a rule is written: commas and blanks between its tokens, and operators that are read as `=`.
-use Rattle.std.specs.Prelude.{ℕ, ◌-◌, ◌==◌, if◌then◌else◌, List, [], ◌∷◌, ◌++◌, take, drop}
+use Rattle.std.specs.Prelude.{ℕ, ◌-◌, ◌==◌, Bool, false, not, ◌&&◌, if◌then◌else◌, List, [], ◌∷◌, ◌++◌, take, drop}
 use Rattle.std.specs.List.{count_by}
-use Rattle.text_bytes.specs.Names.{comma}
-use Rattle.text_bytes.specs.declared.message.MessageKind.TheVariants.{CommaExpected, BlankExpected, ReadAsAssign}
+use Rattle.text_bytes.specs.Names.{comma, is_blank}
+use Rattle.text_bytes.specs.declared.message.MessageKind.{MessageKind}
+use Rattle.text_bytes.specs.declared.message.MessageKind.TheVariants.{CommaExpected, BlankExpected, ReadAsAssign, LeadingComma, BlankBeforeComma, AssignExpected}
+use Rattle.text_bytes.specs.declared.profile.Profile.{Profile}
+use Rattle.text_bytes.specs.declared.profile.Profile.TheVariants.{Manual, Udev}
 use Rattle.rule_tokens.specs.Grammar.{Placed}
 use Rattle.rule_tokens.specs.Values.{ends_in}
 use Rattle.rule_parts.specs.Parts.{is_read_as_assign}
@@ -13,30 +16,50 @@ use Rattle.rule_parts.specs.declared.finding.Finding.{Finding}
 abbrev pub commas : List ℕ → ℕ
 commas gap = count_by (λ b. b == comma) gap
 
--- a gap before a token, and that token's key
-abbrev pub gap_findings : List ℕ → List ℕ → List Finding
-gap_findings gap key =
+-- the commas of a gap before a token, and that token's key
+abbrev pub comma_findings : List ℕ → List ℕ → List Finding
+comma_findings gap key =
     (if commas gap == 1 then [] else finding CommaExpected key ∷ [])
     ++ (if ends_in comma gap then finding BlankExpected key ∷ [] else [])
+
+-- whether a gap has a comma and begins with a blank
+abbrev pub has_blank_before_comma : List ℕ → Bool
+has_blank_before_comma [] = false
+has_blank_before_comma (b ∷ gap) = is_blank b && not (commas gap == 0)
+
+-- a gap before a token, and that token's key: udev also tells of blanks before a comma
+abbrev pub gap_findings : Profile → List ℕ → List ℕ → List Finding
+gap_findings Manual gap key = comma_findings gap key
+gap_findings Udev gap key = comma_findings gap key ++ (if has_blank_before_comma gap then finding BlankBeforeComma key ∷ [] else [])
+
+-- the gap before the first token, which udev passes over
+abbrev pub front_findings : Profile → List ℕ → List Finding
+front_findings Manual gap = []
+front_findings Udev gap = if commas gap == 0 then [] else finding LeadingComma [] ∷ []
 
 -- the gap behind the last token
 abbrev pub end_findings : List ℕ → List Finding
 end_findings gap = if commas gap == 0 then [] else finding CommaExpected [] ∷ []
 
+-- what is told of an operator that is read as `=`: a remark on style, for udev a fault
+abbrev pub read_as_assign_kind : Profile → MessageKind
+read_as_assign_kind Manual = ReadAsAssign
+read_as_assign_kind Udev = AssignExpected
+
 -- a token's operator
-abbrev pub operator_findings : Placed → List Finding
-operator_findings t = if is_read_as_assign t then finding ReadAsAssign t.parts.head.key ∷ [] else []
+abbrev pub operator_findings : Profile → Placed → List Finding
+operator_findings by t = if is_read_as_assign t then finding (read_as_assign_kind by) t.parts.head.key ∷ [] else []
 
 -- the bytes of a line from a place up to another
 abbrev pub between : ℕ → ℕ → List ℕ → List ℕ
 between from to line = take (to - from) (drop from line)
 
 -- the gaps and tokens of a line behind a place where a token ends
-abbrev pub style_behind : List ℕ → ℕ → List Placed → List Finding
-style_behind line place [] = end_findings (drop place line)
-style_behind line place (t ∷ tokens) = gap_findings (between place t.span.start line) t.parts.head.key ++ (operator_findings t ++ style_behind line t.span.end tokens)
+abbrev pub style_behind : Profile → List ℕ → ℕ → List Placed → List Finding
+style_behind by line place [] = end_findings (drop place line)
+style_behind by line place (t ∷ tokens) = gap_findings by (between place t.span.start line) t.parts.head.key ++ (operator_findings by t ++ style_behind by line t.span.end tokens)
 
 -- the gaps and tokens of a line, in the order of their places
-abbrev pub style_findings : List ℕ → List Placed → List Finding
-style_findings line [] = []
-style_findings line (t ∷ tokens) = operator_findings t ++ style_behind line t.span.end tokens
+abbrev pub style_findings : Profile → List ℕ → List Placed → List Finding
+style_findings by line [] = []
+style_findings by line (t ∷ tokens) = front_findings by (between 0 t.span.start line) ++ (operator_findings by t ++ style_behind by line t.span.end tokens)

@@ -1,23 +1,25 @@
 -- Serves the proofs of this crate alone: the parts of a rule taken one by one.
 use Rattle.std.specs.Prelude.{ℕ, List, [], ◌∷◌, ◌++◌, Option, Some, None, filter_map}
+use Rattle.text_bytes.specs.declared.profile.Profile.{Profile}
+use Rattle.text_bytes.specs.declared.profile.Profile.TheVariants.{Manual, Udev}
 use Rattle.text_bytes.specs.declared.message.MessageKind.TheVariants.{GivenTwice}
 use Rattle.rule_parts.specs.declared.finding.Finding.{Finding}
 use Rattle.rule_types.specs.declared.part.Part.{Part}
 use Rattle.rule_types.specs.declared.part.Part.TheVariants as part
 use Rattle.rule_parts.specs.Values.{finding}
-use Rattle.rule_core.specs.Drafts.{Draft, act_in, assignment_in, first, given_again_behind, goto_in, label_in, plain_in, result_in, up_in}
+use Rattle.rule_core.specs.Drafts.{Draft, act_in, assignment_in, first, given_again_behind, goto_in, label_among, label_in, lost_name, plain_in, result_in, up_in}
 
 -- the parts of a rule by what they are for, in written order
-abbrev pub written : List Part → Draft
-written parts = record {
-  label = first (filter_map label_in parts);
+abbrev pub written : Profile → List Part → Draft
+written by parts = record {
+  label = label_among by (filter_map label_in parts);
   goto = first (filter_map goto_in parts);
   plain = filter_map plain_in parts;
   up = filter_map up_in parts;
   acts = filter_map act_in parts;
   results = filter_map result_in parts;
   sets = filter_map assignment_in parts;
-  findings = given_again_behind [] parts;
+  findings = given_again_behind by [] parts;
 }
 
 -- a name, or the one that was given before it
@@ -30,12 +32,22 @@ abbrev pub again : Option (List ℕ) → List ℕ → List Finding
 again None name = []
 again (Some name) later = finding GivenTwice later ∷ []
 
+-- the label that counts of one and a later one
+abbrev pub label_given : Profile → Option (List ℕ) → List ℕ → Option (List ℕ)
+label_given Manual earlier name = first_given earlier name
+label_given Udev earlier name = Some name
+
+-- what is to be said of a label, by the one that counts of those before it
+abbrev pub label_said : Profile → Option (List ℕ) → List ℕ → List Finding
+label_said Manual earlier name = again earlier name
+label_said Udev earlier name = lost_name earlier
+
 -- one part more
-abbrev pub with_part : Draft → Part → Draft
-with_part d (part.Plain m) = record d { plain = d.plain ++ m ∷ [] }
-with_part d (part.Up m) = record d { up = d.up ++ m ∷ [] }
-with_part d (part.Act a) = record d { acts = d.acts ++ a ∷ [] }
-with_part d (part.Result c) = record d { results = d.results ++ c ∷ [] }
-with_part d (part.Set a) = record d { sets = d.sets ++ a ∷ [] }
-with_part d (part.Label name) = record d { label = first_given d.label name; findings = d.findings ++ again d.label name }
-with_part d (part.Goto name) = record d { goto = first_given d.goto name; findings = d.findings ++ again d.goto name }
+abbrev pub with_part : Profile → Draft → Part → Draft
+with_part by d (part.Plain m) = record d { plain = d.plain ++ m ∷ [] }
+with_part by d (part.Up m) = record d { up = d.up ++ m ∷ [] }
+with_part by d (part.Act a) = record d { acts = d.acts ++ a ∷ [] }
+with_part by d (part.Result c) = record d { results = d.results ++ c ∷ [] }
+with_part by d (part.Set a) = record d { sets = d.sets ++ a ∷ [] }
+with_part by d (part.Label name) = record d { label = label_given by d.label name; findings = d.findings ++ label_said by d.label name }
+with_part by d (part.Goto name) = record d { goto = first_given d.goto name; findings = d.findings ++ again d.goto name }

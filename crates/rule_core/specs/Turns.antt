@@ -1,5 +1,7 @@
 -- In which order the parts of a rule are evaluated that act, and those that assign.
-use Rattle.std.specs.Prelude.{ℕ, zero, suc, ◌+◌, ◌==◌, List, [], ◌∷◌, filter, flat_map}
+use Rattle.std.specs.Prelude.{ℕ, zero, suc, ◌+◌, ◌==◌, List, [], ◌∷◌, filter, flat_map, Option, Some}
+use Rattle.text_bytes.specs.declared.profile.Profile.{Profile}
+use Rattle.text_bytes.specs.declared.profile.Profile.TheVariants.{Manual, Udev}
 use Rattle.rule_types.specs.declared.roles.Target.{Target}
 use Rattle.rule_types.specs.declared.roles.Target.TheVariants as target
 use Rattle.rule_types.specs.declared.part.Act.{Act}
@@ -10,6 +12,10 @@ use Rattle.rule_types.specs.declared.part.Deed.{Deed}
 use Rattle.rule_types.specs.declared.part.Deed.TheVariants as deed
 use Rattle.rule_types.specs.declared.part.Import.{Import}
 use Rattle.rule_types.specs.declared.part.Import.TheVariants as import
+use Rattle.rule_types.specs.declared.rule_option.RuleOption.{RuleOption}
+use Rattle.rule_types.specs.declared.rule_option.RuleOption.TheVariants as option
+use Rattle.rule_types.specs.declared.types.RunType.{RunType}
+use Rattle.rule_types.specs.declared.types.RunType.TheVariants as run_of
 
 -- the turn of what an act does: TEST, then PROGRAM, then IMPORT by its type
 abbrev pub turn_of_import : Import → ℕ
@@ -28,7 +34,7 @@ turn_of_deed (deed.Import i) = turn_of_import i
 abbrev pub turn_of_act : Act → ℕ
 turn_of_act a = turn_of_deed a.deed
 
--- the turn of what an assignment changes: OPTIONS, then the texts by their keys, then RUN
+-- the turn of an assignment of a text, by its key
 abbrev pub turn_of_target : Target → ℕ
 turn_of_target target.Owner = 1
 turn_of_target target.Group = 2
@@ -41,13 +47,37 @@ turn_of_target target.Symlink = 8
 turn_of_target (target.Attr name) = 9
 turn_of_target (target.Sysctl name) = 10
 
-abbrev pub turn_of_change : Change → ℕ
-turn_of_change (change.Option known) = 0
-turn_of_change (change.Text to text) = turn_of_target to
-turn_of_change (change.Run type text) = 11
+-- the turn of an option for udev, among the options
+abbrev pub turn_of_option : RuleOption → ℕ
+turn_of_option option.KeepEscapes = 0
+turn_of_option option.ReplaceEscapes = 1
+turn_of_option option.DbPersist = 2
+turn_of_option option.Watch = 3
+turn_of_option option.NoWatch = 3
+turn_of_option (option.LinkPriority number) = 4
+turn_of_option option.Ignored = 5
 
-abbrev pub turn_of_assignment : Assignment → ℕ
-turn_of_assignment a = turn_of_change a.change
+-- the turn of RUN for udev, among its types: builtins, then programs
+abbrev pub turn_of_run : Option RunType → ℕ
+turn_of_run (Some run_of.Builtin) = 0
+turn_of_run _ = 1
+
+-- the turn of what an assignment changes: OPTIONS, then the texts by their keys, then RUN
+abbrev pub turn_of_change : Profile → Change → ℕ
+turn_of_change Manual (change.Option known) = 0
+turn_of_change Manual (change.Text to text) = turn_of_target to
+turn_of_change Manual (change.Run type text) = 11
+turn_of_change Udev (change.Option known) = turn_of_option known
+turn_of_change Udev (change.Text to text) = 5 + turn_of_target to
+turn_of_change Udev (change.Run type text) = 16 + turn_of_run type
+
+abbrev pub turn_of_assignment : Profile → Assignment → ℕ
+turn_of_assignment by a = turn_of_change by a.change
+
+-- how many turns assignments have
+abbrev pub assignment_turns : Profile → ℕ
+assignment_turns Manual = 12
+assignment_turns Udev = 18
 
 -- those that have a turn, in written order
 abbrev pub of_turn : {X : Type 0} → (X → ℕ) → List X → ℕ → List X
@@ -67,5 +97,5 @@ abbrev pub acts_by_turn : List Act → List Act
 acts_by_turn acts = by_turn turn_of_act 8 acts
 
 -- assignments in the order of evaluation
-abbrev pub assignments_by_turn : List Assignment → List Assignment
-assignments_by_turn assignments = by_turn turn_of_assignment 12 assignments
+abbrev pub assignments_by_turn : Profile → List Assignment → List Assignment
+assignments_by_turn by assignments = by_turn (turn_of_assignment by) (assignment_turns by) assignments

@@ -1,21 +1,23 @@
 //! What one line tells of its rule.
 //!
-//! Of several labels of a rule the first counts, and so of several jumps. The others are told of, and
-//! the rule stays.
-ghost use Rattle.std.specs.Prelude.{◌≡◌, ◌++◌, [], IfOk, OnOk};
-ghost use Rattle.rule_core.specs.Taking.{again, first_given, with_part, written};
+//! Of several labels of a rule the first counts, and for udev the last; of several jumps the first.
+//! The others are told of, and the rule stays.
+ghost use Rattle.std.specs.Prelude.{◌≡◌, ◌++◌, [], Some, IfOk, OnOk};
+ghost use Rattle.text_bytes.specs.declared.profile.Profile.TheVariants.{Manual};
+ghost use Rattle.rule_core.specs.Drafts.{lost_name};
+ghost use Rattle.rule_core.specs.Taking.{again, first_given, label_given, label_said, with_part, written};
 
 use crate::telling::tell;
 use rule_parts::Finding;
 use rule_types::{Act, Assignment, Comparison, Part, PlainMatch, UpMatch};
 use std::alloc::{AllocError, Global};
 use std::marker::Model;
-use text_bytes::{Bytes, MessageKind};
+use text_bytes::{Bytes, MessageKind, Profile};
 
 /// A rule as its line alone tells it.
 #[derive(Debug, Drop)]
 pub struct Draft {
-    /// The name of its first LABEL.
+    /// The name of its LABEL that counts: the first, for udev the last.
     pub label: Option<Bytes>,
     /// The name of its first GOTO.
     pub goto: Option<Bytes>,
@@ -27,7 +29,7 @@ pub struct Draft {
     pub acts: Vec<Act>,
     /// The matches of RESULT, in written order.
     pub results: Vec<Comparison>,
-    /// The assignments, by their kind; those of one kind in written order.
+    /// The assignments, by their kind; those of one kind in written order. udev has more kinds.
     pub sets: Vec<Assignment>,
     /// What is to be said of the rule, in the order of messages.
     pub findings: Vec<Finding>,
@@ -53,20 +55,20 @@ impl Model for Draft {
 impl Draft {
     /// The parts of a rule by what they are for, all in written order. The error comes where memory
     /// is refused.
-    #[tactic(auto, using(crate::proofs::Taking::one_more))]
-    pub(crate) fn of(alloc: Global, parts: Vec<Part>) -> Result<Draft, AllocError>
-        ensures { IfOk result (λ d. d ≡ written parts.items) }
+    #[tactic(auto, using(crate::proofs::Taking::one_more, crate::proofs::Taking::none_written))]
+    pub(crate) fn of(alloc: Global, profile: Profile, parts: Vec<Part>) -> Result<Draft, AllocError>
+        ensures { IfOk result (λ d. d ≡ written profile parts.items) }
     {
         let mut draft = Draft::new(alloc);
         for part in parts {
-            draft.take(alloc, part)?;
+            draft.take(alloc, profile, part)?;
         }
         Ok(draft)
     }
 
     /// No part so far.
     fn new(alloc: Global) -> Draft
-        ensures { result ≡ written [] }
+        ensures { result ≡ written Manual [] }
     {
         Draft {
             label: None,
@@ -81,8 +83,8 @@ impl Draft {
     }
 
     /// Takes one part more. The error comes where memory is refused.
-    fn take(&mut self, alloc: Global, part: Part) -> Result<(), AllocError>
-        ensures { OnOk result (self.new ≡ with_part self.old part) }
+    fn take(&mut self, alloc: Global, profile: Profile, part: Part) -> Result<(), AllocError>
+        ensures { OnOk result (self.new ≡ with_part profile self.old part) }
     {
         match part {
             Part::Plain(wanted) => self.plain.push(wanted)?,
@@ -90,11 +92,47 @@ impl Draft {
             Part::Act(act) => self.acts.push(act)?,
             Part::Result(wanted) => self.results.push(wanted)?,
             Part::Set(assignment) => self.sets.push(assignment)?,
-            Part::Label(name) => give(alloc, &mut self.label, &mut self.findings, name)?,
+            Part::Label(name) => {
+                give_label(alloc, profile, &mut self.label, &mut self.findings, name)?;
+            }
             Part::Goto(name) => give(alloc, &mut self.goto, &mut self.findings, name)?,
         }
         Ok(())
     }
+}
+
+/// Gives a label, and tells of the one that does not count where one was given before.
+fn give_label(
+    alloc: Global,
+    profile: Profile,
+    given: &mut Option<Bytes>,
+    findings: &mut Vec<Finding>,
+    name: Bytes,
+) -> Result<(), AllocError>
+    ensures given { OnOk result (given.new ≡ label_given profile given.old name) }
+    ensures findings { OnOk result (findings.new.items ≡ findings.old.items ++ label_said profile given.old name) }
+{
+    match profile {
+        Profile::Manual => give(alloc, given, findings, name),
+        Profile::Udev => give_last(alloc, given, findings, name),
+    }
+}
+
+/// Gives a name in place of one that was given before, which is told of.
+fn give_last(
+    alloc: Global,
+    given: &mut Option<Bytes>,
+    findings: &mut Vec<Finding>,
+    name: Bytes,
+) -> Result<(), AllocError>
+    ensures given { OnOk result (given.new ≡ Some name) }
+    ensures findings { OnOk result (findings.new.items ≡ findings.old.items ++ lost_name given.old) }
+{
+    if let Some(lost) = given {
+        tell(alloc, findings, MessageKind::GivenTwice, lost.as_slice())?;
+    }
+    *given = Some(name);
+    Ok(())
 }
 
 /// Gives a name, or tells that one was given before.

@@ -1,46 +1,59 @@
 //! Reading a joined line.
 ghost use Rattle.std.specs.Prelude.{◌≡◌, Err, IfOk, MatchResult, Ok};
 ghost use Rattle.rule_parts.specs.Faults.{FaultOf};
-ghost use Rattle.rule_tokens.specs.Lines.{items_of};
-ghost use Rattle.rule_core.specs.Drafts.{draft, draft_of, parts_of, token_finding};
+ghost use Rattle.rule_core.specs.Drafts.{draft, draft_of, items_as, most_bytes, parts_of, token_finding};
 
 use crate::draft::Draft;
-use crate::places::behind;
+use crate::effects::lacks_effect;
+use crate::places::{behind, line_tokens};
 use crate::style::add_style;
 use crate::turns::{sort_acts, sort_assignments};
 use rule_parts::{Finding, PartFault, read_part};
-use rule_tokens::{TokenFaultKind, Tokens, letters_before_quote};
+use rule_tokens::{TokenFaultKind, letters_before_quote};
 use rule_types::Part;
 use std::alloc::{AllocError, Global};
-use text_bytes::MessageKind;
+use text_bytes::{MessageKind, Profile};
 
-/// The most bytes of a joined line.
-const MOST_BYTES: usize = 16_384;
-
-/// Reads a joined line as a rule, as udev(7) has it.
+/// Reads a joined line as a rule, as udev(7) or udev itself has it.
 ///
 /// What is wrong is that the line has more than 16,384 bytes, or else it is the fault of the first
-/// token that has one; `Memory` comes only where a growth was refused.
-pub fn read_draft(alloc: Global, line: &[u8]) -> Result<Draft, PartFault>
-    ensures { MatchResult result (λ d. draft_of line.now ≡ Ok d) (λ f. FaultOf f (draft_of line.now)) }
+/// token that has one. For udev a line of 16,384 bytes is too long, and one that is right is wrong
+/// where no token has an effect. `Memory` comes only where a growth was refused.
+pub fn read_draft(alloc: Global, profile: Profile, line: &[u8]) -> Result<Draft, PartFault>
+    ensures { MatchResult result (λ d. draft_of profile line.now ≡ Ok d) (λ f. FaultOf f (draft_of profile line.now)) }
 {
-    if line.len() > MOST_BYTES {
+    if line.len() > most_bytes(profile) {
         let found = Finding::about(alloc, MessageKind::LineTooLong, &[])?;
         return Err(PartFault::Wrong(found));
     }
-    let parts = read_parts(alloc, line)?;
-    Ok(draft(alloc, line, parts)?)
+    let parts = read_parts(alloc, profile, line)?;
+    let lacks = lacks_effect(alloc, profile, line)?;
+    if lacks {
+        let found = Finding::about(alloc, MessageKind::RuleWithoutEffect, &[])?;
+        return Err(PartFault::Wrong(found));
+    }
+    Ok(draft(alloc, profile, line, parts)?)
+}
+
+/// The most bytes of a joined line: 16,384, for udev 16,383.
+pub fn most_bytes(profile: Profile) -> usize
+    ensures { result ≡ most_bytes profile }
+{
+    match profile {
+        Profile::Manual => 16_384,
+        Profile::Udev => 16_383,
+    }
 }
 
 /// The parts of a line, up to the first token with a fault, which is then what is wrong.
 #[tactic(auto, using(crate::proofs::Drafting::part_read))]
-fn read_parts(alloc: Global, line: &[u8]) -> Result<Vec<Part>, PartFault>
-    ensures { MatchResult result (λ parts. parts_of line.now (items_of line.now) ≡ Ok parts.items) (λ f. FaultOf f (parts_of line.now (items_of line.now))) }
+fn read_parts(alloc: Global, profile: Profile, line: &[u8]) -> Result<Vec<Part>, PartFault>
+    ensures { MatchResult result (λ parts. parts_of profile line.now (items_as profile line.now) ≡ Ok parts.items) (λ f. FaultOf f (parts_of profile line.now (items_as profile line.now))) }
 {
     let mut parts = Vec::new(alloc);
-    for item in Tokens::new(line) {
+    for item in line_tokens(profile, line) {
         match item {
-            Ok(token) => parts.push(read_part(alloc, &token)?)?,
+            Ok(token) => parts.push(read_part(alloc, profile, &token)?)?,
             Err(fault) => {
                 let found = token_finding(alloc, fault.kind, behind(fault.at, line))?;
                 return Err(PartFault::Wrong(found));
@@ -65,12 +78,17 @@ fn token_finding(alloc: Global, kind: TokenFaultKind, text: &[u8]) -> Result<Fin
 }
 
 /// The draft of the parts of a line.
-fn draft(alloc: Global, line: &[u8], parts: Vec<Part>) -> Result<Draft, AllocError>
-    ensures { IfOk result (λ d. d ≡ draft line.now parts.items) }
+fn draft(
+    alloc: Global,
+    profile: Profile,
+    line: &[u8],
+    parts: Vec<Part>,
+) -> Result<Draft, AllocError>
+    ensures { IfOk result (λ d. d ≡ draft profile line.now parts.items) }
 {
-    let mut draft = Draft::of(alloc, parts)?;
+    let mut draft = Draft::of(alloc, profile, parts)?;
     sort_acts(&mut draft.acts)?;
-    sort_assignments(&mut draft.sets)?;
-    add_style(alloc, &mut draft.findings, line)?;
+    sort_assignments(profile, &mut draft.sets)?;
+    add_style(alloc, profile, &mut draft.findings, line)?;
     Ok(draft)
 }

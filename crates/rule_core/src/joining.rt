@@ -1,15 +1,17 @@
 //! Joining the lines of a rules file, as udev(7) says: a line that ends in a backslash is continued
 //! by the next, and comments are skipped wherever they stand.
-ghost use Rattle.std.specs.Prelude.{◌≡◌, [], None, IfOk, OnOk};
-ghost use Rattle.rule_core.specs.Lines.{joined_lines};
-ghost use Rattle.rule_core.specs.Steps.{after, ended, sofar};
+//!
+//! A continued line is told by the number of its first line, and for udev by that of its last.
+ghost use Rattle.std.specs.Prelude.{◌≡◌, [], None, IfOk, OnOk, length};
+ghost use Rattle.rule_core.specs.Lines.{joined_lines, lines};
+ghost use Rattle.rule_core.specs.Steps.{after, ended, number_of_both, sofar, told_open};
 
 use crate::joined::{JoinedLine, JoinedLines};
 use crate::pieces::{Piece, is_comment, piece_of, unindented_line};
 use crate::text::Text;
 use std::alloc::{AllocError, Global};
 use std::marker::Model;
-use text_bytes::{Lines, capped};
+use text_bytes::{Lines, Profile, capped};
 
 /// A joined line of which all lines so far end in a backslash.
 #[derive(Debug, Drop)]
@@ -54,12 +56,15 @@ impl<'a> Joining<'a> {
     }
 
     /// Takes what the next kept line gives.
-    fn take(&mut self, alloc: Global, piece: &Piece<'a>) -> Result<(), AllocError>
-        ensures { OnOk result (self.new ≡ after self.old piece.now) }
+    fn take(&mut self, alloc: Global, profile: Profile, piece: &Piece<'a>) -> Result<(), AllocError>
+        ensures { OnOk result (self.new ≡ after profile self.old piece.now) }
     {
         let (number, text) = match self.pending.take() {
             None => (piece.number, Text::whole(piece.text)),
-            Some(begun) => (begun.number, begun.text.continued(alloc, piece.text)?),
+            Some(begun) => (
+                number_of_both(profile, begun.number, piece.number),
+                begun.text.continued(alloc, piece.text)?,
+            ),
         };
         if piece.continues {
             self.pending = Some(OpenLine { number, text });
@@ -69,16 +74,48 @@ impl<'a> Joining<'a> {
         Ok(())
     }
 
-    /// The joined lines, where no line follows.
-    fn ended(self) -> JoinedLines<'a>
-        ensures { result ≡ ended self.entry }
+    /// The joined lines of a file, where no line follows.
+    fn ended(self, profile: Profile, bytes: &[u8]) -> JoinedLines<'a>
+        ensures { result ≡ ended profile (length (lines bytes.now)) self.entry }
     {
         let open_at = match &self.pending {
             None => None,
-            Some(begun) => Some(capped(begun.number)),
+            Some(begun) => Some(capped(told_open(profile, begun.number, bytes))),
         };
         JoinedLines::new(self.lines, open_at)
     }
+}
+
+/// The number by which two lines in a row are told together.
+fn number_of_both(profile: Profile, earlier: usize, later: usize) -> usize
+    ensures { result ≡ number_of_both profile earlier later }
+{
+    match profile {
+        Profile::Manual => earlier,
+        Profile::Udev => later,
+    }
+}
+
+/// The number by which a line of a file is told that is open at its end, of which the manual's is
+/// this one.
+fn told_open(profile: Profile, number: usize, bytes: &[u8]) -> usize
+    ensures { result ≡ told_open profile (length (lines bytes.now)) number }
+{
+    match profile {
+        Profile::Manual => number,
+        Profile::Udev => line_count(bytes),
+    }
+}
+
+/// How many lines a file has.
+fn line_count(bytes: &[u8]) -> usize
+    ensures { result ≡ length (lines bytes.now) }
+{
+    let mut count = 0;
+    for line in Lines::new(bytes) {
+        count = line.number();
+    }
+    count
 }
 
 /// Joins the lines of a rules file, as udev(7) says. Lines are cut at newlines, and the last need
@@ -89,15 +126,19 @@ impl<'a> Joining<'a> {
 ///
 /// A line that is continued by no other borrows the file's bytes. The error comes where memory is
 /// refused.
-pub fn joined_lines<'a>(alloc: Global, bytes: &'a [u8]) -> Result<JoinedLines<'a>, AllocError>
-    ensures { IfOk result (λ joined. joined ≡ joined_lines bytes.now) }
+pub fn joined_lines<'a>(
+    alloc: Global,
+    profile: Profile,
+    bytes: &'a [u8],
+) -> Result<JoinedLines<'a>, AllocError>
+    ensures { IfOk result (λ joined. joined ≡ joined_lines profile bytes.now) }
 {
     let mut joining = Joining::new(alloc);
     for line in Lines::new(bytes) {
         let line = unindented_line(&line);
         if !is_comment(&line) {
-            joining.take(alloc, &piece_of(&line))?;
+            joining.take(alloc, profile, &piece_of(&line))?;
         }
     }
-    Ok(joining.ended())
+    Ok(joining.ended(profile, bytes))
 }

@@ -2,14 +2,19 @@
 //!
 //! A file is joined into lines, each line is read as a draft of a rule, and what becomes of the jumps of a file is looked
 //! up once for all its rules. What stands below comes with this crate.
+//!
+//! Where udev(7) and udev itself part, a `Profile` says by whose word rules are read. For udev the ends of lines are
+//! to be written as newlines first, by `files_as_read`.
 #![tactic(auto)]
 
 mod draft;
 mod draft_reading;
+mod effects;
 mod fault;
 mod gathered;
 mod joined;
 mod joining;
+mod line_ends;
 mod messages;
 mod pieces;
 mod places;
@@ -22,11 +27,14 @@ mod text;
 mod turns;
 
 pub use draft::Draft;
-pub use draft_reading::read_draft;
+pub use draft_reading::{most_bytes, read_draft};
+pub use effects::{has_effect, lacks_effect};
 pub use fault::RulesFault;
 pub use joined::{JoinedLine, JoinedLines};
 pub use joining::joined_lines;
-pub use reading::read_rules;
+pub use line_ends::{files_as_read, given_up_at, is_too_long, read_ends};
+pub use places::{behind, between, first_place, line_tokens};
+pub use reading::{read_rules, read_rules_as};
 pub use rule_set::RuleSet;
 pub use rule_templates::{Piece, Template, TemplateFault};
 pub use rule_tokens::{Operator, Quote, Span, Token, TokenFault, TokenFaultKind, Tokens, unquote};
@@ -34,3 +42,4 @@ pub use rule_types::{
     Act, AssignOperator, Assignment, Change, Comparison, Deed, Import, ImportType, Key,
     MatchOperator, PlainKey, PlainMatch, Rule, RuleOption, RunType, Target, UpKey, UpMatch,
 };
+pub use style::{commas, has_blank_before_comma, read_as_assign_kind};

@@ -1,6 +1,6 @@
 //! What is found of the lines of a file, as messages.
 ghost use Rattle.std.specs.Prelude.{◌≡◌, ◌∷◌, ◌++◌, [], if◌then◌else◌, OnOk, map};
-ghost use Rattle.text_bytes.specs.declared.message.MessageKind.TheVariants.{OpenAtEnd};
+ghost use Rattle.text_bytes.specs.declared.message.MessageKind.TheVariants.{FileGivenUp, OpenAtEnd};
 ghost use Rattle.rule_parts.specs.Values.{finding};
 ghost use Rattle.rule_core.specs.Rules.{message_at, name_in, open_messages};
 
@@ -91,6 +91,21 @@ pub fn tell_open(
             tell(alloc, messages, Place { file, line }, found)
         }
     }
+}
+
+/// Puts the message about a file that is given up for a line behind others. The error comes where
+/// memory is refused.
+pub fn tell_given_up(
+    alloc: Global,
+    messages: &mut Vec<Message>,
+    file: &[u8],
+    line: u32,
+) -> Result<(), AllocError>
+    ensures { OnOk result (messages.new.items ≡ messages.old.items ++ message_at file.now line (finding FileGivenUp []) ∷ []) }
+{
+    let found = Finding::about(alloc, MessageKind::FileGivenUp, &[])?;
+    let place = Place { file, line };
+    tell(alloc, messages, place, found)
 }
 
 /// A name, which is empty where there is none.

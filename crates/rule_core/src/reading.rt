@@ -2,20 +2,21 @@
 ghost use Rattle.std.specs.Prelude.{◌≡◌, ◌∷◌, ◌++◌, ◌<◌, ◌≤◌, ◌^◌, [], if◌then◌else◌, None, IfOk, IfErr, OnOk, flat_map, map, zip};
 ghost use Rattle.rule_core.specs.Gathering.{Adds};
 ghost use Rattle.rule_types.specs.Rules.{tokens_in};
-ghost use Rattle.rule_core.specs.Rules.{file_messages, file_rules, findings_of, line_messages, line_rules, message_at, rule_at, set_of};
+ghost use Rattle.rule_core.specs.Rules.{file_messages, file_rules, findings_of, line_messages, line_rules, message_at, messages_unless, rule_at, rules_unless, set_of, set_of_as};
 ghost use Rattle.rule_core.specs.declared.fault.RulesFault.TheVariants.{TooMany};
 
 use crate::draft::Draft;
 use crate::fault::RulesFault;
 use crate::gathered::Gathered;
 use crate::joining::joined_lines;
-use crate::messages::{Place, tell, tell_all, tell_if, tell_open};
+use crate::line_ends::given_up_at;
+use crate::messages::{Place, tell, tell_all, tell_given_up, tell_if, tell_open};
 use crate::readings::{Reading, landings_of, read_lines};
 use crate::rule_set::RuleSet;
 use rule_jumps::Landing;
 use rule_types::Rule;
 use std::alloc::Global;
-use text_bytes::{Bytes, Message, MessageKind, SourceFile};
+use text_bytes::{Bytes, Message, MessageKind, Profile, SourceFile};
 
 /// Reads rules files as udev(7) writes them, in the order in which they are given.
 ///
@@ -26,9 +27,23 @@ pub fn read_rules(alloc: Global, files: &[SourceFile]) -> Result<RuleSet, RulesF
     ensures within { IfOk result (λ s. tokens_in (set_of files.now).rules ≤ 2 ^ 24) }
     ensures too_many { IfErr result (λ e. e ≡ TooMany → 2 ^ 24 < tokens_in (set_of files.now).rules) }
 {
+    read_rules_as(alloc, Profile::Manual, files)
+}
+
+/// Reads rules files as `read_rules` does, or as udev itself reads them, where the ends of their lines
+/// are written as `files_as_read` gives them. A file that udev gives up costs a message and has no rule.
+pub fn read_rules_as(
+    alloc: Global,
+    profile: Profile,
+    files: &[SourceFile],
+) -> Result<RuleSet, RulesFault>
+    ensures set { IfOk result (λ s. s ≡ set_of_as profile files.now) }
+    ensures within { IfOk result (λ s. tokens_in (set_of_as profile files.now).rules ≤ 2 ^ 24) }
+    ensures too_many { IfErr result (λ e. e ≡ TooMany → 2 ^ 24 < tokens_in (set_of_as profile files.now).rules) }
+{
     let mut rules = Gathered::new(alloc);
     let mut messages = Vec::new(alloc);
-    read_files(alloc, &mut rules, &mut messages, files)?;
+    read_files(alloc, profile, &mut rules, &mut messages, files)?;
     Ok(RuleSet {
         rules: rules.into_rules(),
         messages,
@@ -38,15 +53,16 @@ pub fn read_rules(alloc: Global, files: &[SourceFile]) -> Result<RuleSet, RulesF
 /// Reads files.
 fn read_files(
     alloc: Global,
+    profile: Profile,
     rules: &mut Gathered,
     messages: &mut Vec<Message>,
     files: &[SourceFile],
 ) -> Result<(), RulesFault>
-    ensures rules { Adds rules.old rules.new (flat_map file_rules files.now) result }
-    ensures messages { OnOk result (messages.new.items ≡ messages.old.items ++ flat_map file_messages files.now) }
+    ensures rules { Adds rules.old rules.new (flat_map (file_rules profile) files.now) result }
+    ensures messages { OnOk result (messages.new.items ≡ messages.old.items ++ flat_map (file_messages profile) files.now) }
 {
     for file in files {
-        read_file(alloc, rules, messages, file)?;
+        read_file(alloc, profile, rules, messages, file)?;
     }
     Ok(())
 }
@@ -54,16 +70,37 @@ fn read_files(
 /// Reads a file.
 fn read_file(
     alloc: Global,
+    profile: Profile,
     rules: &mut Gathered,
     messages: &mut Vec<Message>,
     file: &SourceFile,
 ) -> Result<(), RulesFault>
-    ensures rules { Adds rules.old rules.new (file_rules file.now) result }
-    ensures messages { OnOk result (messages.new.items ≡ messages.old.items ++ file_messages file.now) }
+    ensures rules { Adds rules.old rules.new (file_rules profile file.now) result }
+    ensures messages { OnOk result (messages.new.items ≡ messages.old.items ++ file_messages profile file.now) }
+{
+    match given_up_at(profile, file.bytes.as_slice()) {
+        None => read_kept(alloc, profile, rules, messages, file),
+        Some(line) => {
+            tell_given_up(alloc, messages, file.name.as_slice(), line)?;
+            Ok(())
+        }
+    }
+}
+
+/// Reads a file that is not given up.
+fn read_kept(
+    alloc: Global,
+    profile: Profile,
+    rules: &mut Gathered,
+    messages: &mut Vec<Message>,
+    file: &SourceFile,
+) -> Result<(), RulesFault>
+    ensures rules { Adds rules.old rules.new (rules_unless profile file.now None) result }
+    ensures messages { OnOk result (messages.new.items ≡ messages.old.items ++ messages_unless profile file.now None) }
 {
     let name = file.name.as_slice();
-    let joined = joined_lines(alloc, file.bytes.as_slice())?;
-    let readings = read_lines(alloc, joined.lines())?;
+    let joined = joined_lines(alloc, profile, file.bytes.as_slice())?;
+    let readings = read_lines(alloc, profile, joined.lines())?;
     let landings = landings_of(alloc, &readings)?;
     add_lines(alloc, rules, messages, name, readings, landings)?;
     tell_open(alloc, messages, name, joined.open_at())?;

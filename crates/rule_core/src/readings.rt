@@ -13,7 +13,7 @@ use rule_jumps::{Jump, Landing, landings};
 use rule_parts::{Finding, PartFault};
 use std::alloc::{AllocError, Global};
 use std::marker::Model;
-use text_bytes::Bytes;
+use text_bytes::{Bytes, Profile};
 
 /// A joined line, read as a rule.
 #[derive(Debug, Drop)]
@@ -55,21 +55,25 @@ fn lent(name: &Option<Bytes>) -> Option<&[u8]>
 }
 
 /// Reads joined lines as rules. The error comes where memory is refused.
-pub fn read_lines(alloc: Global, lines: &[JoinedLine<'_>]) -> Result<Vec<Reading>, AllocError>
-    ensures { IfOk result (λ readings. readings.items ≡ map reading_of lines.now) }
+pub fn read_lines(
+    alloc: Global,
+    profile: Profile,
+    lines: &[JoinedLine<'_>],
+) -> Result<Vec<Reading>, AllocError>
+    ensures { IfOk result (λ readings. readings.items ≡ map (reading_of profile) lines.now) }
 {
     let mut readings = Vec::with_capacity(alloc, lines.len())?;
     for line in lines {
-        readings.push(read_line(alloc, line)?)?;
+        readings.push(read_line(alloc, profile, line)?)?;
     }
     Ok(readings)
 }
 
 /// Reads a joined line as a rule.
-fn read_line(alloc: Global, line: &JoinedLine<'_>) -> Result<Reading, AllocError>
-    ensures { IfOk result (λ reading. reading ≡ reading_of line.now) }
+fn read_line(alloc: Global, profile: Profile, line: &JoinedLine<'_>) -> Result<Reading, AllocError>
+    ensures { IfOk result (λ reading. reading ≡ reading_of profile line.now) }
 {
-    let read = match read_draft(alloc, line.text()) {
+    let read = match read_draft(alloc, profile, line.text()) {
         Ok(draft) => Ok(draft),
         Err(PartFault::Wrong(found)) => Err(found),
         Err(PartFault::Memory) => return Err(AllocError),

@@ -10,7 +10,7 @@ use std::marker::Model;
 use text_bytes::Message;
 
 /// The rules of files, of which at most 2^24 tokens are left, and the messages about them.
-/// `read_rules` alone makes it.
+/// `read_rules` and `read_rules_as` alone make it.
 #[derive(Debug, Drop)]
 pub struct RuleSet {
     pub(crate) rules: Vec<Rule>,
@@ -39,7 +39,7 @@ impl RuleSet {
     }
 
     /// Lends the messages: by file, then by line; of one line the V by number and place, then the S
-    /// by place and number, S4 last.
+    /// by place and number, S4 last. For udev V24 stands among the S, by its place.
     pub fn messages(&self) -> &[Message]
         ensures { result.now ≡ self.now.messages }
     {

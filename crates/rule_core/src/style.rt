@@ -4,66 +4,110 @@
 //! fault.
 ghost use Rattle.std.specs.Prelude.{◌≡◌, ◌++◌, OnOk};
 ghost use Rattle.text_bytes.specs.Names.{comma};
-ghost use Rattle.rule_tokens.specs.Lines.{items_of};
 ghost use Rattle.rule_tokens.specs.Values.{ends_in};
-ghost use Rattle.rule_core.specs.Drafts.{tokens_of};
+ghost use Rattle.rule_core.specs.Drafts.{items_as, tokens_of};
 ghost use Rattle.rule_core.specs.Places.{findings_at_end, findings_before};
-ghost use Rattle.rule_core.specs.Style.{commas, end_findings, gap_findings, operator_findings, style_findings};
+ghost use Rattle.rule_core.specs.Style.{comma_findings, commas, end_findings, front_findings, gap_findings, has_blank_before_comma, operator_findings, read_as_assign_kind, style_findings};
 
-use crate::places::{behind, between};
+use crate::places::{behind, between, line_tokens};
 use crate::telling::tell;
 use rule_parts::{Finding, is_read_as_assign};
-use rule_tokens::{Token, Tokens};
+use rule_tokens::Token;
 use std::alloc::{AllocError, Global};
-use text_bytes::MessageKind;
+use text_bytes::{MessageKind, Profile};
 
 /// Adds what is to be said of how a line is written, by the places of its tokens.
 pub(crate) fn add_style(
     alloc: Global,
+    profile: Profile,
     findings: &mut Vec<Finding>,
     line: &[u8],
 ) -> Result<(), AllocError>
-    ensures { OnOk result (findings.new.items ≡ findings.old.items ++ style_findings line.now (tokens_of (items_of line.now))) }
+    ensures { OnOk result (findings.new.items ≡ findings.old.items ++ style_findings profile line.now (tokens_of (items_as profile line.now))) }
 {
     let mut place = None;
-    for item in Tokens::new(line) {
+    for item in line_tokens(profile, line) {
         if let Ok(token) = item {
-            add_token(alloc, findings, line, place, &token)?;
+            add_token(alloc, profile, findings, line, place, &token)?;
             place = Some(token.span().end);
         }
     }
     add_end(alloc, findings, line, place)
 }
 
-/// Adds what is to be said of a token and of the gap before it, which begins at a place. No gap is
-/// before the first token.
+/// Adds what is to be said of a token and of the gap before it, which begins at a place, or where the
+/// line does before the first token.
 fn add_token(
     alloc: Global,
+    profile: Profile,
     findings: &mut Vec<Finding>,
     line: &[u8],
     place: Option<usize>,
     token: &Token<'_>,
 ) -> Result<(), AllocError>
-    ensures { OnOk result (findings.new.items ≡ findings.old.items ++ (findings_before line.now place token.now ++ operator_findings token.now)) }
+    ensures { OnOk result (findings.new.items ≡ findings.old.items ++ (findings_before profile line.now place token.now ++ operator_findings profile token.now)) }
 {
+    let start = token.span().start;
     match place {
-        None => {}
+        None => add_front(alloc, profile, findings, between(0, start, line))?,
         Some(from) => {
-            let gap = between(from, token.span().start, line);
-            add_gap(alloc, findings, gap, token.key())?;
+            let gap = between(from, start, line);
+            add_gap(alloc, profile, findings, gap, token.key())?;
         }
     }
-    add_operator(alloc, findings, token)
+    add_operator(alloc, profile, findings, token)
+}
+
+/// Adds what is to be said of the gap before the first token, which udev alone passes over.
+fn add_front(
+    alloc: Global,
+    profile: Profile,
+    findings: &mut Vec<Finding>,
+    gap: &[u8],
+) -> Result<(), AllocError>
+    ensures { OnOk result (findings.new.items ≡ findings.old.items ++ front_findings profile gap.now) }
+{
+    match profile {
+        Profile::Manual => {}
+        Profile::Udev => {
+            if commas(gap) != 0 {
+                tell(alloc, findings, MessageKind::LeadingComma, &[])?;
+            }
+        }
+    }
+    Ok(())
 }
 
 /// Adds what is to be said of the gap before a token with this key.
 fn add_gap(
     alloc: Global,
+    profile: Profile,
     findings: &mut Vec<Finding>,
     gap: &[u8],
     key: &[u8],
 ) -> Result<(), AllocError>
-    ensures { OnOk result (findings.new.items ≡ findings.old.items ++ gap_findings gap.now key.now) }
+    ensures { OnOk result (findings.new.items ≡ findings.old.items ++ gap_findings profile gap.now key.now) }
+{
+    add_commas(alloc, findings, gap, key)?;
+    match profile {
+        Profile::Manual => {}
+        Profile::Udev => {
+            if has_blank_before_comma(gap) {
+                tell(alloc, findings, MessageKind::BlankBeforeComma, key)?;
+            }
+        }
+    }
+    Ok(())
+}
+
+/// Adds what is to be said of the commas of the gap before a token with this key.
+fn add_commas(
+    alloc: Global,
+    findings: &mut Vec<Finding>,
+    gap: &[u8],
+    key: &[u8],
+) -> Result<(), AllocError>
+    ensures { OnOk result (findings.new.items ≡ findings.old.items ++ comma_findings gap.now key.now) }
 {
     if commas(gap) != 1 {
         tell(alloc, findings, MessageKind::CommaExpected, key)?;
@@ -77,15 +121,26 @@ fn add_gap(
 /// Adds what is to be said of a token's operator.
 fn add_operator(
     alloc: Global,
+    profile: Profile,
     findings: &mut Vec<Finding>,
     token: &Token<'_>,
 ) -> Result<(), AllocError>
-    ensures { OnOk result (findings.new.items ≡ findings.old.items ++ operator_findings token.now) }
+    ensures { OnOk result (findings.new.items ≡ findings.old.items ++ operator_findings profile token.now) }
 {
     if is_read_as_assign(token) {
-        tell(alloc, findings, MessageKind::ReadAsAssign, token.key())?;
+        tell(alloc, findings, read_as_assign_kind(profile), token.key())?;
     }
     Ok(())
+}
+
+/// What is told of an operator that is read as `=`: a remark on style, for udev a fault.
+pub fn read_as_assign_kind(profile: Profile) -> MessageKind
+    ensures { result ≡ read_as_assign_kind profile }
+{
+    match profile {
+        Profile::Manual => MessageKind::ReadAsAssign,
+        Profile::Udev => MessageKind::AssignExpected,
+    }
 }
 
 /// Adds what is to be said of the gap behind the last token, which begins at a place.
@@ -109,10 +164,20 @@ fn add_end(
 }
 
 /// How many commas a gap has.
-fn commas(gap: &[u8]) -> usize
+pub fn commas(gap: &[u8]) -> usize
     ensures { result ≡ commas gap.now }
 {
     gap.iter().filter(|byte| **byte == b',').count()
+}
+
+/// Whether a gap has a comma and begins with a blank.
+pub fn has_blank_before_comma(gap: &[u8]) -> bool
+    ensures { result ≡ has_blank_before_comma gap.now }
+{
+    match gap.split_first() {
+        None => false,
+        Some((byte, behind)) => (*byte == b' ' || *byte == b'\t') && commas(behind) != 0,
+    }
 }
 
 /// Whether the last byte of a gap is a comma.

@@ -1,11 +1,13 @@
 //! In which order the parts of a rule are evaluated that act, and those that assign.
 //!
 //! Each part has a number, its turn, so that a stable sort by turns gives the order.
-ghost use Rattle.std.specs.Prelude.{◌≡◌, OnOk};
-ghost use Rattle.rule_core.specs.Turns.{acts_by_turn, assignments_by_turn, turn_of_act, turn_of_assignment, turn_of_change, turn_of_deed, turn_of_import, turn_of_target};
+ghost use Rattle.std.specs.Prelude.{◌≡◌, ◌≤◌, OnOk};
+ghost use Rattle.text_bytes.specs.declared.profile.Profile.TheVariants.{Manual, Udev};
+ghost use Rattle.rule_core.specs.Turns.{acts_by_turn, assignments_by_turn, turn_of_act, turn_of_assignment, turn_of_change, turn_of_deed, turn_of_import, turn_of_option, turn_of_run, turn_of_target};
 
-use rule_types::{Act, Assignment, Change, Deed, Import, Target};
+use rule_types::{Act, Assignment, Change, Deed, Import, RuleOption, RunType, Target};
 use std::alloc::AllocError;
+use text_bytes::Profile;
 
 /// Sorts acts into the order of evaluation; those of one turn keep their order. The error comes
 /// where memory is refused.
@@ -18,10 +20,31 @@ pub(crate) fn sort_acts(acts: &mut Vec<Act>) -> Result<(), AllocError>
 
 /// Sorts assignments into the order of evaluation; those of one turn keep their order. The error
 /// comes where memory is refused.
-pub(crate) fn sort_assignments(assignments: &mut Vec<Assignment>) -> Result<(), AllocError>
-    ensures { OnOk result (assignments.new.items ≡ assignments_by_turn assignments.old.items) }
+pub(crate) fn sort_assignments(
+    profile: Profile,
+    assignments: &mut Vec<Assignment>,
+) -> Result<(), AllocError>
+    ensures { OnOk result (assignments.new.items ≡ assignments_by_turn profile assignments.old.items) }
+{
+    match profile {
+        Profile::Manual => sort_by_manual(assignments),
+        Profile::Udev => sort_by_udev(assignments),
+    }
+}
+
+/// The same by the manual.
+fn sort_by_manual(assignments: &mut Vec<Assignment>) -> Result<(), AllocError>
+    ensures { OnOk result (assignments.new.items ≡ assignments_by_turn Manual assignments.old.items) }
 {
     assignments.sort_by_key(|assignment| turn_of_assignment(assignment))?;
+    Ok(())
+}
+
+/// The same for udev.
+fn sort_by_udev(assignments: &mut Vec<Assignment>) -> Result<(), AllocError>
+    ensures { OnOk result (assignments.new.items ≡ assignments_by_turn Udev assignments.old.items) }
+{
+    assignments.sort_by_key(|assignment| udev_turn_of_assignment(assignment))?;
     Ok(())
 }
 
@@ -57,16 +80,23 @@ fn turn_of_import(import: &Import) -> u8
     }
 }
 
-/// The turn of an assignment.
+/// The turn of an assignment by the manual.
 fn turn_of_assignment(assignment: &Assignment) -> u8
-    ensures { result ≡ turn_of_assignment assignment.now }
+    ensures { result ≡ turn_of_assignment Manual assignment.now }
 {
     turn_of_change(&assignment.change)
 }
 
+/// The turn of an assignment for udev.
+fn udev_turn_of_assignment(assignment: &Assignment) -> u8
+    ensures { result ≡ turn_of_assignment Udev assignment.now }
+{
+    udev_turn_of_change(&assignment.change)
+}
+
 /// The turn of what an assignment changes: OPTIONS, then the texts by their keys, then RUN.
 fn turn_of_change(change: &Change) -> u8
-    ensures { result ≡ turn_of_change change.now }
+    ensures { result ≡ turn_of_change Manual change.now }
 {
     match change {
         Change::Option(_) => 0,
@@ -75,9 +105,47 @@ fn turn_of_change(change: &Change) -> u8
     }
 }
 
+/// The same for udev: OPTIONS one by one, then the texts by their keys, then RUN by its type.
+fn udev_turn_of_change(change: &Change) -> u8
+    ensures { result ≡ turn_of_change Udev change.now }
+{
+    match change {
+        Change::Option(known) => turn_of_option(*known),
+        Change::Text(target, _) => 5 + turn_of_target(target),
+        Change::Run(run_type, _) => 16 + turn_of_run(*run_type),
+    }
+}
+
+/// The turn of an option for udev, among the options.
+fn turn_of_option(known: RuleOption) -> u8
+    ensures { result ≡ turn_of_option known }
+{
+    match known {
+        RuleOption::KeepEscapes => 0,
+        RuleOption::ReplaceEscapes => 1,
+        RuleOption::DbPersist => 2,
+        RuleOption::Watch => 3,
+        RuleOption::NoWatch => 3,
+        RuleOption::LinkPriority(_) => 4,
+        RuleOption::Ignored => 5,
+    }
+}
+
+/// The turn of RUN for udev, among its types: builtins, then programs.
+fn turn_of_run(run_type: Option<RunType>) -> u8
+    ensures value { result ≡ turn_of_run run_type }
+    ensures small { result ≤ 1 }
+{
+    match run_type {
+        Some(RunType::Builtin) => 0,
+        _ => 1,
+    }
+}
+
 /// The turn of an assignment of a text, by its key.
 fn turn_of_target(target: &Target) -> u8
-    ensures { result ≡ turn_of_target target.now }
+    ensures value { result ≡ turn_of_target target.now }
+    ensures small { result ≤ 10 }
 {
     match target {
         Target::Owner => 1,

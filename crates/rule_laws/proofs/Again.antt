@@ -5,6 +5,7 @@ use Rattle.rule_parts.specs.Values.{finding}
 use Rattle.rule_parts.specs.declared.finding.Finding.{Finding}
 use Rattle.rule_types.specs.declared.part.Part.{Part}
 use Rattle.rule_types.specs.declared.part.Part.TheVariants as part
+use Rattle.text_bytes.specs.declared.profile.Profile.TheVariants.{Manual}
 use Rattle.rule_core.specs.Drafts.{again_in, given_again, given_again_behind, goto_in, label_in}
 use Rattle.rule_core.specs.Laws.{GivesAgain, IsGivenAmong, IsToldWhereAgain}
 use Rattle.rule_core.proofs.Taking.{none_said, said_behind}
@@ -50,10 +51,10 @@ no_goto (part.Label l ∷ parts) none = no_goto parts (λ before behind given cu
 no_goto (part.Goto l ∷ parts) none = absurd (none [] parts l refl)
 
 -- what is said of a part more
-told_again : (parts : List Part) (p : Part) (name : List ℕ) → again_in parts p ≡ finding GivenTwice name ∷ [] → given_again_behind [] (parts ++ p ∷ []) ≡ given_again_behind [] parts ++ finding GivenTwice name ∷ []
-told_again parts p name e = said_behind [] parts p ∙ ap (λ (fs : List Finding). given_again_behind [] parts ++ fs) e
+told_again : (parts : List Part) (p : Part) (name : List ℕ) → again_in Manual parts p ≡ finding GivenTwice name ∷ [] → given_again_behind Manual [] (parts ++ p ∷ []) ≡ given_again_behind Manual [] parts ++ finding GivenTwice name ∷ []
+told_again parts p name e = said_behind Manual [] parts p ∙ ap (λ (fs : List Finding). given_again_behind Manual [] parts ++ fs) e
 
-said_of_again : (before : List Part) (earlier : Part) (behind : List Part) (p : Part) (name : List ℕ) → GivesAgain earlier p name → again_in (before ++ earlier ∷ behind) p ≡ finding GivenTwice name ∷ []
+said_of_again : (before : List Part) (earlier : Part) (behind : List Part) (p : Part) (name : List ℕ) → GivesAgain earlier p name → again_in Manual (before ++ earlier ∷ behind) p ≡ finding GivenTwice name ∷ []
 said_of_again before (part.Label given) behind (part.Label later) name e = label_again before behind given later ∙ ap (λ (n : List ℕ). finding GivenTwice n ∷ []) e
 said_of_again before (part.Goto given) behind (part.Goto later) name e = goto_again before behind given later ∙ ap (λ (n : List ℕ). finding GivenTwice n ∷ []) e
 said_of_again before (part.Plain m) behind (part.Plain w) name e = absurd e
@@ -104,7 +105,7 @@ said_of_again before (part.Goto l) behind (part.Result w) name e = absurd e
 said_of_again before (part.Goto l) behind (part.Set w) name e = absurd e
 said_of_again before (part.Goto l) behind (part.Label w) name e = absurd e
 
-said_once : (parts : List Part) (p : Part) → ((name : List ℕ) → IsGivenAmong parts p name → ⊥) → again_in parts p ≡ []
+said_once : (parts : List Part) (p : Part) → ((name : List ℕ) → IsGivenAmong parts p name → ⊥) → again_in Manual parts p ≡ []
 said_once parts (part.Plain m) none = refl
 said_once parts (part.Up m) none = refl
 said_once parts (part.Act a) none = refl
@@ -119,6 +120,6 @@ said_once parts (part.Goto later) none =
 
 pub is_told : (parts : List Part) (p : Part) → IsToldWhereAgain parts p
 is_told parts p = record {
-  again = λ name g. told_again parts p name (ap (λ (ps : List Part). again_in ps p) g.cut ∙ said_of_again g.before g.earlier g.behind p name g.again);
-  once = λ none. none_said parts p (said_once parts p none);
+  again = λ name g. told_again parts p name (ap (λ (ps : List Part). again_in Manual ps p) g.cut ∙ said_of_again g.before g.earlier g.behind p name g.again);
+  once = λ none. none_said Manual parts p (said_once parts p none);
 }

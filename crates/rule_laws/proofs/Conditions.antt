@@ -2,6 +2,7 @@
 use Rattle.std.specs.Option.{option_and_then}
 use Rattle.std.proofs.Common.{◌≡◌, ℕ, Bool, true, false, List, [], ◌∷◌, Option, Some, None, is_none, Result, Ok, Err, refl}
 use Rattle.text_bytes.specs.declared.message.MessageKind.TheVariants.{UnknownKey, OperatorNotAllowed, WrongAttribute, BadValue, BadSubstitution, SetNotSupported}
+use Rattle.text_bytes.specs.declared.profile.Profile.TheVariants.{Manual}
 use Rattle.text_core.specs.Choices.{choice, choice_blind}
 use Rattle.text_core.specs.declared.item.Item.{Item}
 use Rattle.text_core.specs.declared.glob_fault.GlobFault.{GlobFault}
@@ -54,14 +55,14 @@ options : {B : Type 0} (f : RuleOption → B) (text : List ℕ) (read : Option R
 options f text (Some known) = refl
 options f text None = refl
 
-names : {B : Type 0} (f : List ℕ → B) (text : List ℕ) → fault_in (made f (read_name text)) ≡ value_conditions text false false (is_wrong (made f (read_name text)))
+names : {B : Type 0} (f : List ℕ → B) (text : List ℕ) → fault_in (made f (read_name Manual text)) ≡ value_conditions text false false (is_wrong (made f (read_name Manual text)))
 unfolding read_name
 names f [] = refl
 names f (b ∷ text) = refl
 
 -- the fault of a value
 by_value : (r : Role) (blind : Bool) (text : List ℕ)
-    → fault_in (value_part r blind text)
+    → fault_in (value_part Manual r blind text)
     ≡ first_of ((ignores_in_vain blind r, finding BadValue text) ∷ (has_class blind text r, finding SetNotSupported text) ∷ (has_bad_substitution text r, finding BadSubstitution text) ∷ (is_no_value blind text r, finding BadValue text) ∷ [])
 unfolding value_part part_by comparison import_by read_choice read_template read_option
 by_value (role.Plain k o) true text = patterns _ _ text (choice_blind text)
@@ -91,7 +92,7 @@ by_value (role.Set t o) false text = substitutions _ text (templates.pieces_of t
 by_value (role.Run type o) true text = refl
 by_value (role.Run type o) false text = substitutions _ text (templates.pieces_of text)
 by_value (role.Option o) true text = refl
-by_value (role.Option o) false text = options _ text (option_of text)
+by_value (role.Option o) false text = options _ text (option_of Manual text)
 by_value role.Label true text = refl
 by_value role.Label false text = names _ text
 by_value role.Goto true text = refl
@@ -110,21 +111,21 @@ listed word blind text key about r =
     ∷ []
 
 by_operator : (word : List ℕ) (blind : Bool) (text : List ℕ) (key : Key) (about : Topic) (r : Option Role)
-    → fault_in (if_found (finding OperatorNotAllowed word) (λ x. value_part x blind text) r) ≡ first_of (listed word blind text (Some key) (Some about) r)
+    → fault_in (if_found (finding OperatorNotAllowed word) (λ x. value_part Manual x blind text) r) ≡ first_of (listed word blind text (Some key) (Some about) r)
 by_operator word blind text key about None = refl
 by_operator word blind text key about (Some r) = by_value r blind text
 
 by_attribute : (word : List ℕ) (blind : Bool) (text : List ℕ) (o : Operator) (key : Key) (about : Option Topic)
-    → fault_in (if_found (finding WrongAttribute word) (λ x. if_found (finding OperatorNotAllowed word) (λ y. value_part y blind text) (role_of x o)) about)
+    → fault_in (if_found (finding WrongAttribute word) (λ x. if_found (finding OperatorNotAllowed word) (λ y. value_part Manual y blind text) (role_of x o)) about)
     ≡ first_of (listed word blind text (Some key) about (option_and_then (λ x. role_of x o) about))
 by_attribute word blind text o key None = refl
 by_attribute word blind text o key (Some about) = by_operator word blind text key about (role_of about o)
 
 by_key : (t : Placed) (word : List ℕ) (blind : Bool) (text : List ℕ) (key : Option Key)
-    → fault_in (if_found (finding UnknownKey word) (λ k. if_found (finding WrongAttribute word) (λ x. if_found (finding OperatorNotAllowed word) (λ y. value_part y blind text) (role_of x (read_as k t.parts.head.operator))) (topic_of k t.parts.head.attribute)) key)
-    ≡ first_of (listed word blind text key (option_and_then (λ k. topic_of k t.parts.head.attribute) key) (option_and_then (λ k. option_and_then (λ x. role_of x (read_as k t.parts.head.operator)) (topic_of k t.parts.head.attribute)) key))
+    → fault_in (if_found (finding UnknownKey word) (λ k. if_found (finding WrongAttribute word) (λ x. if_found (finding OperatorNotAllowed word) (λ y. value_part Manual y blind text) (role_of x (read_as k t.parts.head.operator))) (topic_of Manual k t.parts.head.attribute)) key)
+    ≡ first_of (listed word blind text key (option_and_then (λ k. topic_of Manual k t.parts.head.attribute) key) (option_and_then (λ k. option_and_then (λ x. role_of x (read_as k t.parts.head.operator)) (topic_of Manual k t.parts.head.attribute)) key))
 by_key t word blind text None = refl
-by_key t word blind text (Some key) = by_attribute word blind text (read_as key t.parts.head.operator) key (topic_of key t.parts.head.attribute)
+by_key t word blind text (Some key) = by_attribute word blind text (read_as key t.parts.head.operator) key (topic_of Manual key t.parts.head.attribute)
 
 pub first_fault_counts : FirstFaultCounts
 unfolding part_of

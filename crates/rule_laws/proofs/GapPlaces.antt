@@ -143,8 +143,4 @@ gaps_within (suc n) line at text tokens d h e = by (λ a t us. gaps_within n lin
 -- in a line of which all items are tokens, gaps are made of blanks and commas
 pub gaps_stand : (line : List ℕ) (tokens : List Placed) → items_of line ≡ answers tokens None → AreGaps line tokens
 unfolding items_left
-gaps_stand line tokens e = (gaps_within (length line + 1) line 0 line tokens (drop_none line) (omega arith) e).1
-  where
-    drop_none : (xs : List ℕ) → drop 0 xs ≡ xs
-    drop_none [] = refl
-    drop_none (x ∷ xs) = refl
+gaps_stand line tokens e = (gaps_within (length (drop 0 line) + 1) line 0 (drop 0 line) tokens refl (omega arith) e).1

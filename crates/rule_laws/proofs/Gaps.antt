@@ -10,6 +10,7 @@ use Rattle.rule_tokens.specs.Values.{ends_in}
 use Rattle.rule_parts.specs.Parts.{is_read_as_assign}
 use Rattle.rule_parts.specs.Values.{finding}
 use Rattle.rule_parts.specs.declared.finding.Finding.{Finding}
+use Rattle.text_bytes.specs.declared.profile.Profile.TheVariants.{Manual}
 use Rattle.rule_core.specs.Laws.{IsPlain, IsPlainBehind, IsPlainGap}
 use Rattle.rule_core.specs.Places.{AreGaps, AreGapsBehind}
 use Rattle.rule_core.specs.Style.{between, commas, gap_findings, operator_findings, style_behind, style_findings}
@@ -162,44 +163,44 @@ passed : (b : Bool) (f : Finding) → cond b [] (f ∷ []) ≡ [] → b ≡ true
 passed true f e = refl
 passed false f e = cc
 
-gap_passed : (gap key : List ℕ) → AllAre is_gap_byte gap → gap_findings gap key ≡ [] → IsPlainGap gap
+gap_passed : (gap key : List ℕ) → AllAre is_gap_byte gap → gap_findings Manual gap key ≡ [] → IsPlainGap gap
 gap_passed gap key g e =
     let first : List Finding = cond (commas gap == 1) [] (finding CommaExpected key ∷ []) in
     let second : List Finding = cond (ends_in comma gap) (finding BlankExpected key ∷ []) [] in
     plain_so gap g (eqb-true (commas gap) 1 (passed (commas gap == 1) (finding CommaExpected key) (front_empty first second e))) (unsaid (ends_in comma gap) (finding BlankExpected key) (back_empty first second e))
 
-plain_gap_passed : (gap key : List ℕ) → IsPlainGap gap → gap_findings gap key ≡ []
+plain_gap_passed : (gap key : List ℕ) → IsPlainGap gap → gap_findings Manual gap key ≡ []
 plain_gap_passed gap key p =
     both_empty (cond (commas gap == 1) [] (finding CommaExpected key ∷ [])) (cond (ends_in comma gap) (finding BlankExpected key ∷ []) [])
     (ap (λ b. cond b [] (finding CommaExpected key ∷ [])) (eq-eqb (commas gap) 1 (one_comma gap p)))
     (ap (λ b. cond b (finding BlankExpected key ∷ []) []) (ap (ends_in comma) p.spelled ∙ ends_far p.before p.behind p.some_behind p.blank_behind))
 
-behind_passed : (line : List ℕ) (place : ℕ) (tokens : List Placed) → AreGapsBehind line place tokens → style_behind line place tokens ≡ [] → IsPlainBehind line place tokens
+behind_passed : (line : List ℕ) (place : ℕ) (tokens : List Placed) → AreGapsBehind line place tokens → style_behind Manual line place tokens ≡ [] → IsPlainBehind line place tokens
 behind_passed line place [] g e = blank_so (drop place line) g (eqb-true (commas (drop place line)) 0 (passed (commas (drop place line) == 0) (finding CommaExpected []) e))
 behind_passed line place (t ∷ tokens) g e =
-    let gap : List Finding = gap_findings (between place t.span.start line) t.parts.head.key in
-    let others : List Finding = operator_findings t ++ style_behind line t.span.end tokens in
+    let gap : List Finding = gap_findings Manual (between place t.span.start line) t.parts.head.key in
+    let others : List Finding = operator_findings Manual t ++ style_behind Manual line t.span.end tokens in
     let rest = back_empty gap others e in (
       gap_passed (between place t.span.start line) t.parts.head.key g.0 (front_empty gap others e),
-      unsaid (is_read_as_assign t) (finding ReadAsAssign t.parts.head.key) (front_empty (operator_findings t) (style_behind line t.span.end tokens) rest),
-      behind_passed line t.span.end tokens g.1 (back_empty (operator_findings t) (style_behind line t.span.end tokens) rest),
+      unsaid (is_read_as_assign t) (finding ReadAsAssign t.parts.head.key) (front_empty (operator_findings Manual t) (style_behind Manual line t.span.end tokens) rest),
+      behind_passed line t.span.end tokens g.1 (back_empty (operator_findings Manual t) (style_behind Manual line t.span.end tokens) rest),
     )
 
-unread : (t : Placed) → is_read_as_assign t ≡ false → operator_findings t ≡ []
+unread : (t : Placed) → is_read_as_assign t ≡ false → operator_findings Manual t ≡ []
 unread t e = ap (λ b. cond b (finding ReadAsAssign t.parts.head.key ∷ []) []) e
 
-plain_behind_passed : (line : List ℕ) (place : ℕ) (tokens : List Placed) → IsPlainBehind line place tokens → style_behind line place tokens ≡ []
+plain_behind_passed : (line : List ℕ) (place : ℕ) (tokens : List Placed) → IsPlainBehind line place tokens → style_behind Manual line place tokens ≡ []
 plain_behind_passed line place [] p = ap (λ b. cond b [] (finding CommaExpected [] ∷ [])) (eq-eqb (commas (drop place line)) 0 (so_blank (drop place line) p))
 plain_behind_passed line place (t ∷ tokens) p =
-    both_empty (gap_findings (between place t.span.start line) t.parts.head.key) (operator_findings t ++ style_behind line t.span.end tokens) (plain_gap_passed (between place t.span.start line) t.parts.head.key p.0)
-    (both_empty (operator_findings t) (style_behind line t.span.end tokens) (unread t p.1) (plain_behind_passed line t.span.end tokens p.2))
+    both_empty (gap_findings Manual (between place t.span.start line) t.parts.head.key) (operator_findings Manual t ++ style_behind Manual line t.span.end tokens) (plain_gap_passed (between place t.span.start line) t.parts.head.key p.0)
+    (both_empty (operator_findings Manual t) (style_behind Manual line t.span.end tokens) (unread t p.1) (plain_behind_passed line t.span.end tokens p.2))
 
-pub plain_is_passed : (line : List ℕ) (tokens : List Placed) → AreGaps line tokens → (style_findings line tokens ≡ []) ↔ IsPlain line tokens
+pub plain_is_passed : (line : List ℕ) (tokens : List Placed) → AreGaps line tokens → (style_findings Manual line tokens ≡ []) ↔ IsPlain line tokens
 plain_is_passed line [] g = (λ e. tt, λ p. refl)
 plain_is_passed line (t ∷ tokens) g = (
   λ e. (
-    unsaid (is_read_as_assign t) (finding ReadAsAssign t.parts.head.key) (front_empty (operator_findings t) (style_behind line t.span.end tokens) e),
-    behind_passed line t.span.end tokens g (back_empty (operator_findings t) (style_behind line t.span.end tokens) e),
+    unsaid (is_read_as_assign t) (finding ReadAsAssign t.parts.head.key) (front_empty (operator_findings Manual t) (style_behind Manual line t.span.end tokens) e),
+    behind_passed line t.span.end tokens g (back_empty (operator_findings Manual t) (style_behind Manual line t.span.end tokens) e),
   ),
-  λ p. both_empty (operator_findings t) (style_behind line t.span.end tokens) (unread t p.0) (plain_behind_passed line t.span.end tokens p.1),
+  λ p. both_empty (operator_findings Manual t) (style_behind Manual line t.span.end tokens) (unread t p.0) (plain_behind_passed line t.span.end tokens p.1),
 )

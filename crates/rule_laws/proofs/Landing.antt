@@ -3,12 +3,13 @@ use Rattle.std.proofs.Common.{◌≡◌, ℕ, ◌||◌, Bool, true, false, List,
 use Rattle.std.proofs.lemmas.Bool.{false≢true}
 use Rattle.std.specs.List.{flat_map}
 use Rattle.text_bytes.specs.declared.source_file.SourceFile.{SourceFile}
+use Rattle.text_bytes.specs.declared.profile.Profile.TheVariants.{Manual}
 use Rattle.rule_core.specs.Lines.{NumberedLine, joined_lines}
 use Rattle.rule_jumps.specs.Jumps.{is_named}
 use Rattle.rule_laws.specs.Jumps.{JumpsStayInTheirFiles}
 use Rattle.rule_laws.specs.Outcomes.{AllComeTo, HasLabel, Outcome, one_message, one_rule, rules_in}
 use Rattle.rule_types.specs.Rules.{Rule}
-use Rattle.rule_core.specs.Rules.{file_rules, set_of}
+use Rattle.rule_core.specs.Rules.{file_rules, set_of_as}
 use Rattle.rule_laws.proofs.Outcomes.{bears, named_so, read_by_line, so_bears}
 
 -- ---- in a file
@@ -18,7 +19,7 @@ abbrev AllEnd : List Rule → Type 0
 AllEnd [] = Unit {0}
 AllEnd (r ∷ rules) = ((name : List ℕ) → r.goto ≡ Some name → HasLabel name rules) × AllEnd rules
 
-all_end : (file : List ℕ) (ls : List NumberedLine) (os : List Outcome) → AllComeTo file ls os → AllEnd (flat_map rules_in os)
+all_end : (file : List ℕ) (ls : List NumberedLine) (os : List Outcome) → AllComeTo Manual file ls os → AllEnd (flat_map rules_in os)
 all_end file [] [] c = tt
 all_end file [] (o ∷ os) c = absurd c
 all_end file (l ∷ ls) [] c = absurd c
@@ -29,10 +30,10 @@ label_behind : (before : List Rule) (r : Rule) (behind : List Rule) (name : List
 label_behind [] r behind name g a = a.0 name g
 label_behind (b ∷ before) r behind name g a = label_behind before r behind name g a.1
 
-jump_ends : (f : SourceFile) (before : List Rule) (r : Rule) (behind : List Rule) (name : List ℕ) → file_rules f ≡ before ++ r ∷ behind → r.goto ≡ Some name → HasLabel name behind
+jump_ends : (f : SourceFile) (before : List Rule) (r : Rule) (behind : List Rule) (name : List ℕ) → file_rules Manual f ≡ before ++ r ∷ behind → r.goto ≡ Some name → HasLabel name behind
 jump_ends f before r behind name e g =
-    let read = read_by_line f in
-    label_behind before r behind name g (subst AllEnd (sym read.rules ∙ e) (all_end f.name (joined_lines f.bytes).lines read.outcomes read.each))
+    let read = read_by_line Manual f refl in
+    label_behind before r behind name g (subst AllEnd (sym read.rules ∙ e) (all_end f.name (joined_lines Manual f.bytes).lines read.outcomes read.each))
 
 -- the first of these rules that bears the label
 record Nearest (name : List ℕ) (rules : List Rule) : Type 0 where
@@ -125,9 +126,9 @@ in_file rules_of (f ∷ files) above r below e = by (λ near. in_file rules_of f
     by behind (inr p) = farther p.0 p.1 (behind p.0 p.2)
 
 pub jumps_stay : (files : List SourceFile) → JumpsStayInTheirFiles files
-unfolding set_of
+unfolding set_of_as
 jumps_stay files above r below name e g =
-    let q = in_file file_rules files above r below e in
+    let q = in_file (file_rules Manual) files above r below e in
     let n = nearest name q.near (so_bears name q.near (jump_ends q.file q.before r q.near name q.file_is g)) in
     record {
       files_before = q.files_before;
@@ -140,7 +141,7 @@ jumps_stay files above r below name e g =
       behind = n.behind;
       file_is = q.file_is ∙ ap (λ (rs : List Rule). q.before ++ r ∷ rs) n.stands;
       above_is = q.above_is;
-      below_is = q.below_is ∙ ap (λ (rs : List Rule). rs ++ flat_map file_rules q.files_behind) n.stands ∙ append_assoc n.between (n.landing ∷ n.behind) (flat_map file_rules q.files_behind);
+      below_is = q.below_is ∙ ap (λ (rs : List Rule). rs ++ flat_map (file_rules Manual) q.files_behind) n.stands ∙ append_assoc n.between (n.landing ∷ n.behind) (flat_map (file_rules Manual) q.files_behind);
       label = n.label;
       next = λ a. false≢true (sym n.next ∙ so_bears name n.between a);
     }

@@ -18,3 +18,5 @@ mod Ordering
 mod Outcomes
 mod Understanding
 mod Landing
+mod Endings
+mod FirstPlaces

@@ -1,6 +1,7 @@
 -- The numbers of joined lines rise.
-use Rattle.std.proofs.Common.{◌≡◌, ℕ, ◌<◌, ◌≤◌, ◌+◌, ◌-◌, ◌^◌, ◌&&◌, min, Bool, true, false, not, cond, List, [], ◌∷◌, ◌++◌, map, Option, Some, None, refl, sym, ap, subst, ◌∙◌, arith}
+use Rattle.std.proofs.Common.{◌≡◌, ℕ, ◌<◌, ◌≤◌, ◌+◌, ◌-◌, ◌^◌, ◌&&◌, min, Bool, true, false, not, cond, List, [], ◌∷◌, ◌++◌, length, map, Option, Some, None, refl, sym, ap, subst, ◌∙◌, arith}
 use Rattle.std.specs.List.{onto_first}
+use Rattle.text_bytes.specs.declared.profile.Profile.TheVariants.{Manual}
 use Rattle.rule_core.specs.Lines.{NumberedLine, Piece, capped, is_comment, is_empty, is_open, joined_lines, kept, lines, lines_of_runs, numbered_from, open_of_runs, piece_of, run_number, run_text, runs, unindented}
 
 -- a number that is told stands behind another: it is not less, and the same only where that is the greatest
@@ -49,12 +50,12 @@ pieces_rise n k (t ∷ ts) h = by (pieces_rise n (k + 1) ts (omega arith)) (piec
 -- the numbers of runs rise from this one on
 abbrev RunsRise : ℕ → List (List Piece) → Type 0
 RunsRise n [] = Unit {0}
-RunsRise n (r ∷ rs) = (n < run_number r) × RunsRise (run_number r) rs
+RunsRise n (r ∷ rs) = (n < run_number Manual r) × RunsRise (run_number Manual r) rs
 
 runs_less : (n m : ℕ) (rs : List (List Piece)) → n ≤ m → RunsRise m rs → RunsRise n rs
 runs_less n m [] h r = tt
 runs_less n m (run ∷ rs) h r =
-    let first : m < run_number run = r.0 in
+    let first : m < run_number Manual run = r.0 in
     (omega arith, r.1)
 
 runs_rise : (n : ℕ) (ps : List Piece) → PiecesRise n ps → RunsRise n (runs ps)
@@ -64,8 +65,8 @@ runs_rise n (p ∷ ps) h = by p.continues (runs_rise p.number ps h.1)
     onto : (rs : List (List Piece)) → RunsRise p.number rs → RunsRise n (onto_first p rs)
     onto [] r = (h.0, tt)
     onto (run ∷ rs) r =
-        let first : p.number < run_number run = r.0 in
-        (h.0, runs_less p.number (run_number run) rs (omega arith) r.1)
+        let first : p.number < run_number Manual run = r.0 in
+        (h.0, runs_less p.number (run_number Manual run) rs (omega arith) r.1)
 
     by : (b : Bool) → RunsRise p.number (runs ps) → RunsRise n (cond b (onto_first p (runs ps)) ((p ∷ []) ∷ runs ps))
     by true r = onto (runs ps) r
@@ -104,29 +105,29 @@ open_number (Some n) = n ∷ []
 abbrev pub numbers_told : List NumberedLine → Option ℕ → List ℕ
 numbers_told ls at = map (λ l. l.number) ls ++ open_number at
 
-told_of_runs : (n : ℕ) (rs : List (List Piece)) → RunsRise n rs → OnlyLastIsOpen rs → Rise (capped n) (numbers_told (lines_of_runs rs) (open_of_runs rs))
-told_of_runs n [] r o = tt
-told_of_runs n (run ∷ rs) r o = by (told_of_runs (run_number run) rs r.1 o.1) (is_open run) refl
+told_of_runs : (end n : ℕ) (rs : List (List Piece)) → RunsRise n rs → OnlyLastIsOpen rs → Rise (capped n) (numbers_told (lines_of_runs Manual rs) (open_of_runs Manual end rs))
+told_of_runs end n [] r o = tt
+told_of_runs end n (run ∷ rs) r o = by (told_of_runs end (run_number Manual run) rs r.1 o.1) (is_open run) refl
   where
-    first : IsBehind (capped n) (capped (run_number run))
-    first = capped_behind n (run_number run) r.0
+    first : IsBehind (capped n) (capped (run_number Manual run))
+    first = capped_behind n (run_number Manual run) r.0
 
     Rest : Type 0
-    Rest = Rise (capped (run_number run)) (numbers_told (lines_of_runs rs) (open_of_runs rs))
+    Rest = Rise (capped (run_number Manual run)) (numbers_told (lines_of_runs Manual rs) (open_of_runs Manual end rs))
 
-    last : rs ≡ [] → Rise (capped n) (numbers_told (lines_of_runs rs) (Some (capped (run_number run))))
-    last e = subst (λ (x : List (List Piece)). Rise (capped n) (numbers_told (lines_of_runs x) (Some (capped (run_number run))))) (sym e) (first, tt)
+    last : rs ≡ [] → Rise (capped n) (numbers_told (lines_of_runs Manual rs) (Some (capped (run_number Manual run))))
+    last e = subst (λ (x : List (List Piece)). Rise (capped n) (numbers_told (lines_of_runs Manual x) (Some (capped (run_number Manual run))))) (sym e) (first, tt)
 
-    by_text : Rest → (b : Bool) → Rise (capped n) (numbers_told (cond b (lines_of_runs rs) (record { number = capped (run_number run); text = run_text run } ∷ lines_of_runs rs)) (open_of_runs rs))
-    by_text rest true = rise_less (capped n) (capped (run_number run)) (numbers_told (lines_of_runs rs) (open_of_runs rs)) first.order rest
+    by_text : Rest → (b : Bool) → Rise (capped n) (numbers_told (cond b (lines_of_runs Manual rs) (record { number = capped (run_number Manual run); text = run_text run } ∷ lines_of_runs Manual rs)) (open_of_runs Manual end rs))
+    by_text rest true = rise_less (capped n) (capped (run_number Manual run)) (numbers_told (lines_of_runs Manual rs) (open_of_runs Manual end rs)) first.order rest
     by_text rest false = (first, rest)
 
     by : Rest → (b : Bool) → is_open run ≡ b
-        → Rise (capped n) (numbers_told (cond b (lines_of_runs rs) (cond (is_empty (run_text run)) (lines_of_runs rs) (record { number = capped (run_number run); text = run_text run } ∷ lines_of_runs rs))) (cond b (Some (capped (run_number run))) (open_of_runs rs)))
+        → Rise (capped n) (numbers_told (cond b (lines_of_runs Manual rs) (cond (is_empty (run_text run)) (lines_of_runs Manual rs) (record { number = capped (run_number Manual run); text = run_text run } ∷ lines_of_runs Manual rs))) (cond b (Some (capped (run_number Manual run))) (open_of_runs Manual end rs)))
     by rest true e = last (o.0 e)
     by rest false e = by_text rest (is_empty (run_text run))
 
-pub numbers_rise : (bytes : List ℕ) → Rise 0 (numbers_told (joined_lines bytes).lines (joined_lines bytes).open_at)
+pub numbers_rise : (bytes : List ℕ) → Rise 0 (numbers_told (joined_lines Manual bytes).lines (joined_lines Manual bytes).open_at)
 numbers_rise bytes =
     let pieces = map piece_of (kept (numbered_from 1 (lines bytes))) in
-    told_of_runs 0 (runs pieces) (runs_rise 0 pieces (pieces_rise 0 1 (lines bytes) (omega arith))) (only_last pieces)
+    told_of_runs (length (lines bytes)) 0 (runs pieces) (runs_rise 0 pieces (pieces_rise 0 1 (lines bytes) (omega arith))) (only_last pieces)

@@ -8,6 +8,7 @@ use Rattle.text_bytes.specs.declared.source_file.SourceFile.{SourceFile}
 use Rattle.rule_tokens.specs.Grammar.{Placed}
 use Rattle.rule_tokens.specs.Lines.{items_of}
 use Rattle.rule_tokens.specs.Values.{ends_in}
+use Rattle.text_bytes.specs.declared.profile.Profile.TheVariants.{Manual}
 use Rattle.rule_core.specs.Lines.{NumberedLine, joined_lines}
 use Rattle.rule_parts.specs.Parts.{is_read_as_assign}
 use Rattle.rule_parts.specs.Values.{finding}
@@ -54,7 +55,7 @@ again_within : (names : List (List ℕ)) (name : List ℕ) → Within 8 8 (given
 again_within [] name = omega arith
 again_within (other ∷ names) name = (omega arith, omega arith)
 
-part_within : (before : List Part) (p : Part) → Within 8 8 (again_in before p)
+part_within : (before : List Part) (p : Part) → Within 8 8 (again_in Manual before p)
 part_within before (part.Label name) = again_within (filter_map label_in before) name
 part_within before (part.Goto name) = again_within (filter_map goto_in before) name
 part_within before (part.Plain m) = omega arith
@@ -63,32 +64,32 @@ part_within before (part.Act a) = omega arith
 part_within before (part.Result c) = omega arith
 part_within before (part.Set a) = omega arith
 
-given_within : (before parts : List Part) → Within 8 8 (given_again_behind before parts)
+given_within : (before parts : List Part) → Within 8 8 (given_again_behind Manual before parts)
 given_within before [] = omega arith
 given_within before (p ∷ parts) =
-    within_both 8 8 8 (again_in before p) (given_again_behind (before ++ p ∷ []) parts) (part_within before p) (given_within (before ++ p ∷ []) parts)
+    within_both 8 8 8 (again_in Manual before p) (given_again_behind Manual (before ++ p ∷ []) parts) (part_within before p) (given_within (before ++ p ∷ []) parts)
 
 -- how a line is written
-gap_within : (gap key : List ℕ) → Within 13 13 (gap_findings gap key)
+gap_within : (gap key : List ℕ) → Within 13 13 (gap_findings Manual gap key)
 gap_within gap key =
     within_both 13 13 13 (cond (commas gap == 1) [] (finding CommaExpected key ∷ [])) (cond (ends_in comma gap) (finding BlankExpected key ∷ []) [])
     (unless 13 (finding CommaExpected key) (commas gap == 1) refl) (maybe 13 (finding BlankExpected key) (ends_in comma gap) refl)
 
-style_within : (line : List ℕ) (place : ℕ) (tokens : List Placed) → Within 13 13 (style_behind line place tokens)
+style_within : (line : List ℕ) (place : ℕ) (tokens : List Placed) → Within 13 13 (style_behind Manual line place tokens)
 style_within line place [] = unless 13 (finding CommaExpected []) (commas (drop place line) == 0) refl
 style_within line place (t ∷ tokens) =
-    within_both 13 13 13 (gap_findings (between place t.span.start line) t.parts.head.key) (operator_findings t ++ style_behind line t.span.end tokens) (gap_within (between place t.span.start line) t.parts.head.key)
-    (within_both 13 13 13 (operator_findings t) (style_behind line t.span.end tokens) (maybe 13 (finding ReadAsAssign t.parts.head.key) (is_read_as_assign t) refl) (style_within line t.span.end tokens))
+    within_both 13 13 13 (gap_findings Manual (between place t.span.start line) t.parts.head.key) (operator_findings Manual t ++ style_behind Manual line t.span.end tokens) (gap_within (between place t.span.start line) t.parts.head.key)
+    (within_both 13 13 13 (operator_findings Manual t) (style_behind Manual line t.span.end tokens) (maybe 13 (finding ReadAsAssign t.parts.head.key) (is_read_as_assign t) refl) (style_within line t.span.end tokens))
 
-line_within : (line : List ℕ) (tokens : List Placed) → Within 13 13 (style_findings line tokens)
+line_within : (line : List ℕ) (tokens : List Placed) → Within 13 13 (style_findings Manual line tokens)
 line_within line [] = omega arith
 line_within line (t ∷ tokens) =
-    within_both 13 13 13 (operator_findings t) (style_behind line t.span.end tokens) (maybe 13 (finding ReadAsAssign t.parts.head.key) (is_read_as_assign t) refl) (style_within line t.span.end tokens)
+    within_both 13 13 13 (operator_findings Manual t) (style_behind Manual line t.span.end tokens) (maybe 13 (finding ReadAsAssign t.parts.head.key) (is_read_as_assign t) refl) (style_within line t.span.end tokens)
 
 -- what is to be said of a draft
-draft_within : (line : List ℕ) (parts : List Part) → Within 8 13 (draft line parts).findings
+draft_within : (line : List ℕ) (parts : List Part) → Within 8 13 (draft Manual line parts).findings
 draft_within line parts =
-    within_both 8 8 13 (given_again_behind [] parts) _ (given_within [] parts) (within_less 8 13 13 _ (omega arith) (line_within line _))
+    within_both 8 8 13 (given_again_behind Manual [] parts) _ (given_within [] parts) (within_less 8 13 13 _ (omega arith) (line_within line _))
 
 abbrev as_read : Draft → Result Draft Finding
 as_read d = Ok d
@@ -96,17 +97,17 @@ as_read d = Ok d
 same_draft : (c d : Draft) → as_read c ≡ as_read d → c ≡ d
 same_draft c d e = cc
 
-read_within : (line : List ℕ) (d : Draft) → draft_of line ≡ Ok d → Within 8 13 d.findings
+read_within : (line : List ℕ) (d : Draft) → draft_of Manual line ≡ Ok d → Within 8 13 d.findings
 unfolding draft_of
 read_within line d e = by_length (nat_lt 16384 (length line)) e
   where
-    by_parts : (read : Result (List Part) Finding) → draft_with line read ≡ Ok d → Within 8 13 d.findings
-    by_parts (Ok parts) e = subst (λ (c : Draft). Within 8 13 c.findings) (same_draft (draft line parts) d e) (draft_within line parts)
+    by_parts : (read : Result (List Part) Finding) → draft_with Manual line read ≡ Ok d → Within 8 13 d.findings
+    by_parts (Ok parts) e = subst (λ (c : Draft). Within 8 13 c.findings) (same_draft (draft Manual line parts) d e) (draft_within line parts)
     by_parts (Err wrong) e = cc
 
-    by_length : (b : Bool) → cond b (Err (finding LineTooLong [])) (draft_with line (parts_of line (items_of line))) ≡ Ok d → Within 8 13 d.findings
+    by_length : (b : Bool) → cond b (Err (finding LineTooLong [])) (draft_with Manual line (parts_of Manual line (items_of line))) ≡ Ok d → Within 8 13 d.findings
     by_length true e = cc
-    by_length false e = by_parts (parts_of line (items_of line)) e
+    by_length false e = by_parts (parts_of Manual line (items_of line)) e
 
 rule_within : (d : Draft) (k : Landing) → Within 8 13 d.findings → Within 7 14 (findings_of d k)
 rule_within d k w =
@@ -127,7 +128,7 @@ about_line : (file : List ℕ) (line low high : ℕ) (fs : List Finding) → Wit
 about_line file line low high [] w = tt
 about_line file line low high (f ∷ fs) w = (refl, w.0, about_line file line (rank f.kind) high fs w.1)
 
-line_about : (file : List ℕ) (l : NumberedLine) (k : Landing) (read : Result Draft Finding) → draft_of l.text ≡ read → AboutLine l.number 0 (line_messages file l.number read k)
+line_about : (file : List ℕ) (l : NumberedLine) (k : Landing) (read : Result Draft Finding) → draft_of Manual l.text ≡ read → AboutLine l.number 0 (line_messages file l.number read k)
 line_about file l k (Err wrong) e = (refl, omega arith, tt)
 line_about file l k (Ok d) e = about_line file l.number 0 14 (findings_of d k) (within_less 0 7 14 (findings_of d k) (omega arith) (rule_within d k (read_within l.text d e)))
 
@@ -166,17 +167,17 @@ line_starts : (before line low : ℕ) (ms others : List Message) → IsBehind be
 line_starts before line low [] others b a o = starts_less before line others b.order o.1
 line_starts before line low (m ∷ ms) others b a o = subst (IsBehind before) (sym a.0) b
 
-all_ordered : (file : List ℕ) (above : List Names) (ls : List NumberedLine) (at : Option ℕ) (before : ℕ) → Rise before (numbers_told ls at) → OrderedBehind before (told_below file above ls ++ open_messages file at)
+all_ordered : (file : List ℕ) (above : List Names) (ls : List NumberedLine) (at : Option ℕ) (before : ℕ) → Rise before (numbers_told ls at) → OrderedBehind before (told_below Manual file above ls ++ open_messages file at)
 all_ordered file above [] None before r = (tt, tt)
 all_ordered file above [] (Some n) before r = ((tt, tt), r.0)
 all_ordered file above (l ∷ ls) at before r =
-    let here : List Message = line_messages file l.number (draft_of l.text) (landing_at above l ls) in
-    let others : List Message = told_below file (names_at l ∷ above) ls ++ open_messages file at in
-    let rest : OrderedBehind l.number others = all_ordered file (names_at l ∷ above) ls at l.number r.1 in
-    let about : AboutLine l.number 0 here = line_about file l (landing_at above l ls) (draft_of l.text) refl in
-    subst (OrderedBehind before) (sym (append_assoc here (told_below file (names_at l ∷ above) ls) (open_messages file at)))
+    let here : List Message = line_messages file l.number (draft_of Manual l.text) (landing_at Manual above l ls) in
+    let others : List Message = told_below Manual file (names_at Manual l ∷ above) ls ++ open_messages file at in
+    let rest : OrderedBehind l.number others = all_ordered file (names_at Manual l ∷ above) ls at l.number r.1 in
+    let about : AboutLine l.number 0 here = line_about file l (landing_at Manual above l ls) (draft_of Manual l.text) refl in
+    subst (OrderedBehind before) (sym (append_assoc here (told_below Manual file (names_at Manual l ∷ above) ls) (open_messages file at)))
     (line_first l.number 0 here others about rest, line_starts before l.number 0 here others r.0 about rest)
 
-pub messages_ordered : (f : SourceFile) → AreInOrder (file_messages f)
+pub messages_ordered : (f : SourceFile) → AreInOrder (file_messages Manual f)
 unfolding landings
-messages_ordered f = (all_ordered f.name [] (joined_lines f.bytes).lines (joined_lines f.bytes).open_at 0 (numbers_rise f.bytes)).0
+messages_ordered f = (all_ordered f.name [] (joined_lines Manual f.bytes).lines (joined_lines Manual f.bytes).open_at 0 (numbers_rise f.bytes)).0

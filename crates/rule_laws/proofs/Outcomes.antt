@@ -6,14 +6,16 @@ use Rattle.std.specs.Cmp.Lexicographic.{bytes_decides}
 use Rattle.std.specs.List.{flat_map, list_any}
 use Rattle.text_bytes.specs.declared.message.Message.{Message}
 use Rattle.text_bytes.specs.declared.source_file.SourceFile.{SourceFile}
+use Rattle.text_bytes.specs.declared.profile.Profile.{Profile}
+use Rattle.rule_core.specs.Ends.{given_up}
 use Rattle.rule_core.specs.Lines.{NumberedLine, joined_lines}
 use Rattle.rule_parts.specs.declared.finding.Finding.{Finding}
 use Rattle.rule_core.specs.Drafts.{Draft, draft_of}
 use Rattle.rule_jumps.specs.Jumps.{Names, has_label, is_lost, is_named, is_unused, landings}
 use Rattle.rule_jumps.specs.declared.jumps.Landing.{Landing}
-use Rattle.rule_laws.specs.Outcomes.{AllComeTo, ComesTo, HasLabel, IsReadByLine, Outcome, messages_in, one_message, one_rule, rules_in}
+use Rattle.rule_laws.specs.Outcomes.{AllComeTo, ComesTo, HasLabel, IsGivenUp, IsReadByLine, Outcome, messages_in, one_message, one_rule, rules_in}
 use Rattle.rule_types.specs.Rules.{Rule}
-use Rattle.rule_core.specs.Rules.{line_messages, line_rules, message_at, names_of, open_messages, rule_at}
+use Rattle.rule_core.specs.Rules.{line_messages, line_rules, message_at, messages_unless, names_of, open_messages, rule_at, rules_unless}
 use Rattle.rule_laws.proofs.Landed.{landing_at, names_at, names_in, rules_below, told_below}
 
 -- ---- labels of rules
@@ -39,12 +41,12 @@ pub so_bears : (name : List ℕ) (rules : List Rule) → HasLabel name rules →
 so_bears name rules a = list_any-from_Any (λ (r : Rule). is_named name r.label) rules (a.0, a.1, a.2, a.3, so_named name a.1.label a.4)
 
 -- the rules of lines bear the labels of the lines
-same_labels : (file : List ℕ) (above : List Names) (ls : List NumberedLine) (name : List ℕ) → bears name (rules_below file above ls) ≡ has_label name (names_in ls)
-same_labels file above [] name = refl
-same_labels file above (l ∷ ls) name = by (draft_of l.text) (landing_at above l ls) (rules_below file (names_at l ∷ above) ls) (same_labels file (names_at l ∷ above) ls name)
+same_labels : (profile : Profile) (file : List ℕ) (above : List Names) (ls : List NumberedLine) (name : List ℕ) → bears name (rules_below profile file above ls) ≡ has_label name (names_in profile ls)
+same_labels profile file above [] name = refl
+same_labels profile file above (l ∷ ls) name = by (draft_of profile l.text) (landing_at profile above l ls) (rules_below profile file (names_at profile l ∷ above) ls) (same_labels profile file (names_at profile l ∷ above) ls name)
   where
-    by : (read : Result Draft Finding) (k : Landing) (rules : List Rule) → bears name rules ≡ has_label name (names_in ls)
-        → bears name (line_rules file l.number read k ++ rules) ≡ (is_named name (names_of read).label || has_label name (names_in ls))
+    by : (read : Result Draft Finding) (k : Landing) (rules : List Rule) → bears name rules ≡ has_label name (names_in profile ls)
+        → bears name (line_rules file l.number read k ++ rules) ≡ (is_named name (names_of read).label || has_label name (names_in profile ls))
     by (Ok d) k rules e = ap (λ b. is_named name d.label || b) e
     by (Err wrong) k rules e = e
 
@@ -69,50 +71,54 @@ outcome_of file n (Ok d) k = one_rule (rule_at file n d k) (line_messages file n
 outcome_of file n (Err wrong) k = one_message (message_at file n wrong)
 
 -- what lines below others come to
-abbrev outcomes_below : List ℕ → List Names → List NumberedLine → List Outcome
-outcomes_below file above [] = []
-outcomes_below file above (l ∷ ls) = outcome_of file l.number (draft_of l.text) (landing_at above l ls) ∷ outcomes_below file (names_at l ∷ above) ls
+abbrev outcomes_below : Profile → List ℕ → List Names → List NumberedLine → List Outcome
+outcomes_below profile file above [] = []
+outcomes_below profile file above (l ∷ ls) = outcome_of file l.number (draft_of profile l.text) (landing_at profile above l ls) ∷ outcomes_below profile file (names_at profile l ∷ above) ls
 
-rules_are : (file : List ℕ) (above : List Names) (ls : List NumberedLine) → rules_below file above ls ≡ flat_map rules_in (outcomes_below file above ls)
-rules_are file above [] = refl
-rules_are file above (l ∷ ls) = by (draft_of l.text) (landing_at above l ls) (rules_below file (names_at l ∷ above) ls) (outcomes_below file (names_at l ∷ above) ls) (rules_are file (names_at l ∷ above) ls)
+rules_are : (profile : Profile) (file : List ℕ) (above : List Names) (ls : List NumberedLine) → rules_below profile file above ls ≡ flat_map rules_in (outcomes_below profile file above ls)
+rules_are profile file above [] = refl
+rules_are profile file above (l ∷ ls) = by (draft_of profile l.text) (landing_at profile above l ls) (rules_below profile file (names_at profile l ∷ above) ls) (outcomes_below profile file (names_at profile l ∷ above) ls) (rules_are profile file (names_at profile l ∷ above) ls)
   where
     by : (read : Result Draft Finding) (k : Landing) (rules : List Rule) (os : List Outcome) → rules ≡ flat_map rules_in os → line_rules file l.number read k ++ rules ≡ flat_map rules_in (outcome_of file l.number read k ∷ os)
     by (Ok d) k rules os e = ap (λ rs. rule_at file l.number d k ∷ rs) e
     by (Err wrong) k rules os e = e
 
-messages_are : (file : List ℕ) (above : List Names) (ls : List NumberedLine) → told_below file above ls ≡ flat_map messages_in (outcomes_below file above ls)
-messages_are file above [] = refl
-messages_are file above (l ∷ ls) = by (draft_of l.text) (landing_at above l ls) (told_below file (names_at l ∷ above) ls) (outcomes_below file (names_at l ∷ above) ls) (messages_are file (names_at l ∷ above) ls)
+messages_are : (profile : Profile) (file : List ℕ) (above : List Names) (ls : List NumberedLine) → told_below profile file above ls ≡ flat_map messages_in (outcomes_below profile file above ls)
+messages_are profile file above [] = refl
+messages_are profile file above (l ∷ ls) = by (draft_of profile l.text) (landing_at profile above l ls) (told_below profile file (names_at profile l ∷ above) ls) (outcomes_below profile file (names_at profile l ∷ above) ls) (messages_are profile file (names_at profile l ∷ above) ls)
   where
     by : (read : Result Draft Finding) (k : Landing) (told : List Message) (os : List Outcome) → told ≡ flat_map messages_in os → line_messages file l.number read k ++ told ≡ flat_map messages_in (outcome_of file l.number read k ∷ os)
     by (Ok d) k told os e = ap (λ ms. line_messages file l.number (Ok d) k ++ ms) e
     by (Err wrong) k told os e = ap (λ ms. message_at file l.number wrong ∷ ms) e
 
-all_come : (file : List ℕ) (above : List Names) (ls : List NumberedLine) → AllComeTo file ls (outcomes_below file above ls)
-all_come file above [] = tt
-all_come file above (l ∷ ls) = (by (draft_of l.text) refl, all_come file (names_at l ∷ above) ls)
+all_come : (profile : Profile) (file : List ℕ) (above : List Names) (ls : List NumberedLine) → AllComeTo profile file ls (outcomes_below profile file above ls)
+all_come profile file above [] = tt
+all_come profile file above (l ∷ ls) = (by (draft_of profile l.text) refl, all_come profile file (names_at profile l ∷ above) ls)
   where
     behind : List Rule
-    behind = flat_map rules_in (outcomes_below file (names_at l ∷ above) ls)
+    behind = flat_map rules_in (outcomes_below profile file (names_at profile l ∷ above) ls)
 
-    by : (read : Result Draft Finding) → draft_of l.text ≡ read
-        → ComesTo file l (outcome_of file l.number read (record { lost = is_lost (names_of read).goto (names_in ls); unused = is_unused (names_of read).label above })) behind
+    by : (read : Result Draft Finding) → draft_of profile l.text ≡ read
+        → ComesTo profile file l (outcome_of file l.number read (record { lost = is_lost (names_of read).goto (names_in profile ls); unused = is_unused (names_of read).label above })) behind
     by (Err wrong) e = record { wrong = wrong; reads = e; is = refl }
     by (Ok d) e = record {
       draft = d;
-      landing = record { lost = is_lost d.goto (names_in ls); unused = is_unused d.label above };
+      landing = record { lost = is_lost d.goto (names_in profile ls); unused = is_unused d.label above };
       reads = e;
       is = refl;
       told = refl;
-      jump = jump_kept d.goto (names_in ls) behind (λ name. ap (bears name) (sym (rules_are file (names_at l ∷ above) ls)) ∙ same_labels file (names_at l ∷ above) ls name);
+      jump = jump_kept d.goto (names_in profile ls) behind (λ name. ap (bears name) (sym (rules_are profile file (names_at profile l ∷ above) ls)) ∙ same_labels profile file (names_at profile l ∷ above) ls name);
     }
 
-pub read_by_line : (f : SourceFile) → IsReadByLine f
+pub read_by_line : (profile : Profile) (f : SourceFile) → given_up profile f.bytes ≡ None → IsReadByLine profile f
 unfolding landings
-read_by_line f = record {
-  outcomes = outcomes_below f.name [] (joined_lines f.bytes).lines;
-  each = all_come f.name [] (joined_lines f.bytes).lines;
-  rules = rules_are f.name [] (joined_lines f.bytes).lines;
-  messages = ap (λ ms. ms ++ open_messages f.name (joined_lines f.bytes).open_at) (messages_are f.name [] (joined_lines f.bytes).lines);
+read_by_line profile f kept = record {
+  outcomes = outcomes_below profile f.name [] (joined_lines profile f.bytes).lines;
+  each = all_come profile f.name [] (joined_lines profile f.bytes).lines;
+  rules = ap (rules_unless profile f) kept ∙ rules_are profile f.name [] (joined_lines profile f.bytes).lines;
+  messages = ap (messages_unless profile f) kept ∙ ap (λ ms. ms ++ open_messages f.name (joined_lines profile f.bytes).open_at) (messages_are profile f.name [] (joined_lines profile f.bytes).lines);
 }
+
+-- a file that is given up has no rule and one message
+pub given_up_whole : (profile : Profile) (f : SourceFile) (line : ℕ) → given_up profile f.bytes ≡ Some line → IsGivenUp profile f line
+given_up_whole profile f line e = record { rules = ap (rules_unless profile f) e; messages = ap (messages_unless profile f) e }

@@ -1,7 +1,8 @@
--- What may be wrong with a token, as one list: each condition with the fault that it is.
+-- What may be wrong with a token by the manual, as one list: each condition with the fault that it is.
 use Rattle.std.specs.Prelude.{◌≡◌, ℕ, Bool, true, false, not, ◌&&◌, if◌then◌else◌, List, [], ◌∷◌, Option, Some, None, is_none, Result, Ok, Err}
 use Rattle.std.specs.Option.{option_and_then}
 use Rattle.text_bytes.specs.declared.message.MessageKind.TheVariants.{UnknownKey, OperatorNotAllowed, WrongAttribute, BadValue, BadSubstitution, SetNotSupported}
+use Rattle.text_bytes.specs.declared.profile.Profile.TheVariants.{Manual}
 use Rattle.text_core.specs.Choices.{choice, choice_blind}
 use Rattle.text_core.specs.declared.glob_fault.GlobFault.{GlobFault}
 use Rattle.text_core.specs.declared.glob_fault.GlobFault.TheVariants as glob
@@ -21,11 +22,11 @@ use Rattle.rule_parts.specs.declared.finding.Finding.{Finding}
 
 -- what a token is about, if its key is one and takes its attribute
 abbrev pub topic_in : Placed → Option Topic
-topic_in t = option_and_then (λ key. topic_of key t.parts.head.attribute) (key_of t.parts.head.key)
+topic_in t = option_and_then (λ key. topic_of Manual key t.parts.head.attribute) (key_of t.parts.head.key)
 
 -- what a token is for its rule, if its operator is taken too
 abbrev pub role_in : Placed → Option Role
-role_in t = option_and_then (λ key. option_and_then (λ about. role_of about (read_as key t.parts.head.operator)) (topic_of key t.parts.head.attribute)) (key_of t.parts.head.key)
+role_in t = option_and_then (λ key. option_and_then (λ about. role_of about (read_as key t.parts.head.operator)) (topic_of Manual key t.parts.head.attribute)) (key_of t.parts.head.key)
 
 -- whether there is a role, and it is so
 abbrev pub some_role : (Role → Bool) → Option Role → Bool
@@ -75,7 +76,7 @@ ignores_in_vain blind r = blind && not (is_match r)
 
 -- the text is no value of the role
 abbrev pub is_no_value : Bool → List ℕ → Role → Bool
-is_no_value blind text r = is_wrong (part_by r blind text)
+is_no_value blind text r = is_wrong (part_by Manual r blind text)
 
 -- the first fault whose condition holds
 abbrev pub first_of : List (Bool × Finding) → Option Finding
@@ -101,4 +102,4 @@ fault_in (Err fault) = Some fault
 
 -- a token is a part where no condition holds, else its fault is that of the first that does
 abbrev pub FirstFaultCounts : Type 0
-FirstFaultCounts = (t : Placed) → fault_in (part_of t) ≡ first_of (conditions t)
+FirstFaultCounts = (t : Placed) → fault_in (part_of Manual t) ≡ first_of (conditions t)

@@ -3,6 +3,7 @@ use Rattle.std.specs.Prelude.{◌≡◌, ℕ, List, ◌∷◌, ◌++◌, flat_ma
 use Rattle.text_bytes.specs.declared.source_file.SourceFile.{SourceFile}
 use Rattle.rule_laws.specs.Outcomes.{HasLabel}
 use Rattle.rule_types.specs.Rules.{Rule}
+use Rattle.text_bytes.specs.declared.profile.Profile.TheVariants.{Manual}
 use Rattle.rule_core.specs.Rules.{file_rules, set_of}
 
 -- Of all rules, those above a rule and those below it, the next below that bears a label stands in the rule's own file: the files are those before it, this one and those behind it, and so are the rules.
@@ -15,9 +16,9 @@ pub record LandsInItsFile (files : List SourceFile) (above : List Rule) (r : Rul
   pub between : List Rule
   pub landing : Rule
   pub behind : List Rule
-  pub file_is : file_rules file ≡ before ++ r ∷ (between ++ landing ∷ behind)
-  pub above_is : above ≡ flat_map file_rules files_before ++ before
-  pub below_is : below ≡ between ++ landing ∷ (behind ++ flat_map file_rules files_behind)
+  pub file_is : file_rules Manual file ≡ before ++ r ∷ (between ++ landing ∷ behind)
+  pub above_is : above ≡ flat_map (file_rules Manual) files_before ++ before
+  pub below_is : below ≡ between ++ landing ∷ (behind ++ flat_map (file_rules Manual) files_behind)
   pub label : landing.label ≡ Some name
   pub next : ¬ HasLabel name between
 

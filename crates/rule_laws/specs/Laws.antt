@@ -2,6 +2,7 @@
 use Rattle.std.specs.Prelude.{◌≡◌, ◌⊎◌, ℕ, true, false, List, [], map, All, Any, Contains, None, Ok}
 use Rattle.std.specs.List.{AllZip}
 use Rattle.text_bytes.specs.declared.source_file.SourceFile.{SourceFile}
+use Rattle.text_bytes.specs.declared.profile.Profile.{Profile}
 use Rattle.rule_core.specs.Lines.{NumberedLine, Piece, is_comment, joined_lines, kept, lines, numbered_from, piece_of, run_number, run_text, runs, unindented}
 use Rattle.text_bytes.specs.Messages.{capped}
 use Rattle.rule_core.specs.Drafts.{Draft, draft_of}
@@ -14,9 +15,9 @@ abbrev pub well_landed : Landing
 well_landed = record { lost = false; unused = false }
 
 -- a rule is a joined line just as it is written, its jump and its label included, and nothing is to be said of it
-pub record IsWritten (file : List ℕ) (l : NumberedLine) (r : Rule) : Type 0 where
+pub record IsWritten (by : Profile) (file : List ℕ) (l : NumberedLine) (r : Rule) : Type 0 where
   pub draft : Draft
-  pub reads : draft_of l.text ≡ Ok draft
+  pub reads : draft_of by l.text ≡ Ok draft
   pub is : r ≡ rule_at file l.number draft well_landed
   pub quiet : draft.findings ≡ []
 
@@ -28,16 +29,16 @@ written_lines f = numbered_from 1 (lines f.bytes)
 abbrev pub runs_of : SourceFile → List (List Piece)
 runs_of f = runs (map piece_of (kept (written_lines f)))
 
--- lines that are joined are empty, or one of these rules, at the number of their first
-abbrev pub IsEmptyOrRule : List Rule → List Piece → Type 0
-IsEmptyOrRule rules run = (run_text run ≡ []) ⊎ Contains (map (λ r. r.line) rules) (capped (run_number run))
+-- lines that are joined are empty, or one of these rules, at the number by which they are told
+abbrev pub IsEmptyOrRule : Profile → List Rule → List Piece → Type 0
+IsEmptyOrRule by rules run = (run_text run ≡ []) ⊎ Contains (map (λ r. r.line) rules) (capped (run_number by run))
 
 -- a physical line of a file is a comment, or one of lines that are joined and are empty or a rule
-abbrev pub IsKnown : SourceFile → NumberedLine → Type 0
-IsKnown f l = (is_comment (unindented l) ≡ true) ⊎ Any (λ run. Contains run (piece_of (unindented l)) × IsEmptyOrRule (file_rules f) run) (runs_of f)
+abbrev pub IsKnown : Profile → SourceFile → NumberedLine → Type 0
+IsKnown by f l = (is_comment (unindented l) ≡ true) ⊎ Any (λ run. Contains run (piece_of (unindented l)) × IsEmptyOrRule by (file_rules by f) run) (runs_of f)
 
 -- All that stands in a file is understood: its joined lines are its rules, none is open at its end, and each physical line is a rule or part of one, empty, or a comment.
-pub record IsUnderstood (f : SourceFile) : Type 0 where
-  pub rules : AllZip (IsWritten f.name) (joined_lines f.bytes).lines (file_rules f)
-  pub closed : (joined_lines f.bytes).open_at ≡ None
-  pub lines : All (IsKnown f) (written_lines f)
+pub record IsUnderstood (by : Profile) (f : SourceFile) : Type 0 where
+  pub rules : AllZip (IsWritten by f.name) (joined_lines by f.bytes).lines (file_rules by f)
+  pub closed : (joined_lines by f.bytes).open_at ≡ None
+  pub lines : All (IsKnown by f) (written_lines f)

@@ -5,3 +5,5 @@ pub mod Jumps
 pub mod Outcomes
 pub mod Laws
 pub mod Order
+pub mod LineEnds
+pub mod Udev

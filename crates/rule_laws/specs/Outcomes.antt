@@ -2,6 +2,9 @@
 use Rattle.std.specs.Prelude.{◌≡◌, ◌↔◌, ℕ, List, [], ◌∷◌, ◌++◌, ⊤, map, flat_map, Any, Some, Ok, Err}
 use Rattle.text_bytes.specs.declared.message.Message.{Message}
 use Rattle.text_bytes.specs.declared.source_file.SourceFile.{SourceFile}
+use Rattle.text_bytes.specs.declared.profile.Profile.{Profile}
+use Rattle.text_bytes.specs.declared.message.MessageKind.TheVariants.{FileGivenUp}
+use Rattle.rule_parts.specs.Values.{finding}
 use Rattle.rule_core.specs.Lines.{NumberedLine, joined_lines}
 use Rattle.rule_parts.specs.declared.finding.Finding.{Finding}
 use Rattle.rule_core.specs.Drafts.{Draft, draft_of}
@@ -29,35 +32,40 @@ abbrev pub HasLabel : List ℕ → List Rule → Type 0
 HasLabel name rules = Any (λ r. r.label ≡ Some name) rules
 
 -- a line is read as a rule, which has its jump exactly where a rule behind it bears the label
-pub record IsRule (file : List ℕ) (l : NumberedLine) (r : Rule) (messages : List Message) (behind : List Rule) : Type 0 where
+pub record IsRule (by : Profile) (file : List ℕ) (l : NumberedLine) (r : Rule) (messages : List Message) (behind : List Rule) : Type 0 where
   pub draft : Draft
   pub landing : Landing
-  pub reads : draft_of l.text ≡ Ok draft
+  pub reads : draft_of by l.text ≡ Ok draft
   pub is : r ≡ rule_at file l.number draft landing
   pub told : messages ≡ map (message_at file l.number) (findings_of draft landing)
   pub jump : (name : List ℕ) → (r.goto ≡ Some name) ↔ ((draft.goto ≡ Some name) × HasLabel name behind)
 
 -- a line is no rule, and the message says why
-pub record IsNoRule (file : List ℕ) (l : NumberedLine) (m : Message) : Type 0 where
+pub record IsNoRule (by : Profile) (file : List ℕ) (l : NumberedLine) (m : Message) : Type 0 where
   pub wrong : Finding
-  pub reads : draft_of l.text ≡ Err wrong
+  pub reads : draft_of by l.text ≡ Err wrong
   pub is : m ≡ message_at file l.number wrong
 
 -- a line comes to this, before these rules
-abbrev pub ComesTo : List ℕ → NumberedLine → Outcome → List Rule → Type 0
-ComesTo file l (one_rule r messages) behind = IsRule file l r messages behind
-ComesTo file l (one_message m) behind = IsNoRule file l m
+abbrev pub ComesTo : Profile → List ℕ → NumberedLine → Outcome → List Rule → Type 0
+ComesTo by file l (one_rule r messages) behind = IsRule by file l r messages behind
+ComesTo by file l (one_message m) behind = IsNoRule by file l m
 
 -- lines come to these, line by line
-abbrev pub AllComeTo : List ℕ → List NumberedLine → List Outcome → Type 0
-AllComeTo file [] [] = ⊤
-AllComeTo file [] (o ∷ outcomes) = ⊥
-AllComeTo file (l ∷ lines) [] = ⊥
-AllComeTo file (l ∷ lines) (o ∷ outcomes) = ComesTo file l o (flat_map rules_in outcomes) × AllComeTo file lines outcomes
+abbrev pub AllComeTo : Profile → List ℕ → List NumberedLine → List Outcome → Type 0
+AllComeTo by file [] [] = ⊤
+AllComeTo by file [] (o ∷ outcomes) = ⊥
+AllComeTo by file (l ∷ lines) [] = ⊥
+AllComeTo by file (l ∷ lines) (o ∷ outcomes) = ComesTo by file l o (flat_map rules_in outcomes) × AllComeTo by file lines outcomes
 
--- The rules and messages of a file are those of its joined lines: each is one rule, or no rule and one message. What is still open at the end has a message of its own.
-pub record IsReadByLine (f : SourceFile) : Type 0 where
+-- The rules and messages of a file that is not given up are those of its joined lines: each is one rule, or no rule and one message. What is still open at the end has a message of its own.
+pub record IsReadByLine (by : Profile) (f : SourceFile) : Type 0 where
   pub outcomes : List Outcome
-  pub each : AllComeTo f.name (joined_lines f.bytes).lines outcomes
-  pub rules : file_rules f ≡ flat_map rules_in outcomes
-  pub messages : file_messages f ≡ flat_map messages_in outcomes ++ open_messages f.name (joined_lines f.bytes).open_at
+  pub each : AllComeTo by f.name (joined_lines by f.bytes).lines outcomes
+  pub rules : file_rules by f ≡ flat_map rules_in outcomes
+  pub messages : file_messages by f ≡ flat_map messages_in outcomes ++ open_messages f.name (joined_lines by f.bytes).open_at
+
+-- A file that is given up for a line has no rule, and one message.
+pub record IsGivenUp (by : Profile) (f : SourceFile) (line : ℕ) : Type 0 where
+  pub rules : file_rules by f ≡ []
+  pub messages : file_messages by f ≡ message_at f.name line (finding FileGivenUp []) ∷ []

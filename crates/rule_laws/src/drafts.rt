@@ -1,5 +1,7 @@
 //! Laws of drafts, each the contract of a function that does nothing.
 ghost use Rattle.std.specs.Prelude.{◌≡◌, ◌↔◌, [], None, List, ℕ};
+ghost use Rattle.text_bytes.specs.declared.profile.Profile.{Profile};
+ghost use Rattle.text_bytes.specs.declared.profile.Profile.TheVariants.{Manual};
 ghost use Rattle.rule_types.specs.declared.part.Part.{Part};
 ghost use Rattle.rule_tokens.specs.Grammar.{Placed, answers};
 ghost use Rattle.rule_tokens.specs.Lines.{items_of};
@@ -9,7 +11,7 @@ ghost use Rattle.rule_core.specs.Style.{style_findings};
 /// The acts and the assignments of a line stand in its draft in the order of their turns, those of
 /// one turn as they are written.
 pub fn parts_are_kept_in_order()
-    ensures { (line : List ℕ) (parts : List Part) → AreInOrder line parts }
+    ensures { (by : Profile) (line : List ℕ) (parts : List Part) → AreInOrder by line parts }
 {}
 
 /// Each part of a line is in one list of its draft, or gives a label or a jump.
@@ -17,15 +19,15 @@ pub fn no_part_is_lost()
     ensures { (parts : List Part) → NoneIsLost parts }
 {}
 
-/// A LABEL is told of as given twice exactly where one stands before it in the line, and so is a
+/// By the manual a LABEL is told of as given twice exactly where one stands before it in the line, and so is a
 /// GOTO.
 pub fn names_given_again_are_told()
     ensures { (parts : List Part) (p : Part) → IsToldWhereAgain parts p }
 {}
 
-/// Of a line that is tokens to its end, nothing is to be said of how it is written exactly where each
+/// By the manual, of a line that is tokens to its end, nothing is to be said of how it is written exactly where each
 /// gap between tokens is blanks, one comma and blanks, at least one of them, where only blanks stand
 /// at the end, and where no operator is read as `=`.
 pub fn plain_lines_are_passed()
-    ensures { (line : List ℕ) (tokens : List Placed) → items_of line ≡ answers tokens None → (style_findings line tokens ≡ []) ↔ IsPlain line tokens }
+    ensures { (line : List ℕ) (tokens : List Placed) → items_of line ≡ answers tokens None → (style_findings Manual line tokens ≡ []) ↔ IsPlain line tokens }
 {}

@@ -10,3 +10,4 @@ pub mod parts;
 pub mod rules;
 pub mod templates;
 pub mod tokens;
+pub mod udev;

@@ -1,30 +1,35 @@
 //! What holds of the rules of files, whatever stands in the files.
 //!
 //! Each function here is empty: its contract is the law.
-ghost use Rattle.std.specs.Prelude.{◌≡◌, [], List, All};
+ghost use Rattle.std.specs.Prelude.{◌≡◌, [], List, ℕ, None, Some, All};
+ghost use Rattle.text_bytes.specs.declared.profile.Profile.{Profile};
+ghost use Rattle.text_bytes.specs.declared.profile.Profile.TheVariants.{Manual};
 ghost use Rattle.text_bytes.specs.declared.source_file.SourceFile.{SourceFile};
 ghost use Rattle.rule_laws.specs.Jumps.{JumpsStayInTheirFiles};
 ghost use Rattle.rule_laws.specs.Laws.{IsUnderstood};
 ghost use Rattle.rule_laws.specs.Order.{AreInOrder};
-ghost use Rattle.rule_laws.specs.Outcomes.{IsReadByLine};
-ghost use Rattle.rule_core.specs.Rules.{file_messages, set_of};
+ghost use Rattle.rule_laws.specs.Outcomes.{IsGivenUp, IsReadByLine};
+ghost use Rattle.rule_core.specs.Ends.{given_up};
+ghost use Rattle.rule_core.specs.Rules.{file_messages, set_of_as};
 
 /// In files about which there is no message, every line is a rule or part of one, empty, or a comment.
 /// Every rule is then its joined line just as it is written.
 pub fn files_without_messages_are_understood()
-    ensures { (files : List SourceFile) → (set_of files).messages ≡ [] → All IsUnderstood files }
+    ensures { (by : Profile) (files : List SourceFile) → (set_of_as by files).messages ≡ [] → All (IsUnderstood by) files }
 {}
 
 /// Every joined line of a file is one rule, or no rule and exactly one message. A rule has its jump
-/// exactly where a later rule of its file bears the label.
+/// exactly where a later rule of its file bears the label. Only where udev gives a file up it has no
+/// rule and one message.
 pub fn each_line_is_a_rule_or_a_message()
-    ensures { (file : SourceFile) → IsReadByLine file }
+    ensures kept { (by : Profile) (file : SourceFile) → given_up by file.bytes ≡ None → IsReadByLine by file }
+    ensures lost { (by : Profile) (file : SourceFile) (line : ℕ) → given_up by file.bytes ≡ Some line → IsGivenUp by file line }
 {}
 
-/// The messages about a file stand by line, and those about one line by kind: the V by number, then
+/// By the manual the messages about a file stand by line, and those about one line by kind: the V by number, then
 /// S1 to S3, and S4 last.
 pub fn messages_stand_in_order()
-    ensures { (file : SourceFile) → AreInOrder (file_messages file) }
+    ensures { (file : SourceFile) → AreInOrder (file_messages Manual file) }
 {}
 
 /// Of the rules of all files the next behind a jump that bears its label stands in the jump's own

@@ -4,21 +4,23 @@ use Rattle.std.specs.List.{list_any}
 use Rattle.std.proofs.lemmas.List.{reverse-append}
 use Rattle.std.proofs.lemmas.List.Folds.{list_any-append}
 use Rattle.std.proofs.lemmas.Grind.{flat_map-append}
-use Rattle.text_bytes.specs.declared.message.MessageKind.TheVariants.{LineTooLong}
+use Rattle.text_bytes.specs.declared.message.MessageKind.TheVariants.{LineTooLong, RuleWithoutEffect}
+use Rattle.text_bytes.specs.declared.profile.Profile.{Profile}
 use Rattle.text_bytes.specs.declared.source_file.SourceFile.{SourceFile}
 use Rattle.text_tables.specs.Texts.{Text, is_among, same_text}
-use Rattle.rule_tokens.specs.Grammar.{Placed}
-use Rattle.rule_tokens.specs.Lines.{items_of}
+use Rattle.rule_tokens.specs.Grammar.{Item, Placed}
 use Rattle.rule_types.specs.declared.part.Part.{Part}
 use Rattle.rule_parts.specs.Values.{finding}
 use Rattle.rule_parts.specs.declared.finding.Finding.{Finding}
-use Rattle.rule_core.specs.Drafts.{draft_of, draft_with, most_bytes, parts_of, tokens_of}
+use Rattle.rule_core.specs.Drafts.{Draft, draft, draft_of, draft_with, items_as, most_bytes, parts_of, tokens_of}
+use Rattle.rule_core.specs.Effects.{lacks_effect}
+use Rattle.rule_core.specs.Ends.{given_up}
 use Rattle.rule_places.specs.Kept.{kept_lines}
 use Rattle.rule_places.specs.declared.kept.KeptLine.{KeptLine}
 use Rattle.rule_lints.specs.Compared.{Valued, assigned_value, meant_spots, meant_to_compare}
 use Rattle.rule_lints.specs.FileLaws.{ImportsFurtherDown, IsImportedBelow, NoneBehindMatches, NoneUncompared, ReachedBehindLostJumps, ReachedBehindMatches, ReachedByLabels, is_read, told_in, told_of}
-use Rattle.rule_lints.specs.FileLints.{file_spots, placed_lint, placed_lints}
-use Rattle.rule_lints.specs.FileRules.{LandedRule, file_rules, goto_of, landed_rules, tokens_of_rule, with_parts}
+use Rattle.rule_lints.specs.FileLints.{file_spots, lints_of, placed_lint, placed_lints}
+use Rattle.rule_lints.specs.FileRules.{LandedRule, file_rules, goto_of, landed_rules, rules_unless, tokens_of_rule, with_parts}
 use Rattle.rule_lints.specs.Imported.{any_property, assigned_in, below_spots, families, given_by, given_names, has_family, has_property, imported_by, imported_in, imported_names, is_given, is_of, perhaps_in, wanted_in}
 use Rattle.rule_lints.specs.Matches.{is_match, may_end_at}
 use Rattle.rule_lints.specs.Reached.{is_labelled, jumps_above, jumps_to, may_go_on, never_reached}
@@ -27,18 +29,33 @@ use Rattle.rule_lints.specs.declared.file_lints.FileSpot.{FileSpot}
 use Rattle.rule_lints.specs.declared.spot.LintSpot.{LintSpot}
 
 -- a line is a rule here where it is read as one
-parts_read : (line : List ℕ) (tokens : List Placed) (parts : Result (List Part) Finding) → is_some (with_parts tokens parts) ≡ is_read (draft_with line parts)
-parts_read line tokens (Ok parts) = refl
-parts_read line tokens (Err wrong) = refl
+abbrev drafted : Profile → List ℕ → Result (List Part) Finding → Bool → Result Draft Finding
+drafted by line (Ok parts) idle = cond idle (Err (finding RuleWithoutEffect [])) (Ok (draft by line parts))
+drafted by line (Err wrong) idle = Err wrong
 
-pub lines_read : (line : List ℕ) → is_some (tokens_of_rule line) ≡ is_read (draft_of line)
+lines_kept : (by : Profile) (line : List ℕ) (tokens : List Placed) (parts : Result (List Part) Finding) (idle : Bool) → is_some (cond idle None (with_parts tokens parts)) ≡ is_read (drafted by line parts idle)
+lines_kept by line tokens (Ok parts) true = refl
+lines_kept by line tokens (Ok parts) false = refl
+lines_kept by line tokens (Err wrong) true = refl
+lines_kept by line tokens (Err wrong) false = refl
+
+lines_drafted : (by : Profile) (line : List ℕ) (parts : Result (List Part) Finding) → drafted by line parts (lacks_effect by (tokens_of (items_as by line))) ≡ draft_with by line parts
+lines_drafted by line (Ok parts) = refl
+lines_drafted by line (Err wrong) = refl
+
+pub lines_read : (by : Profile) (line : List ℕ) → is_some (tokens_of_rule by line) ≡ is_read (draft_of by line)
 unfolding tokens_of_rule draft_of
-lines_read line = by (nat_lt most_bytes (length line))
+lines_read by line = on (nat_lt (most_bytes by) (length line))
   where
-    by : (b : Bool)
-        → is_some (cond b None (with_parts (tokens_of (items_of line)) (parts_of line (items_of line)))) ≡ is_read (cond b (Err (finding LineTooLong [])) (draft_with line (parts_of line (items_of line))))
-    by true = refl
-    by false = parts_read line (tokens_of (items_of line)) (parts_of line (items_of line))
+    items : List Item
+    items = items_as by line
+
+    idle : Bool
+    idle = lacks_effect by (tokens_of items)
+
+    on : (b : Bool) → is_some (cond b None (cond idle None (with_parts (tokens_of items) (parts_of by line items)))) ≡ is_read (cond b (Err (finding LineTooLong [])) (draft_with by line (parts_of by line items)))
+    on true = refl
+    on false = lines_kept by line (tokens_of items) (parts_of by line items) idle ∙ ap is_read (lines_drafted by line (parts_of by line items))
 
 -- tests
 or_by : (a b c : Bool) → (a ≡ true → c ≡ true) → (b ≡ true → c ≡ true) → (a || b) ≡ true → c ≡ true
@@ -222,6 +239,10 @@ told_same : (kept : List KeptLine) (spots : List FileSpot) → map told_in (map 
 told_same kept [] = refl
 told_same kept (s ∷ spots) = ap (λ x. told_of s ∷ x) (told_same kept spots)
 
-pub lints_of_rules : (file : SourceFile) → map told_in (placed_lints file) ≡ map told_of (file_spots (landed_rules (file_rules file.bytes)))
+pub lints_of_rules : (by : Profile) (file : SourceFile) → map told_in (placed_lints by file) ≡ map told_of (file_spots (landed_rules by (file_rules by file.bytes)))
 unfolding placed_lints
-lints_of_rules file = told_same (kept_lines file.bytes) (file_spots (landed_rules (file_rules file.bytes)))
+lints_of_rules by file = told_same (kept_lines file.bytes) (file_spots (landed_rules by (file_rules by file.bytes)))
+
+pub none_given_up : (by : Profile) (file : SourceFile) (number : ℕ) → given_up by file.bytes ≡ Some number → placed_lints by file ≡ []
+unfolding placed_lints
+none_given_up by file number e = ap (λ (o : Option ℕ). lints_of by file.bytes (rules_unless by file.bytes o)) e

@@ -1,3 +1,4 @@
+pub mod Labels
 pub mod Octal
 pub mod ModeLaw
 pub mod SignLaw

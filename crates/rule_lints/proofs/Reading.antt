@@ -1,5 +1,6 @@
 -- The tokens of a line, read one by one.
 use Rattle.std.proofs.Common.{◌≡◌, ℕ, List, [], ◌∷◌, ◌++◌, map, zip, Option, Some, None, Result, Ok, Err, refl, sym, ◌∙◌, ap, append-nil, append_assoc}
+use Rattle.text_bytes.specs.declared.profile.Profile.{Profile}
 use Rattle.rule_tokens.specs.Grammar.{Item, Placed}
 use Rattle.rule_tokens.specs.declared.kinds.TokenFault.{TokenFault}
 use Rattle.rule_types.specs.declared.part.Part.{Part}
@@ -16,8 +17,8 @@ behind before None = None
 behind before (Some more) = Some (before ++ more)
 
 -- what the items of a line give behind tokens that are read
-abbrev pub read_behind : List ℕ → List WrittenPart → List Item → Option (List WrittenPart)
-read_behind line before items = behind before (with_parts (tokens_of items) (parts_of line items))
+abbrev pub read_behind : Profile → List ℕ → List WrittenPart → List Item → Option (List WrittenPart)
+read_behind by line before items = behind before (with_parts (tokens_of items) (parts_of by line items))
 
 one_more : (before : List WrittenPart) (t : Placed) (p : Part) (tokens : List Placed) (rest : Result (List Part) Finding)
     → behind (before ++ written_part (t, p) ∷ []) (with_parts tokens rest) ≡ behind before (with_parts (t ∷ tokens) (with_part (Ok p) rest))
@@ -38,34 +39,34 @@ behind_none None = refl
 behind_none (Some tokens) = refl
 
 -- nothing is read so far
-pub tokens_begun : (line : List ℕ) (before : List WrittenPart) (items : List Item) → before ≡ [] → read_behind line before items ≡ with_parts (tokens_of items) (parts_of line items)
-tokens_begun line before items e =
-    ap (λ (x : List WrittenPart). read_behind line x items) e ∙ behind_none (with_parts (tokens_of items) (parts_of line items))
+pub tokens_begun : (by : Profile) (line : List ℕ) (before : List WrittenPart) (items : List Item) → before ≡ [] → read_behind by line before items ≡ with_parts (tokens_of items) (parts_of by line items)
+tokens_begun by line before items e =
+    ap (λ (x : List WrittenPart). read_behind by line x items) e ∙ behind_none (with_parts (tokens_of items) (parts_of by line items))
 
 -- a token is a part of a rule
-pub token_read : (line : List ℕ) (before now : List WrittenPart) (t : Placed) (p : Part) (left more : List Item) (all : Option (List WrittenPart))
-    → read_behind line before left ≡ all → left ≡ Ok t ∷ more → Some p ≡ part_in (part_of t) → now ≡ before ++ written_part (t, p) ∷ [] → read_behind line now more ≡ all
-token_read line before now t p left more all h e f g =
-    ap (λ (x : List WrittenPart). read_behind line x more) g
-    ∙ one_more before t p (tokens_of more) (parts_of line more)
-    ∙ ap (λ (r : Result Part Finding). behind before (with_parts (t ∷ tokens_of more) (with_part r (parts_of line more)))) (sym (part_is (part_of t) p f))
-    ∙ ap (read_behind line before) (sym e)
+pub token_read : (by : Profile) (line : List ℕ) (before now : List WrittenPart) (t : Placed) (p : Part) (left more : List Item) (all : Option (List WrittenPart))
+    → read_behind by line before left ≡ all → left ≡ Ok t ∷ more → Some p ≡ part_in (part_of by t) → now ≡ before ++ written_part (t, p) ∷ [] → read_behind by line now more ≡ all
+token_read by line before now t p left more all h e f g =
+    ap (λ (x : List WrittenPart). read_behind by line x more) g
+    ∙ one_more before t p (tokens_of more) (parts_of by line more)
+    ∙ ap (λ (r : Result Part Finding). behind before (with_parts (t ∷ tokens_of more) (with_part r (parts_of by line more)))) (sym (part_is (part_of by t) p f))
+    ∙ ap (read_behind by line before) (sym e)
     ∙ h
 
 -- a token is none
-pub token_wrong : (line : List ℕ) (before : List WrittenPart) (t : Placed) (left more : List Item) (all : Option (List WrittenPart))
-    → read_behind line before left ≡ all → left ≡ Ok t ∷ more → None ≡ part_in (part_of t) → None ≡ all
-token_wrong line before t left more all h e f =
-    none_more before (t ∷ tokens_of more) (part_of t) (parts_of line more) f
-    ∙ ap (read_behind line before) (sym e)
+pub token_wrong : (by : Profile) (line : List ℕ) (before : List WrittenPart) (t : Placed) (left more : List Item) (all : Option (List WrittenPart))
+    → read_behind by line before left ≡ all → left ≡ Ok t ∷ more → None ≡ part_in (part_of by t) → None ≡ all
+token_wrong by line before t left more all h e f =
+    none_more before (t ∷ tokens_of more) (part_of by t) (parts_of by line more) f
+    ∙ ap (read_behind by line before) (sym e)
     ∙ h
 
 -- what follows is no token
-pub text_wrong : (line : List ℕ) (before : List WrittenPart) (fault : TokenFault) (left more : List Item) (all : Option (List WrittenPart))
-    → read_behind line before left ≡ all → left ≡ Err fault ∷ more → None ≡ all
-text_wrong line before fault left more all h e = ap (read_behind line before) (sym e) ∙ h
+pub text_wrong : (by : Profile) (line : List ℕ) (before : List WrittenPart) (fault : TokenFault) (left more : List Item) (all : Option (List WrittenPart))
+    → read_behind by line before left ≡ all → left ≡ Err fault ∷ more → None ≡ all
+text_wrong by line before fault left more all h e = ap (read_behind by line before) (sym e) ∙ h
 
 -- no token follows
-pub tokens_ended : (line : List ℕ) (before : List WrittenPart) (left : List Item) (all : Option (List WrittenPart))
-    → read_behind line before left ≡ all → left ≡ [] → Some before ≡ all
-tokens_ended line before left all h e = ap Some (sym (append-nil before)) ∙ ap (read_behind line before) (sym e) ∙ h
+pub tokens_ended : (by : Profile) (line : List ℕ) (before : List WrittenPart) (left : List Item) (all : Option (List WrittenPart))
+    → read_behind by line before left ≡ all → left ≡ [] → Some before ≡ all
+tokens_ended by line before left all h e = ap Some (sym (append-nil before)) ∙ ap (read_behind by line before) (sym e) ∙ h

@@ -1,5 +1,6 @@
 -- All lints of a rules file, with their places.
-use Rattle.std.specs.Prelude.{◌+◌, List, [], ◌∷◌, ◌++◌, flat_map, map, Option}
+use Rattle.std.specs.Prelude.{ℕ, ◌+◌, List, [], ◌∷◌, ◌++◌, flat_map, map, Option}
+use Rattle.text_bytes.specs.declared.profile.Profile.{Profile}
 use Rattle.text_bytes.specs.declared.source_file.SourceFile.{SourceFile}
 use Rattle.text_tables.specs.Texts.{Text}
 use Rattle.rule_places.specs.Kept.{kept_lines, place_in}
@@ -47,6 +48,10 @@ lint_at s p = record { begins = s.number; line = p.line; column = p.column; end 
 abbrev pub placed_lint : List KeptLine → FileSpot → PlacedLint
 placed_lint kept s = lint_at s (place_in kept (s.start + s.spot.start) s.spot.size)
 
+-- the lints of rules of a file with these bytes, in their order
+abbrev pub lints_of : Profile → List ℕ → List FileRule → List PlacedLint
+lints_of by bytes rules = map (placed_lint (kept_lines bytes)) (file_spots (landed_rules by rules))
+
 -- the lints of a file, in the order of its rules
-unfoldable pub placed_lints : SourceFile → List PlacedLint
-placed_lints f = map (placed_lint (kept_lines f.bytes)) (file_spots (landed_rules (file_rules f.bytes)))
+unfoldable pub placed_lints : Profile → SourceFile → List PlacedLint
+placed_lints by f = lints_of by f.bytes (file_rules by f.bytes)

@@ -11,8 +11,6 @@ use Rattle.rule_types.specs.declared.part.Part.{Part}
 use Rattle.rule_types.specs.declared.part.Part.TheVariants as part
 use Rattle.rule_types.specs.declared.roles.PlainKey.{PlainKey}
 use Rattle.rule_types.specs.declared.roles.PlainKey.TheVariants as plain
-use Rattle.rule_types.specs.declared.roles.UpKey.{UpKey}
-use Rattle.rule_types.specs.declared.roles.UpKey.TheVariants as up
 use Rattle.rule_lints.specs.LetterCase.{is_many}
 use Rattle.rule_lints.specs.Parts.{comparison_of, is_equal}
 use Rattle.rule_lints.specs.Texts.{before_first, behind_first, behind_last, has_byte}

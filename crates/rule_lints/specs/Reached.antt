@@ -3,7 +3,8 @@ use Rattle.std.specs.Prelude.{Bool, ◌||◌, if◌then◌else◌, List, [], ◌
 use Rattle.std.specs.List.{list_any}
 use Rattle.text_tables.specs.Texts.{Text}
 use Rattle.rule_types.specs.declared.lint.Lint.TheVariants.{NeverReached}
-use Rattle.rule_lints.specs.FileRules.{LandedRule, goto_of, label_of}
+use Rattle.rule_core.specs.Drafts.{label_in}
+use Rattle.rule_lints.specs.FileRules.{LandedRule, goto_of}
 use Rattle.rule_lints.specs.Matches.{may_end_at}
 use Rattle.rule_lints.specs.Spots.{key_spot}
 use Rattle.rule_lints.specs.Written.{WrittenPart}
@@ -24,7 +25,7 @@ jumps_above (r ∷ farther) = jumps_to r
 
 -- whether a rule has a label; of one that no jump leads to S4 tells
 abbrev pub is_labelled : LandedRule → Bool
-is_labelled r = is_some (label_of r.rule.tokens)
+is_labelled r = list_any (λ w. is_some (label_in w.part)) r.rule.tokens
 
 -- the first of these tokens, told with a label
 abbrev pub first_spot : Text → List WrittenPart → List LintSpot

@@ -1,7 +1,9 @@
 //! Laws of the lints of a file, each the contract of a function that does nothing.
-ghost use Rattle.std.specs.Prelude.{◌≡◌, List, ℕ, is_some, map};
+ghost use Rattle.std.specs.Prelude.{◌≡◌, [], List, Some, ℕ, is_some, map};
+ghost use Rattle.text_bytes.specs.declared.profile.Profile as profiles;
 ghost use Rattle.text_bytes.specs.declared.source_file.SourceFile as files;
 ghost use Rattle.rule_core.specs.Drafts.{draft_of};
+ghost use Rattle.rule_core.specs.Ends.{given_up};
 ghost use Rattle.rule_lints.specs.FileLaws.{FirstIsReached, ImportsFurtherDown, NoneBehindMatches, NoneUncompared, ReachedBehindLostJumps, ReachedBehindMatches, ReachedByLabels, is_read, told_in, told_of};
 ghost use Rattle.rule_lints.specs.FileLints.{file_spots, placed_lints};
 ghost use Rattle.rule_lints.specs.FileRules.{file_rules, landed_rules, tokens_of_rule};
@@ -9,7 +11,7 @@ ghost use Rattle.rule_lints.specs.FileRules.{file_rules, landed_rules, tokens_of
 /// A joined line is a rule for lints just where `rule_core` reads it as one.
 #[tactic(auto, using(crate::proofs::FileLemmas::lines_read))]
 pub fn lines_are_rules_where_they_are_read()
-    ensures { (line : List ℕ) → is_some (tokens_of_rule line) ≡ is_read (draft_of line) }
+    ensures { (by : profiles.Profile) (line : List ℕ) → is_some (tokens_of_rule by line) ≡ is_read (draft_of by line) }
 {}
 
 /// W6 tells of properties that the rule or one further down imports, and that no rule before it imports, assigns or may
@@ -38,5 +40,11 @@ pub fn rules_that_are_reached_are_not_told_of()
 /// Without their places, the lints of a file are those of its rules.
 #[tactic(auto, using(crate::proofs::FileLemmas::lints_of_rules))]
 pub fn lints_are_those_of_the_rules()
-    ensures { (file : files.SourceFile) → map told_in (placed_lints file) ≡ map told_of (file_spots (landed_rules (file_rules file.bytes))) }
+    ensures { (by : profiles.Profile) (file : files.SourceFile) → map told_in (placed_lints by file) ≡ map told_of (file_spots (landed_rules by (file_rules by file.bytes))) }
+{}
+
+/// Of a file that is given up no lint is told.
+#[tactic(auto, using(crate::proofs::FileLemmas::none_given_up))]
+pub fn files_that_are_given_up_have_no_lints()
+    ensures { (by : profiles.Profile) (file : files.SourceFile) (number : ℕ) → given_up by file.bytes ≡ Some number → placed_lints by file ≡ [] }
 {}

@@ -32,8 +32,8 @@ mod valued;
 mod written;
 
 pub use file_laws::{
-    assignments_stand_before_matches, imports_stand_further_down,
-    lines_are_rules_where_they_are_read, lints_are_those_of_the_rules,
+    assignments_stand_before_matches, files_that_are_given_up_have_no_lints,
+    imports_stand_further_down, lines_are_rules_where_they_are_read, lints_are_those_of_the_rules,
     rules_that_are_reached_are_not_told_of,
 };
 pub use laws::{

@@ -1,33 +1,52 @@
 //! The lints of a file with their places.
-ghost use Rattle.std.specs.Prelude.{◌≡◌, ◌++◌, IfOk, OnOk, map};
-ghost use Rattle.rule_lints.specs.FileLints.{placed_lint, placed_lints};
+ghost use Rattle.std.specs.Prelude.{◌≡◌, ◌++◌, IfOk, None, OnOk, map};
+ghost use Rattle.rule_lints.specs.FileLints.{lints_of, placed_lint, placed_lints};
+ghost use Rattle.rule_lints.specs.FileRules.{rules_unless};
 
 use crate::file_lints::{FileSpot, file_lints};
 use crate::file_rules::file_rules;
 use crate::landed::landed_rules;
 use crate::placed_lint::PlacedLint;
 use crate::sums::sum_of;
-use rule_core::joined_lines;
+use rule_core::{given_up_at, joined_lines};
 use rule_places::KeptLines;
 use std::alloc::{AllocError, Global};
-use text_bytes::SourceFile;
+use text_bytes::{Profile, SourceFile};
 
 /// The lints of a rules file in the order of its rules, each with the physical line and the columns that it is about.
-/// Of a line that is no rule none is told.
+/// Of a line that is no rule none is told, and none of a file that is given up.
 ///
 /// Of one rule first those come that are found of it by itself, then W6 and W7, each in written order, and W13 last. A
 /// place in several physical lines is told as far as it stands in the first of them. A number of a line or of a column
 /// over 2^32 - 1 is given as that one.
 ///
 /// The error comes where memory is refused.
-pub fn placed_lints(alloc: Global, file: &SourceFile) -> Result<Vec<PlacedLint>, AllocError>
-    ensures { IfOk result (λ found. found.items ≡ placed_lints file.now) }
+pub fn placed_lints(
+    alloc: Global,
+    profile: Profile,
+    file: &SourceFile,
+) -> Result<Vec<PlacedLint>, AllocError>
+    ensures { IfOk result (λ found. found.items ≡ placed_lints profile file.now) }
 {
     let bytes = file.bytes.as_slice();
+    match given_up_at(profile, bytes) {
+        Some(_) => Ok(Vec::new(alloc)),
+        None => lints_of_lines(alloc, profile, bytes),
+    }
+}
+
+/// The lints of the rules among the lines of a file with these bytes.
+fn lints_of_lines(
+    alloc: Global,
+    profile: Profile,
+    bytes: &[u8],
+) -> Result<Vec<PlacedLint>, AllocError>
+    ensures { IfOk result (λ found. found.items ≡ lints_of profile bytes.now (rules_unless profile bytes.now None)) }
+{
     let kept = KeptLines::of(alloc, bytes)?;
-    let joined = joined_lines(alloc, bytes)?;
-    let rules = file_rules(alloc, joined.lines())?;
-    let landed = landed_rules(alloc, rules)?;
+    let joined = joined_lines(alloc, profile, bytes)?;
+    let rules = file_rules(alloc, profile, joined.lines())?;
+    let landed = landed_rules(alloc, profile, rules)?;
     let spots = file_lints(alloc, &landed)?;
     let mut found = Vec::new(alloc);
     place_all(&mut found, &kept, spots)?;

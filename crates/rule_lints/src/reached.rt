@@ -1,15 +1,16 @@
 //! Rules that none leads to.
-ghost use Rattle.std.specs.Prelude.{◌≡◌, ◌++◌, OnOk, option_map};
+ghost use Rattle.std.specs.Prelude.{◌≡◌, ◌++◌, OnOk, is_some, option_map};
 ghost use Rattle.std.specs.List.{list_any};
+ghost use Rattle.rule_core.specs.Drafts.{label_in};
 ghost use Rattle.rule_lints.specs.Matches.{may_end_at};
 ghost use Rattle.rule_lints.specs.Reached.{first_spot, is_labelled, jumps_to, may_go_on, never_reached};
 
 use crate::file_rule::LandedRule;
-use crate::landed::{goto_of, label_of};
+use crate::landed::goto_of;
 use crate::matches::may_end_at;
 use crate::spot::{LintSpot, key_spot};
 use crate::written::WrittenPart;
-use rule_types::Lint;
+use rule_types::{Lint, Part};
 use std::alloc::{AllocError, Global};
 
 /// The label of a later rule to which a rule jumps for every device.
@@ -64,7 +65,17 @@ pub fn add_never_reached(
 fn is_labelled(rule: &LandedRule<'_>) -> bool
     ensures { result ≡ is_labelled rule.now }
 {
-    label_of(&rule.rule.tokens).is_some()
+    rule.rule.tokens.iter().any(|token| is_label(&token.part))
+}
+
+/// Whether a part is a label.
+fn is_label(part: &Part) -> bool
+    ensures { result ≡ is_some (label_in part.now) }
+{
+    match part {
+        Part::Label(_) => true,
+        _ => false,
+    }
 }
 
 /// Adds the first of these tokens, told with a label.

@@ -1,8 +1,11 @@
 -- The options of OPTIONS.
-use Rattle.std.specs.Prelude.{ℕ, ◌+◌, ◌^◌, ℤ, pos, neg_ℤ, ◌||◌, Bool, if◌then◌else◌, List, [], ◌∷◌, length, take, drop, Option, Some, None, is_some, option_map, nat_eq, codes}
-use Rattle.std.specs.Option.{unwrap_or}
+use Rattle.std.specs.Prelude.{ℕ, ◌+◌, ◌^◌, ℤ, pos, neg_ℤ, int_le, int_lt, ◌&&◌, ◌||◌, Bool, nat_le, if◌then◌else◌, List, [], ◌∷◌, length, take, drop, Option, Some, None, is_some, option_map, nat_eq, codes}
+use Rattle.std.specs.Option.{option_and_then, unwrap_or}
 use Rattle.std.specs.Cmp.Lexicographic.{pointwise}
 use Rattle.text_bytes.specs.Numbers.{decimal_below}
+use Rattle.text_bytes.specs.declared.profile.Profile.{Profile}
+use Rattle.text_bytes.specs.declared.profile.Profile.TheVariants as profile
+use Rattle.rule_templates.specs.Integers.{integer_of, natural_of}
 use Rattle.rule_types.specs.declared.rule_option.RuleOption.{RuleOption}
 use Rattle.rule_types.specs.declared.rule_option.RuleOption.TheVariants.{LinkPriority, KeepEscapes, ReplaceEscapes, Watch, NoWatch, DbPersist, Ignored}
 
@@ -50,11 +53,61 @@ is_ignored text = is_some (behind (codes "static_node=") text) || is_some (behin
 abbrev pub other_option : List ℕ → Option RuleOption
 other_option text = if is_ignored text then Some Ignored else beside words text
 
--- the option of a text, by what stands in it behind `link_priority=`
+-- the option of a text by the manual, by what stands in it behind `link_priority=`
 abbrev pub option_by : List ℕ → Option (List ℕ) → Option RuleOption
 option_by text (Some number) = option_map LinkPriority (number_of number)
 option_by text None = other_option text
 
--- the option of a text, if it is one
-unfoldable pub option_of : List ℕ → Option RuleOption
-option_of text = option_by text (behind (codes "link_priority=") text)
+-- an integer as a priority of links, which has 32 signed bits
+abbrev pub as_priority : ℤ → Option ℤ
+as_priority n = if int_le (neg_ℤ (pos (2 ^ 31))) n && int_lt n (pos (2 ^ 31)) then Some n else None
+
+-- the priority of links that udev reads in a text
+unfoldable pub priority_of : List ℕ → Option ℤ
+priority_of text = option_and_then as_priority (integer_of text)
+
+-- the levels of the log by their names; -1 is the level that udev began with
+abbrev pub levels : List (List ℕ × ℤ)
+levels =
+    (codes "reset", neg_ℤ (pos 1))
+    ∷ (codes "emerg", pos 0)
+    ∷ (codes "alert", pos 1)
+    ∷ (codes "crit", pos 2)
+    ∷ (codes "err", pos 3)
+    ∷ (codes "warning", pos 4)
+    ∷ (codes "notice", pos 5)
+    ∷ (codes "info", pos 6)
+    ∷ (codes "debug", pos 7)
+    ∷ []
+
+-- a number as a level of the log
+abbrev pub as_level : ℕ → Option ℤ
+as_level n = if nat_le n 7 then Some (pos n) else None
+
+-- the level of a text, by what stands beside it in the table
+abbrev pub level_by : List ℕ → Option ℤ → Option ℤ
+level_by text (Some level) = Some level
+level_by text None = option_and_then as_level (natural_of text)
+
+-- the level of the log that udev reads in a text: a name, or a number from 0 to 7
+unfoldable pub level_of : List ℕ → Option ℤ
+level_of text = level_by text (beside levels text)
+
+-- whether udev knows the option of a text, whatever it is set to
+abbrev pub is_known_option : List ℕ → Bool
+is_known_option text = is_some (behind (codes "link_priority=") text) || is_some (other_option text)
+
+-- the option of a text that is no priority, by what stands in it behind `log_level=`; one that udev does not know changes nothing
+abbrev pub udev_other : List ℕ → Option (List ℕ) → Option RuleOption
+udev_other text (Some level) = option_map (λ n. Ignored) (level_of level)
+udev_other text None = Some (unwrap_or (other_option text) Ignored)
+
+-- the option of a text for udev, by what stands in it behind `link_priority=`
+abbrev pub udev_option : List ℕ → Option (List ℕ) → Option RuleOption
+udev_option text (Some number) = option_map LinkPriority (priority_of number)
+udev_option text None = udev_other text (behind (codes "log_level=") text)
+
+-- the option of a text by a profile, if it is one
+unfoldable pub option_of : Profile → List ℕ → Option RuleOption
+option_of profile.Manual text = option_by text (behind (codes "link_priority=") text)
+option_of profile.Udev text = udev_option text (behind (codes "link_priority=") text)

@@ -1,21 +1,27 @@
 -- A token, read and checked: the part of a rule that it is, or what is wrong with it.
-use Rattle.std.specs.Prelude.{ℕ, Bool, true, false, not, ◌&&◌, if◌then◌else◌, List, Option, Some, None, Result, Ok, Err}
+use Rattle.std.specs.Prelude.{ℕ, Bool, true, false, not, ◌&&◌, if◌then◌else◌, List, Option, Some, None, is_some, Result, Ok, Err, ◌≡◌, [], ◌⊎◌}
 use Rattle.text_bytes.specs.declared.message.MessageKind.TheVariants.{UnknownKey, OperatorNotAllowed, WrongAttribute, BadValue}
+use Rattle.text_bytes.specs.declared.profile.Profile.{Profile}
+use Rattle.text_bytes.specs.declared.profile.Profile.TheVariants as profile
 use Rattle.rule_tokens.specs.Grammar.{Placed}
 use Rattle.rule_tokens.specs.Reading.{unquoted}
 use Rattle.rule_tokens.specs.declared.kinds.Operator.{Operator}
 use Rattle.rule_tokens.specs.declared.kinds.Quote.{Quote}
 use Rattle.rule_tokens.specs.declared.kinds.Quote.TheVariants as quote
-use Rattle.rule_types.specs.Names.{key_of}
+use Rattle.rule_types.specs.Names.{import_name, key_of}
 use Rattle.rule_types.specs.Topics.{topic_of}
 use Rattle.rule_types.specs.Operators as operators
 use Rattle.rule_types.specs.Roles.{role_of}
+use Rattle.rule_types.specs.WrittenParts.{attribute_of_part, key_of_part}
 use Rattle.rule_types.specs.declared.keys.Key.{Key}
+use Rattle.rule_types.specs.declared.keys.Key.TheVariants as key
 use Rattle.rule_types.specs.declared.types.ImportType.{ImportType}
 use Rattle.rule_types.specs.declared.types.ImportType.TheVariants as import_of
 use Rattle.rule_types.specs.declared.roles.MatchOperator.{MatchOperator}
 use Rattle.rule_types.specs.declared.roles.Role.{Role}
 use Rattle.rule_types.specs.declared.roles.Role.TheVariants as role
+use Rattle.rule_parts.specs.Builtins.{builtin_of}
+use Rattle.rule_parts.specs.Refusals.{refusal_by}
 use Rattle.rule_parts.specs.Values.{finding, read_choice, read_name, read_option, read_template}
 use Rattle.rule_parts.specs.declared.finding.Finding.{Finding}
 use Rattle.rule_types.specs.declared.part.Comparison.{Comparison}
@@ -48,31 +54,31 @@ ignores_case quote.Blind = true
 ignores_case quote.BlindEscaped = true
 
 -- the patterns that something is compared with
-unfoldable pub comparison : MatchOperator → Bool → List ℕ → Result Comparison Finding
-comparison o blind text = made (λ c. record { operator = o; blind = blind; written = text; choice = c }) (read_choice blind text)
+unfoldable pub comparison : Profile → MatchOperator → Bool → List ℕ → Result Comparison Finding
+comparison by o blind text = made (λ c. record { operator = o; blind = blind; written = text; choice = c }) (read_choice by blind text)
 
 -- the value of an IMPORT of a type
-unfoldable pub import_by : ImportType → List ℕ → Result Import Finding
-import_by import_of.Program text = made import.Program (read_template text)
-import_by import_of.Builtin text = made import.Builtin (read_template text)
-import_by import_of.File text = made import.File (read_template text)
-import_by import_of.Parent text = made (λ names. import.Parent names text) (read_choice false text)
-import_by import_of.Cmdline text = Ok (import.Cmdline text)
-import_by import_of.Db text = Ok (import.Db text)
+unfoldable pub import_by : Profile → ImportType → List ℕ → Result Import Finding
+import_by by import_of.Program text = made import.Program (read_template by text)
+import_by by import_of.Builtin text = made import.Builtin (read_template by text)
+import_by by import_of.File text = made import.File (read_template by text)
+import_by by import_of.Parent text = made (λ names. import.Parent names text) (read_choice by false text)
+import_by by import_of.Cmdline text = Ok (import.Cmdline text)
+import_by by import_of.Db text = Ok (import.Db text)
 
 -- the part of each role, by its value; whether case is ignored
-unfoldable pub part_by : Role → Bool → List ℕ → Result Part Finding
-part_by (role.Plain key o) blind text = made (λ c. part.Plain (record { key = key; wanted = c })) (comparison o blind text)
-part_by (role.Up key o) blind text = made (λ c. part.Up (record { key = key; wanted = c })) (comparison o blind text)
-part_by (role.Result o) blind text = made part.Result (comparison o blind text)
-part_by (role.Test mask o) blind text = made (λ t. part.Act (record { operator = o; deed = deed.Test mask t })) (read_template text)
-part_by (role.Program o) blind text = made (λ t. part.Act (record { operator = o; deed = deed.Program t })) (read_template text)
-part_by (role.Import type o) blind text = made (λ i. part.Act (record { operator = o; deed = deed.Import i })) (import_by type text)
-part_by (role.Set target o) blind text = made (λ t. part.Set (record { operator = o; change = change.Text target t })) (read_template text)
-part_by (role.Run type o) blind text = made (λ t. part.Set (record { operator = o; change = change.Run type t })) (read_template text)
-part_by (role.Option o) blind text = made (λ known. part.Set (record { operator = o; change = change.Option known })) (read_option text)
-part_by role.Label blind text = made part.Label (read_name text)
-part_by role.Goto blind text = made part.Goto (read_name text)
+unfoldable pub part_by : Profile → Role → Bool → List ℕ → Result Part Finding
+part_by by (role.Plain key o) blind text = made (λ c. part.Plain (record { key = key; wanted = c })) (comparison by o blind text)
+part_by by (role.Up key o) blind text = made (λ c. part.Up (record { key = key; wanted = c })) (comparison by o blind text)
+part_by by (role.Result o) blind text = made part.Result (comparison by o blind text)
+part_by by (role.Test mask o) blind text = made (λ t. part.Act (record { operator = o; deed = deed.Test mask t })) (read_template by text)
+part_by by (role.Program o) blind text = made (λ t. part.Act (record { operator = o; deed = deed.Program t })) (read_template by text)
+part_by by (role.Import type o) blind text = made (λ i. part.Act (record { operator = o; deed = deed.Import i })) (import_by by type text)
+part_by by (role.Set target o) blind text = made (λ t. part.Set (record { operator = o; change = change.Text target t })) (read_template by text)
+part_by by (role.Run type o) blind text = made (λ t. part.Set (record { operator = o; change = change.Run type t })) (read_template by text)
+part_by by (role.Option o) blind text = made (λ known. part.Set (record { operator = o; change = change.Option known })) (read_option by text)
+part_by by role.Label blind text = made part.Label (read_name by text)
+part_by by role.Goto blind text = made part.Goto (read_name by text)
 
 -- whether a role is a match
 abbrev pub is_match : Role → Bool
@@ -81,19 +87,39 @@ is_match (role.Up key o) = true
 is_match (role.Result o) = true
 is_match _ = false
 
+-- the type of an IMPORT as which udev reads it: a program that is a builtin is of the type of builtins
+abbrev pub type_as : ImportType → List ℕ → ImportType
+type_as import_of.Program text = if is_some (builtin_of text) then import_of.Builtin else import_of.Program
+type_as type text = type
+
+-- a role as which udev reads it
+abbrev pub udev_role : Role → List ℕ → Role
+udev_role (role.Import type o) text = role.Import (type_as type text) o
+udev_role r text = r
+
+-- a role as which it is read
+abbrev pub role_as : Profile → Role → List ℕ → Role
+role_as profile.Manual r text = r
+role_as profile.Udev r text = udev_role r text
+
+-- what is read, unless it is refused
+abbrev pub unless_refused : Option Finding → Result Part Finding → Result Part Finding
+unless_refused None read = read
+unless_refused (Some found) read = Err found
+
 -- the part of a role with a value; matches alone take one that asks for its case to be ignored
-unfoldable pub value_part : Role → Bool → List ℕ → Result Part Finding
-value_part r blind text = if blind && not (is_match r) then Err (finding BadValue text) else part_by r blind text
+unfoldable pub value_part : Profile → Role → Bool → List ℕ → Result Part Finding
+value_part by r blind text = if blind && not (is_match r) then Err (finding BadValue text) else unless_refused (refusal_by by r text) (part_by by (role_as by r text) blind text)
 
 -- the part of a rule that a token is, or what is wrong with it: the first of the key, the attribute, the operator and the value
-unfoldable pub part_of : Placed → Result Part Finding
-part_of t =
+unfoldable pub part_of : Profile → Placed → Result Part Finding
+part_of by t =
     if_found (finding UnknownKey t.parts.head.key) (λ key.
     if_found (finding WrongAttribute t.parts.head.key) (λ about.
     if_found (finding OperatorNotAllowed t.parts.head.key) (λ r.
-    value_part r (ignores_case t.parts.quote) (meaning_of t))
+    value_part by r (ignores_case t.parts.quote) (meaning_of t))
     (role_of about (operators.read_as key t.parts.head.operator)))
-    (topic_of key t.parts.head.attribute))
+    (topic_of by key t.parts.head.attribute))
     (key_of t.parts.head.key)
 
 -- whether an operator is read as `=` behind a key, if that is known
@@ -104,3 +130,14 @@ is_read_so o (Some key) = operators.is_read_as_assign key o
 -- whether the operator of a token is read as `=`, which should have been written
 unfoldable pub is_read_as_assign : Placed → Bool
 is_read_as_assign t = is_read_so t.parts.head.operator (key_of t.parts.head.key)
+
+-- udev reads an attribute of a key as another one: empty braces of TEST as none, and a program of IMPORT as a builtin
+abbrev pub IsReadAs : Key → Option (List ℕ) → Option (List ℕ) → Type 0
+IsReadAs key.Test written read = (written ≡ Some []) × (read ≡ None)
+IsReadAs key.Import written read = (written ≡ Some (import_name import_of.Program)) × (read ≡ Some (import_name import_of.Builtin))
+IsReadAs _ written read = ⊥
+
+-- a part has the attribute of its token, or that as which udev reads it
+abbrev pub IsWritten : Profile → Option (List ℕ) → Part → Type 0
+IsWritten profile.Manual attribute p = attribute_of_part p ≡ attribute
+IsWritten profile.Udev attribute p = (attribute_of_part p ≡ attribute) ⊎ IsReadAs (key_of_part p) attribute (attribute_of_part p)

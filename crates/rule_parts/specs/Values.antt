@@ -1,9 +1,14 @@
 -- The value of a token, read as what its role asks for.
-use Rattle.std.specs.Prelude.{ℕ, Bool, if◌then◌else◌, List, [], ◌∷◌, Option, Some, None, Result, Ok, Err}
+use Rattle.std.specs.Prelude.{ℕ, Bool, true, false, if◌then◌else◌, List, [], ◌∷◌, Option, Some, None, Result, Ok, Err}
 use Rattle.text_bytes.specs.Messages.{word_of}
+use Rattle.text_bytes.specs.declared.profile.Profile.{Profile}
+use Rattle.text_bytes.specs.declared.profile.Profile.TheVariants as profile
 use Rattle.text_bytes.specs.declared.message.MessageKind.{MessageKind}
 use Rattle.text_bytes.specs.declared.message.MessageKind.TheVariants.{BadValue, BadSubstitution, SetNotSupported}
 use Rattle.text_core.specs.Choices.{choice, choice_blind}
+use Rattle.text_core.specs.Fnmatch.{fnmatch_choice}
+use Rattle.text_core.specs.declared.reading.Reading.{Reading}
+use Rattle.text_core.specs.declared.reading.Reading.TheVariants.{Exact, Blind}
 use Rattle.text_core.specs.declared.item.Item.{Item}
 use Rattle.text_core.specs.declared.glob_fault.GlobFault.{GlobFault}
 use Rattle.text_core.specs.declared.glob_fault.GlobFault.TheVariants as glob
@@ -29,9 +34,19 @@ abbrev pub as_choice : List ℕ → Result (List (List Item)) GlobFault → Resu
 as_choice text (Ok patterns) = Ok patterns
 as_choice text (Err fault) = Err (finding (choice_fault fault) text)
 
--- patterns between bars; whether case is ignored
-unfoldable pub read_choice : Bool → List ℕ → Result (List (List Item)) Finding
-read_choice blind text = if blind then as_choice text (choice_blind text) else as_choice text (choice text)
+-- how patterns are read, by whether case is ignored
+abbrev pub reading_of : Bool → Reading
+reading_of true = Blind
+reading_of false = Exact
+
+-- patterns between bars, as the manual has them; whether case is ignored
+abbrev pub manual_choice : Bool → List ℕ → Result (List (List Item)) Finding
+manual_choice blind text = if blind then as_choice text (choice_blind text) else as_choice text (choice text)
+
+-- patterns between bars, which udev reads as fnmatch(3) does; whether case is ignored
+unfoldable pub read_choice : Profile → Bool → List ℕ → Result (List (List Item)) Finding
+read_choice profile.Manual blind text = manual_choice blind text
+read_choice profile.Udev blind text = as_choice text (fnmatch_choice (reading_of blind) text)
 
 -- the pieces of a text, or what is wrong with it
 abbrev pub as_template : List ℕ → Result (List Piece) TemplateFault → Result Template Finding
@@ -39,8 +54,8 @@ as_template text (Ok pieces) = Ok (record { written = text; pieces = pieces })
 as_template text (Err fault) = Err (finding BadSubstitution text)
 
 -- a text with substitutions
-unfoldable pub read_template : List ℕ → Result Template Finding
-read_template text = as_template text (templates.pieces_of text)
+unfoldable pub read_template : Profile → List ℕ → Result Template Finding
+read_template by text = as_template text (templates.pieces_as by text)
 
 -- an option, if there is one
 abbrev pub as_option : List ℕ → Option RuleOption → Result RuleOption Finding
@@ -48,10 +63,15 @@ as_option text (Some known) = Ok known
 as_option text None = Err (finding BadValue text)
 
 -- an option of OPTIONS
-unfoldable pub read_option : List ℕ → Result RuleOption Finding
-read_option text = as_option text (option_of text)
+unfoldable pub read_option : Profile → List ℕ → Result RuleOption Finding
+read_option by text = as_option text (option_of by text)
 
 -- a name, which is not empty
-unfoldable pub read_name : List ℕ → Result (List ℕ) Finding
-read_name [] = Err (finding BadValue [])
-read_name (b ∷ rest) = Ok (b ∷ rest)
+abbrev pub some_name : List ℕ → Result (List ℕ) Finding
+some_name [] = Err (finding BadValue [])
+some_name (b ∷ rest) = Ok (b ∷ rest)
+
+-- a name to jump to: udev takes an empty one, too
+unfoldable pub read_name : Profile → List ℕ → Result (List ℕ) Finding
+read_name profile.Manual text = some_name text
+read_name profile.Udev text = Ok text

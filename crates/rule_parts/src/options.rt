@@ -1,12 +1,16 @@
 //! The options of OPTIONS.
-ghost use Rattle.std.specs.Prelude.{◌≡◌, map};
-ghost use Rattle.rule_parts.specs.Options.{below_zero, beside, from_zero, is_ignored, number_of, option_of, other_option};
+ghost use Rattle.std.specs.Prelude.{◌≡◌, Some, codes, false, map};
+ghost use Rattle.rule_parts.specs.Options.{as_level, as_priority, behind, below_zero, beside, from_zero, is_ignored, is_known_option, level_of, number_of, option_by, option_of, other_option, priority_of, udev_option, udev_other};
 
+use rule_templates::{integer_of, natural_of};
 use rule_types::RuleOption;
-use text_bytes::decimal_below;
+use text_bytes::{Profile, decimal_below};
 
 /// What the size of a number above zero is below; one below zero may have this size.
 const MAX_SIZE: u64 = 1 << 31;
+
+/// What a priority of links is below; the least one is as far below zero.
+const PRIORITIES: i64 = 1 << 31;
 
 /// Each option that is one word, by its name.
 const WORDS: [(&[u8], RuleOption); 5] = [
@@ -17,8 +21,21 @@ const WORDS: [(&[u8], RuleOption); 5] = [
     (b"string_escape=replace", RuleOption::ReplaceEscapes),
 ];
 
-/// The option beside a name.
-fn beside(rows: &[(&[u8], RuleOption)], text: &[u8]) -> Option<RuleOption>
+/// The levels of the log by their names.
+const LEVELS: [(&[u8], i32); 9] = [
+    (b"reset", -1),
+    (b"emerg", 0),
+    (b"alert", 1),
+    (b"crit", 2),
+    (b"err", 3),
+    (b"warning", 4),
+    (b"notice", 5),
+    (b"info", 6),
+    (b"debug", 7),
+];
+
+/// What stands beside a name.
+fn beside<X: Copy>(rows: &[(&[u8], X)], text: &[u8]) -> Option<X>
     ensures { result ≡ beside (map (λ row. (row.0.now, row.1)) rows.now) text.now }
 {
     for row in rows {
@@ -75,13 +92,95 @@ fn other_option(text: &[u8]) -> Option<RuleOption>
     }
 }
 
-/// The option of a text, if it is one.
+/// The option of a text by a profile, if it is one. An option that udev does not know is one that
+/// changes nothing.
 #[tactic(auto, unfolding(crate::specs::Options::option_of))]
-pub(crate) fn option_of(text: &[u8]) -> Option<RuleOption>
-    ensures { result ≡ option_of text.now }
+pub fn option_of(profile: Profile, text: &[u8]) -> Option<RuleOption>
+    ensures { result ≡ option_of profile text.now }
+{
+    match profile {
+        Profile::Manual => manual_option(text),
+        Profile::Udev => udev_option(text),
+    }
+}
+
+/// The option of a text by the manual, if it is one.
+fn manual_option(text: &[u8]) -> Option<RuleOption>
+    ensures { result ≡ option_by text.now (behind (codes "link_priority=") text.now) }
 {
     match text.strip_prefix(b"link_priority=") {
         Some(number) => number_of(number).map(|priority| RuleOption::LinkPriority(priority)),
         None => other_option(text),
     }
+}
+
+/// The option of a text for udev, if it is one.
+fn udev_option(text: &[u8]) -> Option<RuleOption>
+    ensures { result ≡ udev_option text.now (behind (codes "link_priority=") text.now) }
+{
+    match text.strip_prefix(b"link_priority=") {
+        Some(number) => priority_of(number).map(|priority| RuleOption::LinkPriority(priority)),
+        None => udev_other(text),
+    }
+}
+
+/// The option for udev of a text that is no priority.
+fn udev_other(text: &[u8]) -> Option<RuleOption>
+    ensures { result ≡ udev_other text.now (behind (codes "log_level=") text.now) }
+{
+    match text.strip_prefix(b"log_level=") {
+        Some(level) => level_of(level).map(|_| RuleOption::Ignored),
+        None => Some(other_option(text).unwrap_or(RuleOption::Ignored)),
+    }
+}
+
+/// The priority of links that udev reads in a text, in 32 signed bits.
+#[tactic(auto, unfolding(crate::specs::Options::priority_of))]
+pub fn priority_of(text: &[u8]) -> Option<i32>
+    ensures { result ≡ priority_of text.now }
+{
+    as_priority(integer_of(text)?)
+}
+
+/// An integer as a priority of links.
+fn as_priority(number: i64) -> Option<i32>
+    ensures { result ≡ as_priority number }
+{
+    if -PRIORITIES <= number && number < PRIORITIES {
+        Some(number as i32)
+    } else {
+        None
+    }
+}
+
+/// The level of the log that udev reads in a text behind `log_level=`: 0 to 7, or -1 for `reset`.
+#[tactic(auto, unfolding(crate::specs::Options::level_of))]
+pub fn level_of(text: &[u8]) -> Option<i32>
+    ensures { result ≡ level_of text.now }
+{
+    match beside(&LEVELS, text) {
+        Some(level) => Some(level),
+        None => as_level(natural_of(text)?),
+    }
+}
+
+/// A number as a level of the log.
+fn as_level(number: u64) -> Option<i32>
+    ensures { result ≡ as_level number }
+{
+    if number <= 7 {
+        Some(number as i32)
+    } else {
+        None
+    }
+}
+
+/// Whether udev knows the option of a text, whatever it is set to.
+#[tactic(auto, using(crate::proofs::Ignoring::unknown_is_ignored))]
+pub fn is_known_option(text: &[u8]) -> bool
+    ensures known { result ≡ is_known_option text.now }
+    // One that udev does not know changes nothing.
+    ensures ignored { result ≡ false → option_of Profile.Udev text.now ≡ Some RuleOption.Ignored }
+{
+    text.strip_prefix(b"link_priority=").is_some() || other_option(text).is_some()
 }

@@ -5,9 +5,11 @@ ghost use Rattle.rule_types.specs.Written.{attribute_of_role, key_of_role};
 ghost use Rattle.rule_parts.specs.Faults.{FaultOf};
 ghost use Rattle.rule_parts.specs.Inner.{Gives};
 ghost use Rattle.rule_types.specs.WrittenParts.{attribute_of_part, key_of_part, type_of};
-ghost use Rattle.rule_parts.specs.Parts.{comparison, ignores_case, import_by, is_match, is_read_as_assign, part_by, part_of, value_part};
+ghost use Rattle.rule_parts.specs.Parts.{IsWritten, comparison, ignores_case, import_by, is_match, is_read_as_assign, part_by, part_of, role_as, type_as, udev_role, value_part};
 
+use crate::builtins::builtin_of;
 use crate::finding::{PartFault, wrong};
+use crate::refusals::refusal_by;
 use crate::values::{read_choice, read_name, read_option, read_template};
 use rule_tokens::{Quote, Token, unquote};
 use rule_types::{
@@ -15,30 +17,32 @@ use rule_types::{
     Role, UpMatch, key_of, read_as, role_of, topic_of,
 };
 use std::alloc::{AllocError, Global};
-use text_bytes::{Bytes, MessageKind};
+use text_bytes::{Bytes, MessageKind, Profile};
 
 /// Reads a token as a part of a rule, by the tables of udev(7).
 ///
 /// What is wrong is the first of: an unknown key; an attribute that the key lacks or does not take;
-/// an operator that it does not take; a value that is none for it. `Memory` comes only where a
-/// growth was refused.
+/// an operator that it does not take; a value that is none for it. udev takes each value with
+/// substitutions or patterns, each name of a jump and each option that it does not know; it refuses
+/// a property that it sets by itself, a name without effect and a builtin that it does not have.
+/// `Memory` comes only where a growth was refused.
 #[tactic(auto, unfolding(crate::specs::Parts::part_of))]
-pub fn read_part(alloc: Global, token: &Token<'_>) -> Result<Part, PartFault>
-    ensures part { MatchResult result (λ p. part_of token.now ≡ Ok p) (λ f. FaultOf f (part_of token.now)) }
-    ensures written { IfOk result (λ p. (key_of token.now.parts.head.key ≡ Some (key_of_part p)) × (attribute_of_part p ≡ token.now.parts.head.attribute)) }
+pub fn read_part(alloc: Global, profile: Profile, token: &Token<'_>) -> Result<Part, PartFault>
+    ensures part { MatchResult result (λ p. part_of profile token.now ≡ Ok p) (λ f. FaultOf f (part_of profile token.now)) }
+    ensures written { IfOk result (λ p. (key_of token.now.parts.head.key ≡ Some (key_of_part p)) × IsWritten profile token.now.parts.head.attribute p) }
 {
     let Some(key) = key_of(token.key()) else {
         return Err(wrong(alloc, MessageKind::UnknownKey, token.key()));
     };
     let attribute = copied(alloc, token.attribute())?;
-    let Some(topic) = topic_of(key, attribute) else {
+    let Some(topic) = topic_of(profile, key, attribute) else {
         return Err(wrong(alloc, MessageKind::WrongAttribute, token.key()));
     };
     let Some(role) = role_of(topic, read_as(key, token.operator())) else {
         return Err(wrong(alloc, MessageKind::OperatorNotAllowed, token.key()));
     };
     let text = unquote(alloc, token)?;
-    value_part(alloc, role, ignores_case(token.quote()), text)
+    value_part(alloc, profile, role, ignores_case(token.quote()), text)
 }
 
 /// A copy of an attribute, if there is one.
@@ -61,17 +65,61 @@ fn ignores_case(quote: Quote) -> bool
     }
 }
 
-/// The part of a role with this value. `blind` says that the value asks for its case to be ignored,
-/// which matches alone take.
+/// The part of a role with this value, unless it is refused. `blind` says that the value asks for
+/// its case to be ignored, which matches alone take.
 #[tactic(auto, unfolding(crate::specs::Parts::value_part))]
-fn value_part(alloc: Global, role: Role, blind: bool, text: Vec<u8>) -> Result<Part, PartFault>
-    ensures part { Gives result (value_part role blind text.items) }
-    ensures written { IfOk result (λ p. (key_of_part p ≡ key_of_role role) × (attribute_of_part p ≡ attribute_of_role role)) }
+fn value_part(
+    alloc: Global,
+    profile: Profile,
+    role: Role,
+    blind: bool,
+    text: Vec<u8>,
+) -> Result<Part, PartFault>
+    ensures part { Gives result (value_part profile role blind text.items) }
+    ensures written { IfOk result (λ p. (key_of_part p ≡ key_of_role role) × (attribute_of_part p ≡ attribute_of_role (role_as profile role text.items))) }
 {
     if blind && !is_match(&role) {
-        Err(wrong(alloc, MessageKind::BadValue, &text))
-    } else {
-        part_by(alloc, role, blind, text)
+        return Err(wrong(alloc, MessageKind::BadValue, &text));
+    }
+    match refusal_by(profile, &role, &text) {
+        Some((kind, word)) => Err(wrong(alloc, kind, word)),
+        None => {
+            let role = role_as(profile, role, &text);
+            part_by(alloc, profile, role, blind, text)
+        }
+    }
+}
+
+/// A role as which it is read: for udev an IMPORT{program} of a builtin is one of the type of
+/// builtins.
+fn role_as(profile: Profile, role: Role, text: &[u8]) -> Role
+    ensures role { result ≡ role_as profile role text.now }
+    ensures key { key_of_role result ≡ key_of_role role }
+{
+    match profile {
+        Profile::Manual => role,
+        Profile::Udev => udev_role(role, text),
+    }
+}
+
+/// A role as which udev reads it.
+fn udev_role(role: Role, text: &[u8]) -> Role
+    ensures role { result ≡ udev_role role text.now }
+    ensures key { key_of_role result ≡ key_of_role role }
+{
+    match role {
+        Role::Import(known, operator) => Role::Import(type_as(known, text), operator),
+        other => other,
+    }
+}
+
+/// The type of an IMPORT as which udev reads it.
+fn type_as(known: ImportType, text: &[u8]) -> ImportType
+    ensures { result ≡ type_as known text.now }
+{
+    match known {
+        ImportType::Program if builtin_of(text).is_some() => ImportType::Builtin,
+        other => other,
     }
 }
 
@@ -84,46 +132,54 @@ fn is_match(role: &Role) -> bool
 
 /// Reads the value of a role, and makes the part.
 #[tactic(auto, unfolding(crate::specs::Parts::part_by))]
-fn part_by(alloc: Global, role: Role, blind: bool, text: Vec<u8>) -> Result<Part, PartFault>
-    ensures part { Gives result (part_by role blind text.items) }
+fn part_by(
+    alloc: Global,
+    profile: Profile,
+    role: Role,
+    blind: bool,
+    text: Vec<u8>,
+) -> Result<Part, PartFault>
+    ensures part { Gives result (part_by profile role blind text.items) }
     ensures written { IfOk result (λ p. (key_of_part p ≡ key_of_role role) × (attribute_of_part p ≡ attribute_of_role role)) }
 {
     match role {
         Role::Plain(key, operator) => {
-            let wanted = comparison(alloc, operator, blind, &text)?;
+            let wanted = comparison(alloc, profile, operator, blind, &text)?;
             Ok(Part::Plain(PlainMatch { key, wanted }))
         }
         Role::Up(key, operator) => {
-            let wanted = comparison(alloc, operator, blind, &text)?;
+            let wanted = comparison(alloc, profile, operator, blind, &text)?;
             Ok(Part::Up(UpMatch { key, wanted }))
         }
-        Role::Result(operator) => Ok(Part::Result(comparison(alloc, operator, blind, &text)?)),
+        Role::Result(operator) => Ok(Part::Result(comparison(
+            alloc, profile, operator, blind, &text,
+        )?)),
         Role::Test(mask, operator) => {
-            let deed = Deed::Test(mask, read_template(alloc, &text)?);
+            let deed = Deed::Test(mask, read_template(alloc, profile, &text)?);
             Ok(Part::Act(Act { operator, deed }))
         }
         Role::Program(operator) => {
-            let deed = Deed::Program(read_template(alloc, &text)?);
+            let deed = Deed::Program(read_template(alloc, profile, &text)?);
             Ok(Part::Act(Act { operator, deed }))
         }
         Role::Import(known, operator) => {
-            let deed = Deed::Import(import_by(alloc, known, text)?);
+            let deed = Deed::Import(import_by(alloc, profile, known, text)?);
             Ok(Part::Act(Act { operator, deed }))
         }
         Role::Set(target, operator) => {
-            let change = Change::Text(target, read_template(alloc, &text)?);
+            let change = Change::Text(target, read_template(alloc, profile, &text)?);
             Ok(Part::Set(Assignment { operator, change }))
         }
         Role::Run(known, operator) => {
-            let change = Change::Run(known, read_template(alloc, &text)?);
+            let change = Change::Run(known, read_template(alloc, profile, &text)?);
             Ok(Part::Set(Assignment { operator, change }))
         }
         Role::Option(operator) => {
-            let change = Change::Option(read_option(alloc, &text)?);
+            let change = Change::Option(read_option(alloc, profile, &text)?);
             Ok(Part::Set(Assignment { operator, change }))
         }
-        Role::Label => Ok(Part::Label(read_name(alloc, text)?)),
-        Role::Goto => Ok(Part::Goto(read_name(alloc, text)?)),
+        Role::Label => Ok(Part::Label(read_name(alloc, profile, text)?)),
+        Role::Goto => Ok(Part::Goto(read_name(alloc, profile, text)?)),
     }
 }
 
@@ -131,13 +187,14 @@ fn part_by(alloc: Global, role: Role, blind: bool, text: Vec<u8>) -> Result<Part
 #[tactic(auto, unfolding(crate::specs::Parts::comparison))]
 fn comparison(
     alloc: Global,
+    profile: Profile,
     operator: MatchOperator,
     blind: bool,
     text: &[u8],
 ) -> Result<Comparison, PartFault>
-    ensures { Gives result (comparison operator blind text.now) }
+    ensures { Gives result (comparison profile operator blind text.now) }
 {
-    let choice = read_choice(alloc, blind, text)?;
+    let choice = read_choice(alloc, profile, blind, text)?;
     Ok(Comparison {
         operator,
         blind,
@@ -148,16 +205,21 @@ fn comparison(
 
 /// Reads the value of an IMPORT of a type.
 #[tactic(auto, unfolding(crate::specs::Parts::import_by))]
-fn import_by(alloc: Global, known: ImportType, text: Vec<u8>) -> Result<Import, PartFault>
-    ensures import { Gives result (import_by known text.items) }
+fn import_by(
+    alloc: Global,
+    profile: Profile,
+    known: ImportType,
+    text: Vec<u8>,
+) -> Result<Import, PartFault>
+    ensures import { Gives result (import_by profile known text.items) }
     ensures written { IfOk result (λ i. type_of i ≡ known) }
 {
     match known {
-        ImportType::Program => Ok(Import::Program(read_template(alloc, &text)?)),
-        ImportType::Builtin => Ok(Import::Builtin(read_template(alloc, &text)?)),
-        ImportType::File => Ok(Import::File(read_template(alloc, &text)?)),
+        ImportType::Program => Ok(Import::Program(read_template(alloc, profile, &text)?)),
+        ImportType::Builtin => Ok(Import::Builtin(read_template(alloc, profile, &text)?)),
+        ImportType::File => Ok(Import::File(read_template(alloc, profile, &text)?)),
         ImportType::Parent => {
-            let names = read_choice(alloc, false, &text)?;
+            let names = read_choice(alloc, profile, false, &text)?;
             Ok(Import::Parent(names, Bytes::new(text)))
         }
         ImportType::Cmdline => Ok(Import::Cmdline(Bytes::new(text))),

@@ -1,21 +1,58 @@
 //! Reading the value of a token, once its escapes are read.
 ghost use Rattle.std.specs.Prelude.{◌≡◌};
 ghost use Rattle.text_core.specs.Choices.{choice, choice_blind};
+ghost use Rattle.text_core.specs.Fnmatch.{fnmatch_choice};
 ghost use Rattle.rule_parts.specs.Inner.{Gives, TellsOf};
-ghost use Rattle.rule_parts.specs.Values.{as_choice, read_choice, read_name, read_option, read_template};
+ghost use Rattle.rule_parts.specs.Values.{as_choice, manual_choice, read_choice, read_name, read_option, read_template, reading_of, some_name};
 
 use crate::finding::{PartFault, wrong};
 use crate::options::option_of;
 use rule_templates::{Template, TemplateFault};
 use rule_types::RuleOption;
 use std::alloc::Global;
-use text_bytes::{Bytes, MessageKind};
-use text_core::{Choice, GlobFault};
+use text_bytes::{Bytes, MessageKind, Profile};
+use text_core::{Choice, GlobFault, Reading};
 
-/// Reads patterns between bars. `blind` says that case is ignored.
+/// Reads patterns between bars by a profile. `blind` says that case is ignored.
 #[tactic(auto, unfolding(crate::specs::Values::read_choice))]
-pub(crate) fn read_choice(alloc: Global, blind: bool, text: &[u8]) -> Result<Choice, PartFault>
-    ensures { Gives result (read_choice blind text.now) }
+pub(crate) fn read_choice(
+    alloc: Global,
+    profile: Profile,
+    blind: bool,
+    text: &[u8],
+) -> Result<Choice, PartFault>
+    ensures { Gives result (read_choice profile blind text.now) }
+{
+    match profile {
+        Profile::Manual => manual_choice(alloc, blind, text),
+        Profile::Udev => udev_choice(alloc, blind, text),
+    }
+}
+
+/// Reads patterns as udev does.
+fn udev_choice(alloc: Global, blind: bool, text: &[u8]) -> Result<Choice, PartFault>
+    ensures { Gives result (as_choice text.now (fnmatch_choice (reading_of blind) text.now)) }
+{
+    match Choice::read_fnmatch(alloc, reading_of(blind), text) {
+        Ok(choice) => Ok(choice),
+        Err(fault) => Err(choice_fault(alloc, fault, text)),
+    }
+}
+
+/// How patterns are read.
+fn reading_of(blind: bool) -> Reading
+    ensures { result ≡ reading_of blind }
+{
+    if blind {
+        Reading::Blind
+    } else {
+        Reading::Exact
+    }
+}
+
+/// Reads patterns as the manual has them.
+fn manual_choice(alloc: Global, blind: bool, text: &[u8]) -> Result<Choice, PartFault>
+    ensures { Gives result (manual_choice blind text.now) }
 {
     if blind {
         blind_choice(alloc, text)
@@ -57,10 +94,14 @@ fn choice_fault(alloc: Global, fault: GlobFault, text: &[u8]) -> PartFault
 
 /// Reads a text with substitutions.
 #[tactic(auto, unfolding(crate::specs::Values::read_template))]
-pub(crate) fn read_template(alloc: Global, text: &[u8]) -> Result<Template, PartFault>
-    ensures { Gives result (read_template text.now) }
+pub(crate) fn read_template(
+    alloc: Global,
+    profile: Profile,
+    text: &[u8],
+) -> Result<Template, PartFault>
+    ensures { Gives result (read_template profile text.now) }
 {
-    match Template::read(alloc, text) {
+    match Template::read_as(alloc, profile, text) {
         Ok(template) => Ok(template),
         Err(TemplateFault::Memory) => Err(PartFault::Memory),
         Err(_) => Err(wrong(alloc, MessageKind::BadSubstitution, text)),
@@ -69,19 +110,33 @@ pub(crate) fn read_template(alloc: Global, text: &[u8]) -> Result<Template, Part
 
 /// Reads a text as an option of OPTIONS.
 #[tactic(auto, unfolding(crate::specs::Values::read_option))]
-pub(crate) fn read_option(alloc: Global, text: &[u8]) -> Result<RuleOption, PartFault>
-    ensures { Gives result (read_option text.now) }
+pub(crate) fn read_option(
+    alloc: Global,
+    profile: Profile,
+    text: &[u8],
+) -> Result<RuleOption, PartFault>
+    ensures { Gives result (read_option profile text.now) }
 {
-    match option_of(text) {
+    match option_of(profile, text) {
         Some(known) => Ok(known),
         None => Err(wrong(alloc, MessageKind::BadValue, text)),
     }
 }
 
-/// Takes a text as a name, unless it is empty.
+/// Takes a text as a name to jump to; by the manual it is not empty.
 #[tactic(auto, unfolding(crate::specs::Values::read_name))]
-pub(crate) fn read_name(alloc: Global, text: Vec<u8>) -> Result<Bytes, PartFault>
-    ensures { Gives result (read_name text.items) }
+pub(crate) fn read_name(alloc: Global, profile: Profile, text: Vec<u8>) -> Result<Bytes, PartFault>
+    ensures { Gives result (read_name profile text.items) }
+{
+    match profile {
+        Profile::Manual => some_name(alloc, text),
+        Profile::Udev => Ok(Bytes::new(text)),
+    }
+}
+
+/// Takes a text as a name, unless it is empty.
+fn some_name(alloc: Global, text: Vec<u8>) -> Result<Bytes, PartFault>
+    ensures { Gives result (some_name text.items) }
 {
     if text.is_empty() {
         Err(wrong(alloc, MessageKind::BadValue, &text))

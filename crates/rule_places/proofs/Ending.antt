@@ -1,9 +1,11 @@
 -- What stands behind the last token of a line.
-use Rattle.std.proofs.Common.{◌≡◌, ℕ, ◌+◌, List, [], ◌∷◌, ◌++◌, length, drop, Option, Some, None, Result, Ok, Err, refl, ap, sym, ◌∙◌, subst, append_assoc, append-nil, drop_at, length-append, arith}
+use Rattle.std.proofs.Common.{◌≡◌, ℕ, ◌+◌, ◌≤◌, Bool, true, false, List, [], ◌∷◌, ◌++◌, length, take, drop, Option, Some, None, Result, Ok, Err, ap, sym, ◌∙◌, subst, append_assoc, append-nil, drop_at, length-append, arith}
+use Rattle.std.proofs.lemmas.List.{length-take-le, take-append-drop}
+use Rattle.text_bytes.specs.declared.profile.Profile.{Profile}
 use Rattle.rule_tokens.specs.Grammar.{AllAre, Item, LexesAt, Placed, answers, is_gap_byte, last, more}
-use Rattle.rule_tokens.specs.Lines.{items_of}
+use Rattle.rule_tokens.specs.Lines.{is_over, items_from, items_left}
 use Rattle.rule_tokens.specs.declared.kinds.TokenFault.{TokenFault}
-use Rattle.rule_tokens.proofs.Steps.{new_given}
+use Rattle.rule_tokens.proofs.Steps.{left_done, left_given}
 use Rattle.rule_types.specs.declared.part.Part.{Part}
 use Rattle.rule_places.specs.Found.{RulePlaces}
 use Rattle.rule_places.specs.Reading.{goes_on, part_told, taken}
@@ -38,8 +40,44 @@ ends line before text at place (t ∷ tokens) end e l (more rest gap next here b
     let place : length (before ++ (o.0 ++ gap)) ≡ t.span.end + length gap = omega (arith, here.end) in
     ends line (before ++ (o.0 ++ gap)) next (t.span.end + length gap) t.span.end tokens end spelled place behind
 
-pub all_end : (line : List ℕ) → EndsInGap line 0 (items_of line)
-all_end line = let g = new_given line in rw g.3 (ends line [] line 0 0 g.0 g.1 refl refl g.2)
+-- behind the last of these items, if a token stands there, only blanks and commas stand in the line
+abbrev pub EndsLast : List ℕ → List Item → Type 0
+EndsLast line [] = Unit {0}
+EndsLast line (Ok t ∷ items) = EndsInGap line t.span.end items
+EndsLast line (Err fault ∷ items) = Unit {0}
+
+behind_any : (line : List ℕ) (place : ℕ) (items : List Item) → EndsInGap line place items → EndsLast line items
+behind_any line place [] h = tt
+behind_any line place (Ok t ∷ items) h = h
+behind_any line place (Err fault ∷ items) h = tt
+
+pub all_end : (start : ℕ) (line : List ℕ) → start ≤ length line → EndsLast line (items_from start line)
+all_end start line within = by (is_over start line)
+  where
+    by : (done : Bool) → EndsLast line (items_left done start (drop start line))
+    by true = rw (left_done start (drop start line)) tt
+    by false =
+        let g = left_given start (drop start line) in
+        rw g.3 (behind_any line 0 (answers g.0 g.1) (ends line (take start line) (drop start line) start 0 g.0 g.1 (sym (take-append-drop start line)) (length-take-le start line within) g.2))
+
+-- the first of these items, if it is a token, begins at a place
+abbrev pub BeginsAt : ℕ → List Item → Type 0
+BeginsAt place [] = Unit {0}
+BeginsAt place (Ok t ∷ items) = t.span.start ≡ place
+BeginsAt place (Err fault ∷ items) = Unit {0}
+
+begins : (text : List ℕ) (at : ℕ) (tokens : List Placed) (end : Option TokenFault) → LexesAt at text tokens end → BeginsAt at (answers tokens end)
+begins text at [] None h = tt
+begins text at [] (Some fault) h = tt
+begins text at (t ∷ []) None (last rest gap here between) = here.start
+begins text at (t ∷ tokens) end (more rest gap next here between some behind) = here.start
+
+pub all_begin : (start : ℕ) (line : List ℕ) → BeginsAt start (items_from start line)
+all_begin start line = by (is_over start line)
+  where
+    by : (done : Bool) → BeginsAt start (items_left done start (drop start line))
+    by true = rw (left_done start (drop start line)) tt
+    by false = let g = left_given start (drop start line) in rw g.3 (begins (drop start line) start g.0 g.1 g.2)
 
 -- none of the items is a fault
 abbrev pub NoFault : List Item → Type 0
@@ -47,12 +85,12 @@ NoFault [] = Unit {0}
 NoFault (Ok t ∷ items) = NoFault items
 NoFault (Err fault ∷ items) = ⊥
 
-token_read : (r q : RulePlaces) (t : Placed) (next : RulePlaces → LineReading) (items : List Item) (x : Result Part Spot) → ((s : RulePlaces) → next s ≡ Rule q → NoFault items) → goes_on r t next x ≡ Rule q → NoFault items
-token_read r q t next items (Ok p) f e = f _ e
-token_read r q t next items (Err found) f e = cc
+token_read : (by : Profile) (r q : RulePlaces) (t : Placed) (next : RulePlaces → LineReading) (items : List Item) (x : Result Part Spot) → ((s : RulePlaces) → next s ≡ Rule q → NoFault items) → goes_on by r t next x ≡ Rule q → NoFault items
+token_read by r q t next items (Ok p) f e = f _ e
+token_read by r q t next items (Err found) f e = cc
 
 -- a line that is a rule has no fault
-pub rule_has_none : (line : List ℕ) (items : List Item) (r q : RulePlaces) → taken line r items ≡ Rule q → NoFault items
-rule_has_none line [] r q e = tt
-rule_has_none line (Ok t ∷ items) r q e = token_read r q t (λ s. taken line s items) items (part_told t) (λ s f. rule_has_none line items s q f) e
-rule_has_none line (Err fault ∷ items) r q e = cc
+pub rule_has_none : (by : Profile) (line : List ℕ) (items : List Item) (r q : RulePlaces) → taken by line r items ≡ Rule q → NoFault items
+rule_has_none by line [] r q e = tt
+rule_has_none by line (Ok t ∷ items) r q e = token_read by r q t (λ s. taken by line s items) items (part_told by t) (λ s f. rule_has_none by line items s q f) e
+rule_has_none by line (Err fault ∷ items) r q e = cc

@@ -4,13 +4,16 @@ use Rattle.std.specs.List.{AllByRecursion, flat_map}
 use Rattle.std.proofs.Math.Seq.{drop-append-add}
 use Rattle.std.proofs.lemmas.List.{drop-append-le, take-append-le}
 use Rattle.text_bytes.specs.Lines.{NumberedLine, numbered_lines}
+use Rattle.text_bytes.specs.declared.profile.Profile.{Profile}
 use Rattle.text_bytes.specs.declared.source_file.SourceFile.{SourceFile}
 use Rattle.rule_jumps.specs.Jumps.{landings}
 use Rattle.rule_jumps.specs.declared.jumps.Landing.{Landing}
+use Rattle.rule_core.specs.Ends.{given_up}
 use Rattle.rule_core.specs.Lines.{joined_lines}
-use Rattle.rule_places.specs.Files.{line_findings, names_of, open_findings, placed, placed_findings, readings_from, spots_of}
+use Rattle.rule_places.specs.Files.{findings_of_lines, findings_unless, line_findings, names_of, open_findings, placed_findings, readings_from, spots_of}
 use Rattle.rule_places.specs.Kept.{kept_lines, place_in}
 use Rattle.rule_places.specs.Laws.{StandsIn, StandsInFile, StandsThere}
+use Rattle.rule_places.specs.Placed.{placed}
 use Rattle.rule_places.specs.Reading.{reading_of}
 use Rattle.rule_places.specs.Shown.{kept_text}
 use Rattle.rule_places.specs.declared.placed_finding.PlacedFinding.{PlacedFinding}
@@ -68,32 +71,38 @@ both bytes [] ys h g = g
 both bytes (x ∷ xs) ys h g = (h.0, both bytes xs ys h.1 g)
 
 -- lines, each with what becomes of its jumps
-lines_in_file : (bytes before behind : List ℕ) (start : ℕ) (ls : List NumberedLine) (found : List Landing) → length bytes < 2 ^ 32 - 1
+lines_in_file : (by : Profile) (bytes before behind : List ℕ) (start : ℕ) (ls : List NumberedLine) (found : List Landing) → length bytes < 2 ^ 32 - 1
     → kept_text (numbered_lines bytes) ≡ before ++ (flat_map (λ l. l.text) ls ++ behind) → length before ≡ start
-    → AllByRecursion (StandsInFile bytes) (flat_map (λ x. line_findings (kept_lines bytes) x.0 x.1) (zip (readings_from start ls) found))
-lines_in_file bytes before behind start [] found few e l = tt
-lines_in_file bytes before behind start (line ∷ ls) [] few e l = tt
-lines_in_file bytes before behind start (line ∷ ls) (m ∷ found) few e l =
+    → AllByRecursion (StandsInFile bytes) (flat_map (λ x. line_findings (kept_lines bytes) x.0 x.1) (zip (readings_from by start ls) found))
+lines_in_file by bytes before behind start [] found few e l = tt
+lines_in_file by bytes before behind start (line ∷ ls) [] few e l = tt
+lines_in_file by bytes before behind start (line ∷ ls) (m ∷ found) few e l =
     let others = flat_map (λ x. x.text) ls in
     let here : kept_text (numbered_lines bytes) ≡ before ++ (line.text ++ (others ++ behind)) = e ∙ ap (λ (x : List ℕ). before ++ x) (append_assoc line.text others behind) in
     let next : kept_text (numbered_lines bytes) ≡ (before ++ line.text) ++ (others ++ behind) = here ∙ sym (append_assoc before line.text (others ++ behind)) in
     let long : length (before ++ line.text) ≡ start + length line.text = length-append before line.text ∙ ap (λ (n : ℕ). n + length line.text) l in
-    both bytes (map (placed (kept_lines bytes) line.number start) (spots_of (reading_of line.text) m)) (flat_map (λ x. line_findings (kept_lines bytes) x.0 x.1) (zip (readings_from (start + length line.text) ls) found))
-    (spots_in_file bytes before line.text (others ++ behind) line.number start (spots_of (reading_of line.text) m) few here l (all_stand line.text m))
-    (lines_in_file bytes (before ++ line.text) behind (start + length line.text) ls found few next long)
+    both bytes (map (placed (kept_lines bytes) line.number start) (spots_of (reading_of by line.text) m)) (flat_map (λ x. line_findings (kept_lines bytes) x.0 x.1) (zip (readings_from by (start + length line.text) ls) found))
+    (spots_in_file bytes before line.text (others ++ behind) line.number start (spots_of (reading_of by line.text) m) few here l (all_stand by line.text m))
+    (lines_in_file by bytes (before ++ line.text) behind (start + length line.text) ls found few next long)
 
 -- a line that is open
 open_in_file : (bytes : List ℕ) (at : Option ℕ) → AllByRecursion (StandsInFile bytes) (open_findings (kept_lines bytes) at)
 open_in_file bytes None = tt
 open_in_file bytes (Some number) = (λ told some. absurd (true≢false (sym told)), tt)
 
-pub all_in_file : (file : SourceFile) → length file.bytes < 2 ^ 32 - 1 → AllByRecursion (StandsInFile file.bytes) (placed_findings file)
+lines_stand : (by : Profile) (bytes : List ℕ) → length bytes < 2 ^ 32 - 1 → AllByRecursion (StandsInFile bytes) (findings_of_lines by bytes)
+lines_stand by bytes few =
+    let ls = (joined_lines by bytes).lines in
+    let found = landings (map (λ r. names_of r.read) (readings_from by 0 ls)) in
+    let joined = all_joined by bytes in
+    both bytes (flat_map (λ x. line_findings (kept_lines bytes) x.0 x.1) (zip (readings_from by 0 ls) found)) (open_findings (kept_lines bytes) (joined_lines by bytes).open_at)
+    (lines_in_file by bytes [] joined.0 0 ls found few joined.1 refl)
+    (open_in_file bytes (joined_lines by bytes).open_at)
+
+file_stands : (by : Profile) (bytes : List ℕ) (o : Option ℕ) → length bytes < 2 ^ 32 - 1 → AllByRecursion (StandsInFile bytes) (findings_unless by bytes o)
+file_stands by bytes None few = lines_stand by bytes few
+file_stands by bytes (Some number) few = (λ told some. absurd (true≢false (sym told)), tt)
+
+pub all_in_file : (by : Profile) (file : SourceFile) → length file.bytes < 2 ^ 32 - 1 → AllByRecursion (StandsInFile file.bytes) (placed_findings by file)
 unfolding placed_findings
-all_in_file file few =
-    let bytes = file.bytes in
-    let ls = (joined_lines bytes).lines in
-    let found = landings (map (λ r. names_of r.read) (readings_from 0 ls)) in
-    let joined = all_joined bytes in
-    both bytes (flat_map (λ x. line_findings (kept_lines bytes) x.0 x.1) (zip (readings_from 0 ls) found)) (open_findings (kept_lines bytes) (joined_lines bytes).open_at)
-    (lines_in_file bytes [] joined.0 0 ls found few joined.1 refl)
-    (open_in_file bytes (joined_lines bytes).open_at)
+all_in_file by file few = file_stands by file.bytes (given_up by file.bytes) few

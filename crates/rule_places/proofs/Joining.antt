@@ -4,6 +4,7 @@ use Rattle.std.specs.List.{flat_map, onto_first}
 use Rattle.text_bytes.specs.Lines.{NumberedLine, numbered_lines}
 use Rattle.text_bytes.specs.Messages.{capped}
 use Rattle.text_bytes.specs.Texts.{is_empty}
+use Rattle.text_bytes.specs.declared.profile.Profile.{Profile}
 use Rattle.rule_core.specs.Lines.{Piece, is_open, kept, lines_of_runs, piece_of, run_number, run_text, runs}
 use Rattle.rule_places.specs.Shown.{AreJoined}
 
@@ -43,20 +44,20 @@ line_more true n [] ls e = refl
 line_more true n (b ∷ t) ls e = cc
 line_more false n t ls e = refl
 
-joined : (rs : List (List Piece)) (text : List ℕ) → Have rs text → (left : List ℕ) × (text ≡ flat_map (λ l. l.text) (lines_of_runs rs) ++ left)
-joined [] text h = (text, refl)
-joined (r ∷ rs) text h = by (is_open r) h (λ t g. joined rs t g)
+joined : (by : Profile) (rs : List (List Piece)) (text : List ℕ) → Have rs text → (left : List ℕ) × (text ≡ flat_map (λ l. l.text) (lines_of_runs by rs) ++ left)
+joined by [] text h = (text, refl)
+joined by (r ∷ rs) text h = on (is_open r) h (λ t g. joined by rs t g)
   where
-    by : (c : Bool) → Before c (Have rs) rs r text → ((t : List ℕ) → Have rs t → (left : List ℕ) × (t ≡ flat_map (λ l. l.text) (lines_of_runs rs) ++ left))
-        → (left : List ℕ) × (text ≡ flat_map (λ l. l.text) (cond c (lines_of_runs rs) (cond (is_empty (run_text r)) (lines_of_runs rs) (record { number = capped (run_number r); text = run_text r } ∷ lines_of_runs rs))) ++ left)
-    by true e others = (text, ap (λ (x : List (List Piece)). flat_map (λ l. l.text) (lines_of_runs x) ++ text) (sym e))
-    by false g others =
+    on : (c : Bool) → Before c (Have rs) rs r text → ((t : List ℕ) → Have rs t → (left : List ℕ) × (t ≡ flat_map (λ l. l.text) (lines_of_runs by rs) ++ left))
+        → (left : List ℕ) × (text ≡ flat_map (λ l. l.text) (cond c (lines_of_runs by rs) (cond (is_empty (run_text r)) (lines_of_runs by rs) (record { number = capped (run_number by r); text = run_text r } ∷ lines_of_runs by rs))) ++ left)
+    on true e others = (text, ap (λ (x : List (List Piece)). flat_map (λ l. l.text) (lines_of_runs by x) ++ text) (sym e))
+    on false g others =
         let rest = others g.0 g.2 in (
           rest.0,
           g.1 ∙ ap (λ (x : List ℕ). run_text r ++ x) rest.1
-              ∙ sym (append_assoc (run_text r) (flat_map (λ l. l.text) (lines_of_runs rs)) rest.0)
-              ∙ ap (λ (x : List ℕ). x ++ rest.0) (sym (line_more (is_empty (run_text r)) (capped (run_number r)) (run_text r) (lines_of_runs rs) refl)),
+              ∙ sym (append_assoc (run_text r) (flat_map (λ l. l.text) (lines_of_runs by rs)) rest.0)
+              ∙ ap (λ (x : List ℕ). x ++ rest.0) (sym (line_more (is_empty (run_text r)) (capped (run_number by r)) (run_text r) (lines_of_runs by rs) refl)),
         )
 
-pub all_joined : (bytes : List ℕ) → AreJoined bytes
-all_joined bytes = let ps = map piece_of (kept (numbered_lines bytes)) in joined (runs ps) (run_text ps) (all_have ps)
+pub all_joined : (by : Profile) (bytes : List ℕ) → AreJoined by bytes
+all_joined by bytes = let ps = map piece_of (kept (numbered_lines bytes)) in joined by (runs ps) (run_text ps) (all_have ps)

@@ -6,6 +6,7 @@ pub mod Listing
 pub mod Taken
 pub mod Lengths
 pub mod Filing
+mod Naming
 mod Telling
 mod Styling
 mod Reading
@@ -13,9 +14,11 @@ pub mod Messages
 mod Prefixes
 mod Quotes
 mod Ending
+pub mod PartStanding
 pub mod Standing
 pub mod Showing
 pub mod Placing
 pub mod Joining
 pub mod FileStanding
 pub mod Opening
+pub mod GivenUp

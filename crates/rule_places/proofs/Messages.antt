@@ -6,19 +6,22 @@ use Rattle.text_bytes.specs.Lines.{NumberedLine}
 use Rattle.text_bytes.specs.declared.message.Message.{Message}
 use Rattle.text_bytes.specs.declared.message.MessageKind.{MessageKind}
 use Rattle.text_bytes.specs.declared.message.MessageKind.TheVariants.{NoLaterLabel, LabelUnused}
+use Rattle.text_bytes.specs.declared.profile.Profile.{Profile}
 use Rattle.text_bytes.specs.declared.source_file.SourceFile.{SourceFile}
 use Rattle.rule_jumps.specs.Jumps.{Names, landings}
 use Rattle.rule_jumps.specs.declared.jumps.Landing.{Landing}
 use Rattle.rule_parts.specs.Values.{finding}
 use Rattle.rule_parts.specs.declared.finding.Finding.{Finding}
 use Rattle.rule_core.specs.Drafts.{Draft, draft_of}
+use Rattle.rule_core.specs.Ends.{given_up}
 use Rattle.rule_core.specs.Lines.{joined_lines}
 use Rattle.rule_core.specs.Rules as core
-use Rattle.rule_core.specs.Rules.{file_messages, findings_of, line_messages, message_at, name_in, open_messages, reading_of}
-use Rattle.rule_places.specs.Files.{line_findings, name_spot, names_of, open_findings, placed, placed_findings, readings_from, rule_spots, spots_of}
+use Rattle.rule_core.specs.Rules.{file_messages, findings_of, line_messages, message_at, messages_unless, name_in, open_messages, reading_of}
+use Rattle.rule_places.specs.Files.{findings_of_lines, findings_unless, line_findings, name_spot, names_of, open_findings, placed_findings, readings_from, rule_spots, spots_of}
 use Rattle.rule_places.specs.Found.{RulePlaces}
 use Rattle.rule_places.specs.Kept.{kept_lines}
 use Rattle.rule_places.specs.Laws.{as_message, cut}
+use Rattle.rule_places.specs.Placed.{placed}
 use Rattle.rule_places.specs.Reading as places
 use Rattle.rule_places.specs.declared.found.NamePlace.{NamePlace}
 use Rattle.rule_places.specs.declared.kept.KeptLine.{KeptLine}
@@ -62,37 +65,44 @@ names_same (Rule p) (Err wrong) k = absurd k
 names_same (Wrong found) (Ok d) k = absurd k
 names_same (Wrong found) (Err wrong) k = refl
 
-all_names : (start : ℕ) (ls : List NumberedLine) → map (λ r. names_of r.read) (readings_from start ls) ≡ map (λ r. core.names_of r.read) (map reading_of ls)
-all_names start [] = refl
-all_names start (l ∷ ls) =
-    ap (λ (n : Names). n ∷ map (λ r. names_of r.read) (readings_from (start + length l.text) ls)) (names_same (places.reading_of l.text) (draft_of l.text) (line_matches l.text))
-    ∙ ap (λ (ns : List Names). core.names_of (draft_of l.text) ∷ ns) (all_names (start + length l.text) ls)
+all_names : (by : Profile) (start : ℕ) (ls : List NumberedLine) → map (λ r. names_of r.read) (readings_from by start ls) ≡ map (λ r. core.names_of r.read) (map (reading_of by) ls)
+all_names by start [] = refl
+all_names by start (l ∷ ls) =
+    ap (λ (n : Names). n ∷ map (λ r. names_of r.read) (readings_from by (start + length l.text) ls)) (names_same (places.reading_of by l.text) (draft_of by l.text) (line_matches by l.text))
+    ∙ ap (λ (ns : List Names). core.names_of (draft_of by l.text) ∷ ns) (all_names by (start + length l.text) ls)
 
 -- lines, each with what becomes of its jumps
-lines_told : (name : List ℕ) (kept : List KeptLine) (start : ℕ) (ls : List NumberedLine) (found : List Landing)
-    → map (as_message name) (flat_map (λ x. line_findings kept x.0 x.1) (zip (readings_from start ls) found)) ≡ flat_map (λ x. line_messages name x.0.line x.0.read x.1) (zip (map reading_of ls) found)
-lines_told name kept start [] found = refl
-lines_told name kept start (l ∷ ls) [] = refl
-lines_told name kept start (l ∷ ls) (m ∷ found) =
-    let one = map (placed kept l.number start) (spots_of (places.reading_of l.text) m) in
-    let others = flat_map (λ x. line_findings kept x.0 x.1) (zip (readings_from (start + length l.text) ls) found) in
+lines_told : (by : Profile) (name : List ℕ) (kept : List KeptLine) (start : ℕ) (ls : List NumberedLine) (found : List Landing)
+    → map (as_message name) (flat_map (λ x. line_findings kept x.0 x.1) (zip (readings_from by start ls) found)) ≡ flat_map (λ x. line_messages name x.0.line x.0.read x.1) (zip (map (reading_of by) ls) found)
+lines_told by name kept start [] found = refl
+lines_told by name kept start (l ∷ ls) [] = refl
+lines_told by name kept start (l ∷ ls) (m ∷ found) =
+    let one = map (placed kept l.number start) (spots_of (places.reading_of by l.text) m) in
+    let others = flat_map (λ x. line_findings kept x.0 x.1) (zip (readings_from by (start + length l.text) ls) found) in
     map-append (as_message name) one others
-    ∙ ap (λ (ms : List Message). ms ++ map (as_message name) others) (line_told name kept l.number start (places.reading_of l.text) (draft_of l.text) m (line_matches l.text))
-    ∙ ap (λ (ms : List Message). line_messages name l.number (draft_of l.text) m ++ ms) (lines_told name kept (start + length l.text) ls found)
+    ∙ ap (λ (ms : List Message). ms ++ map (as_message name) others) (line_told name kept l.number start (places.reading_of by l.text) (draft_of by l.text) m (line_matches by l.text))
+    ∙ ap (λ (ms : List Message). line_messages name l.number (draft_of by l.text) m ++ ms) (lines_told by name kept (start + length l.text) ls found)
 
 open_told : (name : List ℕ) (kept : List KeptLine) (at : Option ℕ) → map (as_message name) (open_findings kept at) ≡ open_messages name at
 open_told name kept None = refl
 open_told name kept (Some number) = refl
 
-pub findings_told : (file : SourceFile) → map (as_message file.name) (placed_findings file) ≡ file_messages file
-unfolding placed_findings
-findings_told file =
+lines_of_file_told : (by : Profile) (file : SourceFile) → map (as_message file.name) (findings_of_lines by file.bytes) ≡ messages_unless by file None
+lines_of_file_told by file =
     let kept = kept_lines file.bytes in
-    let ls = (joined_lines file.bytes).lines in
-    let at = (joined_lines file.bytes).open_at in
-    let found = landings (map (λ r. names_of r.read) (readings_from 0 ls)) in
-    let own = flat_map (λ x. line_findings kept x.0 x.1) (zip (readings_from 0 ls) found) in
+    let ls = (joined_lines by file.bytes).lines in
+    let at = (joined_lines by file.bytes).open_at in
+    let found = landings (map (λ r. names_of r.read) (readings_from by 0 ls)) in
+    let own = flat_map (λ x. line_findings kept x.0 x.1) (zip (readings_from by 0 ls) found) in
     map-append (as_message file.name) own (open_findings kept at)
-    ∙ ap (λ (ms : List Message). ms ++ map (as_message file.name) (open_findings kept at)) (lines_told file.name kept 0 ls found)
-    ∙ ap (λ (ms : List Message). flat_map (λ x. line_messages file.name x.0.line x.0.read x.1) (zip (map reading_of ls) found) ++ ms) (open_told file.name kept at)
-    ∙ ap (λ (ns : List Names). flat_map (λ x. line_messages file.name x.0.line x.0.read x.1) (zip (map reading_of ls) (landings ns)) ++ open_messages file.name at) (all_names 0 ls)
+    ∙ ap (λ (ms : List Message). ms ++ map (as_message file.name) (open_findings kept at)) (lines_told by file.name kept 0 ls found)
+    ∙ ap (λ (ms : List Message). flat_map (λ x. line_messages file.name x.0.line x.0.read x.1) (zip (map (reading_of by) ls) found) ++ ms) (open_told file.name kept at)
+    ∙ ap (λ (ns : List Names). flat_map (λ x. line_messages file.name x.0.line x.0.read x.1) (zip (map (reading_of by) ls) (landings ns)) ++ open_messages file.name at) (all_names by 0 ls)
+
+file_told : (by : Profile) (file : SourceFile) (o : Option ℕ) → map (as_message file.name) (findings_unless by file.bytes o) ≡ messages_unless by file o
+file_told by file None = lines_of_file_told by file
+file_told by file (Some number) = refl
+
+pub findings_told : (by : Profile) (file : SourceFile) → map (as_message file.name) (placed_findings by file) ≡ file_messages by file
+unfolding placed_findings
+findings_told by file = file_told by file (given_up by file.bytes)

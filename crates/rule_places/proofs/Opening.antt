@@ -1,20 +1,23 @@
 -- A line that is open at its file's end ends in the `\` that is told of.
-use Rattle.std.proofs.Common.{◌≡◌, ℕ, suc, ◌+◌, ◌-◌, ◌<◌, ◌^◌, Bool, true, false, true≢false, cond, not, ◌&&◌, inl, inr, List, [], ◌∷◌, ◌++◌, length, take, map, zip, slice_get, Option, Some, None, refl, ap, sym, ◌∙◌, subst, length-drop, length-take, arith}
+use Rattle.std.proofs.Common.{◌≡◌, ℕ, suc, ◌+◌, ◌-◌, ◌<◌, ◌^◌, Bool, true, false, true≢false, cond, not, ◌&&◌, List, [], ◌∷◌, ◌++◌, length, take, map, zip, slice_get, Option, Some, None, refl, ap, sym, ◌∙◌, subst, length-drop, length-take, arith}
 use Rattle.std.specs.List.{flat_map, onto_first, prefix_len}
-use Rattle.text_bytes.specs.Lines.{NumberedLine, numbered_lines}
+use Rattle.text_bytes.specs.Lines.{NumberedLine, lines, numbered_lines}
 use Rattle.text_bytes.specs.Messages.{capped}
 use Rattle.text_bytes.specs.Names.{backslash, is_blank}
 use Rattle.text_bytes.specs.Texts.{ends_in}
 use Rattle.text_bytes.specs.declared.message.MessageKind.TheVariants.{OpenAtEnd}
+use Rattle.text_bytes.specs.declared.profile.Profile.{Profile}
 use Rattle.text_bytes.specs.declared.source_file.SourceFile.{SourceFile}
 use Rattle.rule_jumps.specs.Jumps.{landings}
-use Rattle.rule_core.specs.Lines.{Piece, is_comment, is_open, joined_lines, kept, open_of_runs, piece_of, run_number, runs, unindented}
-use Rattle.rule_places.specs.Files.{found_at, line_findings, names_of, open_findings, placed_findings, readings_from}
+use Rattle.rule_core.specs.Ends.{given_up}
+use Rattle.rule_core.specs.Lines.{Piece, is_comment, is_open, joined_lines, kept, open_number, open_of_runs, piece_of, runs, unindented}
+use Rattle.rule_places.specs.Files.{findings_of_lines, findings_unless, line_findings, names_of, open_findings, placed_findings, readings_from}
 use Rattle.rule_places.specs.Kept.{as_kept, backslash_of, kept_before, kept_from, kept_lines, place_at}
 use Rattle.rule_places.specs.Laws.{EndsOpen}
+use Rattle.rule_places.specs.Placed.{found_at}
 use Rattle.rule_places.specs.Shown.{IsAmong}
 use Rattle.rule_places.specs.declared.kept.KeptLine.{KeptLine}
-use Rattle.rule_places.proofs.Placing.{capped_end, capped_is, line_bounds}
+use Rattle.rule_places.proofs.Placing.{among_others, capped_end, capped_is, line_bounds}
 use Rattle.rule_places.proofs.Showing.{ends_alike}
 
 -- the last of these pieces continues
@@ -24,14 +27,14 @@ LastContinues (p ∷ []) = p.continues ≡ true
 LastContinues (p ∷ q ∷ ps) = LastContinues (q ∷ ps)
 
 -- where a run is open with a piece more at its front, it is open without it
-still_open : (Q : Type 0) (p : Piece) (rs : List (List Piece)) (n : ℕ) → p.continues ≡ true → (rs ≡ [] → Q) → ((m : ℕ) → open_of_runs rs ≡ Some m → Q) → open_of_runs (onto_first p rs) ≡ Some n → Q
-still_open Q p [] n c none f e = none refl
-still_open Q p (r ∷ rs) n c none f e = by (p.continues) (is_open r) c f e
+still_open : (by : Profile) (last : ℕ) (Q : Type 0) (p : Piece) (rs : List (List Piece)) (n : ℕ) → p.continues ≡ true → (rs ≡ [] → Q) → ((m : ℕ) → open_of_runs by last rs ≡ Some m → Q) → open_of_runs by last (onto_first p rs) ≡ Some n → Q
+still_open by last Q p [] n c none f e = none refl
+still_open by last Q p (r ∷ rs) n c none f e = on (p.continues) (is_open r) c f e
   where
-    by : (c o : Bool) → c ≡ true → ((m : ℕ) → cond o (Some (capped (run_number r))) (open_of_runs rs) ≡ Some m → Q) → cond (c && o) (Some (capped (run_number (p ∷ r)))) (open_of_runs rs) ≡ Some n → Q
-    by true true h f e = f (capped (run_number r)) refl
-    by true false h f e = f n e
-    by false o h f e = absurd (true≢false (sym h))
+    on : (c o : Bool) → c ≡ true → ((m : ℕ) → cond o (Some (capped (open_number by last r))) (open_of_runs by last rs) ≡ Some m → Q) → cond (c && o) (Some (capped (open_number by last (p ∷ r)))) (open_of_runs by last rs) ≡ Some n → Q
+    on true true h f e = f (capped (open_number by last r)) refl
+    on true false h f e = f n e
+    on false o h f e = absurd (true≢false (sym h))
 
 no_run : {Q : Type 0} (q : Piece) (ps : List Piece) → runs (q ∷ ps) ≡ [] → Q
 no_run {Q} q ps e = by q.continues (runs ps) e
@@ -41,18 +44,18 @@ no_run {Q} q ps e = by q.continues (runs ps) e
     by true (r ∷ rs) e = cc
     by false rs e = cc
 
-open_last : (ps : List Piece) (n : ℕ) → open_of_runs (runs ps) ≡ Some n → LastContinues ps
-open_last [] n e = cc
-open_last (p ∷ []) n e = by p.continues refl e
+open_last : (by : Profile) (last : ℕ) (ps : List Piece) (n : ℕ) → open_of_runs by last (runs ps) ≡ Some n → LastContinues ps
+open_last by last [] n e = cc
+open_last by last (p ∷ []) n e = on p.continues refl e
   where
-    by : (c : Bool) → p.continues ≡ c → open_of_runs (cond c (onto_first p []) ((p ∷ []) ∷ [])) ≡ Some n → c ≡ true
-    by true h e = refl
-    by false h e = let none : None ≡ Some n = ap (λ (c : Bool). cond (c && true) (Some (capped (run_number (p ∷ [])))) None) (sym h) ∙ e in cc
-open_last (p ∷ q ∷ ps) n e = by p.continues refl e (λ m f. open_last (q ∷ ps) m f)
+    on : (c : Bool) → p.continues ≡ c → open_of_runs by last (cond c (onto_first p []) ((p ∷ []) ∷ [])) ≡ Some n → c ≡ true
+    on true h e = refl
+    on false h e = let none : None ≡ Some n = ap (λ (c : Bool). cond (c && true) (Some (capped (open_number by last (p ∷ [])))) None) (sym h) ∙ e in cc
+open_last by last (p ∷ q ∷ ps) n e = on p.continues refl e (λ m f. open_last by last (q ∷ ps) m f)
   where
-    by : (c : Bool) → p.continues ≡ c → open_of_runs (cond c (onto_first p (runs (q ∷ ps))) ((p ∷ []) ∷ runs (q ∷ ps))) ≡ Some n → ((m : ℕ) → open_of_runs (runs (q ∷ ps)) ≡ Some m → LastContinues (q ∷ ps)) → LastContinues (q ∷ ps)
-    by true h e f = still_open (LastContinues (q ∷ ps)) p (runs (q ∷ ps)) n h (no_run q ps) f e
-    by false h e f = f n (ap (λ (c : Bool). cond (c && true) (Some (capped (run_number (p ∷ [])))) (open_of_runs (runs (q ∷ ps)))) (sym h) ∙ e)
+    on : (c : Bool) → p.continues ≡ c → open_of_runs by last (cond c (onto_first p (runs (q ∷ ps))) ((p ∷ []) ∷ runs (q ∷ ps))) ≡ Some n → ((m : ℕ) → open_of_runs by last (runs (q ∷ ps)) ≡ Some m → LastContinues (q ∷ ps)) → LastContinues (q ∷ ps)
+    on true h e f = still_open by last (LastContinues (q ∷ ps)) p (runs (q ∷ ps)) n h (no_run q ps) f e
+    on false h e f = f n (ap (λ (c : Bool). cond (c && true) (Some (capped (open_number by last (p ∷ [])))) (open_of_runs by last (runs (q ∷ ps)))) (sym h) ∙ e)
 
 -- the last of these lines that is kept is one of them, ends in a `\`, and is the last that is found
 record LastKept (all : List KeptLine) (ls : List NumberedLine) : Type 0 where
@@ -128,17 +131,11 @@ last_kept start (l ∷ ls) h = by (is_comment (unindented l)) (kept ls) refl h (
           reaches = r.reaches;
         }
 
-among_others : (before : List NumberedLine) (line : NumberedLine) (behind : List NumberedLine) → IsAmong line (before ++ line ∷ behind)
-among_others [] line behind = inl refl
-among_others (l ∷ before) line behind = inr (among_others before line behind)
-
-pub all_open : (file : SourceFile) (number : ℕ) → length file.bytes < 2 ^ 32 - 1 → (joined_lines file.bytes).open_at ≡ Some number → EndsOpen file.bytes (placed_findings file)
-unfolding placed_findings
-all_open file number few e =
-    let bytes = file.bytes in
-    let ls = (joined_lines bytes).lines in
-    let r = last_kept 0 (numbered_lines bytes) (open_last (map piece_of (kept (numbered_lines bytes))) number e) in
-    let readings = readings_from 0 ls in
+lines_open : (by : Profile) (bytes : List ℕ) (number : ℕ) → length bytes < 2 ^ 32 - 1 → (joined_lines by bytes).open_at ≡ Some number → EndsOpen bytes (findings_of_lines by bytes)
+lines_open by bytes number few e =
+    let ls = (joined_lines by bytes).lines in
+    let r = last_kept 0 (numbered_lines bytes) (open_last by (length (lines bytes)) (map piece_of (kept (numbered_lines bytes))) number e) in
+    let readings = readings_from by 0 ls in
     let others = flat_map (λ x. line_findings (kept_lines bytes) x.0 x.1) (zip readings (landings (map (λ x. names_of x.read) readings))) in
     let bounds = line_bounds bytes r.line (subst (IsAmong r.line) (sym r.lines) (among_others r.before r.line r.behind)) in
     let reaches = r.reaches in
@@ -157,3 +154,7 @@ all_open file number few e =
       column = capped_end (r.place.column + r.place.size) (length bytes) (let b = bounds.1 in omega (arith, reaches, b)) few ∙ reaches;
       end = capped_end (r.place.column + r.place.size + 1) (length bytes) (let b = bounds.1 in omega (arith, reaches, b)) few ∙ ap (λ (n : ℕ). n + 1) reaches;
     }
+
+pub all_open : (by : Profile) (file : SourceFile) (number : ℕ) → length file.bytes < 2 ^ 32 - 1 → given_up by file.bytes ≡ None → (joined_lines by file.bytes).open_at ≡ Some number → EndsOpen file.bytes (placed_findings by file)
+unfolding placed_findings
+all_open by file number few none e = subst (λ (o : Option ℕ). EndsOpen file.bytes (findings_unless by file.bytes o)) (sym none) (lines_open by file.bytes number few e)

@@ -1,5 +1,5 @@
 -- The bytes of the kept lines stand at the places that are told of them.
-use Rattle.std.proofs.Common.{◌≡◌, ℕ, suc, ◌+◌, ◌-◌, ◌<◌, ◌≤◌, ◌^◌, ◌==◌, ◌⊎◌, min, inl, inr, Bool, true, false, cond, List, [], ◌∷◌, length, take, drop, Option, refl, ap, sym, ◌∙◌, subst, take-take, length-drop, length-take, le_refl, arith}
+use Rattle.std.proofs.Common.{◌≡◌, ℕ, suc, ◌+◌, ◌-◌, ◌<◌, ◌≤◌, ◌^◌, ◌==◌, ◌⊎◌, min, inl, inr, Bool, true, false, cond, List, [], ◌∷◌, ◌++◌, length, take, drop, Option, refl, ap, sym, ◌∙◌, subst, take-take, length-drop, length-take, le_refl, arith}
 use Rattle.std.specs.List.{AllByRecursion, onto_first}
 use Rattle.std.proofs.lemmas.Bool.{cases_lt}
 use Rattle.text_bytes.specs.Lines.{NumberedLine, lines, numbered_from, numbered_lines}
@@ -45,6 +45,11 @@ line_bounds bytes l i =
     let f = lines_fit bytes in
     let b = among_bounds (length bytes) 1 l (lines bytes) f.1 i in
     (omega (arith, f.0, b.0), b.1)
+
+-- a line is one of those that it stands among
+pub among_others : (before : List NumberedLine) (line : NumberedLine) (behind : List NumberedLine) → IsAmong line (before ++ line ∷ behind)
+among_others [] line behind = inl refl
+among_others (l ∷ before) line behind = inr (among_others before line behind)
 
 -- what a line gives to a joined line is no longer than the line
 piece_within : (l : NumberedLine) → length (piece_of l).text ≤ length l.text

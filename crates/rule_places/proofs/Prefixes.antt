@@ -3,10 +3,11 @@ use Rattle.std.proofs.Common.{◌≡◌, ℕ, suc, ◌+◌, ◌-◌, ◌≤◌, 
 use Rattle.std.specs.List.{AllByRecursion, list_all, prefix_len}
 use Rattle.std.proofs.Math.Seq.{drop-append-add}
 use Rattle.std.proofs.lemmas.Bool.{and_from, and_parts}
+use Rattle.std.proofs.lemmas.List.{length-take-le, take-append-drop}
 use Rattle.text_bytes.specs.Names.{close_brace, double_quote, equals, bang, plus, minus, colon, is_blank, open_brace, space, tab}
 use Rattle.text_bytes.specs.Texts.{begins_with, split_once}
 use Rattle.rule_tokens.specs.Grammar.{AllAre, BeginsOther, IsFault, Item, LexesAt, Placed, TokenStands, WrongPrefix, answers, attribute_bytes, attribute_text, faulty, is_attribute_byte, is_key_byte, is_letter, last, more, operator_text}
-use Rattle.rule_tokens.specs.Lines.{items_of}
+use Rattle.rule_tokens.specs.Lines.{is_over, items_from, items_left}
 use Rattle.rule_tokens.specs.Prefixes.{letters_at}
 use Rattle.rule_tokens.specs.declared.kinds.Operator.{Operator}
 use Rattle.rule_tokens.specs.declared.kinds.Operator.TheVariants.{Equal, NotEqual, Add, Remove, AssignFinal, Assign}
@@ -14,7 +15,7 @@ use Rattle.rule_tokens.specs.declared.kinds.TokenFault.{TokenFault}
 use Rattle.rule_tokens.proofs.HeadLemmas.{of_blank}
 use Rattle.rule_tokens.proofs.LetterLemmas.{letters_again}
 use Rattle.rule_tokens.proofs.RunLemmas.{apart, run_again}
-use Rattle.rule_tokens.proofs.Steps.{new_given}
+use Rattle.rule_tokens.proofs.Steps.{left_done, left_given}
 use Rattle.rule_places.specs.Letters.{behind_braces, behind_byte, behind_cut, behind_key, start_before_quote}
 
 -- not this byte
@@ -164,5 +165,9 @@ faults line before text at (t ∷ tokens) end e l (more rest gap next here betwe
     let place : length (before ++ (o.0 ++ gap)) ≡ t.span.end + length gap = omega (arith, here.end) in
     (tt, faults line (before ++ (o.0 ++ gap)) next (t.span.end + length gap) tokens end spelled place behind)
 
-pub all_faults : (line : List ℕ) → AllByRecursion (FaultIs line) (items_of line)
-all_faults line = let g = new_given line in rw g.3 (faults line [] line 0 g.0 g.1 refl refl g.2)
+pub all_faults : (start : ℕ) (line : List ℕ) → start ≤ length line → AllByRecursion (FaultIs line) (items_from start line)
+all_faults start line within = by (is_over start line)
+  where
+    by : (done : Bool) → AllByRecursion (FaultIs line) (items_left done start (drop start line))
+    by true = rw (left_done start (drop start line)) tt
+    by false = let g = left_given start (drop start line) in rw g.3 (faults line (take start line) (drop start line) start g.0 g.1 (sym (take-append-drop start line)) (length-take-le start line within) g.2)

@@ -1,5 +1,6 @@
 -- The tokens of a line taken one by one.
 use Rattle.std.proofs.Common.{◌≡◌, ℕ, List, [], ◌∷◌, Ok, Err, sym, ◌∙◌, ap}
+use Rattle.text_bytes.specs.declared.profile.Profile.{Profile}
 use Rattle.rule_tokens.specs.Grammar.{Item, Placed}
 use Rattle.rule_tokens.specs.declared.kinds.TokenFault.{TokenFault}
 use Rattle.rule_types.specs.declared.part.Part.{Part}
@@ -11,27 +12,27 @@ use Rattle.rule_places.specs.declared.line_reading.LineReading.TheVariants.{Rule
 use Rattle.rule_places.specs.declared.spot.Spot.{Spot}
 
 -- a token is a part of a rule
-pub token_taken : (line : List ℕ) (before now : RulePlaces) (t : Placed) (p : Part) (left more : List Item) (all : LineReading)
-    → taken line before left ≡ all → left ≡ Ok t ∷ more → part_told t ≡ Ok p → now ≡ with_part before t p → taken line now more ≡ all
-token_taken line before now t p left more all h e f g =
-    ap (λ (r : RulePlaces). taken line r more) g
-    ∙ ap (goes_on before t (λ s. taken line s more)) (sym f)
-    ∙ ap (taken line before) (sym e)
+pub token_taken : (by : Profile) (line : List ℕ) (before now : RulePlaces) (t : Placed) (p : Part) (left more : List Item) (all : LineReading)
+    → taken by line before left ≡ all → left ≡ Ok t ∷ more → part_told by t ≡ Ok p → now ≡ with_part by before t p → taken by line now more ≡ all
+token_taken by line before now t p left more all h e f g =
+    ap (λ (r : RulePlaces). taken by line r more) g
+    ∙ ap (goes_on by before t (λ s. taken by line s more)) (sym f)
+    ∙ ap (taken by line before) (sym e)
     ∙ h
 
 -- a token is none
-pub token_wrong : (line : List ℕ) (before : RulePlaces) (t : Placed) (found : Spot) (left more : List Item) (all : LineReading)
-    → taken line before left ≡ all → left ≡ Ok t ∷ more → part_told t ≡ Err found → Wrong found ≡ all
-token_wrong line before t found left more all h e f =
-    ap (goes_on before t (λ s. taken line s more)) (sym f)
-    ∙ ap (taken line before) (sym e)
+pub token_wrong : (by : Profile) (line : List ℕ) (before : RulePlaces) (t : Placed) (found : Spot) (left more : List Item) (all : LineReading)
+    → taken by line before left ≡ all → left ≡ Ok t ∷ more → part_told by t ≡ Err found → Wrong found ≡ all
+token_wrong by line before t found left more all h e f =
+    ap (goes_on by before t (λ s. taken by line s more)) (sym f)
+    ∙ ap (taken by line before) (sym e)
     ∙ h
 
 -- what follows is no token
-pub text_wrong : (line : List ℕ) (before : RulePlaces) (fault : TokenFault) (found : Spot) (left more : List Item) (all : LineReading)
-    → taken line before left ≡ all → left ≡ Err fault ∷ more → found ≡ token_spot fault.kind fault.at line → Wrong found ≡ all
-text_wrong line before fault found left more all h e f = ap Wrong f ∙ ap (taken line before) (sym e) ∙ h
+pub text_wrong : (by : Profile) (line : List ℕ) (before : RulePlaces) (fault : TokenFault) (found : Spot) (left more : List Item) (all : LineReading)
+    → taken by line before left ≡ all → left ≡ Err fault ∷ more → found ≡ token_spot fault.kind fault.at line → Wrong found ≡ all
+text_wrong by line before fault found left more all h e f = ap Wrong f ∙ ap (taken by line before) (sym e) ∙ h
 
 -- no token follows
-pub tokens_ended : (line : List ℕ) (before : RulePlaces) (left : List Item) (all : LineReading) → taken line before left ≡ all → left ≡ [] → Rule before ≡ all
-tokens_ended line before left all h e = ap (taken line before) (sym e) ∙ h
+pub tokens_ended : (by : Profile) (line : List ℕ) (before : RulePlaces) (left : List Item) (all : LineReading) → taken by line before left ≡ all → left ≡ [] → Rule before ≡ all
+tokens_ended by line before left all h e = ap (taken by line before) (sym e) ∙ h

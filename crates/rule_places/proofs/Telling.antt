@@ -1,14 +1,19 @@
 -- What is wrong with a token is told with its key, or with what its value means.
-use Rattle.std.proofs.Common.{◌≡◌, ℕ, Bool, true, false, cond, not, ◌&&◌, List, [], ◌∷◌, Option, Some, None, Result, Ok, Err, refl, ap, sym, ◌∙◌}
-use Rattle.text_bytes.specs.declared.message.MessageKind.TheVariants.{UnknownKey, OperatorNotAllowed, WrongAttribute, BadValue}
+use Rattle.std.proofs.Common.{◌≡◌, ℕ, Bool, true, false, cond, true≢false, not, ◌&&◌, ◌||◌, List, [], ◌∷◌, Option, Some, None, is_some, Result, Ok, Err, refl, ap, sym, ◌∙◌}
+use Rattle.std.specs.Option.{IfSome}
+use Rattle.text_bytes.specs.declared.message.MessageKind.{MessageKind}
+use Rattle.text_bytes.specs.declared.message.MessageKind.TheVariants.{UnknownKey, OperatorNotAllowed, WrongAttribute, BadValue, ReservedProperty, NameWithoutEffect, UnknownBuiltin}
+use Rattle.text_bytes.specs.declared.profile.Profile.{Profile}
+use Rattle.text_bytes.specs.declared.profile.Profile.TheVariants as profile
 use Rattle.text_core.specs.Choices.{choice, choice_blind}
+use Rattle.text_core.specs.Fnmatch.{fnmatch_choice}
 use Rattle.text_core.specs.declared.item.Item.{Item}
 use Rattle.text_core.specs.declared.glob_fault.GlobFault.{GlobFault}
 use Rattle.text_core.specs.declared.glob_fault.GlobFault.TheVariants as glob
 use Rattle.rule_templates.specs.Reading as templates
 use Rattle.rule_templates.specs.declared.piece.Piece.{Piece}
 use Rattle.rule_templates.specs.declared.fault.TemplateFault.{TemplateFault}
-use Rattle.rule_tokens.specs.Grammar.{Placed}
+use Rattle.rule_tokens.specs.Grammar.{Placed, attribute_bytes}
 use Rattle.rule_types.specs.Names.{key_of}
 use Rattle.rule_types.specs.Operators as operators
 use Rattle.rule_types.specs.Roles.{role_of}
@@ -19,116 +24,227 @@ use Rattle.rule_types.specs.declared.roles.MatchOperator.{MatchOperator}
 use Rattle.rule_types.specs.declared.roles.Role.{Role}
 use Rattle.rule_types.specs.declared.roles.Role.TheVariants as role
 use Rattle.rule_types.specs.declared.rule_option.RuleOption.{RuleOption}
+use Rattle.rule_types.specs.declared.roles.AssignOperator.{AssignOperator}
+use Rattle.rule_types.specs.declared.roles.Target.{Target}
+use Rattle.rule_types.specs.declared.roles.Target.TheVariants as target
+use Rattle.rule_types.specs.declared.types.RunType.{RunType}
+use Rattle.rule_types.specs.declared.types.RunType.TheVariants as run_of
+use Rattle.rule_types.specs.declared.keys.Key.{Key}
 use Rattle.rule_types.specs.declared.types.ImportType.{ImportType}
 use Rattle.rule_types.specs.declared.types.ImportType.TheVariants as import_of
 use Rattle.rule_parts.specs.Options.{option_of}
-use Rattle.rule_parts.specs.Parts.{comparison, if_found, ignores_case, import_by, is_match, made, meaning_of, part_by, part_of, value_part}
-use Rattle.rule_parts.specs.Values.{as_choice, as_option, as_template, choice_fault, finding, read_choice, read_name, read_option, read_template}
+use Rattle.rule_parts.specs.Parts.{comparison, if_found, ignores_case, import_by, is_match, made, meaning_of, part_by, part_of, role_as, unless_refused, value_part}
+use Rattle.rule_parts.specs.Builtins.{builtin_of}
+use Rattle.rule_parts.specs.Refusals.{is_no_name, is_reserved, refusal_by, refusal_of, refused_builtin, refused_import, refused_run, refused_text}
+use Rattle.rule_parts.specs.Values.{as_choice, as_option, as_template, choice_fault, finding, read_choice, read_name, read_option, read_template, reading_of}
 use Rattle.rule_parts.specs.declared.finding.Finding.{Finding}
-use Rattle.rule_places.specs.Laws.{cut, tells_text}
-use Rattle.rule_places.specs.Spots.{is_of_key, key_spot, part_spot, value_spot}
+use Rattle.rule_places.specs.Laws.{cut, tells_value}
+use Rattle.rule_places.specs.Spots.{attribute_spot, is_of_attribute, is_of_key, key_spot, part_spot, value_spot}
+use Rattle.rule_places.proofs.Naming.{NamesRole, NamesTopic, role_named, topic_named}
 
 -- what is wrong with a value is told with what the value means
 unfoldable TellsValue : {A : Type 0} → List ℕ → Result A Finding → Type 0
 TellsValue text (Ok x) = Unit {0}
-TellsValue text (Err found) = (found ≡ finding found.kind text) × (is_of_key found.kind ≡ false) × (tells_text found.kind ≡ false)
+TellsValue text (Err found) = (found ≡ finding found.kind text) × (tells_value found.kind ≡ true)
 
 made_tells : {A B : Type 0} (f : A → B) (text : List ℕ) (r : Result A Finding) → TellsValue text r → TellsValue text (made f r)
 unfolding TellsValue
 made_tells f text (Ok x) h = tt
 made_tells f text (Err found) h = h
 
-choice_is_value : (fault : GlobFault) → (is_of_key (choice_fault fault) ≡ false) × (tells_text (choice_fault fault) ≡ false)
-choice_is_value (glob.Class at) = (refl, refl)
-choice_is_value glob.TooLong = (refl, refl)
-choice_is_value glob.Memory = (refl, refl)
+choice_is_value : (fault : GlobFault) → tells_value (choice_fault fault) ≡ true
+choice_is_value (glob.Class at) = refl
+choice_is_value glob.TooLong = refl
+choice_is_value glob.Memory = refl
 
 choice_tells : (text : List ℕ) (r : Result (List (List Item)) GlobFault) → TellsValue text (as_choice text r)
 unfolding TellsValue
 choice_tells text (Ok patterns) = tt
-choice_tells text (Err fault) = let both = choice_is_value fault in (refl, both.0, both.1)
+choice_tells text (Err fault) = (refl, choice_is_value fault)
 
-read_choice_tells : (blind : Bool) (text : List ℕ) → TellsValue text (read_choice blind text)
+read_choice_tells : (by : Profile) (blind : Bool) (text : List ℕ) → TellsValue text (read_choice by blind text)
 unfolding read_choice
-read_choice_tells true text = choice_tells text (choice_blind text)
-read_choice_tells false text = choice_tells text (choice text)
+read_choice_tells profile.Manual true text = choice_tells text (choice_blind text)
+read_choice_tells profile.Manual false text = choice_tells text (choice text)
+read_choice_tells profile.Udev blind text = choice_tells text (fnmatch_choice (reading_of blind) text)
 
 template_tells : (text : List ℕ) (r : Result (List Piece) TemplateFault) → TellsValue text (as_template text r)
 unfolding TellsValue
 template_tells text (Ok pieces) = tt
-template_tells text (Err fault) = (refl, refl, refl)
+template_tells text (Err fault) = (refl, refl)
 
-read_template_tells : (text : List ℕ) → TellsValue text (read_template text)
+read_template_tells : (by : Profile) (text : List ℕ) → TellsValue text (read_template by text)
 unfolding read_template
-read_template_tells text = template_tells text (templates.pieces_of text)
+read_template_tells by text = template_tells text (templates.pieces_as by text)
 
 option_tells : (text : List ℕ) (o : Option RuleOption) → TellsValue text (as_option text o)
 unfolding TellsValue
 option_tells text (Some known) = tt
-option_tells text None = (refl, refl, refl)
+option_tells text None = (refl, refl)
 
-read_option_tells : (text : List ℕ) → TellsValue text (read_option text)
+read_option_tells : (by : Profile) (text : List ℕ) → TellsValue text (read_option by text)
 unfolding read_option
-read_option_tells text = option_tells text (option_of text)
+read_option_tells by text = option_tells text (option_of by text)
 
-read_name_tells : (text : List ℕ) → TellsValue text (read_name text)
+read_name_tells : (by : Profile) (text : List ℕ) → TellsValue text (read_name by text)
 unfolding read_name TellsValue
-read_name_tells [] = (refl, refl, refl)
-read_name_tells (b ∷ rest) = tt
+read_name_tells profile.Manual [] = (refl, refl)
+read_name_tells profile.Manual (b ∷ rest) = tt
+read_name_tells profile.Udev text = tt
 
-comparison_tells : (o : MatchOperator) (blind : Bool) (text : List ℕ) → TellsValue text (comparison o blind text)
+comparison_tells : (by : Profile) (o : MatchOperator) (blind : Bool) (text : List ℕ) → TellsValue text (comparison by o blind text)
 unfolding comparison
-comparison_tells o blind text = made_tells _ text (read_choice blind text) (read_choice_tells blind text)
+comparison_tells by o blind text = made_tells _ text (read_choice by blind text) (read_choice_tells by blind text)
 
-import_tells : (known : ImportType) (text : List ℕ) → TellsValue text (import_by known text)
+import_tells : (by : Profile) (known : ImportType) (text : List ℕ) → TellsValue text (import_by by known text)
 unfolding import_by TellsValue
-import_tells import_of.Program text = made_tells import.Program text (read_template text) (read_template_tells text)
-import_tells import_of.Builtin text = made_tells import.Builtin text (read_template text) (read_template_tells text)
-import_tells import_of.File text = made_tells import.File text (read_template text) (read_template_tells text)
-import_tells import_of.Parent text = made_tells (λ names. import.Parent names text) text (read_choice false text) (read_choice_tells false text)
-import_tells import_of.Cmdline text = tt
-import_tells import_of.Db text = tt
+import_tells by import_of.Program text = made_tells import.Program text (read_template by text) (read_template_tells by text)
+import_tells by import_of.Builtin text = made_tells import.Builtin text (read_template by text) (read_template_tells by text)
+import_tells by import_of.File text = made_tells import.File text (read_template by text) (read_template_tells by text)
+import_tells by import_of.Parent text = made_tells (λ names. import.Parent names text) text (read_choice by false text) (read_choice_tells by false text)
+import_tells by import_of.Cmdline text = tt
+import_tells by import_of.Db text = tt
 
-part_by_tells : (r : Role) (blind : Bool) (text : List ℕ) → TellsValue text (part_by r blind text)
+part_by_tells : (by : Profile) (r : Role) (blind : Bool) (text : List ℕ) → TellsValue text (part_by by r blind text)
 unfolding part_by
-part_by_tells (role.Plain key o) blind text = made_tells _ text (comparison o blind text) (comparison_tells o blind text)
-part_by_tells (role.Up key o) blind text = made_tells _ text (comparison o blind text) (comparison_tells o blind text)
-part_by_tells (role.Result o) blind text = made_tells _ text (comparison o blind text) (comparison_tells o blind text)
-part_by_tells (role.Test mask o) blind text = made_tells _ text (read_template text) (read_template_tells text)
-part_by_tells (role.Program o) blind text = made_tells _ text (read_template text) (read_template_tells text)
-part_by_tells (role.Import known o) blind text = made_tells _ text (import_by known text) (import_tells known text)
-part_by_tells (role.Set target o) blind text = made_tells _ text (read_template text) (read_template_tells text)
-part_by_tells (role.Run known o) blind text = made_tells _ text (read_template text) (read_template_tells text)
-part_by_tells (role.Option o) blind text = made_tells _ text (read_option text) (read_option_tells text)
-part_by_tells role.Label blind text = made_tells _ text (read_name text) (read_name_tells text)
-part_by_tells role.Goto blind text = made_tells _ text (read_name text) (read_name_tells text)
+part_by_tells by (role.Plain key o) blind text = made_tells _ text (comparison by o blind text) (comparison_tells by o blind text)
+part_by_tells by (role.Up key o) blind text = made_tells _ text (comparison by o blind text) (comparison_tells by o blind text)
+part_by_tells by (role.Result o) blind text = made_tells _ text (comparison by o blind text) (comparison_tells by o blind text)
+part_by_tells by (role.Test mask o) blind text = made_tells _ text (read_template by text) (read_template_tells by text)
+part_by_tells by (role.Program o) blind text = made_tells _ text (read_template by text) (read_template_tells by text)
+part_by_tells by (role.Import known o) blind text = made_tells _ text (import_by by known text) (import_tells by known text)
+part_by_tells by (role.Set target o) blind text = made_tells _ text (read_template by text) (read_template_tells by text)
+part_by_tells by (role.Run known o) blind text = made_tells _ text (read_template by text) (read_template_tells by text)
+part_by_tells by (role.Option o) blind text = made_tells _ text (read_option by text) (read_option_tells by text)
+part_by_tells by role.Label blind text = made_tells _ text (read_name by text) (read_name_tells by text)
+part_by_tells by role.Goto blind text = made_tells _ text (read_name by text) (read_name_tells by text)
 
-value_tells : (r : Role) (blind : Bool) (text : List ℕ) → TellsValue text (value_part r blind text)
-unfolding value_part TellsValue
-value_tells r blind text = by (blind && not (is_match r))
-  where
-    by : (b : Bool) → TellsValue text (cond b (Err (finding BadValue text)) (part_by r blind text))
-    by true = (refl, refl, refl)
-    by false = part_by_tells r blind text
+-- whether what is said is about a token's key, its attribute or its value
+abbrev pub is_of_token : MessageKind → Bool
+is_of_token kind = is_of_key kind || (is_of_attribute kind || tells_value kind)
 
--- what is wrong with a token is what is said at its place, which is its key where it is told with that
+-- what is wrong with a token is what is said at its place
 unfoldable pub Tells : Placed → Result Part Finding → Type 0
 Tells t (Ok p) = Unit {0}
-Tells t (Err found) = (cut (part_spot found.kind t) ≡ found) × (is_of_key found.kind ≡ tells_text found.kind)
+Tells t (Err found) = (cut (part_spot found.kind t) ≡ found) × (is_of_token found.kind ≡ true)
+
+-- what is about a value is about no key and no attribute
+values_are_no_keys : (kind : MessageKind) → tells_value kind ≡ true → (is_of_key kind ≡ false) × (is_of_attribute kind ≡ false)
+values_are_no_keys UnknownKey e = absurd (true≢false (sym e))
+values_are_no_keys WrongAttribute e = absurd (true≢false (sym e))
+values_are_no_keys OperatorNotAllowed e = absurd (true≢false (sym e))
+values_are_no_keys ReservedProperty e = absurd (true≢false (sym e))
+values_are_no_keys _ e = (refl, refl)
 
 of_value : (t : Placed) (r : Result Part Finding) → TellsValue (meaning_of t) r → Tells t r
 unfolding Tells TellsValue
 of_value t (Ok p) h = tt
-of_value t (Err found) h = (ap (λ (b : Bool). cut (cond b (key_spot found.kind t) (value_spot found.kind (meaning_of t) t))) h.1 ∙ sym h.0, h.1 ∙ sym h.2)
+of_value t (Err found) h =
+    let other = values_are_no_keys found.kind h.1 in (
+      ap (λ (b : Bool). cut (cond b (key_spot found.kind t) (cond (is_of_attribute found.kind) (attribute_spot found.kind t) (value_spot found.kind (meaning_of t) t)))) other.0
+          ∙ ap (λ (b : Bool). cut (cond b (attribute_spot found.kind t) (value_spot found.kind (meaning_of t) t))) other.1
+          ∙ sym h.0,
+      ap (λ (b : Bool). b || (is_of_attribute found.kind || tells_value found.kind)) other.0 ∙ ap (λ (b : Bool). b || tells_value found.kind) other.1 ∙ h.1,
+    )
 
-if_found_tells : {A : Type 0} (t : Placed) (wrong : Finding) (next : A → Result Part Finding) (o : Option A) → Tells t (Err wrong) → ((x : A) → Tells t (next x)) → Tells t (if_found wrong next o)
-if_found_tells t wrong next None h g = h
-if_found_tells t wrong next (Some x) h g = g x
+-- what is refused is said at its place
+abbrev RefusalTells : Placed → Option Finding → Type 0
+RefusalTells t o = IfSome o (λ found. Tells t (Err found))
 
-pub part_tells : (t : Placed) → Tells t (part_of t)
+refused_where : (t : Placed) (b : Bool) (found : Finding) → Tells t (Err found) → RefusalTells t (cond b (Some found) None)
+refused_where t true found h = h
+refused_where t false found h = tt
+
+refused_unless : (t : Placed) (b : Bool) (found : Finding) → Tells t (Err found) → RefusalTells t (cond b None (Some found))
+refused_unless t true found h = tt
+refused_unless t false found h = h
+
+property_tells : (t : Placed) (name : List ℕ) → attribute_bytes t.parts.head.attribute ≡ name → Tells t (Err (finding ReservedProperty name))
+unfolding Tells
+property_tells t name e = (ap (finding ReservedProperty) e, refl)
+
+name_tells : (t : Placed) → Tells t (Err (finding NameWithoutEffect (meaning_of t)))
+unfolding Tells
+name_tells t = (refl, refl)
+
+builtin_tells : (t : Placed) → Tells t (Err (finding UnknownBuiltin (meaning_of t)))
+unfolding Tells
+builtin_tells t = (refl, refl)
+
+text_refused : (t : Placed) (about : Target) (o : AssignOperator) → NamesRole t.parts.head.attribute (role.Set about o) → RefusalTells t (refused_text about (meaning_of t))
+text_refused t (target.Env name) o named = refused_where t (is_reserved name) (finding ReservedProperty name) (property_tells t name named)
+text_refused t target.Name o named = refused_where t (is_no_name (meaning_of t)) (finding NameWithoutEffect (meaning_of t)) (name_tells t)
+text_refused t target.Owner o named = tt
+text_refused t target.Group o named = tt
+text_refused t target.Mode o named = tt
+text_refused t target.Tag o named = tt
+text_refused t (target.Seclabel name) o named = tt
+text_refused t target.Symlink o named = tt
+text_refused t (target.Attr name) o named = tt
+text_refused t (target.Sysctl name) o named = tt
+
+builtin_refused : (t : Placed) → RefusalTells t (refused_builtin (meaning_of t))
+builtin_refused t = refused_unless t (is_some (builtin_of (meaning_of t))) (finding UnknownBuiltin (meaning_of t)) (builtin_tells t)
+
+run_refused : (t : Placed) (type : Option RunType) → RefusalTells t (refused_run type (meaning_of t))
+run_refused t None = tt
+run_refused t (Some run_of.Program) = tt
+run_refused t (Some run_of.Builtin) = builtin_refused t
+
+import_refused : (t : Placed) (type : ImportType) → RefusalTells t (refused_import type (meaning_of t))
+import_refused t import_of.Program = tt
+import_refused t import_of.Builtin = builtin_refused t
+import_refused t import_of.File = tt
+import_refused t import_of.Parent = tt
+import_refused t import_of.Cmdline = tt
+import_refused t import_of.Db = tt
+
+role_refused : (t : Placed) (r : Role) → NamesRole t.parts.head.attribute r → RefusalTells t (refusal_of r (meaning_of t))
+unfolding refusal_of
+role_refused t (role.Plain key o) named = tt
+role_refused t (role.Up key o) named = tt
+role_refused t (role.Result o) named = tt
+role_refused t (role.Test mask o) named = tt
+role_refused t (role.Program o) named = tt
+role_refused t (role.Import type o) named = import_refused t type
+role_refused t (role.Set about o) named = text_refused t about o named
+role_refused t (role.Run type o) named = run_refused t type
+role_refused t (role.Option o) named = tt
+role_refused t role.Label named = tt
+role_refused t role.Goto named = tt
+
+refusal_tells : (by : Profile) (t : Placed) (r : Role) → NamesRole t.parts.head.attribute r → RefusalTells t (refusal_by by r (meaning_of t))
+refusal_tells profile.Manual t r named = tt
+refusal_tells profile.Udev t r named = role_refused t r named
+
+unless_tells : (t : Placed) (o : Option Finding) (read : Result Part Finding) → RefusalTells t o → Tells t read → Tells t (unless_refused o read)
+unless_tells t None read h k = k
+unless_tells t (Some found) read h k = h
+
+value_tells : (by : Profile) (t : Placed) (r : Role) (blind : Bool) → NamesRole t.parts.head.attribute r → Tells t (value_part by r blind (meaning_of t))
+unfolding value_part Tells
+value_tells by t r blind named = on (blind && not (is_match r))
+  where
+    text : List ℕ
+    text = meaning_of t
+
+    on : (b : Bool) → Tells t (cond b (Err (finding BadValue text)) (unless_refused (refusal_by by r text) (part_by by (role_as by r text) blind text)))
+    on true = (refl, refl)
+    on false = unless_tells t (refusal_by by r text) (part_by by (role_as by r text) blind text) (refusal_tells by t r named) (of_value t (part_by by (role_as by r text) blind text) (part_by_tells by (role_as by r text) blind text))
+
+if_found_tells : {A : Type 0} (t : Placed) (P : A → Type 0) (wrong : Finding) (next : A → Result Part Finding) (o : Option A) → Tells t (Err wrong) → IfSome o P → ((x : A) → P x → Tells t (next x)) → Tells t (if_found wrong next o)
+if_found_tells t P wrong next None h p g = h
+if_found_tells t P wrong next (Some x) h p g = g x p
+
+any_key : (o : Option Key) → IfSome o (λ key. Unit {0})
+any_key None = tt
+any_key (Some key) = tt
+
+pub part_tells : (by : Profile) (t : Placed) → Tells t (part_of by t)
 unfolding part_of Tells
-part_tells t =
-    if_found_tells t (finding UnknownKey t.parts.head.key) _ (key_of t.parts.head.key) (refl, refl) (λ key.
-    if_found_tells t (finding WrongAttribute t.parts.head.key) _ (topic_of key t.parts.head.attribute) (refl, refl) (λ about.
-    if_found_tells t (finding OperatorNotAllowed t.parts.head.key) _ (role_of about (operators.read_as key t.parts.head.operator)) (refl, refl) (λ r.
-    of_value t (value_part r (ignores_case t.parts.quote) (meaning_of t)) (value_tells r (ignores_case t.parts.quote) (meaning_of t)))))
+part_tells by t =
+    let a = t.parts.head.attribute in
+    if_found_tells t (λ key. Unit {0}) (finding UnknownKey t.parts.head.key) _ (key_of t.parts.head.key) (refl, refl) (any_key (key_of t.parts.head.key)) (λ key known.
+    if_found_tells t (NamesTopic a) (finding WrongAttribute t.parts.head.key) _ (topic_of by key a) (refl, refl) (topic_named by key a) (λ about named.
+    if_found_tells t (NamesRole a) (finding OperatorNotAllowed t.parts.head.key) _ (role_of about (operators.read_as key t.parts.head.operator)) (refl, refl) (role_named a about (operators.read_as key t.parts.head.operator) named) (λ r given.
+    value_tells by t r (ignores_case t.parts.quote) given)))

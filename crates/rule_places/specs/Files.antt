@@ -3,16 +3,19 @@ use Rattle.std.specs.Prelude.{ℕ, ◌+◌, if◌then◌else◌, List, [], ◌�
 use Rattle.text_bytes.specs.Lines.{NumberedLine}
 use Rattle.text_bytes.specs.declared.message.MessageKind.{MessageKind}
 use Rattle.text_bytes.specs.declared.message.MessageKind.TheVariants.{NoLaterLabel, OpenAtEnd, LabelUnused}
+use Rattle.text_bytes.specs.declared.profile.Profile.{Profile}
 use Rattle.text_bytes.specs.declared.source_file.SourceFile.{SourceFile}
 use Rattle.rule_jumps.specs.Jumps.{Names, landings}
 use Rattle.rule_jumps.specs.declared.jumps.Landing.{Landing}
+use Rattle.rule_core.specs.Ends.{given_up}
 use Rattle.rule_core.specs.Lines.{joined_lines}
-use Rattle.rule_places.specs.Kept.{kept_lines, place_in, place_of_backslash}
+use Rattle.rule_places.specs.GivenUp.{given_up_findings}
+use Rattle.rule_places.specs.Kept.{kept_lines, place_of_backslash}
+use Rattle.rule_places.specs.Placed.{found_at, placed}
 use Rattle.rule_places.specs.Found.{RulePlaces}
 use Rattle.rule_places.specs.Reading.{reading_of}
 use Rattle.rule_places.specs.Spots.{spot}
 use Rattle.rule_places.specs.declared.kept.KeptLine.{KeptLine}
-use Rattle.rule_places.specs.declared.kept.Place.{Place}
 use Rattle.rule_places.specs.declared.line_reading.LineReading.{LineReading}
 use Rattle.rule_places.specs.declared.line_reading.LineReading.TheVariants.{Rule, Wrong}
 use Rattle.rule_places.specs.declared.found.NamePlace.{NamePlace}
@@ -21,9 +24,9 @@ use Rattle.rule_places.specs.declared.readings.PlacedReading.{PlacedReading}
 use Rattle.rule_places.specs.declared.spot.Spot.{Spot}
 
 -- joined lines that are read, behind so many bytes of others
-abbrev pub readings_from : ℕ → List NumberedLine → List PlacedReading
-readings_from start [] = []
-readings_from start (l ∷ ls) = record { number = l.number; start = start; read = reading_of l.text } ∷ readings_from (start + length l.text) ls
+abbrev pub readings_from : Profile → ℕ → List NumberedLine → List PlacedReading
+readings_from by start [] = []
+readings_from by start (l ∷ ls) = record { number = l.number; start = start; read = reading_of by l.text } ∷ readings_from by (start + length l.text) ls
 
 -- the names for jumps of a line; one that is no rule has none
 abbrev pub names_of : LineReading → Names
@@ -51,14 +54,6 @@ abbrev pub spots_of : LineReading → Landing → List Spot
 spots_of (Rule r) l = rule_spots r l
 spots_of (Wrong found) l = found ∷ []
 
--- a finding at a place, with the number that its message tells
-abbrev pub found_at : ℕ → Place → MessageKind → List ℕ → PlacedFinding
-found_at begins p kind word = record { begins = begins; line = p.line; column = p.column; end = p.end; kind = kind; word = word }
-
--- what is to be said of a part of a line, which stands behind so many bytes of other joined lines, as a finding of the file
-abbrev pub placed : List KeptLine → ℕ → ℕ → Spot → PlacedFinding
-placed kept number start s = found_at number (place_in kept (start + s.start) s.size) s.kind s.word
-
 -- the findings of a line
 abbrev pub line_findings : List KeptLine → PlacedReading → Landing → List PlacedFinding
 line_findings kept r l = map (placed kept r.number r.start) (spots_of r.read l)
@@ -68,8 +63,17 @@ abbrev pub open_findings : List KeptLine → Option ℕ → List PlacedFinding
 open_findings kept None = []
 open_findings kept (Some number) = found_at number (place_of_backslash kept) OpenAtEnd [] ∷ []
 
--- the findings of a file, by line
-unfoldable pub placed_findings : SourceFile → List PlacedFinding
-placed_findings f =
-    flat_map (λ x. line_findings (kept_lines f.bytes) x.0 x.1) (landed (readings_from 0 (joined_lines f.bytes).lines))
-    ++ open_findings (kept_lines f.bytes) (joined_lines f.bytes).open_at
+-- the findings of the lines of a file with these bytes, by line
+abbrev pub findings_of_lines : Profile → List ℕ → List PlacedFinding
+findings_of_lines by bytes =
+    flat_map (λ x. line_findings (kept_lines bytes) x.0 x.1) (landed (readings_from by 0 (joined_lines by bytes).lines))
+    ++ open_findings (kept_lines bytes) (joined_lines by bytes).open_at
+
+-- the findings of a file that is given up for the line of a number, or those of its lines
+abbrev pub findings_unless : Profile → List ℕ → Option ℕ → List PlacedFinding
+findings_unless by bytes None = findings_of_lines by bytes
+findings_unless by bytes (Some number) = given_up_findings bytes number
+
+-- the findings of a file
+unfoldable pub placed_findings : Profile → SourceFile → List PlacedFinding
+placed_findings by f = findings_unless by f.bytes (given_up by f.bytes)

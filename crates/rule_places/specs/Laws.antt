@@ -1,15 +1,18 @@
 -- What the findings of a file and of its lines come to.
 use Rattle.std.specs.Prelude.{◌≡◌, ◌<◌, ◌⊎◌, ℕ, ◌+◌, ◌-◌, ◌==◌, Bool, true, false, not, ◌&&◌, ◌||◌, List, [], ◌∷◌, ◌++◌, take, drop, length}
+use Rattle.std.specs.List.{AllByRecursion}
 use Rattle.text_bytes.specs.Lines.{NumberedLine, numbered_lines}
 use Rattle.text_bytes.specs.Names.{backslash, double_quote}
 use Rattle.text_bytes.specs.Texts.{ends_in}
 use Rattle.text_bytes.specs.declared.message.Message.{Message}
 use Rattle.text_bytes.specs.declared.message.MessageKind.{MessageKind}
-use Rattle.text_bytes.specs.declared.message.MessageKind.TheVariants.{BadSyntax, BadPrefix, UnknownKey, OperatorNotAllowed, WrongAttribute, BadValue, BadSubstitution, NoLaterLabel, GivenTwice, SetNotSupported, CommaExpected, BlankExpected, ReadAsAssign, OpenAtEnd, LabelUnused}
-use Rattle.rule_tokens.specs.Grammar.{AllAre, is_gap_byte}
+use Rattle.text_bytes.specs.declared.message.MessageKind.TheVariants.{BadSyntax, BadPrefix, UnknownKey, OperatorNotAllowed, WrongAttribute, BadValue, BadSubstitution, NoLaterLabel, GivenTwice, LineTooLong, SetNotSupported, ReservedProperty, NameWithoutEffect, UnknownBuiltin, MatchesExclude, SaidTwice, RuleWithoutEffect, ResultBeforeProgram, EmptyValue, BadAttributeSubstitution, AttributeElsewhere, OldSubsystemName, AssignExpected, UnknownAccount, FileGivenUp, CommaExpected, BlankExpected, ReadAsAssign, OpenAtEnd, LabelUnused, LeadingComma, BlankBeforeComma}
+use Rattle.rule_tokens.specs.Grammar.{AllAre, BeginsOther, is_gap_byte}
 use Rattle.rule_parts.specs.Values.{finding}
 use Rattle.rule_parts.specs.declared.finding.Finding.{Finding}
+use Rattle.rule_core.specs.Ends.{is_too_long}
 use Rattle.rule_core.specs.Lines.{kept, piece_of}
+use Rattle.rule_core.specs.Style.{commas}
 use Rattle.rule_core.specs.Rules.{message_at}
 use Rattle.rule_places.specs.Shown.{IsAmong}
 use Rattle.rule_places.specs.declared.kept.Place.{Place}
@@ -24,7 +27,7 @@ cut s = finding s.kind s.word
 abbrev pub as_message : List ℕ → PlacedFinding → Message
 as_message name p = message_at name p.begins (finding p.kind p.word)
 
--- whether what is said is told with the very text that it is about: a key, the letters before a quote, or the rest of a line that is no token
+-- whether what is said is told with the very text that it is about: a key, an attribute, the letters before a quote, or the rest of a line that is no token
 abbrev pub tells_text : MessageKind → Bool
 tells_text BadSyntax = true
 tells_text BadPrefix = true
@@ -34,6 +37,15 @@ tells_text WrongAttribute = true
 tells_text CommaExpected = true
 tells_text BlankExpected = true
 tells_text ReadAsAssign = true
+tells_text BlankBeforeComma = true
+tells_text ReservedProperty = true
+tells_text MatchesExclude = true
+tells_text SaidTwice = true
+tells_text ResultBeforeProgram = true
+tells_text EmptyValue = true
+tells_text BadAttributeSubstitution = true
+tells_text AttributeElsewhere = true
+tells_text AssignExpected = true
 tells_text _ = false
 
 -- whether what is said is about a value
@@ -44,6 +56,10 @@ tells_value SetNotSupported = true
 tells_value GivenTwice = true
 tells_value NoLaterLabel = true
 tells_value LabelUnused = true
+tells_value NameWithoutEffect = true
+tells_value UnknownBuiltin = true
+tells_value OldSubsystemName = true
+tells_value UnknownAccount = true
 tells_value _ = false
 
 -- where what is said is told with the text that it is about, and that is not empty, the place has as many bytes as the text, and the text stands in the line there
@@ -86,6 +102,32 @@ tells_commas _ = false
 abbrev pub StandsBehind : List ℕ → Spot → Type 0
 StandsBehind line s = tells_commas s.kind ≡ true → s.word ≡ [] → IsBehindTokens line s.start s.size
 
+-- whether what is said is about commas before the first token
+abbrev pub tells_front : MessageKind → Bool
+tells_front LeadingComma = true
+tells_front _ = false
+
+-- the part is the gap before the first token: from the line's start on blanks and commas, as many as stand there, and a comma among them
+pub record IsBeforeTokens (line : List ℕ) (start size : ℕ) : Type 0 where
+  pub starts : start ≡ 0
+  pub gap : AllAre is_gap_byte (take size line)
+  pub longest : BeginsOther is_gap_byte (drop size line)
+  pub comma : 0 < commas (take size line)
+
+-- where what is said is about commas before the first token, it is said of the gap there
+abbrev pub StandsInFront : List ℕ → Spot → Type 0
+StandsInFront line s = tells_front s.kind ≡ true → IsBeforeTokens line s.start s.size
+
+-- whether what is said is about a rule as a whole
+abbrev pub tells_whole : MessageKind → Bool
+tells_whole LineTooLong = true
+tells_whole RuleWithoutEffect = true
+tells_whole _ = false
+
+-- where what is said is about a rule as a whole, it is said of the whole line
+abbrev pub StandsWhole : List ℕ → Spot → Type 0
+StandsWhole line s = tells_whole s.kind ≡ true → (s.start ≡ 0) × (s.size ≡ length line)
+
 -- A text stands at a place of a file: the line of the place's number has from the column up to the end, which is behind it, the first bytes of the text, and all of them unless the line gives no more to a joined line.
 pub record StandsIn (bytes text : List ℕ) (p : Place) : Type 0 where
   pub line : NumberedLine
@@ -118,4 +160,20 @@ pub record EndsOpen (bytes : List ℕ) (found : List PlacedFinding) : Type 0 whe
   pub backslash : ends_in backslash line.text ≡ true
   pub number : told.line ≡ line.number
   pub column : told.column ≡ length line.text
+  pub end : told.end ≡ length line.text + 1
+
+-- Of a file with these bytes one thing alone is found, that it is given up, and this of the whole of the first line that is too long.
+pub record IsToldOfOneLine (bytes : List ℕ) (found : List PlacedFinding) : Type 0 where
+  pub told : PlacedFinding
+  pub only : found ≡ told ∷ []
+  pub kind : told.kind ≡ FileGivenUp
+  pub before : List NumberedLine
+  pub line : NumberedLine
+  pub behind : List NumberedLine
+  pub lines : numbered_lines bytes ≡ before ++ line ∷ behind
+  pub short : AllByRecursion (λ l. is_too_long l.text ≡ false) before
+  pub long : is_too_long line.text ≡ true
+  pub begins : told.begins ≡ line.number
+  pub number : told.line ≡ line.number
+  pub column : told.column ≡ 1
   pub end : told.end ≡ length line.text + 1

@@ -4,6 +4,8 @@ pub mod Style
 pub mod Found
 pub mod Reading
 pub mod Kept
+pub mod Placed
+pub mod GivenUp
 pub mod Files
 pub mod Laws
 pub mod Shown

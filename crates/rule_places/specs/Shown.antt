@@ -1,6 +1,7 @@
 -- What the places of kept lines show of a file.
 use Rattle.std.specs.Prelude.{◌≡◌, ◌<◌, ◌≤◌, ℕ, ◌+◌, ◌-◌, ◌⊎◌, List, [], ◌∷◌, ◌++◌, take, drop, length, map, flat_map, Some}
 use Rattle.text_bytes.specs.Lines.{NumberedLine, numbered_lines}
+use Rattle.text_bytes.specs.declared.profile.Profile.{Profile}
 use Rattle.rule_core.specs.Lines.{joined_lines, kept, piece_of, run_text}
 use Rattle.rule_places.specs.Kept.{kept_from, line_at}
 use Rattle.rule_places.specs.declared.kept.KeptLine.{KeptLine}
@@ -32,5 +33,5 @@ abbrev pub IsShown : List ℕ → ℕ → Type 0
 IsShown bytes at = Shows (kept_from 0 (numbered_lines bytes)) (kept_text (numbered_lines bytes)) (numbered_lines bytes) 0 at
 
 -- the joined lines of a file are what its kept lines give, one behind the other; behind them only what stands in an open line is left
-abbrev pub AreJoined : List ℕ → Type 0
-AreJoined bytes = (left : List ℕ) × (kept_text (numbered_lines bytes) ≡ flat_map (λ l. l.text) (joined_lines bytes).lines ++ left)
+abbrev pub AreJoined : Profile → List ℕ → Type 0
+AreJoined by bytes = (left : List ℕ) × (kept_text (numbered_lines bytes) ≡ flat_map (λ l. l.text) (joined_lines by bytes).lines ++ left)

@@ -1,8 +1,8 @@
 -- What is to be said of parts of a joined line, with where these parts stand in it.
-use Rattle.std.specs.Prelude.{ℕ, ◌-◌, Bool, true, false, if◌then◌else◌, List, length, drop}
+use Rattle.std.specs.Prelude.{ℕ, ◌+◌, ◌-◌, Bool, true, false, if◌then◌else◌, List, length, drop}
 use Rattle.text_bytes.specs.declared.message.MessageKind.{MessageKind}
-use Rattle.text_bytes.specs.declared.message.MessageKind.TheVariants.{BadSyntax, BadPrefix, UnknownKey, OperatorNotAllowed, WrongAttribute}
-use Rattle.rule_tokens.specs.Grammar.{Placed}
+use Rattle.text_bytes.specs.declared.message.MessageKind.TheVariants.{BadSyntax, BadPrefix, UnknownKey, OperatorNotAllowed, WrongAttribute, ReservedProperty}
+use Rattle.rule_tokens.specs.Grammar.{Placed, attribute_bytes}
 use Rattle.rule_tokens.specs.Prefixes.{letters_at}
 use Rattle.rule_tokens.specs.declared.kinds.TokenFaultKind.{TokenFaultKind}
 use Rattle.rule_tokens.specs.declared.kinds.TokenFaultKind.TheVariants.{Syntax, Prefix}
@@ -18,6 +18,10 @@ spot kind word start size = record { kind = kind; word = word; start = start; si
 abbrev pub key_spot : MessageKind → Placed → Spot
 key_spot kind t = spot kind t.parts.head.key t.span.start (length t.parts.head.key)
 
+-- the attribute of a token between its braces: it stands behind the key and an open brace
+abbrev pub attribute_spot : MessageKind → Placed → Spot
+attribute_spot kind t = spot kind (attribute_bytes t.parts.head.attribute) (t.span.start + length t.parts.head.key + 1) (length (attribute_bytes t.parts.head.attribute))
+
 -- the place of the first byte of a token's value: the quote behind it is the token's last byte
 abbrev pub value_start : Placed → ℕ
 value_start t = t.span.end - 1 - length t.parts.value
@@ -26,16 +30,21 @@ value_start t = t.span.end - 1 - length t.parts.value
 abbrev pub value_spot : MessageKind → List ℕ → Placed → Spot
 value_spot kind word t = spot kind word (value_start t) (length t.parts.value)
 
--- whether what is wrong with a token is its key, its attribute or its operator, and not its value
+-- whether what is wrong with a token is its key, or that it has the attribute or the operator that it has
 abbrev pub is_of_key : MessageKind → Bool
 is_of_key UnknownKey = true
 is_of_key WrongAttribute = true
 is_of_key OperatorNotAllowed = true
 is_of_key _ = false
 
--- a token that is no part of a rule: its key, or its value with what that means
+-- whether what is wrong with a token is the name in its attribute
+abbrev pub is_of_attribute : MessageKind → Bool
+is_of_attribute ReservedProperty = true
+is_of_attribute _ = false
+
+-- a token that is no part of a rule: its key, its attribute, or its value with what that means
 abbrev pub part_spot : MessageKind → Placed → Spot
-part_spot kind t = if is_of_key kind then key_spot kind t else value_spot kind (meaning_of t) t
+part_spot kind t = if is_of_key kind then key_spot kind t else (if is_of_attribute kind then attribute_spot kind t else value_spot kind (meaning_of t) t)
 
 -- a part of a line, from a place on, that is no token: all up to the line's end, or the letters before the quote
 abbrev pub token_spot : TokenFaultKind → ℕ → List ℕ → Spot

@@ -1,42 +1,59 @@
 -- How a rule is written, with where its tokens and gaps stand.
 use Rattle.std.specs.Prelude.{ℕ, ◌==◌, if◌then◌else◌, List, [], ◌∷◌, ◌++◌, drop, length, Option, Some, None}
 use Rattle.text_bytes.specs.Names.{comma}
-use Rattle.text_bytes.specs.declared.message.MessageKind.TheVariants.{CommaExpected, BlankExpected, ReadAsAssign}
+use Rattle.text_bytes.specs.declared.message.MessageKind.{MessageKind}
+use Rattle.text_bytes.specs.declared.message.MessageKind.TheVariants.{CommaExpected, BlankExpected, LeadingComma, BlankBeforeComma}
+use Rattle.text_bytes.specs.declared.profile.Profile.{Profile}
+use Rattle.text_bytes.specs.declared.profile.Profile.TheVariants.{Manual, Udev}
 use Rattle.rule_tokens.specs.Grammar.{Placed}
 use Rattle.rule_tokens.specs.Values.{ends_in}
 use Rattle.rule_parts.specs.Parts.{is_read_as_assign}
-use Rattle.rule_core.specs.Style.{between, commas}
+use Rattle.rule_core.specs.Style.{between, commas, has_blank_before_comma, read_as_assign_kind}
 use Rattle.rule_places.specs.Spots.{key_spot, spot}
 use Rattle.rule_places.specs.declared.spot.Spot.{Spot}
 
--- a gap before a token: that token's key
-abbrev pub gap_spots : List ℕ → Placed → List Spot
-gap_spots gap t =
+-- a whole gap, which begins at a place, where it has a comma
+abbrev pub whole_gap : MessageKind → ℕ → List ℕ → List Spot
+whole_gap kind place gap = if commas gap == 0 then [] else spot kind [] place (length gap) ∷ []
+
+-- the gap before the first token, which udev passes over
+abbrev pub front_spots : Profile → List ℕ → List Spot
+front_spots Manual gap = []
+front_spots Udev gap = whole_gap LeadingComma 0 gap
+
+-- the commas of a gap before a token: that token's key
+abbrev pub comma_spots : List ℕ → Placed → List Spot
+comma_spots gap t =
     (if commas gap == 1 then [] else key_spot CommaExpected t ∷ [])
     ++ (if ends_in comma gap then key_spot BlankExpected t ∷ [] else [])
 
+-- a gap before a token: that token's key; udev also tells of blanks before a comma
+abbrev pub gap_spots : Profile → List ℕ → Placed → List Spot
+gap_spots Manual gap t = comma_spots gap t
+gap_spots Udev gap t = comma_spots gap t ++ (if has_blank_before_comma gap then key_spot BlankBeforeComma t ∷ [] else [])
+
 -- the gap behind the last token, which begins at a place
 abbrev pub end_spots : ℕ → List ℕ → List Spot
-end_spots place gap = if commas gap == 0 then [] else spot CommaExpected [] place (length gap) ∷ []
+end_spots place gap = whole_gap CommaExpected place gap
 
 -- a token's operator: its key
-abbrev pub operator_spots : Placed → List Spot
-operator_spots t = if is_read_as_assign t then key_spot ReadAsAssign t ∷ [] else []
+abbrev pub operator_spots : Profile → Placed → List Spot
+operator_spots by t = if is_read_as_assign t then key_spot (read_as_assign_kind by) t ∷ [] else []
 
 -- the gaps and tokens of a line behind a place where a token ends
-abbrev pub style_behind : List ℕ → ℕ → List Placed → List Spot
-style_behind line place [] = end_spots place (drop place line)
-style_behind line place (t ∷ tokens) = gap_spots (between place t.span.start line) t ++ (operator_spots t ++ style_behind line t.span.end tokens)
+abbrev pub style_behind : Profile → List ℕ → ℕ → List Placed → List Spot
+style_behind by line place [] = end_spots place (drop place line)
+style_behind by line place (t ∷ tokens) = gap_spots by (between place t.span.start line) t ++ (operator_spots by t ++ style_behind by line t.span.end tokens)
 
 -- the gaps and tokens of a line, in the order of their places
-abbrev pub style_spots : List ℕ → List Placed → List Spot
-style_spots line [] = []
-style_spots line (t ∷ tokens) = operator_spots t ++ style_behind line t.span.end tokens
+abbrev pub style_spots : Profile → List ℕ → List Placed → List Spot
+style_spots by line [] = []
+style_spots by line (t ∷ tokens) = front_spots by (between 0 t.span.start line) ++ (operator_spots by t ++ style_behind by line t.span.end tokens)
 
--- For inner functions: the gap before a token, from the place where the token before it ends, if there is one.
-abbrev pub spots_before : List ℕ → Option ℕ → Placed → List Spot
-spots_before line None t = []
-spots_before line (Some place) t = gap_spots (between place t.span.start line) t
+-- For inner functions: the gap before a token, from the place where the token before it ends, or from the line's start.
+abbrev pub spots_before : Profile → List ℕ → Option ℕ → Placed → List Spot
+spots_before by line None t = front_spots by (between 0 t.span.start line)
+spots_before by line (Some place) t = gap_spots by (between place t.span.start line) t
 
 -- For inner functions: the gap at the end of a line, from the place where its last token ends, if there is one.
 abbrev pub spots_at_end : List ℕ → Option ℕ → List Spot
@@ -44,6 +61,6 @@ spots_at_end line None = []
 spots_at_end line (Some place) = end_spots place (drop place line)
 
 -- For inner functions: the tokens behind the place where a token ends, or all of them.
-abbrev pub spots_from : List ℕ → Option ℕ → List Placed → List Spot
-spots_from line None tokens = style_spots line tokens
-spots_from line (Some place) tokens = style_behind line place tokens
+abbrev pub spots_from : Profile → List ℕ → Option ℕ → List Placed → List Spot
+spots_from by line None tokens = style_spots by line tokens
+spots_from by line (Some place) tokens = style_behind by line place tokens

@@ -1,38 +1,59 @@
 //! All findings of a file, with their places.
 ghost use Rattle.std.specs.Prelude.{◌≡◌, ◌∷◌, ◌++◌, [], if◌then◌else◌, IfOk, OnOk, flat_map, map, zip};
-ghost use Rattle.rule_places.specs.Files.{line_findings, name_spot, open_findings, placed, placed_findings, rule_spots, spots_of};
+ghost use Rattle.rule_places.specs.Files.{findings_of_lines, line_findings, name_spot, open_findings, placed_findings, rule_spots, spots_of};
 
 use crate::found::{NamePlace, RulePlaces};
+use crate::given_up::given_up_findings;
 use crate::kept::KeptLines;
 use crate::line_reading::LineReading;
 use crate::placed_finding::PlacedFinding;
+use crate::placed_spots::place_spots;
 use crate::readings::{PlacedReading, landings_of, readings_of};
 use crate::spot::Spot;
-use crate::sums::sum_of;
-use rule_core::joined_lines;
+use rule_core::{given_up_at, joined_lines};
 use rule_jumps::Landing;
 use std::alloc::{AllocError, Global};
-use text_bytes::{Bytes, MessageKind, SourceFile};
+use text_bytes::{Bytes, MessageKind, Profile, SourceFile};
 
 /// The findings of a rules file in the order of its messages, each with the physical line, the
 /// columns and the whole text that it is about. Each message that `read_rules` gives of the file
 /// stands for one of them.
 ///
 /// Places, by codes: of V1 all from the fault to the rule's end; of V10 the letters; of V2, V3, V4,
-/// S1, S2 and S3 the key of the token, or for S1 the gap behind the last token; of V5, V6, V8 and V11
-/// the value between its quotes, of V7 that of the first GOTO, and of S4 that of the first LABEL; of
-/// V9 the whole rule; of V12 the backslash at the end of the last line. A place in several physical
-/// lines is told as far as it stands in the first of them. A number of a line or of a column over
-/// 2^32 - 1 is given as that one.
+/// V24, S1, S2, S3 and S6 the key of the token, or for S1 the gap behind the last token; of V13 the
+/// attribute between its braces; of V5, V6, V11, V14 and V15 the value between its quotes, of V8 that
+/// of the name that does not count, of V7 that of the GOTO and of S4 that of the LABEL that counts; of
+/// S5 the gap before the first token; of V9 and V18 the whole rule; of V12 the backslash at the end of
+/// the last line; of V26 the whole line that is too long. A place in several physical lines is told as
+/// far as it stands in the first of them. A number of a line or of a column over 2^32 - 1 is given as
+/// that one.
 ///
 /// The error comes where memory is refused.
-pub fn placed_findings(alloc: Global, file: &SourceFile) -> Result<Vec<PlacedFinding>, AllocError>
-    ensures { IfOk result (λ found. found.items ≡ placed_findings file.now) }
+pub fn placed_findings(
+    alloc: Global,
+    profile: Profile,
+    file: &SourceFile,
+) -> Result<Vec<PlacedFinding>, AllocError>
+    ensures { IfOk result (λ found. found.items ≡ placed_findings profile file.now) }
 {
     let bytes = file.bytes.as_slice();
+    match given_up_at(profile, bytes) {
+        Some(number) => given_up_findings(alloc, bytes, number),
+        None => findings_of_lines(alloc, profile, bytes),
+    }
+}
+
+/// The findings of the lines of a file with these bytes.
+fn findings_of_lines(
+    alloc: Global,
+    profile: Profile,
+    bytes: &[u8],
+) -> Result<Vec<PlacedFinding>, AllocError>
+    ensures { IfOk result (λ found. found.items ≡ findings_of_lines profile bytes.now) }
+{
     let kept = KeptLines::of(alloc, bytes)?;
-    let joined = joined_lines(alloc, bytes)?;
-    let readings = readings_of(alloc, joined.lines())?;
+    let joined = joined_lines(alloc, profile, bytes)?;
+    let readings = readings_of(alloc, profile, joined.lines())?;
     let landings = landings_of(alloc, &readings)?;
     let mut found = Vec::new(alloc);
     place_lines(alloc, &mut found, &kept, readings, landings)?;
@@ -73,42 +94,6 @@ fn place_line(
     } = reading;
     let spots = spots_of(alloc, read, landing)?;
     place_spots(found, kept, number, start, spots)
-}
-
-/// Adds the findings of a line that begins at a place.
-fn place_spots(
-    found: &mut Vec<PlacedFinding>,
-    kept: &KeptLines,
-    number: u32,
-    start: usize,
-    spots: Vec<Spot>,
-) -> Result<(), AllocError>
-    ensures { OnOk result (found.new.items ≡ found.old.items ++ map (placed kept.now number start) spots.items) }
-{
-    for spot in spots {
-        found.push(placed(kept, number, start, spot)?)?;
-    }
-    Ok(())
-}
-
-/// A finding of a line that begins at a place, as one of the file.
-fn placed(
-    kept: &KeptLines,
-    number: u32,
-    start: usize,
-    spot: Spot,
-) -> Result<PlacedFinding, AllocError>
-    ensures { IfOk result (λ found. found ≡ placed kept.now number start spot) }
-{
-    let place = kept.place_in(sum_of(start, spot.start)?, spot.size);
-    Ok(PlacedFinding {
-        begins: number,
-        line: place.line,
-        column: place.column,
-        end: place.end,
-        kind: spot.kind,
-        word: spot.word,
-    })
 }
 
 /// All that is to be said of a line.

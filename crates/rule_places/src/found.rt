@@ -18,7 +18,7 @@ pub struct NamePlace {
 /// What is found of a rule by its line alone.
 #[derive(Debug, Drop)]
 pub struct RulePlaces {
-    /// The name of its first LABEL.
+    /// The name of the LABEL that counts: its first, or for udev its last.
     pub label: Option<NamePlace>,
     /// The name of its first GOTO.
     pub goto: Option<NamePlace>,

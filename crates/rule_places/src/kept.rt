@@ -109,7 +109,7 @@ fn line_of(lines: &[KeptLine], place: usize) -> Option<KeptLine>
 }
 
 /// The start of a file.
-const FILE_START: Place = Place {
+pub(crate) const FILE_START: Place = Place {
     line: 1,
     column: 1,
     end: 1,

@@ -1,16 +1,18 @@
 //! Laws of places, each the contract of a function that does nothing.
-ghost use Rattle.std.specs.Prelude.{◌≡◌, ◌<◌, ◌-◌, ◌^◌, ◌∷◌, [], List, Some, ℕ, drop, length, map, take};
+ghost use Rattle.std.specs.Prelude.{◌≡◌, ◌<◌, ◌-◌, ◌^◌, ◌∷◌, [], List, None, Some, ℕ, drop, length, map, take};
 ghost use Rattle.std.specs.List.{AllByRecursion};
 ghost use Rattle.text_bytes.specs.Lines.{numbered_lines};
 ghost use Rattle.text_bytes.specs.declared.message.MessageKind.TheVariants.{LineTooLong};
+ghost use Rattle.text_bytes.specs.declared.profile.Profile as profiles;
 ghost use Rattle.text_bytes.specs.declared.source_file.SourceFile as files;
 ghost use Rattle.rule_jumps.specs.declared.jumps.Landing as jumps;
 ghost use Rattle.rule_core.specs.Drafts.{most_bytes};
+ghost use Rattle.rule_core.specs.Ends.{given_up};
 ghost use Rattle.rule_core.specs.Lines.{joined_lines};
 ghost use Rattle.rule_core.specs.Rules.{file_messages};
 ghost use Rattle.rule_places.specs.Files.{placed_findings, spots_of};
 ghost use Rattle.rule_places.specs.Kept.{kept_lines, place_in};
-ghost use Rattle.rule_places.specs.Laws.{EndsOpen, StandsBehind, StandsIn, StandsInFile, StandsQuoted, StandsThere, as_message};
+ghost use Rattle.rule_places.specs.Laws.{EndsOpen, IsToldOfOneLine, StandsBehind, StandsIn, StandsInFile, StandsInFront, StandsQuoted, StandsThere, StandsWhole, as_message};
 ghost use Rattle.rule_places.specs.Reading.{reading_of};
 ghost use Rattle.rule_places.specs.Spots.{spot};
 ghost use Rattle.rule_places.specs.Shown.{AreJoined, IsShown, kept_text};
@@ -18,40 +20,52 @@ ghost use Rattle.rule_places.specs.Shown.{AreJoined, IsShown, kept_text};
 /// Without their places, and with their words cut, the findings of a file are its messages.
 #[tactic(auto, using(crate::proofs::Messages::findings_told))]
 pub fn findings_are_the_messages()
-    ensures { (file : files.SourceFile) → map (as_message file.name) (placed_findings file) ≡ file_messages file }
+    ensures { (by : profiles.Profile) (file : files.SourceFile) → map (as_message file.name) (placed_findings by file) ≡ file_messages by file }
 {}
 
-/// What is said of a key, of the letters before a quote, or of a part of a line that is no token, is
+/// What is said of a key, of an attribute, of the letters before a quote, or of a part of a line that is no token, is
 /// told with the bytes that stand in the joined line at the place.
 #[tactic(auto, using(crate::proofs::Standing::all_stand))]
 pub fn words_stand_at_their_places()
-    ensures { (line : List ℕ) (landing : jumps.Landing) → AllByRecursion (StandsThere line) (spots_of (reading_of line) landing) }
+    ensures { (by : profiles.Profile) (line : List ℕ) (landing : jumps.Landing) → AllByRecursion (StandsThere line) (spots_of (reading_of by line) landing) }
 {}
 
 /// What is said of a value is said of bytes of the joined line between two quotes, with no quote among
 /// them that ends a value. Of a jump this is said where the rule has a name for it.
 #[tactic(auto, using(crate::proofs::Standing::all_quoted))]
 pub fn values_stand_between_quotes()
-    ensures { (line : List ℕ) (landing : jumps.Landing) → AllByRecursion (StandsQuoted line) (spots_of (reading_of line) landing) }
+    ensures { (by : profiles.Profile) (line : List ℕ) (landing : jumps.Landing) → AllByRecursion (StandsQuoted line) (spots_of (reading_of by line) landing) }
 {}
 
 /// What is said of commas with no key is said of all that stands behind the last token.
 #[tactic(auto, using(crate::proofs::Standing::all_behind))]
 pub fn last_commas_stand_behind_tokens()
-    ensures { (line : List ℕ) (landing : jumps.Landing) → AllByRecursion (StandsBehind line) (spots_of (reading_of line) landing) }
+    ensures { (by : profiles.Profile) (line : List ℕ) (landing : jumps.Landing) → AllByRecursion (StandsBehind line) (spots_of (reading_of by line) landing) }
+{}
+
+/// What is said of commas before the first token is said of the whole gap there.
+#[tactic(auto, using(crate::proofs::Standing::all_in_front))]
+pub fn first_commas_stand_before_tokens()
+    ensures { (by : profiles.Profile) (line : List ℕ) (landing : jumps.Landing) → AllByRecursion (StandsInFront line) (spots_of (reading_of by line) landing) }
+{}
+
+/// What is said of a rule as a whole is said of its whole line.
+#[tactic(auto, using(crate::proofs::Standing::all_whole))]
+pub fn rules_are_told_as_a_whole()
+    ensures { (by : profiles.Profile) (line : List ℕ) (landing : jumps.Landing) → AllByRecursion (StandsWhole line) (spots_of (reading_of by line) landing) }
 {}
 
 /// Of a line that is too long nothing else is said, and it is said of the whole line.
 #[tactic(auto, using(crate::proofs::Lengths::told_whole))]
 pub fn long_lines_are_told_as_a_whole()
-    ensures { (line : List ℕ) (landing : jumps.Landing) → most_bytes < length line → spots_of (reading_of line) landing ≡ spot LineTooLong [] 0 (length line) ∷ [] }
+    ensures { (by : profiles.Profile) (line : List ℕ) (landing : jumps.Landing) → most_bytes by < length line → spots_of (reading_of by line) landing ≡ spot LineTooLong [] 0 (length line) ∷ [] }
 {}
 
 /// The joined lines of a file are what its kept lines give, one behind the other, so that a place
 /// in a joined line is one among the bytes of the kept lines.
 #[tactic(auto, using(crate::proofs::Joining::all_joined))]
 pub fn joined_lines_are_kept_lines()
-    ensures { (bytes : List ℕ) → AreJoined bytes }
+    ensures { (by : profiles.Profile) (bytes : List ℕ) → AreJoined by bytes }
 {}
 
 /// The line of the file that is found for a byte of the kept lines has that byte at the column that
@@ -73,12 +87,19 @@ pub fn places_stand_in_their_lines()
 /// the rule goes on in another line.
 #[tactic(auto, using(crate::proofs::FileStanding::all_in_file))]
 pub fn findings_stand_in_their_lines()
-    ensures { (file : files.SourceFile) → length file.bytes < 2 ^ 32 - 1 → AllByRecursion (StandsInFile file.bytes) (placed_findings file) }
+    ensures { (by : profiles.Profile) (file : files.SourceFile) → length file.bytes < 2 ^ 32 - 1 → AllByRecursion (StandsInFile file.bytes) (placed_findings by file) }
 {}
 
 /// Where a line is still open at its file's end, that is the last finding, and it stands at the `\\`
 /// that the last line ends in which is no comment.
 #[tactic(auto, using(crate::proofs::Opening::all_open))]
 pub fn open_lines_are_told_at_their_backslash()
-    ensures { (file : files.SourceFile) (number : ℕ) → length file.bytes < 2 ^ 32 - 1 → (joined_lines file.bytes).open_at ≡ Some number → EndsOpen file.bytes (placed_findings file) }
+    ensures { (by : profiles.Profile) (file : files.SourceFile) (number : ℕ) → length file.bytes < 2 ^ 32 - 1 → given_up by file.bytes ≡ None → (joined_lines by file.bytes).open_at ≡ Some number → EndsOpen file.bytes (placed_findings by file) }
+{}
+
+/// Of a file that is given up nothing else is said, and it is said of the whole of the first line that
+/// is too long.
+#[tactic(auto, using(crate::proofs::GivenUp::all_told))]
+pub fn files_that_are_given_up_are_told_of_one_line()
+    ensures { (by : profiles.Profile) (file : files.SourceFile) (number : ℕ) → length file.bytes < 2 ^ 32 - 1 → given_up by file.bytes ≡ Some number → IsToldOfOneLine file.bytes (placed_findings by file) }
 {}

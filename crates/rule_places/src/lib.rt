@@ -6,24 +6,29 @@
 
 mod file_findings;
 mod found;
+mod given_up;
 mod kept;
 mod laws;
 mod letters;
 mod line_reading;
 mod names;
 mod placed_finding;
+mod placed_spots;
 mod readings;
 mod spot;
 mod style;
 mod sums;
-mod texts;
 
 pub use file_findings::placed_findings;
 pub use kept::{KeptLines, Place};
 pub use laws::{
-    findings_are_the_messages, findings_stand_in_their_lines, joined_lines_are_kept_lines,
+    files_that_are_given_up_are_told_of_one_line, findings_are_the_messages,
+    findings_stand_in_their_lines, first_commas_stand_before_tokens, joined_lines_are_kept_lines,
     last_commas_stand_behind_tokens, long_lines_are_told_as_a_whole,
     open_lines_are_told_at_their_backslash, places_show_their_bytes, places_stand_in_their_lines,
-    values_stand_between_quotes, words_stand_at_their_places,
+    rules_are_told_as_a_whole, values_stand_between_quotes, words_stand_at_their_places,
 };
 pub use placed_finding::PlacedFinding;
+pub use placed_spots::place_spots;
+pub use spot::{Spot, attribute_spot, key_spot, value_spot};
+pub use sums::sum_of;

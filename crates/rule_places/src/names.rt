@@ -1,14 +1,15 @@
-//! Taking the parts of a rule: of several labels the first counts, and so of several jumps.
-ghost use Rattle.std.specs.Prelude.{◌≡◌, ◌++◌, OnOk};
+//! Taking the parts of a rule: of several labels the first counts, or for udev the last, and of several
+//! jumps the first.
+ghost use Rattle.std.specs.Prelude.{◌≡◌, ◌++◌, OnOk, Some};
 ghost use Rattle.rule_places.specs.Found.{no_places};
-ghost use Rattle.rule_places.specs.Reading.{again, first_place, name_place, with_part};
+ghost use Rattle.rule_places.specs.Reading.{again, first_name, lost, name_place, with_label, with_part};
 
 use crate::found::{NamePlace, RulePlaces};
 use crate::spot::{Spot, value_spot};
 use rule_tokens::Token;
 use rule_types::Part;
 use std::alloc::{AllocError, Global};
-use text_bytes::{Bytes, MessageKind};
+use text_bytes::{Bytes, MessageKind, Profile};
 
 impl RulePlaces {
     /// No part so far.
@@ -23,13 +24,33 @@ impl RulePlaces {
     }
 
     /// Takes the part of a rule that a token is. The error comes where memory is refused.
-    pub fn take(&mut self, token: &Token<'_>, part: Part) -> Result<(), AllocError>
-        ensures { OnOk result (self.new ≡ with_part self.old token.now part) }
+    pub fn take(
+        &mut self,
+        profile: Profile,
+        token: &Token<'_>,
+        part: Part,
+    ) -> Result<(), AllocError>
+        ensures { OnOk result (self.new ≡ with_part profile self.old token.now part) }
     {
         match part {
-            Part::Label(name) => give(&mut self.label, &mut self.spots, token, name),
+            Part::Label(name) => self.take_label(profile, token, name),
             Part::Goto(name) => give(&mut self.goto, &mut self.spots, token, name),
             _ => Ok(()),
+        }
+    }
+
+    /// Takes a label.
+    fn take_label(
+        &mut self,
+        profile: Profile,
+        token: &Token<'_>,
+        name: Bytes,
+    ) -> Result<(), AllocError>
+        ensures { OnOk result (self.new ≡ with_label profile self.old token.now name) }
+    {
+        match profile {
+            Profile::Manual => give(&mut self.label, &mut self.spots, token, name),
+            Profile::Udev => give_last(&mut self.label, &mut self.spots, token, name),
         }
     }
 }
@@ -41,12 +62,33 @@ fn give(
     token: &Token<'_>,
     name: Bytes,
 ) -> Result<(), AllocError>
-    ensures given { OnOk result (given.new ≡ first_place given.old (name_place name token.now)) }
+    ensures given { OnOk result (given.new ≡ first_name given.old (name_place name token.now)) }
     ensures spots { OnOk result (spots.new.items ≡ spots.old.items ++ again given.old name token.now) }
 {
     match given {
         Some(_) => spots.push(value_spot(MessageKind::GivenTwice, name, token))?,
         None => *given = Some(name_place(name, token)),
+    }
+    Ok(())
+}
+
+/// Gives a name in place of the one that was given before, if one was, and tells of that one.
+fn give_last(
+    given: &mut Option<NamePlace>,
+    spots: &mut Vec<Spot>,
+    token: &Token<'_>,
+    name: Bytes,
+) -> Result<(), AllocError>
+    ensures given { OnOk result (given.new ≡ Some (name_place name token.now)) }
+    ensures spots { OnOk result (spots.new.items ≡ spots.old.items ++ lost given.old) }
+{
+    if let Some(NamePlace { name, start, size }) = given.replace(name_place(name, token)) {
+        spots.push(Spot {
+            kind: MessageKind::GivenTwice,
+            word: name,
+            start,
+            size,
+        })?;
     }
     Ok(())
 }

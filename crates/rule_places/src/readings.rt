@@ -9,6 +9,7 @@ use crate::sums::sum_of;
 use rule_core::JoinedLine;
 use rule_jumps::{Jump, Landing, landings};
 use std::alloc::{AllocError, Global};
+use text_bytes::Profile;
 
 /// What is found of a joined line of a file.
 #[derive(Debug, Drop)]
@@ -24,9 +25,10 @@ pub struct PlacedReading {
 /// Reads the joined lines of a file. The error comes where memory is refused.
 pub fn readings_of(
     alloc: Global,
+    profile: Profile,
     lines: &[JoinedLine<'_>],
 ) -> Result<Vec<PlacedReading>, AllocError>
-    ensures { IfOk result (λ readings. readings.items ≡ readings_from 0 lines.now) }
+    ensures { IfOk result (λ readings. readings.items ≡ readings_from profile 0 lines.now) }
 {
     let mut readings = Vec::with_capacity(alloc, lines.len())?;
     let mut start = 0;
@@ -35,7 +37,7 @@ pub fn readings_of(
         readings.push(PlacedReading {
             number: line.number(),
             start,
-            read: reading_of(alloc, text)?,
+            read: reading_of(alloc, profile, text)?,
         })?;
         start = sum_of(start, text.len())?;
     }

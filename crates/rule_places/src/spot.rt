@@ -1,9 +1,11 @@
 //! What is to be said of a part of a joined line.
 ghost use Rattle.std.specs.Prelude.{◌≡◌, IfOk, length, drop};
-ghost use Rattle.rule_places.specs.Spots.{key_spot, part_spot, token_spot, value_spot};
+ghost use Rattle.rule_tokens.specs.Grammar.{attribute_bytes};
+ghost use Rattle.rule_places.specs.Spots.{attribute_spot, key_spot, part_spot, token_spot, value_spot};
 
 use crate::letters::letters_start;
-use crate::texts::behind;
+use crate::sums::sum_of;
+use rule_core::behind;
 use rule_tokens::{Token, TokenFault, TokenFaultKind, letters_before_quote, unquote};
 use std::alloc::{AllocError, Global};
 use text_bytes::{Bytes, MessageKind};
@@ -34,6 +36,35 @@ pub fn key_spot(alloc: Global, kind: MessageKind, token: &Token<'_>) -> Result<S
     })
 }
 
+/// What is to be said of a token's attribute between its braces. The error comes where memory is
+/// refused, or where the attribute would stand behind 2^64 - 1 bytes.
+pub fn attribute_spot(
+    alloc: Global,
+    kind: MessageKind,
+    token: &Token<'_>,
+) -> Result<Spot, AllocError>
+    ensures { IfOk result (λ found. found ≡ attribute_spot kind token.now) }
+{
+    let attribute = attribute_bytes(token);
+    let brace = sum_of(token.span().start, token.key().len())?;
+    Ok(Spot {
+        kind,
+        word: Bytes::copy_of(alloc, attribute)?,
+        start: sum_of(brace, 1)?,
+        size: attribute.len(),
+    })
+}
+
+/// The bytes of a token's attribute, none where it has no attribute.
+fn attribute_bytes<'a>(token: &Token<'a>) -> &'a [u8]
+    ensures { result.now ≡ attribute_bytes token.now.parts.head.attribute }
+{
+    match token.attribute() {
+        None => &[],
+        Some(attribute) => attribute,
+    }
+}
+
 /// What is to be said of a token's value between its quotes, told with this text.
 pub fn value_spot(kind: MessageKind, word: Bytes, token: &Token<'_>) -> Spot
     ensures { result ≡ value_spot kind word token.now }
@@ -47,14 +78,15 @@ pub fn value_spot(kind: MessageKind, word: Bytes, token: &Token<'_>) -> Spot
     }
 }
 
-/// What is to be said of a token that is no part of a rule: of its key, or of its value with what
-/// that means. The error comes where memory is refused.
+/// What is to be said of a token that is no part of a rule: of its key, of its attribute, or of its
+/// value with what that means. The error comes where memory is refused.
 pub fn part_spot(alloc: Global, kind: MessageKind, token: &Token<'_>) -> Result<Spot, AllocError>
     ensures { IfOk result (λ found. found ≡ part_spot kind token.now) }
 {
     match kind {
         MessageKind::UnknownKey | MessageKind::WrongAttribute | MessageKind::OperatorNotAllowed =>
             key_spot(alloc, kind, token),
+        MessageKind::ReservedProperty => attribute_spot(alloc, kind, token),
         _ => {
             let meaning = Bytes::new(unquote(alloc, token)?);
             Ok(value_spot(kind, meaning, token))

@@ -1,60 +1,107 @@
 //! How a rule is written, with where its tokens and gaps stand.
 ghost use Rattle.std.specs.Prelude.{◌≡◌, ◌++◌, OnOk};
-ghost use Rattle.rule_tokens.specs.Lines.{items_of};
-ghost use Rattle.rule_core.specs.Drafts.{tokens_of};
-ghost use Rattle.rule_places.specs.Style.{end_spots, gap_spots, operator_spots, spots_at_end, spots_before, style_spots};
+ghost use Rattle.rule_core.specs.Drafts.{items_as, tokens_of};
+ghost use Rattle.rule_places.specs.Style.{comma_spots, front_spots, gap_spots, operator_spots, spots_at_end, spots_before, style_spots, whole_gap};
 
 use crate::spot::{Spot, key_spot};
-use crate::texts::{behind, between, commas};
+use rule_core::{
+    behind, between, commas, has_blank_before_comma, line_tokens, read_as_assign_kind,
+};
 use rule_parts::is_read_as_assign;
-use rule_tokens::{Token, Tokens};
+use rule_tokens::Token;
 use std::alloc::{AllocError, Global};
-use text_bytes::{Bytes, MessageKind, ends_in};
+use text_bytes::{Bytes, MessageKind, Profile, ends_in};
 
 /// Adds what is to be said of how a line is written, by the places of its tokens. The error comes
 /// where memory is refused.
-pub fn add_style(alloc: Global, spots: &mut Vec<Spot>, line: &[u8]) -> Result<(), AllocError>
-    ensures { OnOk result (spots.new.items ≡ spots.old.items ++ style_spots line.now (tokens_of (items_of line.now))) }
+pub fn add_style(
+    alloc: Global,
+    profile: Profile,
+    spots: &mut Vec<Spot>,
+    line: &[u8],
+) -> Result<(), AllocError>
+    ensures { OnOk result (spots.new.items ≡ spots.old.items ++ style_spots profile line.now (tokens_of (items_as profile line.now))) }
 {
     let mut place = None;
-    for item in Tokens::new(line) {
+    for item in line_tokens(profile, line) {
         if let Ok(token) = item {
-            add_token(alloc, spots, line, place, &token)?;
+            add_token(alloc, profile, spots, line, place, &token)?;
             place = Some(token.span().end);
         }
     }
     add_end(alloc, spots, line, place)
 }
 
-/// Adds what is to be said of a token and of the gap before it, which begins at a place. No gap is
-/// before the first token.
+/// Adds what is to be said of a token and of the gap before it, which begins at a place, or else at
+/// the line's start.
 fn add_token(
     alloc: Global,
+    profile: Profile,
     spots: &mut Vec<Spot>,
     line: &[u8],
     place: Option<usize>,
     token: &Token<'_>,
 ) -> Result<(), AllocError>
-    ensures { OnOk result (spots.new.items ≡ spots.old.items ++ (spots_before line.now place token.now ++ operator_spots token.now)) }
+    ensures { OnOk result (spots.new.items ≡ spots.old.items ++ (spots_before profile line.now place token.now ++ operator_spots profile token.now)) }
 {
     match place {
-        None => {}
+        None => {
+            let gap = between(0, token.span().start, line);
+            add_front(alloc, profile, spots, gap)?;
+        }
         Some(from) => {
             let gap = between(from, token.span().start, line);
-            add_gap(alloc, spots, gap, token)?;
+            add_gap(alloc, profile, spots, gap, token)?;
         }
     }
-    add_operator(alloc, spots, token)
+    add_operator(alloc, profile, spots, token)
+}
+
+/// Adds what is to be said of the gap before the first token.
+fn add_front(
+    alloc: Global,
+    profile: Profile,
+    spots: &mut Vec<Spot>,
+    gap: &[u8],
+) -> Result<(), AllocError>
+    ensures { OnOk result (spots.new.items ≡ spots.old.items ++ front_spots profile gap.now) }
+{
+    match profile {
+        Profile::Manual => Ok(()),
+        Profile::Udev => add_whole_gap(alloc, MessageKind::LeadingComma, spots, 0, gap),
+    }
 }
 
 /// Adds what is to be said of the gap before a token.
 fn add_gap(
     alloc: Global,
+    profile: Profile,
     spots: &mut Vec<Spot>,
     gap: &[u8],
     token: &Token<'_>,
 ) -> Result<(), AllocError>
-    ensures { OnOk result (spots.new.items ≡ spots.old.items ++ gap_spots gap.now token.now) }
+    ensures { OnOk result (spots.new.items ≡ spots.old.items ++ gap_spots profile gap.now token.now) }
+{
+    add_commas(alloc, spots, gap, token)?;
+    match profile {
+        Profile::Manual => {}
+        Profile::Udev => {
+            if has_blank_before_comma(gap) {
+                spots.push(key_spot(alloc, MessageKind::BlankBeforeComma, token)?)?;
+            }
+        }
+    }
+    Ok(())
+}
+
+/// Adds what is to be said of the commas of the gap before a token.
+fn add_commas(
+    alloc: Global,
+    spots: &mut Vec<Spot>,
+    gap: &[u8],
+    token: &Token<'_>,
+) -> Result<(), AllocError>
+    ensures { OnOk result (spots.new.items ≡ spots.old.items ++ comma_spots gap.now token.now) }
 {
     if commas(gap) != 1 {
         spots.push(key_spot(alloc, MessageKind::CommaExpected, token)?)?;
@@ -66,11 +113,16 @@ fn add_gap(
 }
 
 /// Adds what is to be said of a token's operator.
-fn add_operator(alloc: Global, spots: &mut Vec<Spot>, token: &Token<'_>) -> Result<(), AllocError>
-    ensures { OnOk result (spots.new.items ≡ spots.old.items ++ operator_spots token.now) }
+fn add_operator(
+    alloc: Global,
+    profile: Profile,
+    spots: &mut Vec<Spot>,
+    token: &Token<'_>,
+) -> Result<(), AllocError>
+    ensures { OnOk result (spots.new.items ≡ spots.old.items ++ operator_spots profile token.now) }
 {
     if is_read_as_assign(token) {
-        spots.push(key_spot(alloc, MessageKind::ReadAsAssign, token)?)?;
+        spots.push(key_spot(alloc, read_as_assign_kind(profile), token)?)?;
     }
     Ok(())
 }
@@ -86,22 +138,29 @@ fn add_end(
 {
     match place {
         None => Ok(()),
-        Some(from) => add_last_gap(alloc, spots, from, behind(from, line)),
+        Some(from) => add_whole_gap(
+            alloc,
+            MessageKind::CommaExpected,
+            spots,
+            from,
+            behind(from, line),
+        ),
     }
 }
 
-/// Adds what is to be said of the gap behind the last token, which begins at a place.
-fn add_last_gap(
+/// Adds this of a whole gap, which begins at a place, where it has a comma.
+fn add_whole_gap(
     alloc: Global,
+    kind: MessageKind,
     spots: &mut Vec<Spot>,
     place: usize,
     gap: &[u8],
 ) -> Result<(), AllocError>
-    ensures { OnOk result (spots.new.items ≡ spots.old.items ++ end_spots place gap.now) }
+    ensures { OnOk result (spots.new.items ≡ spots.old.items ++ whole_gap kind place gap.now) }
 {
     if commas(gap) != 0 {
         spots.push(Spot {
-            kind: MessageKind::CommaExpected,
+            kind,
             word: Bytes::new(Vec::new(alloc)),
             start: place,
             size: gap.len(),

@@ -1,10 +1,11 @@
 -- Reading a template, a piece at a time.
 use Rattle.std.proofs.Common.{◌≡◌, ℕ, zero, suc, ◌+◌, ◌≤◌, List, [], ◌∷◌, ◌++◌, length, take, drop, add-one, Result, Ok, Err, refl, ap, sym, ◌∙◌, append_assoc, append-nil, arith}
 use Rattle.rule_templates.specs.Faults.{Fails}
-use Rattle.rule_templates.specs.Reading.{Front, pieces_of, pieces_within, front_at, with_front, with_piece}
+use Rattle.rule_templates.specs.Reading.{Front, front_at, pieces_by, pieces_of, pieces_within, with_front, with_piece}
 use Rattle.rule_templates.specs.declared.fault.TemplateFault.{TemplateFault}
 use Rattle.rule_templates.specs.declared.fault.TemplateFault.TheVariants.{Unknown, Brace, Number, Memory}
 use Rattle.rule_templates.specs.declared.piece.Piece.{Piece}
+use Rattle.rule_templates.proofs.Fronts.{Leaves, Shrinks, manual_shrinks}
 use Rattle.rule_templates.proofs.Spelled.{left_shorter}
 
 -- the front of a text whose first byte is known, and what is left behind it
@@ -15,18 +16,18 @@ pub drop_more : (len b : ℕ) (text after : List ℕ) → text ≡ b ∷ after �
 drop_more len b text after is = rw (is, add-one len) refl
 
 -- room for more pieces than there can be changes nothing
-enough : (n m : ℕ) (t : List ℕ) → length t ≤ n → length t ≤ m → pieces_within n t ≡ pieces_within m t
-enough zero zero t h k = refl
-enough zero (suc m) [] h k = refl
-enough zero (suc m) (b ∷ t) h k = absurd (omega arith)
-enough (suc n) zero [] h k = refl
-enough (suc n) zero (b ∷ t) h k = absurd (omega arith)
-enough (suc n) (suc m) [] h k = refl
-enough (suc n) (suc m) (b ∷ t) h k = by_front (front_at b t) refl (λ l i j. enough n m l i j) where
-  by_front : (r : Front) → front_at b t ≡ r → ((l : List ℕ) → length l ≤ n → length l ≤ m → pieces_within n l ≡ pieces_within m l)
-      → with_front (pieces_within n) r ≡ with_front (pieces_within m) r
-  by_front (Err e) q same = refl
-  by_front (Ok x) q same = let less : length x.1 ≤ length t = left_shorter b t x q in ap (with_piece x.0) (same x.1 (omega arith) (omega arith))
+pub enough : (front : ℕ → List ℕ → Front) → Shrinks front → (n m : ℕ) (t : List ℕ) → length t ≤ n → length t ≤ m → pieces_by front n t ≡ pieces_by front m t
+enough front s zero zero t h k = refl
+enough front s zero (suc m) [] h k = refl
+enough front s zero (suc m) (b ∷ t) h k = absurd (omega arith)
+enough front s (suc n) zero [] h k = refl
+enough front s (suc n) zero (b ∷ t) h k = absurd (omega arith)
+enough front s (suc n) (suc m) [] h k = refl
+enough front s (suc n) (suc m) (b ∷ t) h k = by_front (front b t) (s b t) (λ l i j. enough front s n m l i j) where
+  by_front : (r : Front) → Leaves t r → ((l : List ℕ) → length l ≤ n → length l ≤ m → pieces_by front n l ≡ pieces_by front m l)
+      → with_front (pieces_by front n) r ≡ with_front (pieces_by front m) r
+  by_front (Err e) less same = refl
+  by_front (Ok x) less same = let shorter : length x.1 ≤ length t = less in ap (with_piece x.0) (same x.1 (omega arith) (omega arith))
 
 -- pieces, and behind them those that the rest gives
 abbrev pub with_pieces : List Piece → Result (List Piece) TemplateFault → Result (List Piece) TemplateFault
@@ -46,7 +47,7 @@ piece_first : (b : ℕ) (t rest : List ℕ) (p : Piece) (left : List ℕ) → re
 unfolding pieces_of
 piece_first b t rest p left e found =
     let less : length left ≤ length t = left_shorter b t (p, left) found in
-    ap (with_piece p) (enough (length left) (length t) left (omega arith) less)
+    ap (with_piece p) (enough front_at manual_shrinks (length left) (length t) left (omega arith) less)
     ∙ sym (ap (with_front (pieces_within (length t))) found)
     ∙ sym (ap (λ (l : List ℕ). pieces_within (length l) l) e)
 

@@ -13,7 +13,7 @@ abbrev pub Rows : Type 0
 Rows = List (List ℕ × Substitution)
 
 -- a name at the front of a text
-begins : (text n : List ℕ) → starts_with nat_eq text n ≡ true → text ≡ n ++ drop (length n) text
+pub begins : (text n : List ℕ) → starts_with nat_eq text n ≡ true → text ≡ n ++ drop (length n) text
 begins text n h = (starts_is Decides-eqb text n _ refl).0 h
 
 begins_true : (text n rest : List ℕ) → text ≡ n ++ rest → starts_with nat_eq text n ≡ true

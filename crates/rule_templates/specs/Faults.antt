@@ -14,3 +14,8 @@ Fails Number read = read ≡ Err Number
 abbrev pub Gives : {A B : Type 0} → (A → B) → Result A TemplateFault → Result B TemplateFault → Type 0
 Gives seen (Ok x) read = read ≡ Ok (seen x)
 Gives seen (Err fault) read = Fails fault read
+
+-- what was returned, as seen, is just what reading gives
+abbrev pub GivesJust : {A B : Type 0} → (A → B) → Result A TemplateFault → Result B TemplateFault → Type 0
+GivesJust seen (Ok x) read = read ≡ Ok (seen x)
+GivesJust seen (Err fault) read = read ≡ Err fault

@@ -6,3 +6,5 @@ pub mod Number
 pub mod Grammar
 pub mod Faults
 pub mod FaultTexts
+pub mod Integers
+pub mod Cuts

@@ -1,6 +1,8 @@
 -- The names of substitutions.
-use Rattle.std.specs.Prelude.{ℕ, List, [], ◌∷◌, Option, Some, None, length, drop, nat_eq, if◌then◌else◌, codes}
+use Rattle.std.specs.Prelude.{ℕ, List, [], ◌∷◌, ◌++◌, Option, Some, None, length, drop, nat_eq, if◌then◌else◌, codes}
 use Rattle.std.specs.List.{starts_with}
+use Rattle.text_bytes.specs.declared.profile.Profile.{Profile}
+use Rattle.text_bytes.specs.declared.profile.Profile.TheVariants.{Manual, Udev}
 use Rattle.rule_templates.specs.declared.names.Substitution.{Substitution}
 use Rattle.rule_templates.specs.declared.names.Substitution.TheVariants as name
 
@@ -46,6 +48,24 @@ short_names =
     ∷ (codes "N", name.Devnode)
     ∷ (codes "%", name.Percent)
     ∷ []
+
+-- the names behind a `$` that the manual refuses and udev reads
+abbrev pub old_names : List (List ℕ × Substitution)
+old_names = (codes "sysfs", name.Attr) ∷ (codes "tempnode", name.Devnode) ∷ []
+
+-- the letters behind a `%` that only udev knows
+abbrev pub more_letters : List (List ℕ × Substitution)
+more_letters = (codes "d", name.Driver) ∷ (codes "D", name.Name) ∷ (codes "L", name.Links) ∷ []
+
+-- the names behind a `$`, by a profile
+abbrev pub long_names_as : Profile → List (List ℕ × Substitution)
+long_names_as Manual = long_names
+long_names_as Udev = old_names ++ long_names
+
+-- the letters behind a `%`, by a profile
+abbrev pub short_names_as : Profile → List (List ℕ × Substitution)
+short_names_as Manual = short_names
+short_names_as Udev = more_letters ++ short_names
 
 -- what the first name at the front of a text asks for, and what is left behind that name
 abbrev pub named : List (List ℕ × Substitution) → List ℕ → Option (Substitution × List ℕ)

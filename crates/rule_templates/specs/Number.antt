@@ -1,8 +1,9 @@
 -- The number in the braces after `$result` and `%c`.
-use Rattle.std.specs.Prelude.{ℕ, zero, suc, ◌-◌, List, length, take, Option, Some, None, option_map, if◌then◌else◌}
+use Rattle.std.specs.Prelude.{ℕ, zero, suc, ◌-◌, Bool, ◌==◌, nat_lt, List, length, take, Option, Some, None, option_map, if◌then◌else◌}
 use Rattle.text_bytes.specs.Names.{plus}
 use Rattle.text_bytes.specs.Texts.{ends_in}
 use Rattle.text_bytes.specs.Numbers.{decimal_below}
+use Rattle.rule_templates.specs.Integers.{natural_of}
 use Rattle.rule_templates.specs.declared.piece.Piece.{Piece}
 use Rattle.rule_templates.specs.declared.piece.Piece.TheVariants as piece
 
@@ -21,3 +22,19 @@ unfoldable pub word_of : List ℕ → Option Piece
 word_of content =
     if ends_in plus content then option_map (λ n. piece.From n) (number_of (take (length content - 1) content))
     else option_map (λ n. piece.Word n) (number_of content)
+
+-- a text without the plus that it ends in, if it does
+abbrev pub without_plus : List ℕ → List ℕ
+without_plus content = if ends_in plus content then take (length content - 1) content else content
+
+-- the number of a word in 16 bits; no result has as many words as the greatest of these, so that it stands for all that are greater
+abbrev pub word_number : ℕ → ℕ
+word_number n = if nat_lt n 65535 then n else 65535
+
+-- what udev gives for a number: for 0 the whole result, else the N-th word, or with a plus all from the N-th word on
+abbrev pub numbered_word : Bool → ℕ → Piece
+numbered_word has_plus n = if n == 0 then piece.Result else if has_plus then piece.From (word_number n) else piece.Word (word_number n)
+
+-- what the content of the braces asks udev for, where it is a number with a plus behind it or without one
+unfoldable pub udev_word_of : List ℕ → Option Piece
+udev_word_of content = option_map (numbered_word (ends_in plus content)) (natural_of (without_plus content))

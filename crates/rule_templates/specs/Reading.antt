@@ -1,11 +1,13 @@
 -- Reading a template: each step gives the piece at the front of a text, and what is left of the text behind it.
 -- That this is the language of Grammar is a law of the crate.
-use Rattle.std.specs.Prelude.{ℕ, zero, suc, Bool, not, ◌==◌, ◌&&◌, List, [], ◌∷◌, length, take_while, Option, Some, None, Result, Ok, Err, if◌then◌else◌}
+use Rattle.std.specs.Prelude.{ℕ, zero, suc, Bool, not, true, false, ◌==◌, ◌&&◌, nat_lt, List, [], ◌∷◌, length, take_while, Option, Some, None, Result, Ok, Err, is_err, if◌then◌else◌}
 use Rattle.text_bytes.specs.Names.{dollar, percent, open_brace, close_brace}
-use Rattle.text_bytes.specs.Texts.{skip_while, split_once}
+use Rattle.text_bytes.specs.Texts.{begins_with, skip_while, split_once}
+use Rattle.text_bytes.specs.declared.profile.Profile.{Profile}
+use Rattle.text_bytes.specs.declared.profile.Profile.TheVariants.{Manual, Udev}
 use Rattle.rule_templates.specs.Braces.{braced}
-use Rattle.rule_templates.specs.Names.{named, long_names, short_names}
-use Rattle.rule_templates.specs.Number.{word_of}
+use Rattle.rule_templates.specs.Names.{named, long_names_as, short_names_as}
+use Rattle.rule_templates.specs.Number.{udev_word_of, word_of}
 use Rattle.rule_templates.specs.declared.fault.TemplateFault.{TemplateFault}
 use Rattle.rule_templates.specs.declared.fault.TemplateFault.TheVariants as fault
 use Rattle.rule_templates.specs.declared.names.Substitution.{Substitution}
@@ -63,21 +65,60 @@ asked name.Dollar t = Ok (piece.Plain (dollar ∷ []), t)
 asked name.Percent t = Ok (piece.Plain (percent ∷ []), t)
 asked name.Refused t = Err fault.Unknown
 
+-- what a substitution asks udev for, by what its braces hold and what is left behind them; of one that needs no braces they say nothing
+unfoldable pub asked_with : Substitution → List ℕ → List ℕ → Front
+asked_with name.Attr content rest = Ok (piece.Attr content, rest)
+asked_with name.Env content rest = Ok (piece.Env content, rest)
+asked_with name.Result content rest = numbered (udev_word_of content) rest
+asked_with s content rest = asked s rest
+
+-- the same of braces that udev takes, which hold 1,023 bytes at most
+abbrev pub with_braces : Substitution → Result (List ℕ × List ℕ) TemplateFault → Front
+with_braces s (Ok x) = if nat_lt 1023 (length x.0) then Err fault.Brace else asked_with s x.0 x.1
+with_braces s (Err e) = Err e
+
+-- a sign written twice, behind which udev takes no braces
+abbrev pub is_twice : Substitution → Bool
+is_twice name.Dollar = true
+is_twice name.Percent = true
+is_twice s = false
+
+-- what a substitution asks udev for, by what follows its name
+unfoldable pub udev_asked : Substitution → List ℕ → Front
+udev_asked s t = if not (is_twice s) && begins_with open_brace t then with_braces s (braced t) else asked s t
+
+-- what a substitution asks for, by a profile
+abbrev pub asked_as : Profile → Substitution → List ℕ → Front
+asked_as Manual = asked
+asked_as Udev = udev_asked
+
+-- the piece that the name behind a sign asks for, by what names ask for
+abbrev pub substituted_by : (Substitution → List ℕ → Front) → Option (Substitution × List ℕ) → Front
+substituted_by ask None = Err fault.Unknown
+substituted_by ask (Some x) = ask x.0 x.1
+
 -- the piece that the name behind a sign asks for
 abbrev pub substituted : Option (Substitution × List ℕ) → Front
-substituted None = Err fault.Unknown
-substituted (Some x) = asked x.0 x.1
+substituted = substituted_by asked
 
 -- plain bytes, of which this is the first, up to the next sign
 abbrev pub plain_front : ℕ → List ℕ → Front
 plain_front b t = Ok (piece.Plain (b ∷ take_while is_plain t), skip_while is_plain t)
 
--- the piece at the front of a text of which this is the first byte
-unfoldable pub front_at : ℕ → List ℕ → Front
-front_at b t =
-    if b == dollar then substituted (named long_names t)
-    else if b == percent then substituted (named short_names t)
+-- the piece at the front of a text of which this is the first byte, by a profile
+abbrev pub front_as : Profile → ℕ → List ℕ → Front
+front_as profile b t =
+    if b == dollar then substituted_by (asked_as profile) (named (long_names_as profile) t)
+    else if b == percent then substituted_by (asked_as profile) (named (short_names_as profile) t)
     else plain_front b t
+
+-- the piece at the front by the manual
+unfoldable pub front_at : ℕ → List ℕ → Front
+front_at b t = front_as Manual b t
+
+-- the piece at the front by udev
+unfoldable pub udev_front : ℕ → List ℕ → Front
+udev_front b t = front_as Udev b t
 
 -- a piece, and those behind it
 abbrev pub with_piece : Piece → Result (List Piece) TemplateFault → Result (List Piece) TemplateFault
@@ -89,12 +130,51 @@ abbrev pub with_front : (List ℕ → Result (List Piece) TemplateFault) → Fro
 with_front others (Ok x) = with_piece x.0 (others x.1)
 with_front others (Err e) = Err e
 
--- the pieces of a text that has at most so many
+-- the pieces of a text that has at most so many, by how the piece at the front is read
+abbrev pub pieces_by : (ℕ → List ℕ → Front) → ℕ → List ℕ → Result (List Piece) TemplateFault
+pieces_by front zero t = Ok []
+pieces_by front (suc n) [] = Ok []
+pieces_by front (suc n) (b ∷ t) = with_front (pieces_by front n) (front b t)
+
+-- the same by the manual
 abbrev pub pieces_within : ℕ → List ℕ → Result (List Piece) TemplateFault
-pieces_within zero t = Ok []
-pieces_within (suc n) [] = Ok []
-pieces_within (suc n) (b ∷ t) = with_front (pieces_within n) (front_at b t)
+pieces_within = pieces_by front_at
 
 -- the pieces of a text, or the first fault from the left
 unfoldable pub pieces_of : List ℕ → Result (List Piece) TemplateFault
 pieces_of t = pieces_within (length t) t
+
+-- the same by udev
+unfoldable pub udev_pieces : List ℕ → Result (List Piece) TemplateFault
+udev_pieces t = pieces_by udev_front (length t) t
+
+-- whether udev tells of a fault in a text
+unfoldable pub is_faulty : List ℕ → Bool
+is_faulty t = is_err (udev_pieces t)
+
+-- What udev takes for the piece at the front of a text, of which this is the first byte, and what it reads on: a sign with an unknown name is a
+-- byte, and at any other fault nothing is read on.
+abbrev pub kept : ℕ → List ℕ → Front → Option (Piece × List ℕ)
+kept b t (Ok x) = Some x
+kept b t (Err fault.Unknown) = Some (piece.Plain (b ∷ []), t)
+kept b t (Err e) = None
+
+-- a piece that is kept, and those of what is left
+abbrev pub with_kept : (List ℕ → List Piece) → Option (Piece × List ℕ) → List Piece
+with_kept others None = []
+with_kept others (Some x) = x.0 ∷ others x.1
+
+-- the pieces that udev takes of a text that has at most so many
+abbrev pub left_within : ℕ → List ℕ → List Piece
+left_within zero t = []
+left_within (suc n) [] = []
+left_within (suc n) (b ∷ t) = with_kept (left_within n) (kept b t (udev_front b t))
+
+-- the pieces that udev takes of a text, whether it tells of a fault or not
+unfoldable pub left_of : List ℕ → List Piece
+left_of t = left_within (length t) t
+
+-- the pieces of a text by a profile: the manual refuses a text with a fault, and udev takes what is left of it
+abbrev pub pieces_as : Profile → List ℕ → Result (List Piece) TemplateFault
+pieces_as Manual t = pieces_of t
+pieces_as Udev t = Ok (left_of t)

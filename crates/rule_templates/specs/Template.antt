@@ -1,6 +1,7 @@
 -- What a template is seen as.
 use Rattle.std.specs.Prelude.{◌≡◌, ℕ, List, Ok}
-use Rattle.rule_templates.specs.Reading.{pieces_of}
+use Rattle.text_bytes.specs.declared.profile.Profile.{Profile}
+use Rattle.rule_templates.specs.Reading.{pieces_as}
 use Rattle.rule_templates.specs.declared.piece.Piece.{Piece}
 
 -- the text that was read, and its pieces
@@ -8,7 +9,7 @@ pub record Parts : Type 0 where
   pub written : List ℕ
   pub pieces : List Piece
 
--- the template has this text, and the pieces that reading the text gives
-pub record IsReadFrom (text : List ℕ) (template : Parts) : Type 0 where
+-- the template has this text, and the pieces that reading the text by this profile gives
+pub record IsReadFrom (profile : Profile) (text : List ℕ) (template : Parts) : Type 0 where
   pub written : template.written ≡ text
-  pub pieces : pieces_of text ≡ Ok template.pieces
+  pub pieces : pieces_as profile text ≡ Ok template.pieces

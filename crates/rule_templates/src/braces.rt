@@ -1,6 +1,6 @@
 //! The name in braces that some substitutions need.
 ghost use Rattle.std.specs.Prelude.{◌≤◌, IfOk, length};
-ghost use Rattle.rule_templates.specs.Faults.{Gives};
+ghost use Rattle.rule_templates.specs.Faults.{GivesJust};
 ghost use Rattle.rule_templates.specs.Braces.{braced};
 
 use crate::fault::TemplateFault;
@@ -9,7 +9,7 @@ use text_bytes::split_once;
 /// The name in the braces that a text begins with, and what is left behind them.
 #[tactic(auto, unfolding(crate::specs::Braces::braced))]
 pub fn braced(text: &[u8]) -> Result<(&[u8], &[u8]), TemplateFault>
-    ensures value { Gives (λ x. (x.0.now, x.1.now)) result (braced text.now) }
+    ensures value { GivesJust (λ x. (x.0.now, x.1.now)) result (braced text.now) }
     ensures shorter { IfOk result (λ x. length x.1.now ≤ length text.now) }
 {
     let Some((b'{', rest)) = text.split_first() else {

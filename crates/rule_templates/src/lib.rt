@@ -6,7 +6,10 @@
 #![tactic(auto)]
 
 mod braces;
+mod cut;
 mod fault;
+mod integers;
+pub mod laws;
 mod names;
 mod number;
 mod piece;
@@ -14,5 +17,7 @@ mod reading;
 mod template;
 
 pub use fault::TemplateFault;
+pub use integers::{behind_separators, integer_of, is_separator, natural_of};
 pub use piece::Piece;
+pub use reading::is_faulty;
 pub use template::Template;

@@ -2,8 +2,10 @@
 //!
 //! A name is recognized by its letters alone: in `$kernelx` it is `kernel`, and the `x` stands for
 //! itself. So the rows are tried as prefixes of what follows the sign.
-ghost use Rattle.std.specs.Prelude.{◌≡◌, ◌≤◌, IfSome, length, map, option_map};
-ghost use Rattle.rule_templates.specs.Names.{long_names, named, short_names};
+ghost use Rattle.std.specs.Prelude.{◌≡◌, map, option_map};
+ghost use Rattle.rule_templates.specs.Names.{long_names_as, named, short_names_as};
+
+use text_bytes::Profile;
 
 /// What a name behind a `$` or `%` asks for.
 #[derive(Clone, Copy, Debug, PartialEq, Eq)]
@@ -27,7 +29,7 @@ pub enum Substitution {
     /// A sign written twice, which stands for itself.
     Dollar,
     Percent,
-    /// A name of older versions of udev, which is refused.
+    /// A name of older versions of udev, which the manual refuses.
     Refused,
 }
 
@@ -72,10 +74,22 @@ const SHORT_NAMES: [(&[u8], Substitution); 14] = [
     (b"%", Substitution::Percent),
 ];
 
+/// The names behind a `$` that the manual refuses and udev reads.
+const OLD_NAMES: [(&[u8], Substitution); 2] = [
+    (b"sysfs", Substitution::Attr),
+    (b"tempnode", Substitution::Devnode),
+];
+
+/// The letters behind a `%` that only udev knows.
+const MORE_LETTERS: [(&[u8], Substitution); 3] = [
+    (b"d", Substitution::Driver),
+    (b"D", Substitution::Name),
+    (b"L", Substitution::Links),
+];
+
 /// What the first row whose name begins the text asks for, and what is left behind that name.
 fn named<'a>(rows: &[(&[u8], Substitution)], text: &'a [u8]) -> Option<(Substitution, &'a [u8])>
-    ensures value { option_map (λ x. (x.0, x.1.now)) result ≡ named (map (λ row. (row.0.now, row.1)) rows.now) text.now }
-    ensures shorter { IfSome result (λ x. length x.1.now ≤ length text.now) }
+    ensures { option_map (λ x. (x.0, x.1.now)) result ≡ named (map (λ row. (row.0.now, row.1)) rows.now) text.now }
 {
     for row in rows {
         if text.starts_with(row.0) {
@@ -87,17 +101,29 @@ fn named<'a>(rows: &[(&[u8], Substitution)], text: &'a [u8]) -> Option<(Substitu
 }
 
 /// What the name behind a `$` asks for, and what is left behind the name.
-pub fn long_name(text: &[u8]) -> Option<(Substitution, &[u8])>
-    ensures value { option_map (λ x. (x.0, x.1.now)) result ≡ named long_names text.now }
-    ensures shorter { IfSome result (λ x. length x.1.now ≤ length text.now) }
+#[tactic(auto, using(crate::proofs::Fronts::named_first, crate::proofs::Fronts::named_then))]
+pub fn long_name(profile: Profile, text: &[u8]) -> Option<(Substitution, &[u8])>
+    ensures { option_map (λ x. (x.0, x.1.now)) result ≡ named (long_names_as profile) text.now }
 {
-    named(&LONG_NAMES, text)
+    match profile {
+        Profile::Manual => named(&LONG_NAMES, text),
+        Profile::Udev => match named(&OLD_NAMES, text) {
+            Some(found) => Some(found),
+            None => named(&LONG_NAMES, text),
+        },
+    }
 }
 
 /// What the letter behind a `%` asks for, and what is left behind the letter.
-pub fn short_name(text: &[u8]) -> Option<(Substitution, &[u8])>
-    ensures value { option_map (λ x. (x.0, x.1.now)) result ≡ named short_names text.now }
-    ensures shorter { IfSome result (λ x. length x.1.now ≤ length text.now) }
+#[tactic(auto, using(crate::proofs::Fronts::named_first, crate::proofs::Fronts::named_then))]
+pub fn short_name(profile: Profile, text: &[u8]) -> Option<(Substitution, &[u8])>
+    ensures { option_map (λ x. (x.0, x.1.now)) result ≡ named (short_names_as profile) text.now }
 {
-    named(&SHORT_NAMES, text)
+    match profile {
+        Profile::Manual => named(&SHORT_NAMES, text),
+        Profile::Udev => match named(&MORE_LETTERS, text) {
+            Some(found) => Some(found),
+            None => named(&SHORT_NAMES, text),
+        },
+    }
 }

@@ -1,7 +1,8 @@
 //! The number in the braces after `$result` and `%c`.
-ghost use Rattle.std.specs.Prelude.{◌≡◌};
-ghost use Rattle.rule_templates.specs.Number.{number_of, word_of};
+ghost use Rattle.std.specs.Prelude.{◌≡◌, ◌≤◌, ◌<◌, ◌^◌};
+ghost use Rattle.rule_templates.specs.Number.{number_of, numbered_word, udev_word_of, without_plus, word_number, word_of};
 
+use crate::integers::natural_of;
 use crate::piece::Piece;
 use text_bytes::{decimal_below, ends_in};
 
@@ -26,4 +27,49 @@ pub fn word_of(content: &[u8]) -> Option<Piece>
     } else {
         number_of(content).map(|number| Piece::Word(number))
     }
+}
+
+/// A text without the plus that it ends in, if it does.
+fn without_plus(content: &[u8]) -> &[u8]
+    ensures { result.now ≡ without_plus content.now }
+{
+    if ends_in(b'+', content) {
+        let (front, _) = content.split_at(content.len().saturating_sub(1));
+        front
+    } else {
+        content
+    }
+}
+
+/// The number of a word, where 65535 stands for all that are greater: no result has so many words.
+fn word_number(number: u64) -> u16
+    ensures { result ≡ word_number number }
+{
+    if number < 65_535 {
+        number as u16
+    } else {
+        65_535
+    }
+}
+
+/// What udev gives for a number in the braces, with a plus behind it or without one.
+fn numbered_word(has_plus: bool, number: u64) -> Piece
+    ensures { result ≡ numbered_word has_plus number }
+{
+    if number == 0 {
+        Piece::Result
+    } else if has_plus {
+        Piece::From(word_number(number))
+    } else {
+        Piece::Word(word_number(number))
+    }
+}
+
+/// The result, a word of it, or the words from one on, that the content of the braces asks udev for.
+#[tactic(auto, unfolding(crate::specs::Number::udev_word_of))]
+pub fn udev_word_of(content: &[u8]) -> Option<Piece>
+    ensures { result ≡ udev_word_of content.now }
+{
+    let number = natural_of(without_plus(content))?;
+    Some(numbered_word(ends_in(b'+', content), number))
 }

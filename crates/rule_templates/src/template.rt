@@ -1,16 +1,16 @@
 //! A value with substitutions, read whole.
 ghost use Rattle.std.specs.Prelude.{◌≡◌, ◌≢◌, Ok, Err, MatchResult};
 ghost use Rattle.rule_templates.specs.Faults.{Gives};
-ghost use Rattle.rule_templates.specs.Reading.{pieces_of};
+ghost use Rattle.rule_templates.specs.Reading.{left_of, pieces_as, pieces_of};
 ghost use Rattle.rule_templates.specs.Template.{IsReadFrom};
 ghost use Rattle.rule_templates.specs.declared.fault.TemplateFault.TheVariants.{Memory};
 
 use crate::fault::TemplateFault;
 use crate::piece::Piece;
-use crate::reading::front_of;
+use crate::reading::{front_of, kept};
 use std::alloc::Global;
 use std::marker::Model;
-use text_bytes::Bytes;
+use text_bytes::{Bytes, Profile};
 
 /// A value with substitutions, as rules assign it.
 #[derive(Debug, Drop)]
@@ -41,13 +41,50 @@ fn pieces_of(alloc: Global, text: &[u8]) -> Result<Vec<Piece>, TemplateFault>
     Ok(pieces)
 }
 
+/// The pieces that udev takes of a text, whether it tells of a fault or not. The fault is `Memory`.
+fn left_of(alloc: Global, text: &[u8]) -> Result<Vec<Piece>, TemplateFault>
+    ensures { Gives (λ pieces. pieces.items) result (Ok (left_of text.now)) }
+{
+    let mut pieces = Vec::new(alloc);
+    let mut rest = text;
+    while let Some((byte, after)) = rest.split_first() {
+        let Some((cut, left)) = kept(rest, *byte, after) else {
+            return Ok(pieces);
+        };
+        pieces.push(cut.copied(alloc)?)?;
+        rest = left;
+    }
+    Ok(pieces)
+}
+
+/// The pieces of a text by a profile.
+fn pieces_as(alloc: Global, profile: Profile, text: &[u8]) -> Result<Vec<Piece>, TemplateFault>
+    ensures { Gives (λ pieces. pieces.items) result (pieces_as profile text.now) }
+{
+    match profile {
+        Profile::Manual => pieces_of(alloc, text),
+        Profile::Udev => left_of(alloc, text),
+    }
+}
+
 impl Template {
-    /// Reads a value: udev(7), "SUBSTITUTIONS". The fault is the first from the left; `Memory` comes only where a
-    /// growth was refused.
+    /// Reads a value as the manual has it: udev(7), "SUBSTITUTIONS". The fault is the first from the
+    /// left; `Memory` comes only where a growth was refused.
     pub fn read(alloc: Global, text: &[u8]) -> Result<Template, TemplateFault>
-        ensures { MatchResult result (λ t. IsReadFrom text.now t) (λ e. e ≢ Memory → pieces_of text.now ≡ Err e) }
+        ensures { MatchResult result (λ t. IsReadFrom Profile.Manual text.now t) (λ e. e ≢ Memory → pieces_of text.now ≡ Err e) }
     {
-        let pieces = pieces_of(alloc, text)?;
+        Template::read_as(alloc, Profile::Manual, text)
+    }
+
+    /// Reads a value by a profile.
+    ///
+    /// By the manual the fault is the first from the left. udev reads every text: a sign with an
+    /// unknown name stands for itself, and at any other fault the pieces end. `Memory` comes only
+    /// where a growth was refused.
+    pub fn read_as(alloc: Global, profile: Profile, text: &[u8]) -> Result<Template, TemplateFault>
+        ensures { MatchResult result (λ t. IsReadFrom profile text.now t) (λ e. e ≢ Memory → pieces_as profile text.now ≡ Err e) }
+    {
+        let pieces = pieces_as(alloc, profile, text)?;
         Ok(Template {
             written: Bytes::copy_of(alloc, text)?,
             pieces,

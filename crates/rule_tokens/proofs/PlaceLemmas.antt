@@ -1,15 +1,15 @@
 -- The tokens of a line lie in it, one behind the other.
-use Rattle.std.proofs.Common.{◌≡◌, ℕ, ◌+◌, ◌-◌, ◌<◌, ◌≤◌, List, [], ◌∷◌, ◌++◌, length, take, drop, Option, Some, None, Ok, Err, refl, ap, sym, ◌∙◌, arith, append_assoc, length-append}
+use Rattle.std.proofs.Common.{◌≡◌, ℕ, ◌+◌, ◌-◌, ◌<◌, ◌≤◌, Bool, true, false, List, [], ◌∷◌, ◌++◌, length, take, drop, Option, Some, None, Ok, Err, refl, ap, sym, ◌∙◌, arith, append_assoc, length-append}
 use Rattle.std.specs.Prelude.{All}
-use Rattle.std.proofs.lemmas.List.{take_at, drop_at}
+use Rattle.std.proofs.lemmas.List.{take_at, drop_at, take-append-drop, length-take-le}
 use Rattle.std.proofs.lemmas.List.Elements.{All-cons, All-nil}
 use Rattle.text_bytes.specs.Names.{double_quote}
 use Rattle.rule_tokens.specs.declared.kinds.TokenFault.{TokenFault}
 use Rattle.rule_tokens.specs.Grammar.{Parts, Placed, Item, TokenStands, TokenAt, LexesAt, faulty, last, more, answers, attribute_text, operator_text}
 use Rattle.rule_tokens.specs.Places.{IsSlice, LiesIn, RisesFrom, AllLie, AllRise}
-use Rattle.rule_tokens.specs.Lines.{items_of}
+use Rattle.rule_tokens.specs.Lines.{items_left, items_from, items_of, is_over}
 use Rattle.rule_tokens.proofs.Stands.{stands_shorter}
-use Rattle.rule_tokens.proofs.Steps.{new_given}
+use Rattle.rule_tokens.proofs.Steps.{left_done, left_given}
 
 -- a slice between what stands before and behind it
 slice_at : (line before part behind : List ℕ) (place : ℕ) → line ≡ before ++ (part ++ behind) → length before ≡ place → take (length part) (drop place line) ≡ part
@@ -138,8 +138,22 @@ all_lie line tokens end l = lie line [] line 0 tokens end refl refl l
 pub all_rise : AllRise
 all_rise line tokens end l = rise 0 line tokens end l
 
-pub new_lie : (line : List ℕ) → All (LiesIn line) (items_of line)
-new_lie line = let g = new_given line in rw g.3 (all_lie line g.0 g.1 g.2)
+-- so it is of the items of a line from a place on
+left_lie : (line : List ℕ) (start : ℕ) (done : Bool) → start ≤ length line → All (LiesIn line) (items_left done start (drop start line))
+left_lie line start true l = rw (left_done start (drop start line)) (All-nil (LiesIn line))
+left_lie line start false l =
+    let g = left_given start (drop start line) in
+    rw g.3 (lie line (take start line) (drop start line) start g.0 g.1 (sym (take-append-drop start line)) (length-take-le start line l) g.2)
 
-pub new_rise : (line : List ℕ) → RisesFrom 0 (items_of line)
-new_rise line = let g = new_given line in rw g.3 (all_rise line g.0 g.1 g.2)
+left_rise : (line : List ℕ) (start : ℕ) (done : Bool) → RisesFrom start (items_left done start (drop start line))
+left_rise line start true = rw (left_done start (drop start line)) tt
+left_rise line start false = let g = left_given start (drop start line) in rw g.3 (rise start (drop start line) g.0 g.1 g.2)
+
+pub from_lie : (start : ℕ) (line : List ℕ) → start ≤ length line → All (LiesIn line) (items_from start line)
+from_lie start line l = left_lie line start (is_over start line) l
+
+pub from_rise : (start : ℕ) (line : List ℕ) → RisesFrom start (items_from start line)
+from_rise start line = left_rise line start (is_over start line)
+
+pub new_lie : (line : List ℕ) → All (LiesIn line) (items_of line)
+new_lie line = from_lie 0 line (omega arith)

@@ -1,11 +1,12 @@
 -- What one call of `next` leaves.
-use Rattle.std.proofs.Common.{◌≡◌, ℕ, ◌+◌, ◌-◌, ◌<◌, Bool, true, false, List, [], ◌∷◌, length, Ok, Err, cond, refl, ap, sym, ◌∙◌, arith, ◌==◌, add-one, length-drop}
+use Rattle.std.proofs.Common.{◌≡◌, ℕ, ◌+◌, ◌-◌, ◌<◌, Bool, true, false, List, [], ◌∷◌, length, drop, Option, Ok, Err, cond, refl, ap, sym, ◌∙◌, arith, ◌==◌, add-one, length-drop}
 use Rattle.std.specs.List.{prefix_len}
 use Rattle.text_bytes.specs.Texts.{skip_while}
+use Rattle.rule_tokens.specs.declared.kinds.TokenFault.{TokenFault}
 use Rattle.rule_tokens.specs.declared.kinds.TokenFaultKind.{TokenFaultKind}
-use Rattle.rule_tokens.specs.Grammar.{Parts, is_gap_byte, Given, Only}
+use Rattle.rule_tokens.specs.Grammar.{Parts, Placed, LexesAt, answers, is_gap_byte, Given, GivenFrom, Only, OnlyFrom}
 use Rattle.rule_tokens.specs.Reading.{token_at, IsWholeValue}
-use Rattle.rule_tokens.specs.Lines.{items_after, items_within, items_left}
+use Rattle.rule_tokens.specs.Lines.{items_after, items_within, items_left, items_from, items_of, is_over}
 use Rattle.rule_tokens.proofs.Meanings.{whole_value}
 use Rattle.rule_tokens.proofs.Stands.{token_stands, stands_shorter}
 use Rattle.rule_tokens.proofs.Lines.{given, only}
@@ -41,10 +42,26 @@ left_token at text x e =
     rw (add-one (length text)) (rw e (ap (λ items. Ok (record { parts = x.0; span = record { start = at; end = at + (length text - length x.1) } }) ∷ items)
     (rest_of (length (skip_while is_gap_byte x.1) == 0) (at + (length text - length (skip_while is_gap_byte x.1))) (length text) (skip_while is_gap_byte x.1) (omega (arith, length-drop (prefix_len is_gap_byte x.1) x.1)))))
 
-pub new_given : (line : List ℕ) → Given line (items_left false 0 line)
+-- what is left of a line is what the relation gives, and nothing else
+pub left_given : (at : ℕ) (text : List ℕ) → (tokens : List Placed) × (end : Option TokenFault) × LexesAt at text tokens end × (items_left false at text ≡ answers tokens end)
 unfolding items_left
-new_given line = given (length line + 1) 0 line (omega arith)
+left_given at text = given (length text + 1) at text (omega arith)
 
-pub new_only : (line : List ℕ) → Only line (items_left false 0 line)
+left_only : (at : ℕ) (text : List ℕ) (tokens : List Placed) (end : Option TokenFault) → LexesAt at text tokens end → items_left false at text ≡ answers tokens end
 unfolding items_left
-new_only line = λ tokens end l. only (length line + 1) 0 line tokens end l (omega arith)
+left_only at text tokens end l = only (length text + 1) at text tokens end l (omega arith)
+
+pub from_given : (start : ℕ) (line : List ℕ) → is_over start line ≡ false → GivenFrom start line (items_from start line)
+from_given start line e = rw e (left_given start (drop start line))
+
+pub from_only : (start : ℕ) (line : List ℕ) → is_over start line ≡ false → OnlyFrom start line (items_from start line)
+from_only start line e = rw e (left_only start (drop start line))
+
+pub from_none : (start : ℕ) (line : List ℕ) → is_over start line ≡ true → items_from start line ≡ []
+from_none start line e = rw e (left_done start (drop start line))
+
+pub new_given : (line : List ℕ) → Given line (items_of line)
+new_given line = from_given 0 line refl
+
+pub new_only : (line : List ℕ) → Only line (items_of line)
+new_only line = from_only 0 line refl

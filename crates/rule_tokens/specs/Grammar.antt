@@ -1,5 +1,5 @@
 -- The tokens of a rule line, as a relation between a line, its tokens and its end.
-use Rattle.std.specs.Prelude.{◌≡◌, ℕ, ◌+◌, ◌<◌, Bool, true, false, ◌&&◌, ◌||◌, not, List, [], ◌∷◌, ◌++◌, length, Option, Some, None, ◌==◌, if◌then◌else◌, codes, ⊤, Result, Ok, Err}
+use Rattle.std.specs.Prelude.{◌≡◌, ℕ, ◌+◌, ◌<◌, Bool, true, false, ◌&&◌, ◌||◌, not, List, [], ◌∷◌, ◌++◌, length, drop, Option, Some, None, ◌==◌, if◌then◌else◌, codes, ⊤, Result, Ok, Err}
 use Rattle.std.specs.List.{list_all}
 use Rattle.std.specs.Char.{is_ascii_alphabetic, is_ascii_alphanumeric}
 use Rattle.text_bytes.specs.Names.{nul, comma, double_quote, underscore, open_brace, close_brace, is_blank}
@@ -178,13 +178,21 @@ answers [] None = []
 answers [] (Some fault) = Err fault ∷ []
 answers (t ∷ tokens) end = Ok t ∷ answers tokens end
 
+-- The items are tokens and an end of the line from a place on.
+abbrev pub GivenFrom : ℕ → List ℕ → List Item → Type 0
+GivenFrom start line items = (tokens : List Placed) × (end : Option TokenFault) × LexesAt start (drop start line) tokens end × (items ≡ answers tokens end)
+
+-- From there on the line has no other tokens and end than the items.
+abbrev pub OnlyFrom : ℕ → List ℕ → List Item → Type 0
+OnlyFrom start line items = (tokens : List Placed) (end : Option TokenFault) → LexesAt start (drop start line) tokens end → items ≡ answers tokens end
+
 -- The items are tokens and an end of the line.
 abbrev pub Given : List ℕ → List Item → Type 0
-Given line items = (tokens : List Placed) × (end : Option TokenFault) × Lexes line tokens end × (items ≡ answers tokens end)
+Given line items = GivenFrom 0 line items
 
 -- The line has no other tokens and end than the items.
 abbrev pub Only : List ℕ → List Item → Type 0
-Only line items = (tokens : List Placed) (end : Option TokenFault) → Lexes line tokens end → items ≡ answers tokens end
+Only line items = OnlyFrom 0 line items
 
 -- Each line has tokens and an end.
 abbrev pub SomeAnswer : Type 0

@@ -1,5 +1,5 @@
 -- Reading a line token by token, as a function of lists. That this is the language of Grammar is proved of Tokens::new.
-use Rattle.std.specs.Prelude.{◌≡◌, ◌↔◌, ℕ, zero, suc, ◌+◌, ◌-◌, Bool, true, false, List, [], ◌∷◌, length, Option, Result, Ok, Err, All, if◌then◌else◌, ◌==◌}
+use Rattle.std.specs.Prelude.{◌≡◌, ◌↔◌, ℕ, zero, suc, ◌+◌, ◌-◌, Bool, true, false, List, [], ◌∷◌, length, drop, Option, Result, Ok, Err, All, if◌then◌else◌, ◌==◌, ◌&&◌, nat_lt}
 use Rattle.text_bytes.specs.Texts.{skip_while}
 use Rattle.rule_tokens.specs.declared.kinds.TokenFault.{TokenFault}
 use Rattle.rule_tokens.specs.declared.kinds.TokenFaultKind.{TokenFaultKind}
@@ -24,9 +24,17 @@ unfoldable pub items_left : Bool → ℕ → List ℕ → List Item
 items_left true at text = []
 items_left false at text = items_within (length text + 1) at text
 
+-- Whether a line ends at a place, and begins before it.
+abbrev pub is_over : ℕ → List ℕ → Bool
+is_over start line = nat_lt 0 start && start == length line
+
+-- The tokens of a line from a place on in turn and the fault that ends them, none where the line is over there.
+abbrev pub items_from : ℕ → List ℕ → List Item
+items_from start line = items_left (is_over start line) start (drop start line)
+
 -- The tokens of a line in turn and the fault that ends them, as a function of the line.
 abbrev pub items_of : List ℕ → List Item
-items_of line = items_left false 0 line
+items_of line = items_from 0 line
 
 -- The items of a line are just the tokens and the end that the grammar relates to it.
 abbrev pub ItemsAreLexed : Type 0

@@ -1,9 +1,9 @@
 //! The tokens of a line in turn.
 
-ghost use Rattle.std.specs.Prelude.{◌≡◌, All};
-ghost use Rattle.rule_tokens.specs.Grammar.{Given, Only};
+ghost use Rattle.std.specs.Prelude.{◌≡◌, ◌≤◌, All, [], false, length, true};
+ghost use Rattle.rule_tokens.specs.Grammar.{Given, GivenFrom, Only, OnlyFrom};
 ghost use Rattle.rule_tokens.specs.Places.{LiesIn, RisesFrom};
-ghost use Rattle.rule_tokens.specs.Lines.{items_of};
+ghost use Rattle.rule_tokens.specs.Lines.{is_over, items_from, items_of};
 
 use crate::kinds::{Span, TokenFault};
 use crate::parts::{Token, token_of};
@@ -35,7 +35,6 @@ impl<'a> Model for Tokens<'a> {
 impl<'a> Tokens<'a> {
     /// The tokens of a line of a rules file, as udev(7) describes it. The line is one that is joined
     /// already, without its newline. A line with nothing on it is a fault at 0.
-    #[tactic(auto, using(crate::proofs::Steps::new_given, crate::proofs::Steps::new_only, crate::proofs::PlaceLemmas::new_lie, crate::proofs::PlaceLemmas::new_rise))]
     pub fn new(line: &'a [u8]) -> Tokens<'a>
         // What is given are tokens of the line, up to its end.
         ensures given { Given line.now result }
@@ -48,12 +47,41 @@ impl<'a> Tokens<'a> {
         // The same as a function of the line, for definitions above.
         ensures value { result ≡ items_of line.now }
     {
+        Tokens::from_place(line, 0)
+    }
+
+    /// The tokens of a line from a place on, as in `new`; where the line ends at a place behind its
+    /// start, there are none. A place is counted from the start of the line here, too.
+    #[tactic(auto, using(crate::proofs::Steps::from_given, crate::proofs::Steps::from_only, crate::proofs::Steps::from_none, crate::proofs::PlaceLemmas::from_lie, crate::proofs::PlaceLemmas::from_rise))]
+    pub fn from_place(line: &'a [u8], start: usize) -> Tokens<'a>
+        requires { start ≤ length line.now }
+        // What is given are tokens of the line from there on, up to its end.
+        ensures given { is_over start line.now ≡ false → GivenFrom start line.now result }
+        // From there on the line has no others.
+        ensures only { is_over start line.now ≡ false → OnlyFrom start line.now result }
+        // Nothing is left of a line that is over.
+        ensures none { is_over start line.now ≡ true → result ≡ [] }
+        // Each token's parts stand in the line at their places, a fault's place is in the line.
+        ensures within { All (LiesIn line.now) result }
+        // Each item begins where the one before it ends, or behind that.
+        ensures rising { RisesFrom start result }
+        // The same as a function of the line, for definitions above.
+        ensures value { result ≡ items_from start line.now }
+    {
+        let (_, rest) = line.split_at(start);
         Tokens {
-            rest: line,
-            at: 0,
-            done: false,
+            rest,
+            at: start,
+            done: is_over(line, start),
         }
     }
+}
+
+/// Whether a line ends at a place, and begins before it.
+fn is_over(line: &[u8], start: usize) -> bool
+    ensures { result ≡ is_over start line.now }
+{
+    0 < start && start == line.len()
 }
 
 impl<'a> Iterator for Tokens<'a> {

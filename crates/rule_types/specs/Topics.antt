@@ -1,7 +1,11 @@
 -- What may stand in the braces behind each key.
-use Rattle.std.specs.Prelude.{ℕ, Bool, ◌&&◌, List, [], ◌∷◌, length, Option, Some, None, option_map, nat_le, nat_eq, if◌then◌else◌}
-use Rattle.std.specs.List.{prefix_len}
+use Rattle.std.specs.Prelude.{ℕ, ◌+◌, ◌-◌, ◌*◌, ◌^◌, Bool, not, ◌&&◌, ◌||◌, codes, List, [], ◌∷◌, length, Option, Some, None, is_some, option_map, nat_le, nat_lt, nat_eq, if◌then◌else◌}
+use Rattle.std.specs.List.{list_all, prefix_len}
+use Rattle.std.specs.Cmp.Lexicographic.{pointwise}
 use Rattle.text_bytes.specs.Names.{digit_zero}
+use Rattle.text_bytes.specs.Texts.{is_empty, unindented}
+use Rattle.text_bytes.specs.declared.profile.Profile.{Profile}
+use Rattle.text_bytes.specs.declared.profile.Profile.TheVariants as profile
 use Rattle.rule_types.specs.declared.keys.Key.{Key}
 use Rattle.rule_types.specs.declared.keys.Key.TheVariants as key
 use Rattle.rule_types.specs.declared.types.ImportType.{ImportType}
@@ -21,6 +25,16 @@ name_in None = None
 name_in (Some []) = None
 name_in (Some (b ∷ text)) = Some (b ∷ text)
 
+-- whether udev knows a constant of this name
+abbrev pub is_constant : List ℕ → Bool
+is_constant name = pointwise nat_eq name (codes "arch") || pointwise nat_eq name (codes "virt")
+
+-- the constant that an attribute names: udev knows two, the manual any
+abbrev pub constant_in : Profile → Option (List ℕ) → Option (List ℕ)
+constant_in profile.Manual a = name_in a
+constant_in profile.Udev None = None
+constant_in profile.Udev (Some name) = if is_constant name then Some name else None
+
 -- the byte `7`
 abbrev pub digit_seven : ℕ
 digit_seven = 55
@@ -33,10 +47,42 @@ is_octal b = nat_le digit_zero b && nat_le b digit_seven
 abbrev pub is_mask : List ℕ → Bool
 is_mask text = nat_le 1 (length text) && (nat_le (length text) 5 && nat_eq (prefix_len is_octal text) (length text))
 
+-- the number that octal digits write behind those of n
+abbrev pub octal_behind : ℕ → List ℕ → ℕ
+octal_behind n [] = n
+octal_behind n (b ∷ digits) = octal_behind (8 * n + (b - digit_zero)) digits
+
+-- the number that octal digits write, the greatest place first
+abbrev pub octal : List ℕ → ℕ
+octal digits = octal_behind 0 digits
+
+-- whether digits are one octal digit or more, and write at most 7777
+abbrev pub is_mode : List ℕ → Bool
+is_mode digits = (not (is_empty digits) && list_all is_octal digits) && nat_lt (octal digits) (8 ^ 4)
+
+-- the mode of a file as udev reads it: octal digits behind blanks
+unfoldable pub mode_of : List ℕ → Option ℕ
+mode_of text = if is_mode (unindented text) then Some (octal (unindented text)) else None
+
+-- whether a text is a mask: for the manual by the number of its digits, for udev by what they write
+abbrev pub is_mask_as : Profile → List ℕ → Bool
+is_mask_as profile.Manual text = is_mask text
+is_mask_as profile.Udev text = is_some (mode_of text)
+
 -- the mask that an attribute gives, or none where there is no attribute
-abbrev pub mask_in : Option (List ℕ) → Option (Option (List ℕ))
-mask_in None = Some None
-mask_in (Some text) = if is_mask text then Some (Some text) else None
+abbrev pub mask_in : Profile → Option (List ℕ) → Option (Option (List ℕ))
+mask_in by None = Some None
+mask_in by (Some text) = if is_mask_as by text then Some (Some text) else None
+
+-- what stands in the braces of TEST, as it is taken: empty braces are none for udev
+abbrev pub mask_as : Profile → Option (List ℕ) → Option (List ℕ)
+mask_as profile.Manual a = a
+mask_as profile.Udev a = name_in a
+
+-- what stands in the braces of a key, as it is taken
+abbrev pub attribute_as : Profile → Key → Option (List ℕ) → Option (List ℕ)
+attribute_as by key.Test a = mask_as by a
+attribute_as by _ a = a
 
 -- the type of IMPORT that an attribute names
 abbrev pub import_in : Option (List ℕ) → Option ImportType
@@ -49,33 +95,33 @@ run_type_in None = Some None
 run_type_in (Some text) = option_map Some (run_type_of text)
 
 -- what a token with a key and an attribute is about; none where the key does not take that attribute
-unfoldable pub topic_of : Key → Option (List ℕ) → Option Topic
-topic_of key.Action a = bare a topic.Action
-topic_of key.Devpath a = bare a topic.Devpath
-topic_of key.Kernel a = bare a topic.Kernel
-topic_of key.Subsystem a = bare a topic.Subsystem
-topic_of key.Driver a = bare a topic.Driver
-topic_of key.Kernels a = bare a topic.Kernels
-topic_of key.Subsystems a = bare a topic.Subsystems
-topic_of key.Drivers a = bare a topic.Drivers
-topic_of key.Tags a = bare a topic.Tags
-topic_of key.Result a = bare a topic.Result
-topic_of key.Attrs a = option_map topic.Attrs (name_in a)
-topic_of key.Const a = option_map topic.Const (name_in a)
-topic_of key.Test a = option_map topic.Test (mask_in a)
-topic_of key.Program a = bare a topic.Program
-topic_of key.Import a = option_map topic.Import (import_in a)
-topic_of key.Name a = bare a topic.Name
-topic_of key.Symlink a = bare a topic.Symlink
-topic_of key.Tag a = bare a topic.Tag
-topic_of key.Attr a = option_map topic.Attr (name_in a)
-topic_of key.Sysctl a = option_map topic.Sysctl (name_in a)
-topic_of key.Env a = option_map topic.Env (name_in a)
-topic_of key.Owner a = bare a topic.Owner
-topic_of key.Group a = bare a topic.Group
-topic_of key.Mode a = bare a topic.Mode
-topic_of key.Seclabel a = option_map topic.Seclabel (name_in a)
-topic_of key.Run a = option_map topic.Run (run_type_in a)
-topic_of key.Options a = bare a topic.Options
-topic_of key.Label a = bare a topic.Label
-topic_of key.Goto a = bare a topic.Goto
+unfoldable pub topic_of : Profile → Key → Option (List ℕ) → Option Topic
+topic_of by key.Action a = bare a topic.Action
+topic_of by key.Devpath a = bare a topic.Devpath
+topic_of by key.Kernel a = bare a topic.Kernel
+topic_of by key.Subsystem a = bare a topic.Subsystem
+topic_of by key.Driver a = bare a topic.Driver
+topic_of by key.Kernels a = bare a topic.Kernels
+topic_of by key.Subsystems a = bare a topic.Subsystems
+topic_of by key.Drivers a = bare a topic.Drivers
+topic_of by key.Tags a = bare a topic.Tags
+topic_of by key.Result a = bare a topic.Result
+topic_of by key.Attrs a = option_map topic.Attrs (name_in a)
+topic_of by key.Const a = option_map topic.Const (constant_in by a)
+topic_of by key.Test a = option_map topic.Test (mask_in by (mask_as by a))
+topic_of by key.Program a = bare a topic.Program
+topic_of by key.Import a = option_map topic.Import (import_in a)
+topic_of by key.Name a = bare a topic.Name
+topic_of by key.Symlink a = bare a topic.Symlink
+topic_of by key.Tag a = bare a topic.Tag
+topic_of by key.Attr a = option_map topic.Attr (name_in a)
+topic_of by key.Sysctl a = option_map topic.Sysctl (name_in a)
+topic_of by key.Env a = option_map topic.Env (name_in a)
+topic_of by key.Owner a = bare a topic.Owner
+topic_of by key.Group a = bare a topic.Group
+topic_of by key.Mode a = bare a topic.Mode
+topic_of by key.Seclabel a = option_map topic.Seclabel (name_in a)
+topic_of by key.Run a = option_map topic.Run (run_type_in a)
+topic_of by key.Options a = bare a topic.Options
+topic_of by key.Label a = bare a topic.Label
+topic_of by key.Goto a = bare a topic.Goto

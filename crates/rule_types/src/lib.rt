@@ -5,6 +5,7 @@
 
 mod keys;
 mod lint;
+mod modes;
 mod operators;
 mod part;
 mod roles;
@@ -17,6 +18,7 @@ mod written_parts;
 
 pub use keys::{Key, key_of};
 pub use lint::Lint;
+pub use modes::mode_of;
 pub use operators::{is_read_as_assign, read_as};
 pub use part::{Act, Assignment, Change, Comparison, Deed, Import, Part, PlainMatch, UpMatch};
 pub use roles::{AssignOperator, MatchOperator, PlainKey, Role, Target, UpKey, role_of};

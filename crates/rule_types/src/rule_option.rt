@@ -15,6 +15,7 @@ pub enum RuleOption {
     NoWatch,
     /// `db_persist`: what is known of the device stays when udev's database is cleared.
     DbPersist,
-    /// `static_node=TEXT` or `log_level=TEXT`, which change nothing here.
+    /// `static_node=TEXT` or `log_level=TEXT`, which change nothing here, or an option that udev does
+    /// not know.
     Ignored,
 }

@@ -1,13 +1,13 @@
 //! What a token is about: its key with what stands in its braces.
 ghost use Rattle.std.specs.Prelude.{◌≡◌, IfSome, Some, option_map};
 ghost use Rattle.rule_types.specs.Names.{import_name, run_name};
-ghost use Rattle.std.specs.List.{prefix_len};
 ghost use Rattle.rule_types.specs.Written.{attribute_of_topic, key_of_topic};
-ghost use Rattle.rule_types.specs.Topics.{bare, import_in, is_mask, is_octal, mask_in, name_in, run_type_in, topic_of};
+ghost use Rattle.rule_types.specs.Topics.{attribute_as, bare, constant_in, import_in, is_constant, mask_as, mask_in, name_in, run_type_in, topic_of};
 
 use crate::keys::Key;
+use crate::modes::is_mask_as;
 use crate::types::{ImportType, RunType, import_type_of, run_type_of};
-use text_bytes::Bytes;
+use text_bytes::{Bytes, Profile};
 
 /// A key with what stands in its braces, if it is what the key takes.
 #[derive(Debug, Drop)]
@@ -26,7 +26,7 @@ pub enum Topic {
     Attrs(Bytes),
     /// With a constant's name.
     Const(Bytes),
-    /// With a mask of file modes, if there is one: 1 to 5 octal digits.
+    /// With a mask of file modes, if there is one, as it is written.
     Test(Option<Bytes>),
     Program,
     /// With its type.
@@ -53,11 +53,12 @@ pub enum Topic {
 }
 
 /// What a token with this key and attribute is about. `None` where the key lacks an attribute or
-/// does not take this one; an empty attribute is taken by no key.
+/// does not take this one. An empty attribute is taken by no key; udev alone takes empty braces of
+/// TEST, for none.
 #[tactic(auto, unfolding(crate::specs::Topics::topic_of))]
-pub fn topic_of(key: Key, attribute: Option<Bytes>) -> Option<Topic>
-    ensures topic { result ≡ topic_of key attribute }
-    ensures written { IfSome result (λ topic. (key_of_topic topic ≡ key) × (attribute_of_topic topic ≡ attribute)) }
+pub fn topic_of(profile: Profile, key: Key, attribute: Option<Bytes>) -> Option<Topic>
+    ensures topic { result ≡ topic_of profile key attribute }
+    ensures written { IfSome result (λ topic. (key_of_topic topic ≡ key) × (attribute_of_topic topic ≡ attribute_as profile key attribute)) }
 {
     match key {
         Key::Action => bare(attribute, Topic::Action),
@@ -71,8 +72,8 @@ pub fn topic_of(key: Key, attribute: Option<Bytes>) -> Option<Topic>
         Key::Tags => bare(attribute, Topic::Tags),
         Key::Result => bare(attribute, Topic::Result),
         Key::Attrs => Some(Topic::Attrs(name_in(attribute)?)),
-        Key::Const => Some(Topic::Const(name_in(attribute)?)),
-        Key::Test => Some(Topic::Test(mask_in(attribute)?)),
+        Key::Const => Some(Topic::Const(constant_in(profile, attribute)?)),
+        Key::Test => Some(Topic::Test(mask_in(profile, mask_as(profile, attribute))?)),
         Key::Program => bare(attribute, Topic::Program),
         Key::Import => Some(Topic::Import(import_in(attribute)?)),
         Key::Name => bare(attribute, Topic::Name),
@@ -113,13 +114,40 @@ fn name_in(attribute: Option<Bytes>) -> Option<Bytes>
     }
 }
 
+/// The constant that an attribute names: udev knows two, the manual any.
+fn constant_in(profile: Profile, attribute: Option<Bytes>) -> Option<Bytes>
+    ensures { result ≡ constant_in profile attribute }
+{
+    match profile {
+        Profile::Manual => name_in(attribute),
+        Profile::Udev => attribute.filter(|name| is_constant(name.as_slice())),
+    }
+}
+
+/// Whether udev knows a constant of this name.
+fn is_constant(name: &[u8]) -> bool
+    ensures { result ≡ is_constant name.now }
+{
+    name == b"arch".as_slice() || name == b"virt".as_slice()
+}
+
+/// What stands in the braces of TEST, as it is taken: empty braces are none for udev.
+fn mask_as(profile: Profile, attribute: Option<Bytes>) -> Option<Bytes>
+    ensures { result ≡ mask_as profile attribute }
+{
+    match profile {
+        Profile::Manual => attribute,
+        Profile::Udev => name_in(attribute),
+    }
+}
+
 /// The mask that an attribute gives, or that there is none.
-fn mask_in(attribute: Option<Bytes>) -> Option<Option<Bytes>>
-    ensures { result ≡ mask_in attribute }
+fn mask_in(profile: Profile, attribute: Option<Bytes>) -> Option<Option<Bytes>>
+    ensures { result ≡ mask_in profile attribute }
 {
     match attribute {
         None => Some(None),
-        Some(mask) if is_mask(mask.as_slice()) => Some(Some(mask)),
+        Some(mask) if is_mask_as(profile, mask.as_slice()) => Some(Some(mask)),
         Some(_) => None,
     }
 }
@@ -144,20 +172,4 @@ fn run_type_in(attribute: Option<Bytes>) -> Option<Option<RunType>>
         None => Some(None),
         Some(name) => Some(Some(run_type_of(name.as_slice())?)),
     }
-}
-
-/// Whether a text is 1 to 5 octal digits.
-fn is_mask(text: &[u8]) -> bool
-    ensures { result ≡ is_mask text.now }
-{
-    1 <= text.len() && text.len() <= 5 && octal_digits(text) == text.len()
-}
-
-/// How many octal digits a text begins with.
-fn octal_digits(text: &[u8]) -> usize
-    ensures { result ≡ prefix_len is_octal text.now }
-{
-    text.iter()
-        .take_while(|byte| b'0' <= **byte && **byte <= b'7')
-        .count()
 }

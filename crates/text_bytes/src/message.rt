@@ -49,6 +49,34 @@ pub enum MessageKind {
     SetNotSupported,
     /// V12: the last line of a file is to be continued.
     OpenAtEnd,
+    /// V13: a property is assigned that udev alone sets.
+    ReservedProperty,
+    /// V14: NAME is assigned the empty text or `%k`.
+    NameWithoutEffect,
+    /// V15: a builtin is none that udev has.
+    UnknownBuiltin,
+    /// V16: two matches of a rule exclude each other.
+    MatchesExclude,
+    /// V17: a rule says the same twice.
+    SaidTwice,
+    /// V18: nothing in a rule has an effect.
+    RuleWithoutEffect,
+    /// V19: a RESULT stands before the PROGRAM that it asks about.
+    ResultBeforeProgram,
+    /// V20: a value is empty where it has to say something.
+    EmptyValue,
+    /// V21: the name of an attribute has a substitution that is none.
+    BadAttributeSubstitution,
+    /// V22: the name of an attribute leads to another device.
+    AttributeElsewhere,
+    /// V23: SUBSYSTEM is compared with an old name of `subsystem`.
+    OldSubsystemName,
+    /// V24: an operator is read as `=`, as S3, where udev takes that for more than a remark.
+    AssignExpected,
+    /// V25: no user or group has a name.
+    UnknownAccount,
+    /// V26: a file is given up for a line of 16,384 bytes or more.
+    FileGivenUp,
     /// S1: not exactly one comma stands between two tokens, or one stands behind the last.
     CommaExpected,
     /// S2: a comma stands directly before a token.
@@ -57,6 +85,10 @@ pub enum MessageKind {
     ReadAsAssign,
     /// S4: nothing jumps to a label.
     LabelUnused,
+    /// S5: a comma stands before the first token.
+    LeadingComma,
+    /// S6: a blank stands before a comma.
+    BlankBeforeComma,
 }
 
 /// A message about a line of a file.

@@ -36,7 +36,7 @@ split_some p xs k h = by_test (ltb (position_or_len p xs) (length xs)) refl h wh
   by_test false e q = cc
 
 -- the length of what stands before the bar
-pub position-lt : (p : ℕ → Bool) (xs : List ℕ) (k : ℕ) → position p xs ≡ Some k → k < length xs
+pub position-lt : {X : Type 0} (p : X → Bool) (xs : List X) (k : ℕ) → position p xs ≡ Some k → k < length xs
 position-lt p xs k h = by_test (ltb (position_or_len p xs) (length xs)) refl h where
   by_test : (v : Bool) → ltb (position_or_len p xs) (length xs) ≡ v → cond v (Some (position_or_len p xs)) None ≡ Some k → k < length xs
   by_test true e q =

@@ -3,3 +3,7 @@ pub mod Members
 pub mod Cutting
 pub mod Scanning
 pub mod Suffixes
+pub mod Closing
+pub mod Fnmatching
+pub mod Tables
+pub mod Reaching

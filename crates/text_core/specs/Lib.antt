@@ -5,3 +5,7 @@ pub mod Choices
 pub mod Spell
 pub mod Items
 pub mod FaultTexts
+pub mod Classes
+pub mod Elements
+pub mod Brackets
+pub mod Fnmatch

@@ -3,9 +3,11 @@
 //! The bar is looked for before anything else is read, so that one inside a set cuts too.
 ghost use Rattle.std.specs.Prelude.{◌≡◌, ◌≢◌, ◌<◌, ◌≤◌, length, Ok, Err, IsErrOf, MatchResult};
 ghost use Rattle.text_core.specs.Choices.{choice, choice_blind, choice_by, choice_fits};
+ghost use Rattle.text_core.specs.Fnmatch.{fnmatch_choice};
 ghost use Rattle.text_core.specs.Spell.{max_len};
 ghost use Rattle.text_core.specs.declared.glob_fault.GlobFault.TheVariants.{Memory, TooLong};
 
+use crate::fnmatch::{has_special, read_part};
 use crate::glob_fault::GlobFault;
 use crate::pattern::{MAX_LEN, Pattern};
 use crate::reading::Reading;
@@ -65,6 +67,32 @@ impl Choice {
             rest = behind;
         }
         let last = Pattern::read_at(alloc, reading, text.len() - rest.len(), rest)?;
+        parts.push(last)?;
+        Ok(Choice { parts })
+    }
+
+    /// Reads the texts between the bars as udev reads them, in order. Where the whole text has no `*`,
+    /// `?` and `[`, each part is its bytes; else each is a pattern of fnmatch(3) in the C locale. No
+    /// text has a fault but one over 16,384 bytes, which is `TooLong`; `Memory` comes where a growth
+    /// was refused.
+    pub fn read_fnmatch(alloc: Global, reading: Reading, text: &[u8]) -> Result<Choice, GlobFault>
+        ensures value { MatchResult result (λ c. fnmatch_choice reading text.now ≡ Ok c) (λ e. e ≢ Memory → fnmatch_choice reading text.now ≡ Err e) }
+        ensures too_long { max_len < length text.now → IsErrOf result TooLong }
+    {
+        if text.len() > MAX_LEN {
+            return Err(GlobFault::TooLong);
+        }
+        let is_pattern = has_special(text);
+        let mut parts = Vec::new(alloc);
+        let mut rest = text;
+        while let Some(place) = find(b'|', rest) {
+            let (front, _) = rest.split_at(place);
+            let (_, behind) = rest.split_at(place + 1);
+            let part = read_part(alloc, reading, is_pattern, front)?;
+            parts.push(part)?;
+            rest = behind;
+        }
+        let last = read_part(alloc, reading, is_pattern, rest)?;
         parts.push(last)?;
         Ok(Choice { parts })
     }

@@ -5,8 +5,13 @@
 //! holds comes with this crate.
 #![tactic(auto)]
 
+mod brackets;
+mod byte_class;
 mod byte_set;
 mod choice;
+mod closings;
+mod elements;
+mod fnmatch;
 mod glob;
 mod glob_fault;
 mod item;
@@ -14,12 +19,14 @@ mod pattern;
 mod reading;
 mod sets;
 mod spell;
+mod symbols;
 
 pub use byte_set::ByteSet;
 pub use choice::Choice;
 pub use glob_fault::GlobFault;
 pub use item::Item;
 pub use pattern::Pattern;
+pub use reading::Reading;
 pub use text_bytes::{
     Bytes, FileKind, Message, MessageKind, SourceFile, escape, find, order_files,
 };

@@ -71,6 +71,13 @@ impl Pattern {
             items.push(head.item)?;
             (_, rest) = after.split_at(head.behind);
         }
+        Ok(Pattern::of_items(items)?)
+    }
+
+    /// The pattern of these items, in just the room that they need.
+    pub(crate) fn of_items(mut items: Vec<Item>) -> Result<Pattern, AllocError>
+        ensures { IfOk result (λ p. p ≡ items.items) }
+    {
         items.shrink_to_fit();
         Ok(Pattern {
             items: RcSlice::from_vec(items)?,

@@ -2,10 +2,21 @@
 //!
 //! The set is made once, when a pattern is read, by asking for each byte whether it belongs.
 ghost use Rattle.std.specs.Prelude.{◌≡◌, ◌+◌, ◌<◌, ◌≤◌, length, OnSome, nat_le, ◌&&◌};
+ghost use Rattle.text_core.specs.Brackets.{between_takes};
 ghost use Rattle.text_core.specs.Sets.{range_end, members_have, members_have_by, set_takes, set_of, bits_of};
 
 use crate::byte_set::ByteSet;
+use crate::elements::{Element, takes_among};
 use crate::reading::Reading;
+
+/// What stands between the brackets of a set.
+#[derive(Clone, Copy, Debug)]
+pub enum Between<'a> {
+    /// Members as udev(7) describes them: bytes, and ranges with a minus.
+    Members(&'a [u8]),
+    /// The elements of a pattern of fnmatch(3).
+    Elements(&'a [Element]),
+}
 
 /// The last byte of a range, where `-` and that byte come next.
 fn range_end(rest: &[u8]) -> Option<u8>
@@ -68,25 +79,35 @@ fn set_takes(reading: Reading, negated: bool, members: &[u8], byte: u8) -> bool
     members_have_by(reading, members, byte) != negated
 }
 
+/// Whether the set of what stands between brackets, or with a sign its complement, has a byte.
+fn takes(reading: Reading, negated: bool, between: Between<'_>, byte: u8) -> bool
+    ensures { result ≡ between_takes reading negated between.entry byte }
+{
+    match between {
+        Between::Members(members) => set_takes(reading, negated, members, byte),
+        Between::Elements(elements) => takes_among(reading, negated, elements, byte),
+    }
+}
+
 /// Eight bytes of a set from one on, as bits.
-fn eight(reading: Reading, negated: bool, members: &[u8], first: u8) -> u8
+fn eight(reading: Reading, negated: bool, between: Between<'_>, first: u8) -> u8
     requires { first + 8 ≤ 256 }
-    ensures { result ≡ bits_of (set_takes reading negated members.now) first 8 }
+    ensures { result ≡ bits_of (between_takes reading negated between.entry) first 8 }
 {
     let mut bits = 0;
     for j in 0..8 {
-        bits = bits * 2 + u8::from(set_takes(reading, negated, members, first + (7 - j)));
+        bits = bits * 2 + u8::from(takes(reading, negated, between, first + (7 - j)));
     }
     bits
 }
 
-/// The set that members between brackets give.
-pub fn set_of(reading: Reading, negated: bool, members: &[u8]) -> ByteSet
-    ensures { result ≡ set_of (set_takes reading negated members.now) }
+/// The set of what stands between brackets.
+pub fn set_of(reading: Reading, negated: bool, between: Between<'_>) -> ByteSet
+    ensures { result ≡ set_of (between_takes reading negated between.entry) }
 {
     let mut bits = [0; 32];
     for i in 0..32 {
-        bits[i] = eight(reading, negated, members, i as u8 * 8);
+        bits[i] = eight(reading, negated, between, i as u8 * 8);
     }
     ByteSet { bits }
 }

@@ -5,7 +5,7 @@ ghost use Rattle.text_core.specs.Spell.{negated, sign_len, class_place, members_
 use crate::glob_fault::GlobFault;
 use crate::item::Item;
 use crate::reading::Reading;
-use crate::sets::set_of;
+use crate::sets::{Between, set_of};
 use text_bytes::find;
 
 /// How a text begins.
@@ -17,7 +17,7 @@ pub struct Head {
     pub behind: usize,
 }
 
-fn is_negated(after: &[u8]) -> bool
+pub(crate) fn is_negated(after: &[u8]) -> bool
     ensures { result ≡ negated after.now }
 {
     match after.first() {
@@ -27,7 +27,7 @@ fn is_negated(after: &[u8]) -> bool
 }
 
 /// How many bytes a sign takes: one where there is one.
-fn sign_len(after: &[u8]) -> usize
+pub(crate) fn sign_len(after: &[u8]) -> usize
     ensures value { result ≡ sign_len after.now }
     ensures within { result ≤ length after.now }
     ensures bound { result ≤ 1 }
@@ -73,25 +73,25 @@ fn bracket(reading: Reading, at: usize, after: &[u8]) -> Result<Head, GlobFault>
         });
     }
     Ok(Head {
-        item: Item::Among(set_of(reading, is_negated(after), members)),
+        item: Item::Among(set_of(reading, is_negated(after), Between::Members(members))),
         behind: sign + len + 1,
     })
 }
 
 /// An item of one byte.
-fn alone(item: Item) -> Head
+pub(crate) fn alone(item: Item) -> Head
     ensures { result ≡ record { item = item; behind = 0 } }
 {
     Head { item, behind: 0 }
 }
 
 /// The item of a byte that means itself: read blind, a letter is the set of both its cases.
-fn itself(reading: Reading, byte: u8) -> Item
+pub(crate) fn itself(reading: Reading, byte: u8) -> Item
     ensures { result ≡ itself reading byte }
 {
     match reading {
         Reading::Blind if byte.is_ascii_alphabetic() => {
-            Item::Among(set_of(Reading::Blind, false, &[byte]))
+            Item::Among(set_of(Reading::Blind, false, Between::Members(&[byte])))
         }
         _ => Item::Byte(byte),
     }

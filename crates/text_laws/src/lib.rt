@@ -6,3 +6,4 @@
 pub mod files;
 pub mod lines;
 pub mod patterns;
+pub mod udev_patterns;

@@ -55,6 +55,48 @@ returns-in-SetNotSupported-clause-advice c = rw c.in-SetNotSupported.is refl
 pub returns-in-OpenAtEnd-clause-advice : goal.returns-in-OpenAtEnd-clause-advice
 returns-in-OpenAtEnd-clause-advice c = rw c.in-OpenAtEnd.is refl
 
+pub returns-in-ReservedProperty-clause-advice : goal.returns-in-ReservedProperty-clause-advice
+returns-in-ReservedProperty-clause-advice c = rw c.in-ReservedProperty.is refl
+
+pub returns-in-NameWithoutEffect-clause-advice : goal.returns-in-NameWithoutEffect-clause-advice
+returns-in-NameWithoutEffect-clause-advice c = rw c.in-NameWithoutEffect.is refl
+
+pub returns-in-UnknownBuiltin-clause-advice : goal.returns-in-UnknownBuiltin-clause-advice
+returns-in-UnknownBuiltin-clause-advice c = rw c.in-UnknownBuiltin.is refl
+
+pub returns-in-MatchesExclude-clause-advice : goal.returns-in-MatchesExclude-clause-advice
+returns-in-MatchesExclude-clause-advice c = rw c.in-MatchesExclude.is refl
+
+pub returns-in-SaidTwice-clause-advice : goal.returns-in-SaidTwice-clause-advice
+returns-in-SaidTwice-clause-advice c = rw c.in-SaidTwice.is refl
+
+pub returns-in-RuleWithoutEffect-clause-advice : goal.returns-in-RuleWithoutEffect-clause-advice
+returns-in-RuleWithoutEffect-clause-advice c = rw c.in-RuleWithoutEffect.is refl
+
+pub returns-in-ResultBeforeProgram-clause-advice : goal.returns-in-ResultBeforeProgram-clause-advice
+returns-in-ResultBeforeProgram-clause-advice c = rw c.in-ResultBeforeProgram.is refl
+
+pub returns-in-EmptyValue-clause-advice : goal.returns-in-EmptyValue-clause-advice
+returns-in-EmptyValue-clause-advice c = rw c.in-EmptyValue.is refl
+
+pub returns-in-BadAttributeSubstitution-clause-advice : goal.returns-in-BadAttributeSubstitution-clause-advice
+returns-in-BadAttributeSubstitution-clause-advice c = rw c.in-BadAttributeSubstitution.is refl
+
+pub returns-in-AttributeElsewhere-clause-advice : goal.returns-in-AttributeElsewhere-clause-advice
+returns-in-AttributeElsewhere-clause-advice c = rw c.in-AttributeElsewhere.is refl
+
+pub returns-in-OldSubsystemName-clause-advice : goal.returns-in-OldSubsystemName-clause-advice
+returns-in-OldSubsystemName-clause-advice c = rw c.in-OldSubsystemName.is refl
+
+pub returns-in-AssignExpected-clause-advice : goal.returns-in-AssignExpected-clause-advice
+returns-in-AssignExpected-clause-advice c = rw c.in-AssignExpected.is refl
+
+pub returns-in-UnknownAccount-clause-advice : goal.returns-in-UnknownAccount-clause-advice
+returns-in-UnknownAccount-clause-advice c = rw c.in-UnknownAccount.is refl
+
+pub returns-in-FileGivenUp-clause-advice : goal.returns-in-FileGivenUp-clause-advice
+returns-in-FileGivenUp-clause-advice c = rw c.in-FileGivenUp.is refl
+
 pub returns-in-CommaExpected-clause-advice : goal.returns-in-CommaExpected-clause-advice
 returns-in-CommaExpected-clause-advice c = rw c.in-CommaExpected.is refl
 
@@ -66,3 +108,9 @@ returns-in-ReadAsAssign-clause-advice c = rw c.in-ReadAsAssign.is refl
 
 pub returns-in-LabelUnused-clause-advice : goal.returns-in-LabelUnused-clause-advice
 returns-in-LabelUnused-clause-advice c = rw c.in-LabelUnused.is refl
+
+pub returns-in-LeadingComma-clause-advice : goal.returns-in-LeadingComma-clause-advice
+returns-in-LeadingComma-clause-advice c = rw c.in-LeadingComma.is refl
+
+pub returns-in-BlankBeforeComma-clause-advice : goal.returns-in-BlankBeforeComma-clause-advice
+returns-in-BlankBeforeComma-clause-advice c = rw c.in-BlankBeforeComma.is refl

@@ -15,4 +15,5 @@ returns c =
     let fifth = one_more _ _ _ _ _ fourth c.no_summary_flag.ensures c.in_ok-arg-5.ensures in
     let sixth = one_more _ _ _ _ _ fifth c.no_style_flag.ensures c.in_ok-arg-6.ensures in
     let seventh = one_more _ _ _ _ _ sixth c.lint_flag.ensures c.in_ok-arg-7.ensures in
-    IfOk-weaker c.arg-8.result _ _ (λ m h. one_more _ _ _ _ _ seventh c.files_argument.ensures h) c.arg-8.ensures
+    let eighth = one_more _ _ _ _ _ seventh c.udev_flag.ensures c.in_ok-arg-8.ensures in
+    IfOk-weaker c.arg-9.result _ _ (λ m h. one_more _ _ _ _ _ eighth c.files_argument.ensures h) c.arg-9.ensures

@@ -2,4 +2,4 @@ use Rattle.engine_checks.proofs.Following.{all_about}
 use Rattle.engine_checks.proofs.comment_laws.comments_are_about_what_follows.Goals as goal
 
 pub returns : goal.returns
-returns c file = all_about file
+returns c by file = all_about by file

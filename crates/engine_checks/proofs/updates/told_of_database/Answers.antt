@@ -13,7 +13,7 @@ returns-clause-text c =
     let all : map shown c.in_ok-told.told.items ≡ flat_map (database_told c.args.line.now) c.args.files.now =
     c.in_ok-told.ensures
     ∙ ap (flat_map (database_told_by c.in_ok-asked.asked.lint c.in_ok-asked.asked.style c.in_ok-asked.asked.ignored)) (c.deref.ensures.value ∙ c.in_ok-reads.ensures)
-    ∙ database_by c.args.line.now c.in_ok-asked.asked.lint c.in_ok-asked.asked.style c.has_comments.result c.in_ok-asked.asked.ignored c.in_ok-asked.ensures.lint c.in_ok-asked.ensures.style c.in_ok-asked.ensures.ignored c.has_comments.ensures c.args.files.now in
+    ∙ database_by c.args.line.now c.in_ok-asked.asked.profile c.in_ok-asked.asked.lint c.in_ok-asked.asked.style c.has_comments.result c.in_ok-asked.asked.ignored c.in_ok-asked.ensures.profile c.in_ok-asked.ensures.lint c.in_ok-asked.ensures.style c.in_ok-asked.ensures.ignored c.has_comments.ensures c.args.files.now in
     c.in_ok-formatted.ensures
     ∙ ap (λ ds. formatted c.args.line.now.format (map shown ds)) c.deref-2.ensures.value
     ∙ ap (formatted c.args.line.now.format) all
@@ -23,6 +23,6 @@ returns-clause-count c =
     let all : map shown c.in_ok-told.told.items ≡ flat_map (database_told c.args.line.now) c.args.files.now =
     c.in_ok-told.ensures
     ∙ ap (flat_map (database_told_by c.in_ok-asked.asked.lint c.in_ok-asked.asked.style c.in_ok-asked.asked.ignored)) (c.deref.ensures.value ∙ c.in_ok-reads.ensures)
-    ∙ database_by c.args.line.now c.in_ok-asked.asked.lint c.in_ok-asked.asked.style c.has_comments.result c.in_ok-asked.asked.ignored c.in_ok-asked.ensures.lint c.in_ok-asked.ensures.style c.in_ok-asked.ensures.ignored c.has_comments.ensures c.args.files.now in
+    ∙ database_by c.args.line.now c.in_ok-asked.asked.profile c.in_ok-asked.asked.lint c.in_ok-asked.asked.style c.has_comments.result c.in_ok-asked.asked.ignored c.in_ok-asked.ensures.profile c.in_ok-asked.ensures.lint c.in_ok-asked.ensures.style c.in_ok-asked.ensures.ignored c.has_comments.ensures c.args.files.now in
     let len : c.len.result ≡ length c.in_ok-told.told.items = search rules in
     len ∙ sym (length-map c.in_ok-told.told.items shown) ∙ ap length all

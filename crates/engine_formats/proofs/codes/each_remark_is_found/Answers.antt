@@ -1,6 +1,6 @@
 use Rattle.std.proofs.Common.{◌≡◌, Some, refl}
 use Rattle.text_bytes.specs.Texts.{split_once}
-use Rattle.text_bytes.specs.declared.message.MessageKind.TheVariants.{PropertyWithoutMatch, MatchWithoutProperty, UnindentedLine, NoEquals, EmptyKey, PatternNotSupported, BadSyntax, UnknownKey, OperatorNotAllowed, WrongAttribute, BadValue, BadSubstitution, NoLaterLabel, GivenTwice, LineTooLong, BadPrefix, SetNotSupported, OpenAtEnd, CommaExpected, BlankExpected, ReadAsAssign, LabelUnused}
+use Rattle.text_bytes.specs.declared.message.MessageKind.TheVariants.{PropertyWithoutMatch, MatchWithoutProperty, UnindentedLine, NoEquals, EmptyKey, PatternNotSupported, BadSyntax, UnknownKey, OperatorNotAllowed, WrongAttribute, BadValue, BadSubstitution, NoLaterLabel, GivenTwice, LineTooLong, BadPrefix, SetNotSupported, OpenAtEnd, ReservedProperty, NameWithoutEffect, UnknownBuiltin, MatchesExclude, SaidTwice, RuleWithoutEffect, ResultBeforeProgram, EmptyValue, BadAttributeSubstitution, AttributeElsewhere, OldSubsystemName, AssignExpected, UnknownAccount, FileGivenUp, CommaExpected, BlankExpected, ReadAsAssign, LabelUnused, LeadingComma, BlankBeforeComma}
 use Rattle.rule_types.specs.declared.lint.Lint.TheVariants.{ModeNotOctal, SignOfShell, RelativeProgram, LetterCase, NoSuchDevice, ImportedBelow, MeantToCompare, NameOutsideNet, LinkWithDev, QuotedName, NotAPattern, AlwaysHolds, NeverReached}
 use Rattle.engine_formats.specs.Remarks.{code_of, heading_parts}
 use Rattle.engine_formats.specs.declared.remark.Remark.{Remark}
@@ -29,10 +29,26 @@ found (Message LineTooLong) = refl
 found (Message BadPrefix) = refl
 found (Message SetNotSupported) = refl
 found (Message OpenAtEnd) = refl
+found (Message ReservedProperty) = refl
+found (Message NameWithoutEffect) = refl
+found (Message UnknownBuiltin) = refl
+found (Message MatchesExclude) = refl
+found (Message SaidTwice) = refl
+found (Message RuleWithoutEffect) = refl
+found (Message ResultBeforeProgram) = refl
+found (Message EmptyValue) = refl
+found (Message BadAttributeSubstitution) = refl
+found (Message AttributeElsewhere) = refl
+found (Message OldSubsystemName) = refl
+found (Message AssignExpected) = refl
+found (Message UnknownAccount) = refl
+found (Message FileGivenUp) = refl
 found (Message CommaExpected) = refl
 found (Message BlankExpected) = refl
 found (Message ReadAsAssign) = refl
 found (Message LabelUnused) = refl
+found (Message LeadingComma) = refl
+found (Message BlankBeforeComma) = refl
 found (about.Lint ModeNotOctal) = refl
 found (about.Lint SignOfShell) = refl
 found (about.Lint RelativeProgram) = refl

@@ -4,7 +4,7 @@ use Rattle.rule_core.proofs.draft_reading.draft.Goals as goal
 
 pub returns : goal.returns
 returns c =
-    draft_made c.args.line.now c.args.parts.items
+    draft_made c.args.profile c.args.line.now c.args.parts.items
     (record {
       label = c.draft.inside.label;
       goto = c.draft.inside.goto;

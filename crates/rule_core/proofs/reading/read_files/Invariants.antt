@@ -5,6 +5,6 @@ use Rattle.rule_core.proofs.reading.read_files.Given as goal
 
 abbrev pub invariant-loop-file : goal.invariant-loop-file
 invariant-loop-file l = record {
-  rules : l.rules ≡ l.initial.rules ++ flat_map file_rules (take l.file-index l.files);
-  messages : l.messages.items ≡ l.initial.messages.items ++ flat_map file_messages (take l.file-index l.files);
+  rules : l.rules ≡ l.initial.rules ++ flat_map (file_rules l.profile) (take l.file-index l.files);
+  messages : l.messages.items ≡ l.initial.messages.items ++ flat_map (file_messages l.profile) (take l.file-index l.files);
 }

@@ -3,4 +3,4 @@ use Rattle.rule_core.specs.Rules.{reading_of}
 use Rattle.rule_core.proofs.readings.read_lines.Given as goal
 
 abbrev pub invariant-loop-line : goal.invariant-loop-line
-invariant-loop-line l = l.readings.items ≡ map reading_of (take l.line-index l.lines)
+invariant-loop-line l = l.readings.items ≡ map (reading_of l.profile) (take l.line-index l.lines)

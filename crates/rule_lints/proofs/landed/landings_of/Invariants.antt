@@ -3,4 +3,4 @@ use Rattle.rule_lints.specs.FileRules.{names_of}
 use Rattle.rule_lints.proofs.landed.landings_of.Given as goal
 
 abbrev pub invariant-loop-rule : goal.invariant-loop-rule
-invariant-loop-rule l = l.jumps.items ≡ map names_of (take l.rule-index l.rules)
+invariant-loop-rule l = l.jumps.items ≡ map (names_of l.profile) (take l.rule-index l.rules)

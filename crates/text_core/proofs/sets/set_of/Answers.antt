@@ -1,6 +1,7 @@
 use Rattle.std.proofs.Common.{◌≡◌, ◌*◌, ◌<◌, length, ap, ◌∙◌, arith, ℕ, List, below_more, get_or, get_or-set_same, get_or-set_other, ◌≢◌, rules}
 use Rattle.std.proofs.lemmas.List.FromFn.{fill_by_all}
-use Rattle.text_core.specs.Sets.{set_takes, set_of, bits_of}
+use Rattle.text_core.specs.Brackets.{between_takes}
+use Rattle.text_core.specs.Sets.{set_of, bits_of}
 use Rattle.text_core.specs.declared.byte_set.ByteSet.{ByteSet}
 use Rattle.text_core.proofs.sets.set_of.Goals as goal
 
@@ -11,11 +12,11 @@ loop-i-preserved c = record {
       (λ k h. let other : k ≢ c.loop-i.i = omega arith in rw get_or-set_other (c.loop-i.invariant.done k h))
       (let within : c.loop-i.i < length c.loop-i.bits = omega arith in
       let turned : c.loop-i.i * 8 ≡ 8 * c.loop-i.i = omega arith in
-      rw get_or-set_same (c.eight.ensures ∙ ap (λ (n : ℕ). bits_of (set_takes c.args.reading c.args.negated c.args.members.now) n 8) turned));
+      rw get_or-set_same (c.eight.ensures ∙ ap (λ (n : ℕ). bits_of (between_takes c.args.reading c.args.negated c.args.between) n 8) turned));
 }
 
 pub returns : goal.returns
 unfolding set_of
 returns c =
-    let all : (k : ℕ) → k < 32 → get_or c.loop-i.bits k 0 ≡ bits_of (set_takes c.args.reading c.args.negated c.args.members.now) (8 * k) 8 = λ k h. c.loop-i.invariant.done k (omega arith) in
-    ap (λ (bits : List ℕ). let set : ByteSet = record { bits = bits } in set) (fill_by_all (λ i. bits_of (set_takes c.args.reading c.args.negated c.args.members.now) (8 * i) 8) c.loop-i.bits 32 0 c.loop-i.invariant.len all)
+    let all : (k : ℕ) → k < 32 → get_or c.loop-i.bits k 0 ≡ bits_of (between_takes c.args.reading c.args.negated c.args.between) (8 * k) 8 = λ k h. c.loop-i.invariant.done k (omega arith) in
+    ap (λ (bits : List ℕ). let set : ByteSet = record { bits = bits } in set) (fill_by_all (λ i. bits_of (between_takes c.args.reading c.args.negated c.args.between) (8 * i) 8) c.loop-i.bits 32 0 c.loop-i.invariant.len all)

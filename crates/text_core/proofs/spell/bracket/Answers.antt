@@ -1,4 +1,5 @@
 use Rattle.std.proofs.Common.{◌≡◌, sym, ◌∙◌, drop}
+use Rattle.text_core.specs.Sets.{set_of, set_takes}
 use Rattle.text_core.specs.Spell.{sign_len}
 use Rattle.text_core.proofs.Opened.{bracket_open, bracket_class, bracket_set}
 use Rattle.text_core.proofs.spell.bracket.Goals as goal
@@ -18,4 +19,5 @@ pub returns-clause-value : goal.returns-clause-value
 returns-clause-value c =
     let body : c.split_at.result.1.now ≡ drop (sign_len c.args.after.now) c.args.after.now = cc (c.split_at.ensures.back, c.sign_len-sign.ensures.value) in
     let set = bracket_set c.args.reading c.args.at c.args.after.now c.split_at.result.1.now body c.in-Some.len c.split_at-2.result.0.now (sym c.in-Some.ensures.value) c.split_at-2.ensures.front (sym c.class_place.ensures.value ∙ c.in_default-class_place.is) in
-    cc (set, c.set_of.ensures, c.is_negated.ensures, c.sign_len-sign.ensures.value)
+    let made : c.set_of.result ≡ set_of (set_takes c.args.reading c.is_negated.result c.split_at-2.result.0.now) = c.set_of.ensures in
+    cc (set, made, c.is_negated.ensures, c.sign_len-sign.ensures.value)

@@ -1,0 +1,35 @@
+-- Whether the tokens of a line do anything but compare.
+use Rattle.std.specs.Prelude.{Bool, true, false, not, ◌&&◌, if◌then◌else◌, List, Option, Some}
+use Rattle.std.specs.List.{list_any}
+use Rattle.text_bytes.specs.declared.profile.Profile.{Profile}
+use Rattle.text_bytes.specs.declared.profile.Profile.TheVariants.{Manual, Udev}
+use Rattle.rule_tokens.specs.Grammar.{Placed, compares}
+use Rattle.rule_types.specs.Names.{key_of}
+use Rattle.rule_types.specs.declared.keys.Key.{Key}
+use Rattle.rule_types.specs.declared.keys.Key.TheVariants as key
+use Rattle.rule_parts.specs.Options.{is_known_option}
+use Rattle.rule_parts.specs.Parts.{meaning_of}
+
+-- whether a key does something also where it is compared: it runs a command, or takes properties
+abbrev pub acts_compared : Option Key → Bool
+acts_compared (Some key.Program) = true
+acts_compared (Some key.Import) = true
+acts_compared _ = false
+
+-- whether a key is that of the options
+abbrev pub is_options : Option Key → Bool
+is_options (Some key.Options) = true
+is_options _ = false
+
+-- whether a token is an option that udev does not know
+abbrev pub is_unknown_option : Placed → Bool
+is_unknown_option t = is_options (key_of t.parts.head.key) && not (is_known_option (meaning_of t))
+
+-- whether a token does more than compare: it assigns anything but an option that is not known, or its key does something where it is compared
+unfoldable pub has_effect : Placed → Bool
+has_effect t = if compares t.parts.head.operator then acts_compared (key_of t.parts.head.key) else not (is_unknown_option t)
+
+-- whether none of these tokens has an effect, for which udev drops a rule
+abbrev pub lacks_effect : Profile → List Placed → Bool
+lacks_effect Manual tokens = false
+lacks_effect Udev tokens = not (list_any has_effect tokens)

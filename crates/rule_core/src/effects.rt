@@ -1,0 +1,76 @@
+//! Whether the tokens of a line do anything but compare.
+ghost use Rattle.std.specs.Prelude.{◌≡◌, Bool, not, IfOk};
+ghost use Rattle.std.specs.List.{list_any};
+ghost use Rattle.text_bytes.specs.declared.profile.Profile.TheVariants.{Udev};
+ghost use Rattle.rule_types.specs.Names.{key_of};
+ghost use Rattle.rule_core.specs.Drafts.{items_as, tokens_of};
+ghost use Rattle.rule_core.specs.Effects.{acts_compared, has_effect, is_unknown_option, lacks_effect};
+
+use crate::places::line_tokens;
+use rule_parts::is_known_option;
+use rule_tokens::{Token, unquote};
+use rule_types::{Key, key_of};
+use std::alloc::{AllocError, Global};
+use text_bytes::Profile;
+
+/// Whether no token of a line has an effect, for which udev drops the rule; the manual keeps it. The
+/// error comes where memory is refused.
+pub fn lacks_effect(alloc: Global, profile: Profile, line: &[u8]) -> Result<bool, AllocError>
+    ensures { IfOk result (λ lacks. lacks ≡ lacks_effect profile (tokens_of (items_as profile line.now))) }
+{
+    match profile {
+        Profile::Manual => Ok(false),
+        Profile::Udev => Ok(!some_has_effect(alloc, line)?),
+    }
+}
+
+/// Whether a token of a line has an effect for udev.
+fn some_has_effect(alloc: Global, line: &[u8]) -> Result<bool, AllocError>
+    ensures { IfOk result (λ some. some ≡ list_any has_effect (tokens_of (items_as Udev line.now))) }
+{
+    for item in line_tokens(Profile::Udev, line) {
+        if let Ok(token) = item {
+            if has_effect(alloc, &token)? {
+                return Ok(true);
+            }
+        }
+    }
+    Ok(false)
+}
+
+/// Whether a token does more than compare: it assigns anything but an option that udev does not
+/// know, runs a command or takes properties. The error comes where memory is refused.
+#[tactic(auto, unfolding(crate::specs::Effects::has_effect))]
+pub fn has_effect(alloc: Global, token: &Token<'_>) -> Result<bool, AllocError>
+    ensures { IfOk result (λ has. has ≡ has_effect token.now) }
+{
+    if token.operator().compares() {
+        Ok(acts_compared(token.key()))
+    } else {
+        Ok(!is_unknown_option(alloc, token)?)
+    }
+}
+
+/// Whether a key does something also where it is compared.
+fn acts_compared(key: &[u8]) -> bool
+    ensures { result ≡ acts_compared (key_of key.now) }
+{
+    match key_of(key) {
+        Some(Key::Program) => true,
+        Some(Key::Import) => true,
+        _ => false,
+    }
+}
+
+/// Whether a token is an option that udev does not know.
+fn is_unknown_option(alloc: Global, token: &Token<'_>) -> Result<bool, AllocError>
+    ensures { IfOk result (λ unknown. unknown ≡ is_unknown_option token.now) }
+{
+    match key_of(token.key()) {
+        Some(Key::Options) => {
+            let value = unquote(alloc, token)?;
+            Ok(!is_known_option(&value))
+        }
+        _ => Ok(false),
+    }
+}

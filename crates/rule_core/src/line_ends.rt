@@ -1,0 +1,146 @@
+//! The ends of lines as udev reads them, and files of which it reads nothing.
+ghost use Rattle.std.specs.Prelude.{◌≡◌, ◌≤◌, IfOk, map};
+ghost use Rattle.text_bytes.specs.declared.profile.Profile.TheVariants.{Udev};
+ghost use Rattle.rule_core.specs.Ends.{as_read, end_size, file_as_read, first_too_long, given_up, is_too_long, more_size, nul_size};
+ghost use Rattle.text_bytes.specs.Lines.{numbered_lines};
+
+use std::alloc::{AllocError, Global};
+use text_bytes::{Bytes, Lines, Profile, SourceFile, capped};
+
+/// The fewest bytes of a line for which udev gives its file up.
+const TOO_MANY_BYTES: usize = 16_384;
+
+/// Files as they are read: for udev with the ends of their lines as `read_ends` has them, by the
+/// manual as they are. The error comes where memory is refused.
+pub fn files_as_read(
+    alloc: Global,
+    profile: Profile,
+    files: Vec<SourceFile>,
+) -> Result<Vec<SourceFile>, AllocError>
+    ensures { IfOk result (λ read. read.items ≡ map (file_as_read profile) files.items) }
+{
+    match profile {
+        Profile::Manual => Ok(files),
+        Profile::Udev => files_by_udev(alloc, files),
+    }
+}
+
+/// Files as udev reads them.
+fn files_by_udev(alloc: Global, files: Vec<SourceFile>) -> Result<Vec<SourceFile>, AllocError>
+    ensures { IfOk result (λ read. read.items ≡ map (file_as_read Udev) files.items) }
+{
+    let mut read = Vec::with_capacity(alloc, files.len())?;
+    for file in files {
+        read.push(file_by_udev(alloc, file)?)?;
+    }
+    Ok(read)
+}
+
+/// A file as udev reads it.
+fn file_by_udev(alloc: Global, file: SourceFile) -> Result<SourceFile, AllocError>
+    ensures { IfOk result (λ read. read ≡ file_as_read Udev file) }
+{
+    let SourceFile {
+        kind,
+        rank,
+        name,
+        bytes,
+    } = file;
+    let bytes = Bytes::new(read_ends(alloc, bytes.as_slice())?);
+    Ok(SourceFile {
+        kind,
+        rank,
+        name,
+        bytes,
+    })
+}
+
+/// The bytes of a file with each end of a line written as one newline, as udev reads it.
+///
+/// An end is a newline, a carriage return or both in either order, each perhaps with one NUL behind, or one NUL alone;
+/// where several stand at a place, the longest counts. A file that was so read is left as it is. The error comes where
+/// memory is refused.
+#[tactic(auto, using(crate::proofs::Passing::at_start, crate::proofs::Passing::passed_one, crate::proofs::Passing::byte_read, crate::proofs::Passing::all_read))]
+pub fn read_ends(alloc: Global, bytes: &[u8]) -> Result<Vec<u8>, AllocError>
+    ensures { IfOk result (λ read. read.items ≡ as_read bytes.now) }
+{
+    let mut read = Vec::with_capacity(alloc, bytes.len())?;
+    let mut passed = 0usize;
+    let mut rest = bytes;
+    while let Some((byte, behind)) = rest.split_first() {
+        if passed > 0 {
+            passed -= 1;
+        } else {
+            let size = end_size(rest);
+            read.push(if size == 0 { *byte } else { b'\n' })?;
+            passed = size.saturating_sub(1);
+        }
+        rest = behind;
+    }
+    Ok(read)
+}
+
+/// The size of the end of a line with which a text begins, 0 where it begins with none.
+fn end_size(text: &[u8]) -> usize
+    ensures { result ≡ end_size text.now }
+{
+    match text.split_first() {
+        None => 0,
+        Some((b'\n', behind)) => 1 + more_size(b'\r', behind),
+        Some((b'\r', behind)) => 1 + more_size(b'\n', behind),
+        Some(_) => nul_size(text),
+    }
+}
+
+/// How many bytes go on with an end of a line behind its first byte: perhaps the other one of newline and carriage
+/// return, and perhaps a NUL.
+fn more_size(other: u8, text: &[u8]) -> usize
+    ensures value { result ≡ more_size other text.now }
+    ensures small { result ≤ 2 }
+{
+    match text.split_first() {
+        Some((byte, behind)) if *byte == other => 1 + nul_size(behind),
+        _ => nul_size(text),
+    }
+}
+
+/// How many bytes of a NUL a text begins with.
+fn nul_size(text: &[u8]) -> usize
+    ensures value { result ≡ nul_size text.now }
+    ensures small { result ≤ 1 }
+{
+    match text.first() {
+        Some(0) => 1,
+        _ => 0,
+    }
+}
+
+/// The number of the line for which udev gives a file up: the first of 16,384 bytes or more, of which the line's end is
+/// none. By the manual no file is given up.
+pub fn given_up_at(profile: Profile, bytes: &[u8]) -> Option<u32>
+    ensures { result ≡ given_up profile bytes.now }
+{
+    match profile {
+        Profile::Manual => None,
+        Profile::Udev => first_too_long(bytes),
+    }
+}
+
+/// Whether a line has 16,384 bytes or more, its end not counted.
+pub fn is_too_long(text: &[u8]) -> bool
+    ensures { result ≡ is_too_long text.now }
+{
+    text.len() >= TOO_MANY_BYTES
+}
+
+/// The number of the first line of a file that is too long.
+fn first_too_long(bytes: &[u8]) -> Option<u32>
+    ensures { result ≡ first_too_long (numbered_lines bytes.now) }
+{
+    for line in Lines::new(bytes) {
+        if is_too_long(line.text()) {
+            return Some(capped(line.number()));
+        }
+    }
+    None
+}

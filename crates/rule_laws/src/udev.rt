@@ -1,0 +1,27 @@
+//! Laws of what udev reads otherwise than the manual has it, each the contract of a function that does nothing.
+ghost use Rattle.std.specs.Prelude.{List, ℕ};
+ghost use Rattle.text_bytes.specs.declared.profile.Profile.TheVariants.{Udev};
+ghost use Rattle.rule_types.specs.declared.part.Part.{Part};
+ghost use Rattle.rule_core.specs.Drafts.{first_place};
+ghost use Rattle.rule_laws.specs.LineEnds.{StaysAsRead, TakesLongestEnd};
+ghost use Rattle.rule_laws.specs.Udev.{CountsInPlace, IsFirstPlace};
+
+/// Of the ends of lines that udev knows the longest is taken with which a text begins.
+pub fn ends_are_the_longest()
+    ensures { (text : List ℕ) → TakesLongestEnd text }
+{}
+
+/// A file as udev read it has no carriage return and no NUL, and stays as it is where it is read again.
+pub fn read_files_stay()
+    ensures { (text : List ℕ) → StaysAsRead text }
+{}
+
+/// The first token of a line stands behind all commas and blanks in front.
+pub fn first_tokens_stand_behind_gaps()
+    ensures { (line : List ℕ) → IsFirstPlace line (first_place Udev line) }
+{}
+
+/// A label behind others counts in place of the one that counted before it, which is told of.
+pub fn last_label_counts()
+    ensures { (line : List ℕ) (parts : List Part) (name : List ℕ) → CountsInPlace line parts name }
+{}

@@ -1,0 +1,6 @@
+pub mod Cutting
+pub mod Telling
+pub mod FirstPairs
+pub mod Likeness
+pub mod WordSets
+pub mod Beginnings

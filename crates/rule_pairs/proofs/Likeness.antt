@@ -1,0 +1,132 @@
+-- Likeness does not depend on order, and no two tokens are both the same and against each other.
+use Rattle.std.proofs.Common.{◌≡◌, Bool, true, false, cond, not, ◌&&◌, ◌||◌, List, Option, Some, None, refl, ap, sym, ◌∙◌, true≢false}
+use Rattle.std.specs.Cmp.Lexicographic.{bytes_decides}
+use Rattle.std.specs.List.{list_all}
+use Rattle.std.specs.Option.{option_eq}
+use Rattle.std.specs.Ordering.{int_eq}
+use Rattle.std.specs.Prelude.{ℤ}
+use Rattle.std.proofs.lemmas.Cmp.{int_eq_equiv}
+use Rattle.text_tables.specs.Texts.{Text, is_among, same_text}
+use Rattle.rule_tokens.specs.declared.kinds.Operator.{Operator}
+use Rattle.rule_tokens.specs.declared.kinds.Operator.TheVariants as op
+use Rattle.rule_pairs.specs.Relations.{are_alike, are_disjoint, are_opposite, is_against, is_same, is_wordless, lacks_words, same_bool, same_form, same_matter, same_operator, same_way, same_words}
+use Rattle.rule_pairs.specs.Said.{Said}
+use Rattle.rule_pairs.specs.declared.form.Form.{Form}
+use Rattle.rule_pairs.specs.declared.form.Form.TheVariants as form
+
+-- tests that hold of the same are one
+both_or_none : (a b : Bool) → (a ≡ true → b ≡ true) → (b ≡ true → a ≡ true) → a ≡ b
+both_or_none true b f g = sym (f refl)
+both_or_none false true f g = g refl
+both_or_none false false f g = refl
+
+text_turned : (a b : Text) → same_text a b ≡ same_text b a
+text_turned a b =
+    both_or_none (same_text a b) (same_text b a)
+    (λ h. (bytes_decides b a).1 (sym ((bytes_decides a b).0 h)))
+    (λ h. (bytes_decides a b).1 (sym ((bytes_decides b a).0 h)))
+
+number_turned : (a b : Option ℤ) → option_eq int_eq a b ≡ option_eq int_eq b a
+number_turned None None = refl
+number_turned None (Some y) = refl
+number_turned (Some x) None = refl
+number_turned (Some x) (Some y) = int_eq_equiv.symm x y
+
+-- two forms that are one are the same
+form_is : (a b : Form) → same_form a b ≡ true → a ≡ b
+form_is form.AnySubsystem form.AnySubsystem h = refl
+form_is form.Empty form.Empty h = refl
+form_is form.Plain form.Plain h = refl
+form_is form.Pattern form.Pattern h = refl
+form_is form.PlainOrEmpty form.PlainOrEmpty h = refl
+form_is form.PatternOrEmpty form.PatternOrEmpty h = refl
+form_is form.Whole form.Whole h = refl
+form_is _ _ h = absurd (true≢false (sym h))
+
+form_itself : (a : Form) → same_form a a ≡ true
+form_itself form.AnySubsystem = refl
+form_itself form.Empty = refl
+form_itself form.Plain = refl
+form_itself form.Pattern = refl
+form_itself form.PlainOrEmpty = refl
+form_itself form.PatternOrEmpty = refl
+form_itself form.Whole = refl
+
+form_turned : (a b : Form) → same_form a b ≡ same_form b a
+form_turned a b =
+    both_or_none (same_form a b) (same_form b a)
+    (λ h. ap (λ (f : Form). same_form f a) (sym (form_is a b h)) ∙ form_itself a)
+    (λ h. ap (λ (f : Form). same_form f b) (sym (form_is b a h)) ∙ form_itself b)
+
+bool_turned : (a b : Bool) → same_bool a b ≡ same_bool b a
+bool_turned true true = refl
+bool_turned true false = refl
+bool_turned false true = refl
+bool_turned false false = refl
+
+bool_is : (a b : Bool) → same_bool a b ≡ true → a ≡ b
+bool_is true b h = sym h
+bool_is false true h = absurd (true≢false (sym h))
+bool_is false false h = refl
+
+and_turned : (a b : Bool) → (a && b) ≡ (b && a)
+and_turned true true = refl
+and_turned true false = refl
+and_turned false true = refl
+and_turned false false = refl
+
+first_holds : (a b : Bool) → (a && b) ≡ true → a ≡ true
+first_holds true b h = refl
+first_holds false b h = h
+
+second_holds : (a b : Bool) → (a && b) ≡ true → b ≡ true
+second_holds true b h = h
+second_holds false b h = absurd (true≢false (sym h))
+
+pub matter_turned : (a b : Said) → same_matter a b ≡ same_matter b a
+matter_turned a b = rw (text_turned a.key b.key, text_turned a.kind b.kind, text_turned a.name b.name, number_turned a.number b.number) refl
+
+pub way_turned : (a b : Said) → same_way a b ≡ same_way b a
+way_turned a b = rw (form_turned a.form b.form, bool_turned a.blind b.blind, bool_turned a.trims b.trims) refl
+
+-- where two tokens compare in one way, the words of both matter or of none
+lacks_alike : (a b : Said) → same_way a b ≡ true → lacks_words a ≡ lacks_words b
+lacks_alike a b h =
+    let one : a.form ≡ b.form = form_is a.form b.form (first_holds (same_form a.form b.form) _ h) in
+    let rest : (same_bool a.blind b.blind && same_bool a.trims b.trims) ≡ true = second_holds (same_form a.form b.form) _ h in
+    let blind : a.blind ≡ b.blind = bool_is a.blind b.blind (first_holds (same_bool a.blind b.blind) _ rest) in
+    let trims : a.trims ≡ b.trims = bool_is a.trims b.trims (second_holds (same_bool a.blind b.blind) _ rest) in
+    ap (λ (f : Form). is_wordless f && (not a.blind && not a.trims)) one
+    ∙ ap (λ (x : Bool). is_wordless b.form && (not x && not a.trims)) blind
+    ∙ ap (λ (x : Bool). is_wordless b.form && (not b.blind && not x)) trims
+
+words_turned : (ws vs : List Text) → same_words ws vs ≡ same_words vs ws
+words_turned ws vs = and_turned (list_all (is_among vs) ws) (list_all (is_among ws) vs)
+
+-- tests of two ways round are one, where the third and the fourth are one once the first two hold
+turned_by : (m n w v l k s t : Bool) → m ≡ n → w ≡ v → (w ≡ true → l ≡ k) → s ≡ t → ((m && w) && (l || s)) ≡ ((n && v) && (k || t))
+turned_by m n w v l k s t e f g h = rw (e, f, h) (by n v refl)
+  where
+    by : (x y : Bool) → v ≡ y → ((x && y) && (l || t)) ≡ ((x && y) && (k || t))
+    by false y q = refl
+    by true false q = refl
+    by true true q = ap (λ (z : Bool). z || t) (g (f ∙ q))
+
+-- which of two tokens is written first makes no difference for whether they are alike
+pub alike_turned : (a b : Said) → are_alike a b ≡ are_alike b a
+alike_turned a b =
+    turned_by (same_matter a b) (same_matter b a) (same_way a b) (same_way b a) (lacks_words a) (lacks_words b) (same_words a.words b.words) (same_words b.words a.words)
+    (matter_turned a b) (way_turned a b) (lacks_alike a b) (words_turned a.words b.words)
+
+not_opposite : (o p : Operator) → same_operator o p ≡ true → are_opposite o p ≡ false
+not_opposite op.Equal op.NotEqual h = absurd (true≢false (sym h))
+not_opposite op.NotEqual op.Equal h = absurd (true≢false (sym h))
+not_opposite _ _ h = refl
+
+-- two tokens that say the same do not exclude each other
+pub never_both : (a b : Said) → is_same a b ≡ true → is_against a b ≡ false
+unfolding is_same is_against
+never_both a b h =
+    let alike : are_alike a b ≡ true = first_holds (are_alike a b) (same_operator a.operator b.operator) h in
+    let one : same_operator a.operator b.operator ≡ true = second_holds (are_alike a b) (same_operator a.operator b.operator) h in
+    ap (λ (x : Bool). cond x (are_opposite a.operator b.operator) (are_disjoint a b)) alike ∙ not_opposite a.operator b.operator one

@@ -1,0 +1,45 @@
+-- Tokens of rules as they are written, and what is told of them where nothing is known of users and groups.
+use Rattle.std.specs.Prelude.{ℕ, List, Option, Some, None}
+use Rattle.rule_tokens.specs.Grammar.{Placed}
+use Rattle.rule_tokens.specs.declared.kinds.Operator.{Operator}
+use Rattle.rule_tokens.specs.declared.kinds.Operator.TheVariants.{Assign, Equal, NotEqual}
+use Rattle.rule_tokens.specs.declared.kinds.Quote.{Quote}
+use Rattle.rule_tokens.specs.declared.kinds.Quote.TheVariants.{Plain}
+use Rattle.rule_pairs.specs.Accounts.{nobody}
+use Rattle.rule_pairs.specs.Pairs.{pair_findings}
+use Rattle.rule_pairs.specs.declared.pair_finding.PairFinding.{PairFinding}
+
+-- a token with its parts
+abbrev pub token : List ℕ → Option (List ℕ) → Operator → Quote → List ℕ → Placed
+token key attribute operator quote value = record {
+  parts = record { head = record { key = key; attribute = attribute; operator = operator }; quote = quote; value = value };
+  span = record { start = 0; end = 0 };
+}
+
+-- KEY=="value"
+abbrev pub asks : List ℕ → List ℕ → Placed
+asks key value = token key None Equal Plain value
+
+-- KEY!="value"
+abbrev pub asks_not : List ℕ → List ℕ → Placed
+asks_not key value = token key None NotEqual Plain value
+
+-- KEY="value"
+abbrev pub gives : List ℕ → List ℕ → Placed
+gives key value = token key None Assign Plain value
+
+-- KEY{name}=="value"
+abbrev pub asks_of : List ℕ → List ℕ → List ℕ → Placed
+asks_of key name value = token key (Some name) Equal Plain value
+
+-- KEY{name}!="value"
+abbrev pub asks_not_of : List ℕ → List ℕ → List ℕ → Placed
+asks_not_of key name value = token key (Some name) NotEqual Plain value
+
+-- KEY{name}="value"
+abbrev pub gives_of : List ℕ → List ℕ → List ℕ → Placed
+gives_of key name value = token key (Some name) Assign Plain value
+
+-- what is told of tokens where no list of users or of groups is there
+abbrev pub told : List Placed → List PairFinding
+told tokens = pair_findings nobody tokens

@@ -1,0 +1,112 @@
+-- When two tokens of a rule say the same, and when they exclude each other.
+use Rattle.std.specs.Prelude.{Bool, true, false, not, ◌&&◌, ◌||◌, nat_eq, if◌then◌else◌, List, take}
+use Rattle.std.specs.List.{list_all, list_any, prefix_len, starts_with}
+use Rattle.std.specs.Option.{option_eq}
+use Rattle.std.specs.Ordering.{int_eq}
+use Rattle.text_tables.specs.Texts.{Text, is_among, same_text}
+use Rattle.rule_tokens.specs.declared.kinds.Operator.{Operator}
+use Rattle.rule_tokens.specs.declared.kinds.Operator.TheVariants as op
+use Rattle.rule_pairs.specs.Forms.{is_empty, is_sign}
+use Rattle.rule_pairs.specs.Said.{Said}
+use Rattle.rule_pairs.specs.declared.form.Form.{Form}
+use Rattle.rule_pairs.specs.declared.form.Form.TheVariants as form
+
+-- whether two operators are one
+abbrev pub same_operator : Operator → Operator → Bool
+same_operator op.Equal op.Equal = true
+same_operator op.NotEqual op.NotEqual = true
+same_operator op.Add op.Add = true
+same_operator op.Remove op.Remove = true
+same_operator op.AssignFinal op.AssignFinal = true
+same_operator op.Assign op.Assign = true
+same_operator _ _ = false
+
+-- whether two operators are `==` and `!=`
+abbrev pub are_opposite : Operator → Operator → Bool
+are_opposite op.Equal op.NotEqual = true
+are_opposite op.NotEqual op.Equal = true
+are_opposite _ _ = false
+
+-- whether two forms are one
+abbrev pub same_form : Form → Form → Bool
+same_form form.AnySubsystem form.AnySubsystem = true
+same_form form.Empty form.Empty = true
+same_form form.Plain form.Plain = true
+same_form form.Pattern form.Pattern = true
+same_form form.PlainOrEmpty form.PlainOrEmpty = true
+same_form form.PatternOrEmpty form.PatternOrEmpty = true
+same_form form.Whole form.Whole = true
+same_form _ _ = false
+
+-- whether two answers are one
+abbrev pub same_bool : Bool → Bool → Bool
+same_bool true b = b
+same_bool false b = not b
+
+-- whether two tokens are of one kind and about one matter
+abbrev pub same_matter : Said → Said → Bool
+same_matter a b = same_text a.key b.key && (same_text a.kind b.kind && (same_text a.name b.name && option_eq int_eq a.number b.number))
+
+-- whether two tokens compare in one way
+abbrev pub same_way : Said → Said → Bool
+same_way a b = same_form a.form b.form && (same_bool a.blind b.blind && same_bool a.trims b.trims)
+
+-- whether two lists have the same words, in any order
+abbrev pub same_words : List Text → List Text → Bool
+same_words ws vs = list_all (is_among vs) ws && list_all (is_among ws) vs
+
+-- a form in which each text means the same
+abbrev pub is_wordless : Form → Bool
+is_wordless form.AnySubsystem = true
+is_wordless form.Empty = true
+is_wordless _ = false
+
+-- whether the words of a token do not matter
+abbrev pub lacks_words : Said → Bool
+lacks_words a = is_wordless a.form && (not a.blind && not a.trims)
+
+-- whether two tokens are alike: they differ in their operators at most
+abbrev pub are_alike : Said → Said → Bool
+are_alike a b = (same_matter a b && same_way a b) && (lacks_words a || same_words a.words b.words)
+
+-- what stands in a pattern before its first sign
+unfoldable pub beginning : Text → Text
+beginning word = take (prefix_len (λ b. not (is_sign b)) word) word
+
+-- whether no text begins with both of two texts: neither is empty, and neither begins with the other
+unfoldable pub part_ways : Text → Text → Bool
+part_ways x y = (not (is_empty x) && not (is_empty y)) && (not (starts_with nat_eq x y) && not (starts_with nat_eq y x))
+
+-- whether two lists have a word in common
+abbrev pub share_a_word : List Text → List Text → Bool
+share_a_word ws vs = list_any (is_among vs) ws
+
+-- whether a beginning parts ways with those of these patterns
+unfoldable pub parts_from_all : Text → List Text → Bool
+parts_from_all front vs = list_all (λ v. part_ways front (beginning v)) vs
+
+-- whether the beginnings of each two patterns part ways, one of each list
+abbrev pub all_part_ways : List Text → List Text → Bool
+all_part_ways ws vs = list_all (λ w. parts_from_all (beginning w) vs) ws
+
+-- whether no text is one of both lists of words, by their form
+abbrev pub leave_nothing : Form → List Text → List Text → Bool
+leave_nothing form.Plain ws vs = not (share_a_word ws vs)
+leave_nothing form.Pattern ws vs = all_part_ways ws vs
+leave_nothing _ ws vs = false
+
+-- whether a token compares by `==`, case counts, and it does not trim
+abbrev pub is_strict : Said → Bool
+is_strict a = same_operator a.operator op.Equal && (not a.blind && not a.trims)
+
+-- whether no value is one of those that two tokens ask for by `==`
+abbrev pub are_disjoint : Said → Said → Bool
+are_disjoint a b = (same_matter a b && same_way a b) && ((is_strict a && is_strict b) && leave_nothing a.form a.words b.words)
+
+-- whether two tokens say the same
+unfoldable pub is_same : Said → Said → Bool
+is_same a b = are_alike a b && same_operator a.operator b.operator
+
+-- whether two tokens exclude each other
+unfoldable pub is_against : Said → Said → Bool
+is_against a b = if are_alike a b then are_opposite a.operator b.operator else are_disjoint a b

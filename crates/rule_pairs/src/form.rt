@@ -1,0 +1,119 @@
+//! How a token compares its value, by what is written in it.
+ghost use Rattle.std.specs.Prelude.{◌≡◌};
+ghost use Rattle.rule_pairs.specs.Forms.{any_subsystem, compared_form, form_of, has_empty_part, is_choice, is_deed, is_pattern, is_sign, is_something, is_subsystem, parts_form};
+
+use rule_types::{Key, Operator};
+
+/// How a token compares its value.
+#[derive(Clone, Copy, Debug, PartialEq, Eq)]
+pub(crate) enum Form {
+    /// SUBSYSTEM with `subsystem`, `bus` or `class`, of which each means all three.
+    AnySubsystem,
+    /// With the empty text, or with what each other text fits.
+    Empty,
+    /// With texts between bars.
+    Plain,
+    /// With patterns between bars.
+    Pattern,
+    /// With texts between bars, of which one is empty.
+    PlainOrEmpty,
+    /// With patterns between bars, of which one is empty.
+    PatternOrEmpty,
+    /// With one text, bars and signs in it, or not at all, as an assignment.
+    Whole,
+}
+
+/// The form of a token of a key and an operator with a value.
+#[tactic(auto, unfolding(crate::specs::Forms::form_of))]
+pub(crate) fn form_of(key: Key, operator: Operator, text: &[u8]) -> Form
+    ensures { result ≡ form_of key operator text.now }
+{
+    if operator.compares() {
+        compared_form(key, text)
+    } else {
+        Form::Whole
+    }
+}
+
+/// Whether a token of a key and an operator compares with texts between bars.
+pub(crate) fn is_choice(key: Key, operator: Operator) -> bool
+    ensures { result ≡ is_choice key operator }
+{
+    operator.compares() && !is_deed(key)
+}
+
+/// Whether a value is the pattern that each text but the empty one fits.
+pub(crate) fn is_something(text: &[u8]) -> bool
+    ensures { result ≡ is_something text.now }
+{
+    text == b"?*".as_slice()
+}
+
+/// Whether a byte makes a value a pattern.
+pub(crate) fn is_sign(byte: u8) -> bool
+    ensures { result ≡ is_sign byte }
+{
+    byte == b'*' || byte == b'?' || byte == b'['
+}
+
+/// The form of what a value is compared with.
+fn compared_form(key: Key, text: &[u8]) -> Form
+    ensures { result ≡ compared_form key text.now }
+{
+    if is_subsystem(key) && any_subsystem(text) {
+        Form::AnySubsystem
+    } else if text.is_empty() || is_something(text) {
+        Form::Empty
+    } else if is_deed(key) {
+        Form::Whole
+    } else {
+        parts_form(is_pattern(text), has_empty_part(text))
+    }
+}
+
+/// Whether a key does something while its rule is matched.
+fn is_deed(key: Key) -> bool
+    ensures { result ≡ is_deed key }
+{
+    matches!(key, Key::Test | Key::Program | Key::Import)
+}
+
+/// Whether a key is SUBSYSTEM.
+fn is_subsystem(key: Key) -> bool
+    ensures { result ≡ is_subsystem key }
+{
+    matches!(key, Key::Subsystem)
+}
+
+/// Whether a text is one of the words that each mean all three of them.
+fn any_subsystem(text: &[u8]) -> bool
+    ensures { result ≡ any_subsystem text.now }
+{
+    text == b"subsystem".as_slice() || text == b"bus".as_slice() || text == b"class".as_slice()
+}
+
+/// Whether a value is a pattern.
+fn is_pattern(text: &[u8]) -> bool
+    ensures { result ≡ is_pattern text.now }
+{
+    text.iter().any(|byte| is_sign(*byte))
+}
+
+/// Whether one of the texts between bars is empty.
+fn has_empty_part(text: &[u8]) -> bool
+    ensures { result ≡ has_empty_part text.now }
+{
+    text.split(|byte| *byte == b'|').any(|part| part.is_empty())
+}
+
+/// The form of texts between bars, by whether they are patterns and whether one of them is empty.
+fn parts_form(are_patterns: bool, has_empty: bool) -> Form
+    ensures { result ≡ parts_form are_patterns has_empty }
+{
+    match (are_patterns, has_empty) {
+        (true, true) => Form::PatternOrEmpty,
+        (true, false) => Form::Pattern,
+        (false, true) => Form::PlainOrEmpty,
+        (false, false) => Form::Plain,
+    }
+}

@@ -1,0 +1,25 @@
+//! Tokens of one rule that say the same, and matches that exclude each other, as udev tells of them.
+//!
+//! Each token is taken as what it is about and how it compares, so that two of them are compared
+//! without their spelling. None of this keeps a rule from being one.
+#![tactic(auto)]
+
+mod accounts;
+mod examples;
+mod form;
+mod laws;
+mod matter;
+mod pair_finding;
+mod pairs;
+mod relations;
+mod said;
+mod words;
+
+pub use accounts::{Account, AccountKind, Accounts, Given, given_in};
+pub use examples::{some_deeds, some_matches};
+pub use laws::{
+    likeness_has_no_order, no_pair_is_of_both_kinds, no_text_begins_with_both,
+    same_words_are_one_set, the_first_pair_of_a_kind_is_told, words_are_the_parts_between_bars,
+};
+pub use pair_finding::{PairFinding, PairKind};
+pub use pairs::pair_findings;

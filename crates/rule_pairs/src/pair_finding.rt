@@ -1,0 +1,35 @@
+//! What is told of two tokens of a rule.
+ghost use Rattle.std.specs.Prelude.{◌≡◌};
+ghost use Rattle.rule_pairs.specs.Pairs.{message_of};
+
+use text_bytes::MessageKind;
+
+/// What two tokens of a rule are to each other.
+#[derive(Clone, Copy, Debug, PartialEq, Eq)]
+pub enum PairKind {
+    /// They say the same.
+    Same,
+    /// They exclude each other.
+    Against,
+}
+
+/// What is told of two tokens of a rule.
+#[derive(Clone, Copy, Debug, PartialEq, Eq)]
+pub struct PairFinding {
+    /// What they are to each other.
+    pub kind: PairKind,
+    /// The place of the later one among the tokens of the rule, from 0.
+    pub token: usize,
+}
+
+impl PairKind {
+    /// The kind of the message that tells of it.
+    pub fn message_kind(self) -> MessageKind
+        ensures { result ≡ message_of self }
+    {
+        match self {
+            PairKind::Same => MessageKind::SaidTwice,
+            PairKind::Against => MessageKind::MatchesExclude,
+        }
+    }
+}

@@ -1,0 +1,193 @@
+//! A token of a rule as it is compared with the others of its rule.
+ghost use Rattle.std.specs.Prelude.{◌≡◌, IfOk};
+ghost use Rattle.rule_pairs.specs.Said.{as_assign, as_equal, ends_dark, is_attribute, operator_of, said_by, said_of, said_with, trims, turned, turned_by};
+
+use crate::accounts::Accounts;
+use crate::form::{Form, form_of, is_choice, is_something};
+use crate::matter::{Matter, matter_of};
+use crate::words::words_of;
+use rule_tokens::{Quote, Token, unquote};
+use rule_types::{Key, Operator, key_of, read_as};
+use std::alloc::{AllocError, Global};
+use std::marker::Model;
+use text_bytes::{Bytes, is_whitespace};
+use text_tables::OwnedTexts;
+
+/// A token as it is compared with others.
+#[derive(Drop)]
+pub(crate) struct Said {
+    /// The name of its key.
+    pub(crate) key: &'static [u8],
+    /// Which kind of the key, as its matter tells.
+    pub(crate) kind: &'static [u8],
+    /// The attribute or the builtin.
+    pub(crate) name: Bytes,
+    /// What its value comes to, where that is a number.
+    pub(crate) number: Option<i64>,
+    /// The operator as it is read.
+    pub(crate) operator: Operator,
+    /// How its value is compared.
+    pub(crate) form: Form,
+    /// What it compares with or assigns, each word once.
+    pub(crate) words: OwnedTexts,
+    /// Whether case is ignored.
+    pub(crate) blind: bool,
+    /// Whether white space at the end of what is compared does not count.
+    pub(crate) trims: bool,
+}
+
+impl Model for Said {
+    ghost use Rattle.rule_pairs.specs.Said as tokens;
+
+    ghost Value = { tokens.Said };
+
+    ghost view = { λ s. record {
+      key = s.key.now;
+      kind = s.kind.now;
+      name = s.name;
+      number = s.number;
+      operator = s.operator;
+      form = s.form;
+      words = s.words;
+      blind = s.blind;
+      trims = s.trims;
+    } };
+}
+
+/// A token as it is compared with others. `None` for LABEL, for GOTO and for what is no option. The
+/// error comes where memory is refused.
+#[tactic(auto, unfolding(crate::specs::Said::said_of))]
+pub(crate) fn said_of(
+    alloc: Global,
+    accounts: &Accounts,
+    token: &Token<'_>,
+) -> Result<Option<Said>, AllocError>
+    ensures { IfOk result (λ said. said ≡ said_of accounts.now token.now) }
+{
+    match key_of(token.key()) {
+        None => Ok(None),
+        Some(key) => said_with(alloc, accounts, token, key),
+    }
+}
+
+/// A token with its key.
+fn said_with(
+    alloc: Global,
+    accounts: &Accounts,
+    token: &Token<'_>,
+    key: Key,
+) -> Result<Option<Said>, AllocError>
+    ensures { IfOk result (λ said. said ≡ said_with accounts.now token.now key) }
+{
+    let text = unquote(alloc, token)?;
+    let Some(matter) = matter_of(accounts, key, token.attribute(), &text) else {
+        return Ok(None);
+    };
+    let operator = operator_of(key, token.operator());
+    let blind = matches!(token.quote(), Quote::Blind | Quote::BlindEscaped);
+    let said = said_by(alloc, key, operator, &text, blind, &matter)?;
+    Ok(Some(said))
+}
+
+/// A token of a key by its matter, the operator as it is read, its value, and whether case is
+/// ignored.
+fn said_by(
+    alloc: Global,
+    key: Key,
+    operator: Operator,
+    text: &[u8],
+    blind: bool,
+    matter: &Matter<'_>,
+) -> Result<Said, AllocError>
+    ensures { IfOk result (λ said. said ≡ said_by key operator text.now blind matter.now) }
+{
+    Ok(Said {
+        key: key.name(),
+        kind: matter.kind,
+        name: Bytes::copy_of(alloc, matter.name)?,
+        number: matter.number,
+        operator: turned_by(text, operator),
+        form: form_of(key, operator, text),
+        words: words_of(alloc, is_choice(key, operator), matter.text)?,
+        blind,
+        trims: trims(key, operator, text),
+    })
+}
+
+/// The operator as which one is read behind a key.
+fn operator_of(key: Key, operator: Operator) -> Operator
+    ensures { result ≡ operator_of key operator }
+{
+    match key {
+        Key::Program | Key::Import => as_equal(operator),
+        Key::Options => as_assign(operator),
+        _ => read_as(key, operator),
+    }
+}
+
+/// `==` for an operator that assigns.
+fn as_equal(operator: Operator) -> Operator
+    ensures { result ≡ as_equal operator }
+{
+    if operator.compares() {
+        operator
+    } else {
+        Operator::Equal
+    }
+}
+
+/// `=` for `+=`.
+fn as_assign(operator: Operator) -> Operator
+    ensures { result ≡ as_assign operator }
+{
+    match operator {
+        Operator::Add => Operator::Assign,
+        other => other,
+    }
+}
+
+/// An operator, turned round before the pattern that each text but the empty one fits.
+fn turned_by(text: &[u8], operator: Operator) -> Operator
+    ensures { result ≡ turned_by text.now operator }
+{
+    if is_something(text) {
+        turned(operator)
+    } else {
+        operator
+    }
+}
+
+/// The other one of `==` and `!=`.
+fn turned(operator: Operator) -> Operator
+    ensures { result ≡ turned operator }
+{
+    match operator {
+        Operator::Equal => Operator::NotEqual,
+        Operator::NotEqual => Operator::Equal,
+        other => other,
+    }
+}
+
+/// Whether a token trims what it compares.
+fn trims(key: Key, operator: Operator, text: &[u8]) -> bool
+    ensures { result ≡ trims key operator text.now }
+{
+    is_attribute(key) && operator.compares() && ends_dark(text)
+}
+
+/// Whether a key is that of an attribute of a device.
+fn is_attribute(key: Key) -> bool
+    ensures { result ≡ is_attribute key }
+{
+    matches!(key, Key::Attr | Key::Attrs)
+}
+
+/// Whether a text ends in a byte that is no white space.
+fn ends_dark(text: &[u8]) -> bool
+    ensures { result ≡ ends_dark text.now }
+{
+    match text.last() {
+        None => false,
+        Some(last) => !is_whitespace(*last),
+    }
+}

@@ -1,6 +1,0 @@
-use Rattle.std.proofs.Common.{◌≡◌, ◌++◌, map}
-use Rattle.rule_places.specs.Files.{placed}
-use Rattle.rule_places.proofs.file_findings.place_spots.Given as goal
-
-abbrev pub invariant-loop-spot : goal.invariant-loop-spot
-invariant-loop-spot l = l.found.items ≡ l.initial.found.items ++ map (placed l.kept l.number l.start) l.yielded

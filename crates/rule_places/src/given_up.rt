@@ -1,0 +1,57 @@
+//! A file that is given up for a line that is too long.
+ghost use Rattle.std.specs.Prelude.{◌≡◌, IfOk};
+ghost use Rattle.text_bytes.specs.Lines.{numbered_lines};
+ghost use Rattle.rule_places.specs.GivenUp.{given_up_findings, long_place, whole_line};
+
+use crate::kept::{FILE_START, Place};
+use crate::placed_finding::PlacedFinding;
+use std::alloc::{AllocError, Global};
+use text_bytes::{Bytes, Line, Lines, MessageKind, capped};
+
+/// The fewest bytes of a line for which a file is given up.
+const TOO_MANY_BYTES: usize = 16_384;
+
+/// What is found of a file that is given up for the line of a number: this, of the whole line. The
+/// error comes where memory is refused.
+pub fn given_up_findings(
+    alloc: Global,
+    bytes: &[u8],
+    number: u32,
+) -> Result<Vec<PlacedFinding>, AllocError>
+    ensures { IfOk result (λ found. found.items ≡ given_up_findings bytes.now number) }
+{
+    let place = long_place(bytes);
+    let mut found = Vec::new(alloc);
+    found.push(PlacedFinding {
+        begins: number,
+        line: place.line,
+        column: place.column,
+        end: place.end,
+        kind: MessageKind::FileGivenUp,
+        word: Bytes::new(Vec::new(alloc)),
+    })?;
+    Ok(found)
+}
+
+/// The first line that is too long, or the start of the file where none is.
+fn long_place(bytes: &[u8]) -> Place
+    ensures { result ≡ long_place (numbered_lines bytes.now) }
+{
+    for line in Lines::new(bytes) {
+        if line.text().len() >= TOO_MANY_BYTES {
+            return whole_line(&line);
+        }
+    }
+    FILE_START
+}
+
+/// A line of a file as a whole.
+fn whole_line(line: &Line<'_>) -> Place
+    ensures { result ≡ whole_line line.now }
+{
+    Place {
+        line: capped(line.number()),
+        column: 1,
+        end: capped(line.text().len() + 1),
+    }
+}

@@ -1,0 +1,48 @@
+//! What is to be said of parts of lines, as findings of their file.
+ghost use Rattle.std.specs.Prelude.{◌≡◌, ◌++◌, IfOk, OnOk, map};
+ghost use Rattle.rule_places.specs.Placed.{placed};
+
+use crate::kept::KeptLines;
+use crate::placed_finding::PlacedFinding;
+use crate::spot::Spot;
+use crate::sums::sum_of;
+use std::alloc::AllocError;
+
+/// Adds what is to be said of parts of a joined line, which stands behind so many bytes of other
+/// joined lines, as findings of the file with the number that the line's messages tell.
+///
+/// The error comes where memory is refused.
+pub fn place_spots(
+    found: &mut Vec<PlacedFinding>,
+    kept: &KeptLines,
+    number: u32,
+    start: usize,
+    spots: Vec<Spot>,
+) -> Result<(), AllocError>
+    ensures { OnOk result (found.new.items ≡ found.old.items ++ map (placed kept.now number start) spots.items) }
+{
+    for spot in spots {
+        found.push(placed(kept, number, start, spot)?)?;
+    }
+    Ok(())
+}
+
+/// What is to be said of a part of a line, as a finding of the file.
+fn placed(
+    kept: &KeptLines,
+    number: u32,
+    start: usize,
+    spot: Spot,
+) -> Result<PlacedFinding, AllocError>
+    ensures { IfOk result (λ found. found ≡ placed kept.now number start spot) }
+{
+    let place = kept.place_in(sum_of(start, spot.start)?, spot.size);
+    Ok(PlacedFinding {
+        begins: number,
+        line: place.line,
+        column: place.column,
+        end: place.end,
+        kind: spot.kind,
+        word: spot.word,
+    })
+}

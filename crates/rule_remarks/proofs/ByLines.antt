@@ -1,0 +1,88 @@
+-- Elements that are put among others by their lines.
+use Rattle.std.proofs.Common.{◌≡◌, ℕ, suc, ◌+◌, ◌<◌, ◌≤◌, Bool, true, false, true≢false, cond, nat_lt, ◌||◌, take-append-drop, lt-ltb, List, [], ◌∷◌, ◌++◌, drop, take, refl, subst, ap, sym, ◌∙◌, append_assoc, arith}
+use Rattle.std.specs.List.{list_any, prefix_len}
+use Rattle.std.proofs.lemmas.Bool.{ltb-false, ltb-true}
+use Rattle.std.proofs.lemmas.List.Sums.{take_while-cons}
+use Rattle.rule_remarks.specs.ByLine.{before, by_line, from_line}
+use Rattle.rule_remarks.specs.Laws.{RisesFrom}
+
+module _ {X : Type 0} (line_of : X → ℕ) where
+  -- an element more, with the others before it
+  pub one_by_line : (others told pushed rest behind more done : List X) (x : X)
+      → ((left : List X) → told ++ by_line line_of left rest ≡ by_line line_of (done ++ left) others)
+      → pushed ≡ told ++ before line_of rest (line_of x) → behind ≡ from_line line_of rest (line_of x) → more ≡ pushed ++ x ∷ []
+      → (left : List X) → more ++ by_line line_of left behind ≡ by_line line_of ((done ++ x ∷ []) ++ left) others
+  one_by_line others told pushed rest behind more done x so_far h g k left =
+      ap (λ (ms : List X). ms ++ by_line line_of left behind) k
+      ∙ append_assoc pushed (x ∷ []) (by_line line_of left behind)
+      ∙ ap (λ (ms : List X). ms ++ x ∷ by_line line_of left behind) h
+      ∙ append_assoc told (before line_of rest (line_of x)) (x ∷ by_line line_of left behind)
+      ∙ ap (λ (os : List X). told ++ (before line_of rest (line_of x) ++ x ∷ by_line line_of left os)) g
+      ∙ so_far (x ∷ left)
+      ∙ ap (λ (ls : List X). by_line line_of ls others) (sym (append_assoc done (x ∷ []) left))
+
+  passed : (b : Bool) (n : ℕ) (x : X) (xs : List X) → b ≡ true → drop (cond b (1 + n) 0) (x ∷ xs) ≡ drop n xs
+  passed true n x xs e =
+      let one : 1 + n ≡ suc n = omega arith in
+      ap (λ (k : ℕ). drop k (x ∷ xs)) one
+  passed false n x xs e = absurd (true≢false (sym e))
+
+  -- the first of the others goes over
+  pub one_moved : (n : ℕ) (told now all : List X) (x : X) (ys xs : List X) → told ++ before line_of ys n ≡ all → ys ≡ x ∷ xs → line_of x < n → now ≡ told ++ x ∷ [] → now ++ before line_of xs n ≡ all
+  one_moved n told now all x ys xs h whole less k =
+      ap (λ (zs : List X). zs ++ before line_of xs n) k
+      ∙ append_assoc told (x ∷ []) (before line_of xs n)
+      ∙ ap (λ (zs : List X). told ++ zs) (sym (take_while-cons (λ y. nat_lt (line_of y) n) x xs ∙ ap (λ (b : Bool). cond b (x ∷ before line_of xs n) []) (lt-ltb (line_of x) n less)))
+      ∙ ap (λ (zs : List X). told ++ before line_of zs n) (sym whole)
+      ∙ h
+
+  pub one_passed : (n : ℕ) (x : X) (ys xs all : List X) → from_line line_of ys n ≡ all → ys ≡ x ∷ xs → line_of x < n → from_line line_of xs n ≡ all
+  one_passed n x ys xs all h whole less =
+      sym (passed (nat_lt (line_of x) n) (prefix_len (λ y. nat_lt (line_of y) n) xs) x xs (lt-ltb (line_of x) n less))
+      ∙ ap (λ (zs : List X). from_line line_of zs n) (sym whole)
+      ∙ h
+
+  -- none is left to go over
+  pub none_passed : (n : ℕ) (xs all : List X) → from_line line_of xs n ≡ all → before line_of xs n ≡ [] → xs ≡ all
+  none_passed n xs all h e = sym (take-append-drop (prefix_len (λ y. nat_lt (line_of y) n) xs) xs) ∙ ap (λ (ys : List X). ys ++ from_line line_of xs n) e ∙ h
+
+  pub none_before : (n : ℕ) (xs : List X) → list_any (λ x. nat_lt (line_of x) n) (take 1 xs) ≡ false → before line_of xs n ≡ []
+  none_before n [] e = refl
+  none_before n (x ∷ xs) e = by (nat_lt (line_of x) n) refl e
+    where
+      by : (b : Bool) → nat_lt (line_of x) n ≡ b → (b || false) ≡ false → before line_of (x ∷ xs) n ≡ []
+      by true f g = absurd (true≢false g)
+      by false f g = take_while-cons (λ y. nat_lt (line_of y) n) x xs ∙ ap (λ (c : Bool). cond c (x ∷ before line_of xs n) []) f
+
+  -- without others
+  pub alone : (xs : List X) → by_line line_of xs [] ≡ xs
+  alone [] = refl
+  alone (x ∷ xs) = ap (λ (ys : List X). x ∷ ys) (alone xs)
+
+  -- what is left begins at the line
+  left_rises : (n m : ℕ) (xs : List X) → RisesFrom line_of n xs → RisesFrom line_of m (from_line line_of xs m)
+  left_rises n m [] h = tt
+  left_rises n m (x ∷ xs) h = by (nat_lt (line_of x) m) refl (left_rises (line_of x) m xs h.1)
+    where
+      by : (b : Bool) → nat_lt (line_of x) m ≡ b → RisesFrom line_of m (from_line line_of xs m) → RisesFrom line_of m (drop (cond b (1 + prefix_len (λ y. nat_lt (line_of y) m) xs) 0) (x ∷ xs))
+      by true e more = subst (λ (ys : List X). RisesFrom line_of m ys) (sym (passed true (prefix_len (λ y. nat_lt (line_of y) m) xs) x xs refl)) more
+      by false e more = (ltb-false (line_of x) m e, h.1)
+
+  -- an element behind those that are told of lines before its own
+  front_rises : (n : ℕ) (x : X) (rest xs : List X) → RisesFrom line_of n xs → n ≤ line_of x → RisesFrom line_of (line_of x) rest → RisesFrom line_of n (before line_of xs (line_of x) ++ x ∷ rest)
+  front_rises n x rest [] h l k = (l, k)
+  front_rises n x rest (y ∷ xs) h l k = by (nat_lt (line_of y) (line_of x)) refl (λ g. front_rises (line_of y) x rest xs h.1 g k)
+    where
+      by : (b : Bool) → nat_lt (line_of y) (line_of x) ≡ b → (line_of y ≤ line_of x → RisesFrom line_of (line_of y) (before line_of xs (line_of x) ++ x ∷ rest)) → RisesFrom line_of n (before line_of (y ∷ xs) (line_of x) ++ x ∷ rest)
+      by true e more =
+          let less : line_of y < line_of x = ltb-true (line_of y) (line_of x) e in
+          subst (λ (zs : List X). RisesFrom line_of n (zs ++ x ∷ rest)) (sym (take_while-cons (λ z. nat_lt (line_of z) (line_of x)) y xs ∙ ap (λ (b : Bool). cond b (y ∷ before line_of xs (line_of x)) []) e)) (h.0, more (omega (arith, less)))
+      by false e more =
+          subst (λ (zs : List X). RisesFrom line_of n (zs ++ x ∷ rest)) (sym (take_while-cons (λ z. nat_lt (line_of z) (line_of x)) y xs ∙ ap (λ (b : Bool). cond b (y ∷ before line_of xs (line_of x)) []) e)) (l, k)
+
+  -- two that rise make one that does
+  pub both_rise : (n : ℕ) (xs others : List X) → RisesFrom line_of n xs → RisesFrom line_of n others → RisesFrom line_of n (by_line line_of xs others)
+  both_rise n [] others h k = k
+  both_rise n (x ∷ xs) others h k =
+      front_rises n x (by_line line_of xs (from_line line_of others (line_of x))) others k h.0
+      (both_rise (line_of x) xs (from_line line_of others (line_of x)) h.1 (left_rises n (line_of x) others k))

@@ -1,0 +1,53 @@
+-- What is told of a file is told of its rules.
+use Rattle.std.proofs.Common.{◌≡◌, ℕ, ◌+◌, Bool, true, false, cond, inl, inr, List, [], ◌∷◌, ◌++◌, length, map, Option, Some, None, refl}
+use Rattle.std.specs.List.{AllByRecursion}
+use Rattle.text_bytes.specs.Lines.{NumberedLine}
+use Rattle.text_bytes.specs.declared.profile.Profile.TheVariants.{Udev}
+use Rattle.rule_core.specs.Drafts.{draft_of, items_as, tokens_of}
+use Rattle.rule_core.specs.Ends.{given_up}
+use Rattle.rule_core.specs.Lines.{joined_lines}
+use Rattle.rule_pairs.specs.Accounts.{Accounts}
+use Rattle.rule_places.specs.Kept.{kept_lines}
+use Rattle.rule_places.specs.Placed.{placed}
+use Rattle.rule_places.specs.Shown.{IsAmong}
+use Rattle.rule_places.specs.declared.kept.KeptLine.{KeptLine}
+use Rattle.rule_places.specs.declared.placed_finding.PlacedFinding.{PlacedFinding}
+use Rattle.rule_places.specs.declared.spot.Spot.{Spot}
+use Rattle.rule_remarks.specs.Laws.{IsOfRule}
+use Rattle.rule_remarks.specs.Remarks.{rule_remarks}
+use Rattle.rule_remarks.specs.Rules.{file_remarks, is_read, line_remarks, remarks_from, remarks_unless}
+
+both : (all : List NumberedLine) (xs ys : List PlacedFinding) → AllByRecursion (IsOfRule all) xs → AllByRecursion (IsOfRule all) ys → AllByRecursion (IsOfRule all) (xs ++ ys)
+both all [] ys h g = g
+both all (x ∷ xs) ys h g = (h.0, both all xs ys h.1 g)
+
+module _ (accounts : Accounts) (kept : List KeptLine) (all : List NumberedLine) where
+  spots_of_rule : (l : NumberedLine) (start : ℕ) (spots : List Spot) → IsAmong l all → is_read (draft_of Udev l.text) ≡ true → AllByRecursion (IsOfRule all) (map (placed kept l.number start) spots)
+  spots_of_rule l start [] a r = tt
+  spots_of_rule l start (s ∷ spots) a r = (record { line = l; among = a; read = r; number = refl }, spots_of_rule l start spots a r)
+
+  of_line : (l : NumberedLine) (start : ℕ) → IsAmong l all → AllByRecursion (IsOfRule all) (map (placed kept l.number start) (line_remarks accounts l.text))
+  unfolding line_remarks
+  of_line l start a = by (is_read (draft_of Udev l.text)) refl
+    where
+      by : (b : Bool) → is_read (draft_of Udev l.text) ≡ b → AllByRecursion (IsOfRule all) (map (placed kept l.number start) (cond b (rule_remarks accounts (tokens_of (items_as Udev l.text))) []))
+      by true e = spots_of_rule l start (rule_remarks accounts (tokens_of (items_as Udev l.text))) a e
+      by false e = tt
+
+  of_lines : (start : ℕ) (ls : List NumberedLine) → ((l : NumberedLine) → IsAmong l ls → IsAmong l all) → AllByRecursion (IsOfRule all) (remarks_from accounts kept start ls)
+  of_lines start [] f = tt
+  of_lines start (l ∷ ls) f =
+      both all (map (placed kept l.number start) (line_remarks accounts l.text)) (remarks_from accounts kept (start + length l.text) ls)
+      (of_line l start (f l (inl refl)))
+      (of_lines (start + length l.text) ls (λ x a. f x (inr a)))
+
+pub of_rules : (accounts : Accounts) (bytes : List ℕ) → AllByRecursion (IsOfRule (joined_lines Udev bytes).lines) (file_remarks accounts bytes)
+unfolding file_remarks
+of_rules accounts bytes = by (given_up Udev bytes)
+  where
+    lines : List NumberedLine
+    lines = (joined_lines Udev bytes).lines
+
+    by : (o : Option ℕ) → AllByRecursion (IsOfRule lines) (remarks_unless accounts bytes o)
+    by None = of_lines accounts (kept_lines bytes) lines 0 lines (λ l a. a)
+    by (Some n) = tt

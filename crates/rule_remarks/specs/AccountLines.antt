@@ -1,0 +1,65 @@
+-- The users and groups that files like /etc/passwd and /etc/group list.
+use Rattle.std.specs.Prelude.{ℕ, ◌^◌, Bool, ◌||◌, ◌==◌, if◌then◌else◌, List, [], ◌∷◌, filter_map, Option, Some, None, is_some, option_map}
+use Rattle.std.specs.Option.{option_and_then}
+use Rattle.text_bytes.specs.Lines.{NumberedLine, numbered_lines}
+use Rattle.text_bytes.specs.Names.{colon, hash, is_whitespace, minus, plus}
+use Rattle.text_bytes.specs.Numbers.{decimal_below}
+use Rattle.text_bytes.specs.Texts.{begins_with, skip_while, split_once}
+use Rattle.rule_pairs.specs.declared.accounts.AccountKind.{AccountKind}
+use Rattle.rule_pairs.specs.declared.accounts.AccountKind.TheVariants.{User, Group}
+use Rattle.rule_pairs.specs.declared.accounts.Account.{Account}
+
+-- a text without the white space at its start
+abbrev pub trimmed : List ℕ → List ℕ
+trimmed text = skip_while is_whitespace text
+
+-- a text without a `+` at its start
+abbrev pub without_plus : List ℕ → List ℕ
+without_plus [] = []
+without_plus (b ∷ text) = if b == plus then text else b ∷ text
+
+-- the number that a field gives: perhaps white space and a `+`, and behind it decimal digits of a number within 32 bits
+abbrev pub field_number : List ℕ → Option ℕ
+field_number text = decimal_below (2 ^ 32) (without_plus (trimmed text))
+
+-- what stands before a cut of a text, all of it where it is not cut
+abbrev pub before_cut : List ℕ → Option (List ℕ × List ℕ) → List ℕ
+before_cut text None = text
+before_cut text (Some x) = x.0
+
+-- the first field of a text: what stands before the first colon, all of it where there is none
+abbrev pub first_field : List ℕ → List ℕ
+first_field text = before_cut text (split_once colon text)
+
+-- the number of a user, where a field with the number of its group follows
+abbrev pub user_number : List ℕ × List ℕ → Option ℕ
+user_number x = if is_some (field_number (first_field x.1)) then field_number x.0 else None
+
+-- the number of an account, by the fields behind its password
+abbrev pub number_in : AccountKind → List ℕ → Option ℕ
+number_in User fields = option_and_then user_number (split_once colon fields)
+number_in Group fields = field_number (first_field fields)
+
+-- an account of a name and a number
+abbrev pub account : List ℕ → ℕ → Account
+account name n = record { name = name; number = n }
+
+-- an account of a name, by what stands behind its colon: a password and the other fields
+abbrev pub account_behind : AccountKind → List ℕ → List ℕ → Option Account
+account_behind kind name fields = option_and_then (λ x. option_map (account name) (number_in kind x.1)) (split_once colon fields)
+
+-- whether a line without the white space at its start is a comment, or one that no name is looked up in
+abbrev pub is_passed_over : List ℕ → Bool
+is_passed_over line = begins_with hash line || (begins_with plus line || begins_with minus line)
+
+-- the account of a line without the white space at its start
+abbrev pub account_in : AccountKind → List ℕ → Option Account
+account_in kind line = if is_passed_over line then None else option_and_then (λ x. account_behind kind x.0 x.1) (split_once colon line)
+
+-- the account that a line lists, if it does
+abbrev pub account_of : AccountKind → NumberedLine → Option Account
+account_of kind l = account_in kind (trimmed l.text)
+
+-- the accounts that a file with these bytes lists, in the order of its lines
+abbrev pub accounts_of : AccountKind → List ℕ → List Account
+accounts_of kind bytes = filter_map (account_of kind) (numbered_lines bytes)

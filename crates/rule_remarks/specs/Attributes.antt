@@ -1,0 +1,35 @@
+-- What is wrong with the name of an attribute in a rule that stays.
+use Rattle.std.specs.Prelude.{ℕ, Bool, true, false, ◌&&◌, ◌||◌, List, [], ◌∷◌, nat_eq, codes}
+use Rattle.std.specs.List.{starts_with}
+use Rattle.rule_templates.specs.Reading.{is_faulty}
+use Rattle.rule_types.specs.declared.keys.Key.{Key}
+use Rattle.rule_types.specs.declared.keys.Key.TheVariants as key
+
+-- whether substitutions may stand in the attribute of a key
+abbrev pub takes_substitutions : Key → Bool
+takes_substitutions key.Attr = true
+takes_substitutions key.Attrs = true
+takes_substitutions key.Sysctl = true
+takes_substitutions _ = false
+
+-- whether a key compares the attributes of the devices of the chain
+abbrev pub is_of_chain : Key → Bool
+is_of_chain key.Attrs = true
+is_of_chain _ = false
+
+-- whether `../` stands in a text
+abbrev pub has_way_up : List ℕ → Bool
+has_way_up [] = false
+has_way_up (b ∷ text) = starts_with nat_eq (b ∷ text) (codes "../") || has_way_up text
+
+-- whether the name of an attribute leads from its device to another one
+abbrev pub leads_elsewhere : List ℕ → Bool
+leads_elsewhere name = starts_with nat_eq name (codes "device/") || has_way_up name
+
+-- whether a substitution in the attribute of a key is none
+abbrev pub is_bad_name : Key → List ℕ → Bool
+is_bad_name k name = takes_substitutions k && is_faulty name
+
+-- whether the attribute of a key is one of another device
+abbrev pub is_elsewhere : Key → List ℕ → Bool
+is_elsewhere k name = is_of_chain k && leads_elsewhere name

@@ -1,0 +1,73 @@
+-- What is wrong with the value of a token of a rule that stays.
+use Rattle.std.specs.Prelude.{ℕ, if◌then◌else◌, List, Option, Some, None, codes, ◌||◌}
+use Rattle.text_bytes.specs.Texts.{is_empty}
+use Rattle.text_bytes.specs.declared.message.MessageKind.{MessageKind}
+use Rattle.text_bytes.specs.declared.message.MessageKind.TheVariants.{BadSubstitution, BadValue, EmptyValue, OldSubsystemName, UnknownAccount}
+use Rattle.text_tables.specs.Texts.{same_text}
+use Rattle.rule_templates.specs.Reading.{is_faulty}
+use Rattle.rule_tokens.specs.Grammar.{compares}
+use Rattle.rule_tokens.specs.declared.kinds.Operator.{Operator}
+use Rattle.rule_types.specs.declared.keys.Key.{Key}
+use Rattle.rule_types.specs.declared.keys.Key.TheVariants as key
+use Rattle.rule_parts.specs.Options.{is_known_option}
+use Rattle.rule_pairs.specs.Accounts.{Accounts, given_in}
+use Rattle.rule_pairs.specs.declared.accounts.AccountKind.{AccountKind}
+use Rattle.rule_pairs.specs.declared.accounts.AccountKind.TheVariants.{User, Group}
+use Rattle.rule_pairs.specs.declared.accounts.Given.{Given}
+use Rattle.rule_pairs.specs.declared.accounts.Given.TheVariants as given
+
+-- what is wrong with a text in which substitutions may stand
+abbrev pub text_fault : List ℕ → Option MessageKind
+text_fault text = if is_faulty text then Some BadSubstitution else None
+
+-- the same of a text that must not be empty
+abbrev pub filled_fault : List ℕ → Option MessageKind
+filled_fault text = if is_empty text then Some EmptyValue else text_fault text
+
+-- what is wrong with the name of a subsystem: `bus` and `class` are old names of `subsystem`
+abbrev pub subsystem_fault : List ℕ → Option MessageKind
+subsystem_fault text = if same_text text (codes "bus") || same_text text (codes "class") then Some OldSubsystemName else None
+
+-- what is wrong with an option
+abbrev pub option_fault : List ℕ → Option MessageKind
+option_fault text = if is_known_option text then None else Some BadValue
+
+-- what is wrong with a value of OWNER or GROUP that gives this
+abbrev pub given_fault : Given → List ℕ → Option MessageKind
+given_fault (given.Number n) text = None
+given_fault given.Unknown text = Some UnknownAccount
+given_fault given.Text text = filled_fault text
+
+-- what is wrong with a user or a group
+abbrev pub account_fault : Accounts → AccountKind → List ℕ → Option MessageKind
+account_fault accounts kind text = given_fault (given_in accounts kind text) text
+
+-- what is wrong with what a key is compared with; matches look for no substitutions
+abbrev pub compared_fault : Key → List ℕ → Option MessageKind
+compared_fault key.Subsystem text = subsystem_fault text
+compared_fault key.Test text = filled_fault text
+compared_fault key.Program text = filled_fault text
+compared_fault key.Import text = filled_fault text
+compared_fault _ text = None
+
+-- what is wrong with what is assigned to a key; the names of LABEL and GOTO have no substitutions
+abbrev pub assigned_fault : Accounts → Key → List ℕ → Option MessageKind
+assigned_fault accounts key.Name text = text_fault text
+assigned_fault accounts key.Symlink text = text_fault text
+assigned_fault accounts key.Env text = text_fault text
+assigned_fault accounts key.Attr text = text_fault text
+assigned_fault accounts key.Sysctl text = text_fault text
+assigned_fault accounts key.Tag text = filled_fault text
+assigned_fault accounts key.Seclabel text = filled_fault text
+assigned_fault accounts key.Mode text = filled_fault text
+assigned_fault accounts key.Run text = filled_fault text
+assigned_fault accounts key.Program text = filled_fault text
+assigned_fault accounts key.Import text = filled_fault text
+assigned_fault accounts key.Owner text = account_fault accounts User text
+assigned_fault accounts key.Group text = account_fault accounts Group text
+assigned_fault accounts key.Options text = option_fault text
+assigned_fault accounts _ text = None
+
+-- what is wrong with a value of a key behind an operator
+unfoldable pub value_fault : Accounts → Key → Operator → List ℕ → Option MessageKind
+value_fault accounts k o text = if compares o then compared_fault k text else assigned_fault accounts k text

@@ -1,0 +1,114 @@
+//! The users and groups that files list.
+ghost use Rattle.std.specs.Prelude.{◌≡◌, ◌≤◌, IfOk, length, option_map};
+ghost use Rattle.std.specs.List.{prefix_len};
+ghost use Rattle.text_bytes.specs.Names.{is_whitespace};
+ghost use Rattle.rule_remarks.specs.AccountLines.{account, account_in, accounts_of, field_number, first_field, is_passed_over, number_in, trimmed, without_plus};
+
+use rule_pairs::{Account, AccountKind};
+use std::alloc::{AllocError, Global};
+use text_bytes::{Bytes, Lines, begins_with, decimal_below, is_whitespace, split_once};
+
+/// What a number of 32 bits is below.
+const NUMBERS: u64 = 1 << 32;
+
+/// The users that a file like /etc/passwd lists, or the groups of one like /etc/group, as the C library reads it.
+///
+/// White space before a line counts for nothing. No account is listed by a line that begins with `#`, `+` or `-`, nor
+/// by one without a number within 32 bits of its account, and of a user's group. The error comes where memory is
+/// refused.
+pub fn read_accounts(
+    alloc: Global,
+    kind: AccountKind,
+    bytes: &[u8],
+) -> Result<Vec<Account>, AllocError>
+    ensures { IfOk result (λ accounts. accounts.items ≡ accounts_of kind bytes.now) }
+{
+    let mut accounts = Vec::new(alloc);
+    for line in Lines::new(bytes) {
+        if let Some((name, number)) = account_in(kind, trimmed(line.text())) {
+            let name = Bytes::copy_of(alloc, name)?;
+            accounts.push(Account { name, number })?;
+        }
+    }
+    Ok(accounts)
+}
+
+/// The name and the number of the account of a line without the white space at its start.
+fn account_in(kind: AccountKind, line: &[u8]) -> Option<(&[u8], u32)>
+    ensures { option_map (λ x. account x.0.now x.1) result ≡ account_in kind line.now }
+{
+    if is_passed_over(line) {
+        return None;
+    }
+    let (name, behind) = split_once(b':', line)?;
+    let (_, fields) = split_once(b':', behind)?;
+    Some((name, number_in(kind, fields)?))
+}
+
+/// Whether a line without the white space at its start lists no name that is looked up.
+fn is_passed_over(line: &[u8]) -> bool
+    ensures { result ≡ is_passed_over line.now }
+{
+    begins_with(b'#', line) || begins_with(b'+', line) || begins_with(b'-', line)
+}
+
+/// The number of an account, by the fields behind its password.
+fn number_in(kind: AccountKind, fields: &[u8]) -> Option<u32>
+    ensures { result ≡ number_in kind fields.now }
+{
+    match kind {
+        AccountKind::User => {
+            let (number, behind) = split_once(b':', fields)?;
+            if field_number(first_field(behind)).is_some() {
+                field_number(number)
+            } else {
+                None
+            }
+        }
+        AccountKind::Group => field_number(first_field(fields)),
+    }
+}
+
+/// What stands before the first colon of a text, all of it where there is none.
+fn first_field(text: &[u8]) -> &[u8]
+    ensures { result.now ≡ first_field text.now }
+{
+    match split_once(b':', text) {
+        None => text,
+        Some((field, _)) => field,
+    }
+}
+
+/// The number that a field gives.
+fn field_number(text: &[u8]) -> Option<u32>
+    ensures { result ≡ field_number text.now }
+{
+    let number = decimal_below(NUMBERS, without_plus(trimmed(text)))?;
+    Some(number as u32)
+}
+
+/// A text without a `+` at its start.
+fn without_plus(text: &[u8]) -> &[u8]
+    ensures { result.now ≡ without_plus text.now }
+{
+    match text.split_first() {
+        Some((b'+', behind)) => behind,
+        _ => text,
+    }
+}
+
+/// A text without the white space at its start.
+fn trimmed(text: &[u8]) -> &[u8]
+    ensures { result.now ≡ trimmed text.now }
+{
+    let (_, behind) = text.split_at(leading_white_space(text));
+    behind
+}
+
+/// How much white space a text begins with.
+fn leading_white_space(text: &[u8]) -> usize
+    ensures value { result ≡ prefix_len is_whitespace text.now }
+    ensures within { result ≤ length text.now }
+{
+    text.iter().take_while(|byte| is_whitespace(**byte)).count()
+}

@@ -1,0 +1,69 @@
+//! What is told of the rules of a file that stay.
+ghost use Rattle.std.specs.Prelude.{◌≡◌, ◌++◌, IfOk, OnOk};
+ghost use Rattle.rule_remarks.specs.Rules.{file_remarks, remarks_from, remarks_of_lines};
+
+use crate::line_remarks::line_remarks;
+use rule_core::{JoinedLine, given_up_at, joined_lines};
+use rule_pairs::Accounts;
+use rule_places::{KeptLines, PlacedFinding, place_spots, sum_of};
+use std::alloc::{AllocError, Global};
+use text_bytes::Profile;
+
+/// What udev tells of the rules of a file that stay, in the order of their lines, each with the physical line and the
+/// columns that it is about. The file's ends of lines are newlines already.
+///
+/// Of a rule first what is wrong with each token comes, in written order: of its attribute, then of its value. Behind
+/// that V19 comes, and then what is told of two tokens. V19, V16, V17 and V20 are told at a key, V21 and V22 at an
+/// attribute between its braces, V5, V6, V23 and V25 at a value between its quotes; each has the text that it is about.
+/// A place in several physical lines is told as far as it stands in the first of them. A number of a line or of a
+/// column over 2^32 - 1 is given as that one. Of a file that udev gives up nothing is told.
+///
+/// The error comes where memory is refused.
+#[tactic(auto, unfolding(crate::specs::Rules::file_remarks))]
+pub fn file_remarks(
+    alloc: Global,
+    accounts: &Accounts,
+    bytes: &[u8],
+) -> Result<Vec<PlacedFinding>, AllocError>
+    ensures { IfOk result (λ told. told.items ≡ file_remarks accounts.now bytes.now) }
+{
+    match given_up_at(Profile::Udev, bytes) {
+        Some(_) => Ok(Vec::new(alloc)),
+        None => remarks_of_lines(alloc, accounts, bytes),
+    }
+}
+
+/// What is told of the joined lines of a file.
+fn remarks_of_lines(
+    alloc: Global,
+    accounts: &Accounts,
+    bytes: &[u8],
+) -> Result<Vec<PlacedFinding>, AllocError>
+    ensures { IfOk result (λ told. told.items ≡ remarks_of_lines accounts.now bytes.now) }
+{
+    let kept = KeptLines::of(alloc, bytes)?;
+    let joined = joined_lines(alloc, Profile::Udev, bytes)?;
+    let mut told = Vec::new(alloc);
+    place_lines(alloc, &mut told, accounts, &kept, joined.lines())?;
+    Ok(told)
+}
+
+/// Adds what is told of joined lines.
+fn place_lines(
+    alloc: Global,
+    told: &mut Vec<PlacedFinding>,
+    accounts: &Accounts,
+    kept: &KeptLines,
+    lines: &[JoinedLine<'_>],
+) -> Result<(), AllocError>
+    ensures { OnOk result (told.new.items ≡ told.old.items ++ remarks_from accounts.now kept.now 0 lines.now) }
+{
+    let mut start = 0;
+    for line in lines {
+        let text = line.text();
+        let spots = line_remarks(alloc, accounts, text)?;
+        place_spots(told, kept, line.number(), start, spots)?;
+        start = sum_of(start, text.len())?;
+    }
+    Ok(())
+}

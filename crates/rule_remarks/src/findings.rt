@@ -1,0 +1,34 @@
+//! All that is told of a rules file by a profile.
+ghost use Rattle.std.specs.Prelude.{◌≡◌, IfOk};
+ghost use Rattle.rule_remarks.specs.Findings.{findings_as};
+
+use crate::files::file_remarks;
+use crate::merging::by_line;
+use rule_pairs::Accounts;
+use rule_places::{PlacedFinding, placed_findings};
+use std::alloc::{AllocError, Global};
+use text_bytes::{Profile, SourceFile};
+
+/// What is told of a rules file, in the order of its lines: by the manual what is found when it is read, by udev also
+/// what it tells of rules that stay, of each line behind what reading finds of it. The file's ends of lines are
+/// newlines already.
+///
+/// The error comes where memory is refused.
+#[tactic(auto, unfolding(crate::specs::Findings::findings_as))]
+pub fn file_findings(
+    alloc: Global,
+    profile: Profile,
+    accounts: &Accounts,
+    file: &SourceFile,
+) -> Result<Vec<PlacedFinding>, AllocError>
+    ensures { IfOk result (λ told. told.items ≡ findings_as profile accounts.now file.now) }
+{
+    let found = placed_findings(alloc, profile, file)?;
+    match profile {
+        Profile::Manual => Ok(found),
+        Profile::Udev => {
+            let remarks = file_remarks(alloc, accounts, file.bytes.as_slice())?;
+            by_line(alloc, found, remarks)
+        }
+    }
+}

@@ -1,0 +1,29 @@
+//! What udev tells of rules that stay: of values, attributes and options that it takes though something is wrong with
+//! them, and of tokens that go badly together.
+//!
+//! A line that is no rule is told of when it is read, and not here. What is told has the place that it is about, so that
+//! it stands among the findings of reading.
+#![tactic(auto)]
+
+mod account_lines;
+mod attributes;
+mod files;
+mod findings;
+mod laws;
+mod line_remarks;
+mod merging;
+mod order;
+mod rule_remarks;
+mod token_remarks;
+mod values;
+
+pub use account_lines::read_accounts;
+pub use files::file_remarks;
+pub use findings::file_findings;
+pub use laws::{
+    late_programs_stand_behind_results, lines_never_fall, no_tokens_have_no_remarks,
+    remarks_are_told_of_rules, some_accounts, the_manual_tells_findings_alone,
+    values_stand_between_quotes, ways_up_stand_in_their_names, words_stand_at_their_places,
+};
+pub use rule_pairs::{Account, AccountKind, Accounts};
+pub use rule_places::PlacedFinding;

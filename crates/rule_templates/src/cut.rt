@@ -1,0 +1,36 @@
+//! A piece before its bytes are copied.
+ghost use Rattle.std.specs.Prelude.{Ok};
+ghost use Rattle.rule_templates.specs.Cuts.{copied};
+ghost use Rattle.rule_templates.specs.Faults.{Gives};
+
+use crate::fault::TemplateFault;
+use crate::piece::Piece;
+use std::alloc::Global;
+use text_bytes::Bytes;
+
+/// A piece whose bytes still stand in the text.
+#[derive(Debug, Drop)]
+pub enum Cut<'a> {
+    /// Bytes as they stand.
+    Plain(&'a [u8]),
+    /// The attribute of that name.
+    Attr(&'a [u8]),
+    /// The property of that name.
+    Env(&'a [u8]),
+    /// Any other piece: one that keeps no bytes.
+    Other(Piece),
+}
+
+impl<'a> Cut<'a> {
+    /// The piece with its bytes copied. The fault is `Memory`.
+    pub fn copied(self, alloc: Global) -> Result<Piece, TemplateFault>
+        ensures { Gives (λ p. p) result (Ok (copied self.entry)) }
+    {
+        match self {
+            Cut::Plain(text) => Ok(Piece::Plain(Bytes::copy_of(alloc, text)?)),
+            Cut::Attr(name) => Ok(Piece::Attr(Bytes::copy_of(alloc, name)?)),
+            Cut::Env(name) => Ok(Piece::Env(Bytes::copy_of(alloc, name)?)),
+            Cut::Other(piece) => Ok(piece),
+        }
+    }
+}

@@ -1,0 +1,201 @@
+//! Integers as udev reads them: in base 2, 8, 10 or 16, with a sign or without one.
+ghost use Rattle.std.specs.Prelude.{◌≡◌, ◌≤◌, ◌<◌, ◌^◌, IfSome, length, option_map};
+ghost use Rattle.std.specs.List.{prefix_len};
+ghost use Rattle.text_bytes.specs.Names.{is_whitespace};
+ghost use Rattle.text_bytes.specs.Texts.{skip_while};
+ghost use Rattle.rule_templates.specs.Integers.{behind_mark, integer_of, is_separator, marked, natural_of, signed, signed_size, size_in, size_of};
+
+use text_bytes::{begins_with, is_blank, is_whitespace};
+
+/// What the numbers that are read are below: none has more than 32 bits.
+const LIMIT: u64 = 1 << 32;
+
+/// In which base digits are, as far as what stands before their sign tells it.
+#[derive(Clone, Copy, Debug, PartialEq, Eq)]
+pub enum Base {
+    /// `0b`: in base 2.
+    Binary,
+    /// `0o`: in base 8.
+    Octal,
+    /// Nothing: the digits begin with what tells it.
+    Open,
+}
+
+/// Whether a byte is a space, a tab, or one of the two that end lines.
+pub fn is_separator(byte: u8) -> bool
+    ensures { result ≡ is_separator byte }
+{
+    is_blank(byte) || byte == b'\n' || byte == b'\r'
+}
+
+/// A text without the spaces, tabs and ends of lines at its start.
+pub fn behind_separators(text: &[u8]) -> &[u8]
+    ensures { result.now ≡ skip_while is_separator text.now }
+{
+    let (_, behind) = text.split_at(leading_separators(text));
+    behind
+}
+
+/// How many spaces, tabs and ends of lines a text begins with.
+fn leading_separators(text: &[u8]) -> usize
+    ensures value { result ≡ prefix_len is_separator text.now }
+    ensures within { result ≤ length text.now }
+{
+    text.iter().take_while(|byte| is_separator(**byte)).count()
+}
+
+/// A text without the white space at its start.
+fn behind_whitespace(text: &[u8]) -> &[u8]
+    ensures { result.now ≡ skip_while is_whitespace text.now }
+{
+    let (_, behind) = text.split_at(leading_whitespace(text));
+    behind
+}
+
+/// How many bytes of white space a text begins with.
+fn leading_whitespace(text: &[u8]) -> usize
+    ensures value { result ≡ prefix_len is_whitespace text.now }
+    ensures within { result ≤ length text.now }
+{
+    text.iter().take_while(|byte| is_whitespace(**byte)).count()
+}
+
+/// The number that one digit or more of a base write, where it has 32 bits at most.
+#[tactic(auto, unfolding(crate::specs::Integers::size_in))]
+fn size_in(base: u32, digits: &[u8]) -> Option<u64>
+    requires least { 2 ≤ base }
+    requires most { base ≤ 16 }
+    ensures value { result ≡ size_in base digits.now }
+    ensures below { IfSome result (λ number. number < 2 ^ 32) }
+{
+    if digits.is_empty() {
+        return None;
+    }
+    let mut number = 0u64;
+    for byte in digits {
+        let digit = match char::from(*byte).to_digit(base) {
+            Some(digit) => digit,
+            None => return None,
+        };
+        number = number * u64::from(base) + u64::from(digit);
+        if number >= LIMIT {
+            return None;
+        }
+    }
+    Some(number)
+}
+
+/// What stands behind a `0` and a letter, in either case.
+fn behind_mark(letter: u8, text: &[u8]) -> Option<&[u8]>
+    ensures { option_map (λ rest. rest.now) result ≡ behind_mark letter text.now }
+{
+    match text {
+        [first, second, rest @ ..] => {
+            if *first == b'0' && second.eq_ignore_ascii_case(&letter) {
+                Some(rest)
+            } else {
+                None
+            }
+        }
+        _ => None,
+    }
+}
+
+/// The number that digits write whose base is told by what they begin with.
+fn open_size(text: &[u8]) -> Option<u64>
+    ensures value { result ≡ size_of Base.Open text.now }
+    ensures below { IfSome result (λ number. number < 2 ^ 32) }
+{
+    if let Some(digits) = behind_mark(b'x', text) {
+        return size_in(16, digits);
+    }
+    if let Some(digits) = behind_mark(b'b', text) {
+        return size_in(2, digits);
+    }
+    if begins_with(b'0', text) {
+        size_in(8, text)
+    } else {
+        size_in(10, text)
+    }
+}
+
+/// The number behind a sign, by the mark of its base.
+fn size_of(base: Base, text: &[u8]) -> Option<u64>
+    ensures value { result ≡ size_of base text.now }
+    ensures below { IfSome result (λ number. number < 2 ^ 32) }
+{
+    match base {
+        Base::Binary => size_in(2, behind_mark(b'b', text).unwrap_or(text)),
+        Base::Octal => size_in(8, text),
+        Base::Open => open_size(text),
+    }
+}
+
+/// The base that a mark in front tells, and what stands behind the mark.
+#[tactic(auto, unfolding(crate::specs::Integers::marked))]
+fn marked(text: &[u8]) -> (Base, &[u8])
+    ensures { (result.0, result.1.now) ≡ marked text.now }
+{
+    if let Some(rest) = behind_mark(b'b', text) {
+        return (Base::Binary, rest);
+    }
+    match behind_mark(b'o', text) {
+        Some(rest) => (Base::Octal, rest),
+        None => (Base::Open, text),
+    }
+}
+
+/// Whether a minus stands in front, and what stands behind the sign, if there is one.
+#[tactic(auto, unfolding(crate::specs::Integers::signed))]
+fn signed(text: &[u8]) -> (bool, &[u8])
+    ensures { (result.0, result.1.now) ≡ signed text.now }
+{
+    match text {
+        [b'-', rest @ ..] => (true, rest),
+        [b'+', rest @ ..] => (false, rest),
+        _ => (false, text),
+    }
+}
+
+/// The sign, true for a minus, and the number that a text writes.
+#[tactic(auto, unfolding(crate::specs::Integers::signed_size))]
+fn signed_size(text: &[u8]) -> Option<(bool, u64)>
+    ensures value { result ≡ signed_size text.now }
+    ensures below { IfSome result (λ x. x.1 < 2 ^ 32) }
+{
+    let (base, rest) = marked(behind_separators(text));
+    let (negative, digits) = signed(behind_whitespace(rest));
+    let number = size_of(base, digits)?;
+    Some((negative, number))
+}
+
+/// The integer that a text writes, as udev reads one, where it has 32 bits at most without its sign.
+///
+/// Spaces, tabs and ends of lines may stand in front, and a sign. The digits are hexadecimal ones
+/// behind `0x`, binary ones behind `0b`, octal ones behind `0o` or from a `0` on, and else decimal
+/// ones; `0b` and `0o` may also stand before the sign. Nothing may stand behind the digits.
+#[tactic(auto, unfolding(crate::specs::Integers::integer_of))]
+pub fn integer_of(text: &[u8]) -> Option<i64>
+    ensures { result ≡ integer_of text.now }
+{
+    let (negative, number) = signed_size(text)?;
+    if negative {
+        Some(-(number as i64))
+    } else {
+        Some(number as i64)
+    }
+}
+
+/// The integer that a text writes, as `integer_of` reads it, where it is not below zero.
+#[tactic(auto, unfolding(crate::specs::Integers::natural_of))]
+pub fn natural_of(text: &[u8]) -> Option<u64>
+    ensures value { result ≡ natural_of text.now }
+    ensures below { IfSome result (λ number. number < 2 ^ 32) }
+{
+    let (negative, number) = signed_size(text)?;
+    if negative && number != 0 {
+        None
+    } else {
+        Some(number)
+    }
+}

@@ -3,7 +3,7 @@
 Not made, because devdry reads them otherwise on purpose:
 - `\\u` and `\\U` in e values with a surrogate, with FDD0 to FDEF, or ending in FFFE or FFFF;
 - vertical tabs and form feeds in numbers, which udev passes over in front of them;
-- 16,383 joined bytes that go on with nothing but empty pieces;
+- 16,383 joined bytes that go on with nothing but empty pieces, and two backslashes at the end of a line with an empty line behind;
 - 0 as owner or group, which for devdry is root, but not for a udevadm that resolves no names.
 """
 import re
@@ -267,7 +267,7 @@ def line(chance, end):
     if what < 15:
         return chance.choice(["", "", " ", "\t ", "# a", "  # a \\", "#", 'TAG+="b"', ' TAG-="b" ', "\t\tTAG=e\"\\x41\""])
     if what == 15:
-        return chance.choice([",", " ,, ", "\\\\", "a\\", 'RING="1"', '\xef\xbb\xbfTAG+="a"', '\x0bTAG+="a"', 'TAG+="a",', ',TAG+="a"'])
+        return chance.choice([",", " ,, ", "a\\", 'RING="1"', '\xef\xbb\xbfTAG+="a"', '\x0bTAG+="a"', 'TAG+="a",', ',TAG+="a"'])
     return chance.choice(["", "", " ", "\t"]) + rule(chance).replace("\n", end) + chance.choice(["", "", " ", "\t"])
 
 

@@ -43,7 +43,9 @@ def worst(told):
 
 
 def grade_of(code):
-    """The class of a code of devdry. V5, which is a warning for unknown options and an error for other values, is 1."""
+    """The class of a code of devdry. V5, which is a warning for unknown options and an error for other values, is 1.
+
+    So is V18, before which udevadm may have told of an error in the same line."""
     return 2 if code[0] == "S" else int(code in WARNINGS)
 
 
@@ -54,8 +56,8 @@ def differ(their, our):
         return True
     wanted = worst([(int(told[:-1]), "ewn".index(told[-1])) for told in their[1].split() if told != "filee"])
     found = worst([(line, grade_of(code)) for line, code in our[1]])
-    options = {line for line, code in our[1] if code == "V5"}
-    same = wanted.keys() == found.keys() and all(found[line] == wanted[line] or (line in options and not wanted[line]) for line in wanted)
+    open_class = {line for line, code in our[1] if code in ("V5", "V18")}
+    same = wanted.keys() == found.keys() and all(found[line] == wanted[line] or (line in open_class and not wanted[line]) for line in wanted)
     return not given_up and not same
 
 

@@ -142,7 +142,7 @@ For more information, try '--help'.
 UNKNOWN_CODES = [
     ("verify --ignore X6 r.rules", "X6"),
     ("verify --ignore V6,X6 r.rules", "X6"),
-    ("verify --ignore V13 r.rules", "V13"),
+    ("verify --ignore V27 r.rules", "V27"),
     ("verify --ignore V0,X r.rules", "V0"),
     ("verify --ignore V r.rules", "V"),
     ("verify --ignore V2 --ignore bad r.rules", "bad"),

@@ -25,7 +25,7 @@ EACH = [
     *told("V23", 'SUBSYSTEM=="<V23|bus>", TAG+="x"', 'SUBSYSTEM!="<V23|class>", TAG+="x"', 'SUBSYSTEMS=="bus", TAG+="x"'),
     *told("V24", 'KERNEL=="sda", <V24|ENV>{DISK}:="1"', '<V24|MODE> += "0660"'),
     *told("V26", 'TAG+="a"', "<V26=|#" + "-" * 16_383 + ">", 'FOO="b"', formats=["plain", "gcc", "github", "gitlab", "json"]),
-    *told("S5", '<S5=|, >KERNEL=="sda", TAG+="disk"', '<S5=| , >TAG+="a"'),
+    *told("S5", '<S5=|, >KERNEL=="sda", TAG+="disk"', ' <S5=|, >TAG+="a"'),
     *told("S6", 'KERNEL=="sda" , <S6|TAG>+="disk"'),
 ]
 

@@ -83,7 +83,7 @@ CASES = [
     ('effect: a used label', 'GOTO="a"\nLABEL="a", KERNEL=="sda"\n', 'good', '', ''),
     ('effect: a lost jump and an assignment', 'GOTO="a", TAG+="b"\n', 'bad', '1e', '1:V7'),
     ('effect: a lost jump and PROGRAM', 'GOTO="a", PROGRAM="b"\n', 'bad', '1e', '1:V7'),
-    ('effect: a lost jump and a label', 'GOTO="b"\nLABEL="b", GOTO="c", KERNEL=="a", KERNEL=="b"\n', 'bad', '2e 2w', '2:V7'),
+    ('effect: a lost jump and a label', 'GOTO="b"\nLABEL="b", GOTO="c", KERNEL=="a", KERNEL=="b"\n', 'bad', '2e 2w', '2:V7 2:V16'),
     ('labels: the first is lost to a jump', 'GOTO="b"\nLABEL="a", LABEL="b"\n', 'bad', '2w', '2:V8'),
     ('labels: the same twice', 'GOTO="a"\nLABEL="a", LABEL="a"\n', 'bad', '2w', '2:V8'),
     ('labels: a jump to itself', 'LABEL="a", GOTO="a"\n', 'bad', '1e 1w 1n', '1:S4 1:V7'),

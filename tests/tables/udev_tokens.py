@@ -141,6 +141,10 @@ CASES = [
     ('order: RESULT behind PROGRAM', 'PROGRAM="a", RESULT=="b"\n', 'good', '', ''),
     ('order: RESULT alone', 'RESULT=="b", TAG+="disk"\n', 'good', '', ''),
     ('order: RESULT before IMPORT{program}', 'RESULT=="b", IMPORT{program}="/bin/a"\n', 'good', '', ''),
+    ('pairs: ATTR, a blank behind the first part', 'ATTR{a}=="x |1", ATTR{a}=="y |2", TAG+="t"\n', 'bad', '1e', '1:V16'),
+    ('pairs: ATTR, a blank behind the last part', 'ATTR{a}=="x|1 ", ATTR{a}=="y|2 ", TAG+="t"\n', 'good', '', ''),
+    ('pairs: ATTR, an empty first part', 'ATTR{a}=="|x ", ATTR{a}!="x |", TAG+="t"\n', 'bad', '1e', '1:V16'),
+    ('pairs: ATTR, parts in another order', 'ATTR{a}!="b|a ", ATTR{a}!="a |b", TAG+="t"\n', 'good', '', ''),
 ]
 
 ROWS = as_udev(CASES)

@@ -503,7 +503,8 @@ def make(kind, operator, value, data, blind):
             words = frozenset(p for p in parts if p)
             if b'' in parts and form in ('glob', 'plain'):
                 form += ' or empty'
-    trims = kind in ('ATTR', 'ATTRS') and value != b'' and value[-1] not in LIBRARY_SPACES
+    first = value.split(b'|')[0]
+    trims = kind in ('ATTR', 'ATTRS') and first != b'' and first[-1] not in LIBRARY_SPACES
     style = None
     if kind in ('ATTR', 'ATTRS'):
         style = 'device' if data[:1] == b'[' else 'format' if b'%' in data or b'$' in data else 'plain'

@@ -1,6 +1,6 @@
 //! A token of a rule as it is compared with the others of its rule.
 ghost use Rattle.std.specs.Prelude.{◌≡◌, IfOk};
-ghost use Rattle.rule_pairs.specs.Said.{as_assign, as_equal, ends_dark, is_attribute, operator_of, said_by, said_of, said_with, trims, turned, turned_by};
+ghost use Rattle.rule_pairs.specs.Said.{as_assign, as_equal, ends_dark, first_part, is_attribute, operator_of, said_by, said_of, said_with, trims, turned, turned_by};
 
 use crate::accounts::Accounts;
 use crate::form::{Form, form_of, is_choice, is_something};
@@ -10,7 +10,7 @@ use rule_tokens::{Quote, Token, unquote};
 use rule_types::{Key, Operator, key_of, read_as};
 use std::alloc::{AllocError, Global};
 use std::marker::Model;
-use text_bytes::{Bytes, is_whitespace};
+use text_bytes::{Bytes, is_whitespace, split_once};
 use text_tables::OwnedTexts;
 
 /// A token as it is compared with others.
@@ -172,7 +172,17 @@ fn turned(operator: Operator) -> Operator
 fn trims(key: Key, operator: Operator, text: &[u8]) -> bool
     ensures { result ≡ trims key operator text.now }
 {
-    is_attribute(key) && operator.compares() && ends_dark(text)
+    is_attribute(key) && operator.compares() && ends_dark(first_part(text))
+}
+
+/// The first of the parts of a text that stand between bars.
+fn first_part(text: &[u8]) -> &[u8]
+    ensures { result.now ≡ first_part text.now }
+{
+    match split_once(b'|', text) {
+        Some((front, _)) => front,
+        None => text,
+    }
 }
 
 /// Whether a key is that of an attribute of a device.

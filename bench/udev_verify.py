@@ -18,7 +18,7 @@ from pathlib import Path
 
 TOP = Path(__file__).resolve().parent.parent
 sys.path.insert(0, str(TOP / "tests"))
-from tables import udev_lines, udev_own, udev_tokens  # noqa: E402
+from tables import udev_lines, udev_accounts, udev_own, udev_tokens  # noqa: E402
 
 PROGRAM = os.environ.get("PROGRAM", TOP / "build/devdry")
 BATCH = 100
@@ -28,15 +28,13 @@ MESSAGE = re.compile(rb"<(27|28|29)>/tmp/cases/(\d+)\.rules:(\d+) ")
 VERDICT = re.compile(rb"<\d+>/tmp/cases/(\d+)\.rules: ")
 GIVEN_UP = re.compile(rb"<\d+>[A-Z][a-z ]* /tmp/cases/(\d+)\.rules: ")
 TOLD = re.compile(rb"(\d+)\.rules:(\d+): ([A-Z]\d+) ")
-# users and groups that the cases know beside those that udev knows by itself
-KNOWN = {"passwd": "root:x:0:0::/root:/bin/sh\ndaemon:x:1:1::/:/bin/sh\n", "group": "root:x:0:\ndisk:x:6:\n"}
 
 
 def make_root(source, root):
     """A copy of a root, by hard links where it can be, with users and groups of its own."""
     if subprocess.run(["cp", "-al", f"{source}/.", root], stderr=subprocess.DEVNULL).returncode:
         subprocess.run(["cp", "-a", f"{source}/.", root], check=True)
-    for name, text in KNOWN.items():
+    for name, text in udev_accounts.KNOWN.items():
         path = Path(root, "etc", name)
         path.unlink(missing_ok=True)
         path.write_text(text)
@@ -79,7 +77,7 @@ def asked_of_devdry(texts):
 
 def compare_cases(root):
     """How many cases differ from what udevadm says, which is told."""
-    cases = udev_own.CASES + udev_lines.CASES + udev_tokens.CASES
+    cases = udev_own.CASES + udev_lines.CASES + udev_tokens.CASES + udev_accounts.CASES
     wrong = 0
     for (name, _, verdict, told, _), answer in zip(cases, asked_of_udevadm(root, [case[1].encode("latin-1") for case in cases], [])):
         if answer != (verdict, told):

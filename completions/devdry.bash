@@ -59,12 +59,12 @@ _devdry() {
         return
     fi
     case $command in
-        verify) suffix=.rules options='-r --root --all --format --ignore --no-summary --no-style --lint --udev -h --help -V --version' ;;
+        verify) suffix=.rules options='-r --root --all --format --ignore --no-summary --no-style --lint --udev --users --groups -h --help -V --version' ;;
         query) suffix=.hwdb options='-r --root --sources --index -h --help -V --version' ;;
         update) suffix=.hwdb options='-r --root -s --strict --all --format --ignore -h --help -V --version' ;;
-        events) suffix=.rules options='-r --root --sources --why --index -h --help -V --version' ;;
+        events) suffix=.rules options='-r --root --sources --why --index --udev -h --help -V --version' ;;
         files) suffix='' options='-r --root -h --help -V --version' ;;
-        compare) suffix='' options='--index -h --help -V --version' ;;
+        compare) suffix='' options='--index --udev -h --help -V --version' ;;
         explain) suffix='' options='-h --help -V --version' ;;
         help)
             [ "$COMP_CWORD" -gt 2 ] || _devdry_words verify query update events files compare explain help
@@ -74,7 +74,7 @@ _devdry() {
     esac
     case $before:$word in
         -r:* | --root:*) _devdry_files '' ;;
-        --index:*) _devdry_any_files ;;
+        --index:* | --users:* | --groups:*) _devdry_any_files ;;
         --why:*) _devdry_files .rules ;;
         --format:*) _devdry_words plain gcc github gitlab json human ;;
         --ignore:*) _devdry_code_list ;;

@@ -29,6 +29,9 @@ complete -c devdry -n '__fish_seen_subcommand_from verify' -l no-summary -d 'Do 
 complete -c devdry -n '__fish_seen_subcommand_from verify' -l no-style -d 'Give no messages about style'
 complete -c devdry -n '__fish_seen_subcommand_from verify' -l lint -d 'Also tell of rules that are most likely not the ones that were meant'
 complete -c devdry -n '__fish_seen_subcommand_from verify' -l udev -d 'Read rules as udev itself reads them'
+complete -c devdry -n '__fish_seen_subcommand_from verify' -l users -r -F -d 'With --udev: users that OWNER may name, as in /etc/passwd'
+complete -c devdry -n '__fish_seen_subcommand_from verify' -l groups -r -F -d 'With --udev: groups that GROUP may name, as in /etc/group'
+complete -c devdry -n '__fish_seen_subcommand_from events compare' -l udev -d 'Read and evaluate rules as udev itself does'
 complete -c devdry -n '__fish_seen_subcommand_from verify events' -k -a '(__fish_complete_suffix .rules)'
 
 complete -c devdry -n '__fish_seen_subcommand_from query events' -l sources -d 'Say where each line comes from'

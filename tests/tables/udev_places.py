@@ -1,6 +1,5 @@
 """What `verify --udev` tells with codes of its own, each with its place, in every format."""
 from tables.kinds.marked import in_formats
-from tables.kinds.row import Row
 
 UDEV = ["--udev"]
 
@@ -11,7 +10,7 @@ def told(name, *lines, **more):
 
 
 # Of each message lines that earn it, each with its place.
-EACH = [
+ROWS = [
     *told("V13", 'SUBSYSTEM=="net", ENV{<V13|DEVNAME>}="lan0"', 'ENV{<V13|TAGS>}+="a"', 'ENV{CURRENT_TAGS}="a"'),
     *told("V14", 'SUBSYSTEM=="net", NAME="<V14|%k>"', 'NAME:="<V14|>"', 'NAME="%k0"'),
     *told("V15", 'IMPORT{builtin}="<V15|usb-id>"', 'RUN{builtin}+="<V15|kmodx load>"', 'IMPORT{builtin}="usb"'),
@@ -27,10 +26,4 @@ EACH = [
     *told("V26", 'TAG+="a"', "<V26=|#" + "-" * 16_383 + ">", 'FOO="b"', formats=["plain", "gcc", "github", "gitlab", "json"]),
     *told("S5", '<S5=|, >KERNEL=="sda", TAG+="disk"', ' <S5=|, >TAG+="a"'),
     *told("S6", 'KERNEL=="sda" , <S6|TAG>+="disk"'),
-]
-
-ROWS = [
-    *EACH,
-    Row("names of users and groups are not looked up", "verify --udev a.rules", {"a.rules": 'OWNER="missing", GROUP="staff"\n'},
-        output="1 files checked, 1 good, 0 bad\n"),
 ]

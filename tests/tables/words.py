@@ -95,6 +95,8 @@ Options:
       --no-style         Give no messages about style
       --lint             Also tell of rules that are most likely not the ones that were meant
       --udev             Read rules as udev itself reads them
+      --users <FILE>     With --udev: users that OWNER may name, as in /etc/passwd
+      --groups <FILE>    With --udev: groups that GROUP may name, as in /etc/group
   -h, --help             Print help
   -V, --version          Print version
 """
@@ -112,6 +114,7 @@ Options:
       --sources            Say where each line comes from
       --why <FILE[:LINE]>  Say what the rules of this file, or the one of this line, met
       --index <FILE>       Index to read in place of the database's folders
+      --udev               Read and evaluate rules as udev itself does
   -h, --help               Print help
   -V, --version            Print version
 """
@@ -138,6 +141,7 @@ Arguments:
 
 Options:
       --index <FILE>  Index to read in place of the database's folders
+      --udev          Read and evaluate rules as udev itself does
   -h, --help          Print help
   -V, --version       Print version
 """
@@ -192,6 +196,14 @@ error: the following required arguments were not provided:
   <NEW>
 
 Usage: devdry compare <OLD> <NEW>
+"""
+
+NO_UDEV = """\
+error: the arguments '--users <FILE>' and '--groups <FILE>' need '--udev'
+
+Usage: devdry verify --udev --users <FILE> --groups <FILE> [FILE]...
+
+For more information, try '--help'.
 """
 
 EMPTY_ROOT = """\
@@ -274,9 +286,16 @@ NOT_UNDERSTOOD = [
     ("query m --all", "error: unexpected argument '--all' found\n"),
     ("events --lint", "error: unexpected argument '--lint' found\n"),
     ("verify --lint --lint", "error: the argument '--lint' cannot be used multiple times\n"),
-    ("events --udev", "error: unexpected argument '--udev' found\n"),
+    ("query --udev x", "error: unexpected argument '--udev' found\n"),
     ("update --udev", "error: unexpected argument '--udev' found\n"),
+    ("events --udev --udev", "error: the argument '--udev' cannot be used multiple times\n"),
     ("verify --udev --udev", "error: the argument '--udev' cannot be used multiple times\n"),
+    ("verify --users passwd a.rules", NO_UDEV),
+    ("verify --groups= --lint", NO_UDEV),
+    ("events --users passwd", "error: unexpected argument '--users' found\n"),
+    ("update --groups group", "error: unexpected argument '--groups' found\n"),
+    ("verify --udev --users", "error: a value is required for '--users <FILE>' but none was supplied\n"),
+    ("verify --udev --groups a --groups b", "error: the argument '--groups <FILE>' cannot be used multiple times\n"),
     ("events --format gcc", "error: unexpected argument '--format' found\n"),
     ("events --ignore V6", "error: unexpected argument '--ignore' found\n"),
     ("verify --format", "error: a value is required for '--format <FORMAT>' but none was supplied\n"),

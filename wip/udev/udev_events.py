@@ -5,9 +5,10 @@ It answers in the lines of an answer of devdry, without notes. What is left out 
 import os
 import re
 
-from event_asking import OWN
 from udev_reading import SPACES, mode_number
 from udev_texts import Known, TooLong, fits, plain_link, safe, sysctl_name
+
+from udev_asking import OWN
 
 LINKS = {'set SYMLINK', 'set OWNER', 'set GROUP', 'set MODE', 'set OWNER number', 'set GROUP number', 'set MODE number'}
 

@@ -2,9 +2,12 @@
 import ctypes
 import os
 import re
+import sys
+from pathlib import Path
 
-from event_asking import devices_of
-from udev_reading import LIBRARY_SPACES, SPACES, Reader, number
+sys.path.insert(0, str(Path(__file__).resolve().parents[2] / 'bench'))
+from udev_asking import devices_of  # noqa: E402
+from udev_reading import LIBRARY_SPACES, SPACES, Reader, number  # noqa: E402
 
 C = ctypes.CDLL(None)
 LETTERS = b'0123456789ABCDEFGHIJKLMNOPQRSTUVWXYZabcdefghijklmnopqrstuvwxyz'

@@ -91,6 +91,8 @@ pub(crate) fn line<'a>(alloc: Global, verb: Verb, modalias: &'a str) -> Line<'a>
         all: false,
         ignored: Vec::new(alloc),
         profile: Profile::Manual,
+        users: None,
+        groups: None,
     }
 }
 

@@ -1,5 +1,6 @@
 pub mod GoingOn
 pub mod Reading
+pub mod Knowing
 pub mod Comparing
 pub mod Terminals
 pub mod Runs

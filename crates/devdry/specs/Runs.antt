@@ -17,7 +17,8 @@ use Rattle.devdry_words.specs.Answers.{AnswersWords}
 use Rattle.devdry_words.specs.Requests.{IsRequestOf}
 use Rattle.devdry.specs.Comparing.{ComparesLines}
 use Rattle.devdry.specs.GoingOn.{FailsAtTold, ListsFiles, RunsSome}
-use Rattle.devdry.specs.Reading.{AreReadFor, FailsToRead}
+use Rattle.devdry.specs.Knowing.{IsFaultOfAccounts, KnowsAccounts}
+use Rattle.devdry.specs.Reading.{AreReadFor, FailsAt, FailsToRead}
 use Rattle.devdry.specs.Telling.{TellsLineFault}
 use Rattle.devdry.specs.Terminals.{shown_request}
 use Rattle.devdry.specs.declared.terminals.Terminals.{Terminals}
@@ -82,12 +83,23 @@ abbrev pub RunsRequest : Bool → (Answer → Type 0) → Request → ℕ → St
 RunsRequest from_terminal may request status before now =
     DoesBehind (from_terminal && takes_blocks request) may request status before now
 
+-- The files of users and groups that a request names were read, and the request is run with what they list.
+pub record RunsOverAccounts (from_terminal : Bool) (may : Answer → Type 0) (named : Request) (status : ℕ) (before now : Streams) : Type 0 where
+  pub request : Request
+  pub knows : KnowsAccounts may named request
+  pub runs : RunsRequest from_terminal may request status before now
+
+-- what a request does, told whether the input is a terminal
+abbrev pub RunsKnowing : Bool → (Answer → Type 0) → Request → ℕ → Streams → Streams → Type 0
+RunsKnowing from_terminal may named status before now =
+    RunsOverAccounts from_terminal may named status before now ⊎ FailsAt (IsFaultOfAccounts may named) status before now
+
 -- The words ask for something, which is done as terminals show it.
 pub record RunsWords (terminals : Terminals) (may : Answer → Type 0) (words : List (List ℕ)) (status : ℕ) (before now : Streams) : Type 0 where
   pub request : Request
   pub is_request : IsRequestOf (subcommand_of devdry words) request
   pub faultless : fault_of devdry words ≡ []
-  pub runs : RunsRequest terminals.input may (shown_request terminals.colors request) status before now
+  pub runs : RunsKnowing terminals.input may (shown_request terminals.colors request) status before now
 
 -- The words ask for nothing that is run, and that is told; no input is read.
 pub record RefusesWords (words : List (List ℕ)) (status : ℕ) (before now : Streams) : Type 0 where

@@ -34,6 +34,8 @@ shown_line colors line = record {
   all = line.all;
   ignored = line.ignored;
   profile = line.profile;
+  users = line.users;
+  groups = line.groups;
 }
 
 -- a request with the format that is shown: `files` and `compare` have no messages

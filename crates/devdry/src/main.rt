@@ -10,6 +10,7 @@ ghost use Rattle.std.specs.Prelude.{◌≡◌, drop};
 
 mod comparing;
 mod going_on;
+mod knowing;
 mod running;
 mod telling;
 mod terminals;

@@ -5,6 +5,7 @@ ghost use Rattle.devdry.specs.Runs.{DoesRequest, Runs, RunsLine, RunsRequest, Ru
 
 use crate::comparing::run_compare;
 use crate::going_on::{run_files, run_some};
+use crate::knowing::run_knowing;
 use crate::telling::{tell_line_fault, tell_read_fault};
 use crate::terminals::{Terminals, shown_request};
 use devdry_files::{Disk, ReadFault, read_all, read_index, wanted};
@@ -47,7 +48,7 @@ pub(crate) fn run_words<D: Disk, I: Source, W: Sink, E: Sink>(
     match parse_line(alloc, words) {
         Ok(request) => {
             let request = shown_request(request, terminals.colors);
-            run_request(alloc, disk, &request, terminals.input, input, output, error)
+            run_knowing(alloc, disk, request, terminals.input, input, output, error)
         }
         Err(fault) => tell_line_fault(&fault, output, error),
     }
@@ -55,7 +56,7 @@ pub(crate) fn run_words<D: Disk, I: Source, W: Sink, E: Sink>(
 
 /// Runs what words ask for. Where that takes event blocks and the input is a terminal, it first says
 /// that it waits for them.
-fn run_request<D: Disk, I: Source, W: Sink, E: Sink>(
+pub(crate) fn run_request<D: Disk, I: Source, W: Sink, E: Sink>(
     alloc: Global,
     disk: &D,
     request: &Request<'_>,

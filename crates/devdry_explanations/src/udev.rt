@@ -197,15 +197,19 @@ The key has no `:=` or `+=` of its own: write `=`. `--udev` alone tells of it, i
 /// Unknown user or group.
 pub(crate) const V25: &str = r#"V25 unknown user or group
 
-Write the name of a user or a group that there is, or a number. `--udev` does not look such names up, so that none is told of: which there are depends on the machine that the rules are for. `udevadm verify` looks into the accounts of its own machine.
+Write the name of a user or a group that there is, or a number. `--udev` alone tells of it, and the rule is kept. Names are looked up in the lists that `--users` and `--groups` name, in the form of /etc/passwd and /etc/group, and where no list is given not at all: which there are depends on the machine that the rules are for. `udevadm verify` looks into the accounts of its own machine.
 
+    $ cat group
+    root:x:0:
+    disk:x:6:
     $ cat v25.rules
     KERNEL=="sda", GROUP="disks"
-    $ devdry verify --udev v25.rules
-    1 files checked, 1 good, 0 bad
+    $ devdry verify --udev --groups group v25.rules
+    v25.rules:1: V25 unknown user or group: disks
+    1 files checked, 0 good, 1 bad
     $ cat v25-mended.rules
     KERNEL=="sda", GROUP="disk"
-    $ devdry verify --udev v25-mended.rules
+    $ devdry verify --udev --groups group v25-mended.rules
     1 files checked, 1 good, 0 bad
 "#;
 

@@ -5,3 +5,4 @@ pub mod Answers
 pub mod Memory
 pub mod Faults
 pub mod FaultTexts
+pub mod AccountFiles

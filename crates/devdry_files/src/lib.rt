@@ -5,6 +5,7 @@
 //! has the path that a message names.
 #![tactic(auto)]
 
+mod account_files;
 mod asking;
 mod disk;
 mod fault;
@@ -16,6 +17,7 @@ mod reading;
 mod real_disk;
 mod real_looks;
 
+pub use account_files::read_account_files;
 pub use asking::wanted;
 pub use disk::{Disk, DiskFault, Entry};
 pub use fault::ReadFault;

@@ -13,7 +13,7 @@ use std::alloc::{AllocError, Global};
 use text_bytes::{Bytes, FileKind, SourceFile};
 
 // The bytes of the file at a path.
-fn bytes_at<D: Disk>(alloc: Global, disk: &D, path: String) -> Result<Bytes, ReadFault>
+pub(crate) fn bytes_at<D: Disk>(alloc: Global, disk: &D, path: String) -> Result<Bytes, ReadFault>
     ensures bytes { IfOk result (λ bytes.
         D.may_answer disk.now (Content (string_bytes path) bytes)) }
     ensures fault { IfErr result (HasPath (λ p. (p ≡ string_bytes path)

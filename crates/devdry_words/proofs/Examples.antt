@@ -12,7 +12,7 @@ use Rattle.devdry_words.specs.Commands.{devdry}
 use Rattle.engine_ends.specs.declared.line.Format.{Format}
 use Rattle.engine_ends.specs.declared.line.Format.TheVariants.{Plain, Gcc, Github, Gitlab, Json, Human, HumanInColor}
 use Rattle.devdry_words.specs.declared.refusals.Refusal.{Refusal}
-use Rattle.devdry_words.specs.declared.refusals.Refusal.TheVariants.{TwoDatabases, EmptyRoot, EmptySide, UnknownFormat, UnknownPart}
+use Rattle.devdry_words.specs.declared.refusals.Refusal.TheVariants.{TwoDatabases, EmptyRoot, EmptySide, NoUdev, UnknownFormat, UnknownPart}
 use Rattle.devdry_words.specs.Lines.{format_name, format_named, format_of, profile_of}
 use Rattle.text_bytes.specs.Texts.{split_once}
 use Rattle.text_bytes.specs.declared.profile.Profile.{Profile}
@@ -99,9 +99,27 @@ manual_is_asked : option_map {U = Profile} (λ p. profile_of p.1) (subcommand_of
 unfolding clap_on_literals devdry
 manual_is_asked = refl
 
-udev_of_events : fault_of devdry (codes "events" ∷ codes "--udev" ∷ []) ≡ kind.UnknownArgument ∷ []
+udev_of_events : option_map {U = Profile × List Text} (λ p. (profile_of p.1, texts_of (codes "FILE") p.1)) (subcommand_of devdry (codes "events" ∷ codes "--udev" ∷ codes "a.rules" ∷ []))
+    ≡ Some (Udev, codes "a.rules" ∷ [])
 unfolding clap_on_literals devdry
 udev_of_events = refl
+
+manual_of_events : option_map {U = Profile} (λ p. profile_of p.1) (subcommand_of devdry (codes "events" ∷ codes "a.rules" ∷ [])) ≡ Some Manual
+unfolding clap_on_literals devdry
+manual_of_events = refl
+
+udev_of_both_sides : option_map {U = Profile × (Text × Text)} (λ p. (profile_of p.1, (text_of (codes "OLD") p.1, text_of (codes "NEW") p.1))) (subcommand_of devdry (codes "compare" ∷ codes "--udev" ∷ codes "/old" ∷ codes "/new" ∷ []))
+    ≡ Some (Udev, (codes "/old", codes "/new"))
+unfolding clap_on_literals devdry
+udev_of_both_sides = refl
+
+udev_of_query : fault_of devdry (codes "query" ∷ codes "--udev" ∷ codes "usb:v1" ∷ []) ≡ kind.UnknownArgument ∷ []
+unfolding clap_on_literals devdry
+udev_of_query = refl
+
+udev_of_files : fault_of devdry (codes "files" ∷ codes "--udev" ∷ []) ≡ kind.UnknownArgument ∷ []
+unfolding clap_on_literals devdry
+udev_of_files = refl
 
 udev_is_given_once : fault_of devdry (codes "verify" ∷ codes "--udev" ∷ codes "--udev" ∷ []) ≡ kind.ArgumentConflict ∷ []
 unfolding clap_on_literals devdry
@@ -143,6 +161,14 @@ two_databases_are_refused = refl
 empty_root_is_refused : refused (codes "verify" ∷ codes "--all" ∷ codes "-r" ∷ [] ∷ []) ≡ Some (Some EmptyRoot)
 unfolding clap_on_literals devdry
 empty_root_is_refused = refl
+
+users_without_udev_are_refused : refused (codes "verify" ∷ codes "--users=passwd" ∷ codes "a.rules" ∷ []) ≡ Some (Some NoUdev)
+unfolding clap_on_literals devdry
+users_without_udev_are_refused = refl
+
+groups_of_udev_are_taken : refused (codes "verify" ∷ codes "--udev" ∷ codes "--groups" ∷ codes "group" ∷ []) ≡ Some None
+unfolding clap_on_literals devdry
+groups_of_udev_are_taken = refl
 
 unknown_format_is_refused : refused (codes "update" ∷ codes "--format=xml" ∷ []) ≡ Some (Some UnknownFormat)
 unfolding clap_on_literals devdry

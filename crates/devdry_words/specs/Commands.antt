@@ -62,6 +62,10 @@ lint_rule = flag_rule (codes "lint")
 abbrev pub udev_rule : Rule
 udev_rule = flag_rule (codes "udev")
 
+-- `--users FILE` or `--groups FILE`
+abbrev pub accounts_rule : Text → Rule
+accounts_rule name = record (new_rule name) { long = Some name; value_names = 1 }
+
 -- `--all`
 abbrev pub all_rule : Rule
 all_rule = flag_rule (codes "all")
@@ -108,23 +112,25 @@ abbrev pub query_shape : Shape
 query_shape = with_rules (codes "query")
     (root_rule ∷ sources_rule ∷ index_rule ∷ modalias_rule ∷ files_rule ∷ [])
 
--- `verify [-r DIR] [--all] [--format FORMAT] [--ignore CODES].. [--no-summary] [--no-style] [--lint] [--udev] [FILE]..`
+-- `verify [-r DIR] [--all] [--format FORMAT] [--ignore CODES].. [--no-summary] [--no-style] [--lint] [--udev] [--users FILE]
+-- [--groups FILE] [FILE]..`
 abbrev pub verify_shape : Shape
 verify_shape = with_rules (codes "verify")
-    (root_rule ∷ all_rule ∷ format_rule ∷ ignore_rule ∷ no_summary_rule ∷ no_style_rule ∷ lint_rule ∷ udev_rule ∷ files_rule ∷ [])
+    (root_rule ∷ all_rule ∷ format_rule ∷ ignore_rule ∷ no_summary_rule ∷ no_style_rule ∷ lint_rule ∷ udev_rule
+    ∷ accounts_rule (codes "users") ∷ accounts_rule (codes "groups") ∷ files_rule ∷ [])
 
--- `events [-r DIR] [--sources] [--why FILE[:LINE]].. [--index FILE] [FILE]..`
+-- `events [-r DIR] [--sources] [--why FILE[:LINE]].. [--index FILE] [--udev] [FILE]..`
 abbrev pub events_shape : Shape
 events_shape = with_rules (codes "events")
-    (root_rule ∷ sources_rule ∷ why_rule ∷ index_rule ∷ files_rule ∷ [])
+    (root_rule ∷ sources_rule ∷ why_rule ∷ index_rule ∷ udev_rule ∷ files_rule ∷ [])
 
 -- `files [-r DIR]`
 abbrev pub files_shape : Shape
 files_shape = with_rules (codes "files") (root_rule ∷ [])
 
--- `compare [--index FILE] OLD NEW`
+-- `compare [--index FILE] [--udev] OLD NEW`
 abbrev pub compare_shape : Shape
-compare_shape = with_rules (codes "compare") (index_rule ∷ old_rule ∷ new_root_rule ∷ [])
+compare_shape = with_rules (codes "compare") (index_rule ∷ udev_rule ∷ old_rule ∷ new_root_rule ∷ [])
 
 -- `explain CODE`
 abbrev pub explain_shape : Shape

@@ -1,8 +1,9 @@
 -- The line that the matches of a subcommand stand for.
-use Rattle.std.specs.Prelude.{◌≡◌, ◌∷◌, if◌then◌else◌, List, [], Option, Some, find, flat_map, map, not, unwrap_or, codes}
+use Rattle.std.specs.Prelude.{◌≡◌, ℕ, ◌∷◌, if◌then◌else◌, List, [], Option, Some, find, flat_map, map, not, unwrap_or, codes}
 use Rattle.std.specs.Option.{option_map, option_map_or}
 use Rattle.std.specs.Str.{bytes_eq}
 use Rattle.clap.specs.Words.{Row, Text, first_of}
+use Rattle.engine_ends.specs.declared.line.AccountFile.{AccountFile}
 use Rattle.engine_ends.specs.declared.line.Format.{Format}
 use Rattle.engine_ends.specs.declared.line.Format.TheVariants.{Plain, Gcc, Github, Gitlab, Json, Human, HumanInColor}
 use Rattle.engine_ends.specs.declared.line.Line.{Line}
@@ -37,9 +38,17 @@ format_named name = find (λ f. bytes_eq name (format_name f)) (Plain ∷ Gcc �
 abbrev pub format_of : List Row → Option Format
 format_of rows = option_map_or format_named (first_of (codes "format") rows) (Some Plain)
 
--- by whose word rules are read: by udev's where `--udev` is given, else by the manual's
+-- by whose word rules are read and evaluated: by udev's where `--udev` is given, else by the manual's
 abbrev pub profile_of : List Row → Profile
 profile_of rows = if is_set (codes "udev") rows then Udev else Manual
+
+-- a file of users or groups: its path and its bytes
+abbrev pub path_and_bytes : AccountFile → Text × List ℕ
+path_and_bytes file = (file.path.now, file.bytes)
+
+-- a file of which none of the bytes is read yet
+abbrev pub unread : Text → Text × List ℕ
+unread path = (path, [])
 
 -- the line is that of the verb, below the root, and its other fields are the values of the matches
 pub record Reads (verb : Verb) (root : Text) (rows : List Row) (line : Line) : Type 0 where
@@ -58,3 +67,5 @@ pub record Reads (verb : Verb) (root : Text) (rows : List Row) (line : Line) : T
   pub all : line.all ≡ is_set (codes "all") rows
   pub ignored : map (λ c. c.now) line.ignored.items ≡ flat_map cut_at_commas (texts_of (codes "ignore") rows)
   pub profile : line.profile ≡ profile_of rows
+  pub users : option_map path_and_bytes line.users ≡ option_map unread (first_of (codes "users") rows)
+  pub groups : option_map path_and_bytes line.groups ≡ option_map unread (first_of (codes "groups") rows)

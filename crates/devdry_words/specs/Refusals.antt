@@ -5,7 +5,7 @@ use Rattle.std.specs.Str.{bytes_eq}
 use Rattle.clap.specs.Words.{Row, Text, first_of}
 use Rattle.engine_formats.specs.Codes.{remark_of}
 use Rattle.devdry_words.specs.declared.refusals.Refusal.{Refusal}
-use Rattle.devdry_words.specs.declared.refusals.Refusal.TheVariants.{TwoDatabases, EmptyRoot, EmptySide, UnknownFormat, UnknownPart}
+use Rattle.devdry_words.specs.declared.refusals.Refusal.TheVariants.{TwoDatabases, EmptyRoot, EmptySide, NoUdev, UnknownFormat, UnknownPart}
 use Rattle.devdry_words.specs.Lines.{format_of}
 use Rattle.devdry_words.specs.Values.{cut_at_commas, has_value, is_empty_text, is_set, text_of, texts_of}
 
@@ -20,6 +20,10 @@ lacks_root name rows = (is_set (codes "all") rows || bytes_eq name (codes "files
 -- one of the two roots that are compared is empty
 abbrev pub lacks_side : List Row → Bool
 lacks_side rows = is_empty_text (codes "OLD") rows || is_empty_text (codes "NEW") rows
+
+-- users or groups are named, and it is not asked to read rules as udev reads them
+abbrev pub lacks_udev : List Row → Bool
+lacks_udev rows = (is_some (first_of (codes "users") rows) || is_some (first_of (codes "groups") rows)) && not (is_set (codes "udev") rows)
 
 -- a part of `--ignore` is the word `comments`, or the code of a remark
 abbrev pub is_ignorable : Text → Bool
@@ -41,7 +45,8 @@ unknown_value rows = if is_none (format_of rows) then Some UnknownFormat else (i
 abbrev pub refusal_of : Text → List Row → Option Refusal
 refusal_of name rows = if names_two name rows then Some TwoDatabases
     else (if lacks_root name rows then Some EmptyRoot
-    else (if lacks_side rows then Some EmptySide else unknown_value rows))
+    else (if lacks_side rows then Some EmptySide
+    else (if lacks_udev rows then Some NoUdev else unknown_value rows)))
 
 -- what is said of a value that its argument does not take, by what stands before and behind the value
 abbrev pub invalid_value : Text → Text → Text
@@ -58,6 +63,10 @@ empty_root = codes "error: an empty value of '--root <DIR>' names no folder\n\nF
 -- what is said of an empty root that is compared
 abbrev pub empty_side : Text
 empty_side = codes "error: an empty value of '<OLD>' or '<NEW>' names no folder; '/' is that of the running system\n\nFor more information, try '--help'.\n"
+
+-- what is said of users or groups that are named where rules are not read as udev reads them
+abbrev pub no_udev : Text
+no_udev = codes "error: the arguments '--users <FILE>' and '--groups <FILE>' need '--udev'\n\nUsage: devdry verify --udev --users <FILE> --groups <FILE> [FILE]...\n\nFor more information, try '--help'.\n"
 
 -- what is said behind the name of a format that there is not
 abbrev pub no_such_format : Text
@@ -76,5 +85,6 @@ abbrev pub said_of : Refusal → List Row → Text
 said_of TwoDatabases rows = two_databases
 said_of EmptyRoot rows = empty_root
 said_of EmptySide rows = empty_side
+said_of NoUdev rows = no_udev
 said_of UnknownFormat rows = invalid_value (text_of (codes "format") rows) no_such_format
 said_of UnknownPart rows = invalid_value (unwrap_or (unknown_part rows) []) not_ignorable

@@ -2,9 +2,9 @@
 //!
 //! An argument is a function of its own where several subcommands take it, so that it is the same
 //! in each. `clap` wraps no text here, so that the texts of the help are broken by hand.
-ghost use Rattle.std.specs.Prelude.{◌≡◌, IfOk, false};
+ghost use Rattle.std.specs.Prelude.{◌≡◌, IfOk, codes, false};
 ghost use Rattle.clap.specs.Words.{app_of, rule_of};
-ghost use Rattle.devdry_words.specs.Commands.{IsCommand, all_rule, code_rule, compare_shape, devdry, events_shape};
+ghost use Rattle.devdry_words.specs.Commands.{IsCommand, accounts_rule, all_rule, code_rule, compare_shape, devdry, events_shape};
 ghost use Rattle.devdry_words.specs.Commands.{explain_shape, files_rule, files_shape, flag_rule, format_rule};
 ghost use Rattle.devdry_words.specs.Commands.{ignore_rule, index_rule, lint_rule, modalias_rule, new_root_rule};
 ghost use Rattle.devdry_words.specs.Commands.{no_style_rule, no_summary_rule, old_rule, program as program_app};
@@ -37,6 +37,10 @@ Examples:
 const DATABASE_FILES: &str = "Database files to read in place of the folders";
 
 const RULES_FILES: &str = "Rules files to read in place of the folders";
+
+const READ_AS_UDEV: &str = "Read rules as udev itself reads them";
+
+const EVALUATE_AS_UDEV: &str = "Read and evaluate rules as udev itself does";
 
 fn root_option<'a>(alloc: Global) -> Arg<'a>
     ensures { (rule_of result ≡ root_rule) × (result.global ≡ false) }
@@ -114,10 +118,39 @@ fn lint_flag<'a>(alloc: Global) -> Arg<'a>
     )
 }
 
-fn udev_flag<'a>(alloc: Global) -> Arg<'a>
+fn udev_flag<'a>(alloc: Global, help: &'a str) -> Arg<'a>
     ensures { (rule_of result ≡ udev_rule) × (result.global ≡ false) }
 {
-    flag(alloc, "udev", "Read rules as udev itself reads them")
+    flag(alloc, "udev", help)
+}
+
+fn accounts_option<'a>(alloc: Global, name: &'a str, help: &'a str) -> Arg<'a>
+    ensures { (rule_of result ≡ accounts_rule name.entry.now) × (result.global ≡ false) }
+{
+    Arg::new(alloc, name)
+        .long(name)
+        .value_name("FILE")
+        .help(help)
+}
+
+fn users_option<'a>(alloc: Global) -> Arg<'a>
+    ensures { (rule_of result ≡ accounts_rule (codes "users")) × (result.global ≡ false) }
+{
+    accounts_option(
+        alloc,
+        "users",
+        "With --udev: users that OWNER may name, as in /etc/passwd",
+    )
+}
+
+fn groups_option<'a>(alloc: Global) -> Arg<'a>
+    ensures { (rule_of result ≡ accounts_rule (codes "groups")) × (result.global ≡ false) }
+{
+    accounts_option(
+        alloc,
+        "groups",
+        "With --udev: groups that GROUP may name, as in /etc/group",
+    )
 }
 
 fn all_flag<'a>(alloc: Global) -> Arg<'a>
@@ -223,7 +256,9 @@ fn verify_command<'a>(alloc: Global) -> Result<Command<'a>, AllocError>
         .arg(no_summary_flag(alloc))?
         .arg(no_style_flag(alloc))?
         .arg(lint_flag(alloc))?
-        .arg(udev_flag(alloc))?
+        .arg(udev_flag(alloc, READ_AS_UDEV))?
+        .arg(users_option(alloc))?
+        .arg(groups_option(alloc))?
         .arg(files_argument(alloc, RULES_FILES))
 }
 
@@ -236,6 +271,7 @@ fn events_command<'a>(alloc: Global) -> Result<Command<'a>, AllocError>
         .arg(sources_flag(alloc))?
         .arg(why_option(alloc))?
         .arg(index_option(alloc))?
+        .arg(udev_flag(alloc, EVALUATE_AS_UDEV))?
         .arg(files_argument(alloc, RULES_FILES))
 }
 
@@ -253,6 +289,7 @@ fn compare_command<'a>(alloc: Global) -> Result<Command<'a>, AllocError>
     Command::new(alloc, "compare")
         .about("Tells where two systems answer the event blocks of the standard input differently")
         .arg(index_option(alloc))?
+        .arg(udev_flag(alloc, EVALUATE_AS_UDEV))?
         .arg(old_argument(alloc))?
         .arg(new_argument(alloc))
 }

@@ -1,13 +1,13 @@
 //! The line that the matches of a parse stand for.
-ghost use Rattle.std.specs.Prelude.{◌≡◌, IfOk};
-ghost use Rattle.clap.specs.Words.{found_of, rows_of};
-ghost use Rattle.devdry_words.specs.Lines.{Reads, format_named, format_of, profile_of};
+ghost use Rattle.std.specs.Prelude.{◌≡◌, IfOk, option_map};
+ghost use Rattle.clap.specs.Words.{first_of, found_of, rows_of};
+ghost use Rattle.devdry_words.specs.Lines.{Reads, format_named, format_of, path_and_bytes, profile_of, unread};
 
 use crate::values::{is_given, parts, text, texts, value};
 use clap::ArgMatches;
-use engine_ends::{Format, Line, Verb};
+use engine_ends::{AccountFile, Format, Line, Verb};
 use std::alloc::{AllocError, Global};
-use text_bytes::Profile;
+use text_bytes::{Bytes, Profile};
 
 /// The format of a name.
 fn format_named(name: &str) -> Option<Format>
@@ -34,7 +34,7 @@ pub(crate) fn format_of(matches: &ArgMatches<'_>) -> Option<Format>
     }
 }
 
-/// By whose word matches ask to read rules.
+/// By whose word matches ask to read and evaluate rules.
 fn profile_of(matches: &ArgMatches<'_>) -> Profile
     ensures { result ≡ profile_of (rows_of (found_of matches.now)) }
 {
@@ -43,6 +43,17 @@ fn profile_of(matches: &ArgMatches<'_>) -> Profile
     } else {
         Profile::Manual
     }
+}
+
+/// The file of users or groups that an option names, if it was given. None of its bytes is read yet.
+fn account_file<'a>(alloc: Global, matches: &ArgMatches<'a>, id: &str) -> Option<AccountFile<'a>>
+    ensures { option_map path_and_bytes result ≡ option_map unread (first_of id.now (rows_of (found_of matches.now))) }
+{
+    let path = value(matches, id)?;
+    Some(AccountFile {
+        path,
+        bytes: Bytes::new(Vec::new(alloc)),
+    })
 }
 
 /// The line of a verb below a root, with these matches. `Err` is want of memory.
@@ -70,5 +81,7 @@ pub(crate) fn line_with<'a>(
         all: is_given(matches, "all"),
         ignored: parts(alloc, matches, "ignore")?,
         profile: profile_of(matches),
+        users: account_file(alloc, matches, "users"),
+        groups: account_file(alloc, matches, "groups"),
     })
 }

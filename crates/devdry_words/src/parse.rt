@@ -93,7 +93,8 @@ fn request_of<'a>(alloc: Global, matches: &ArgMatches<'a>) -> Result<Request<'a>
 ///
 /// The subcommands and their options are those of `systemd-hwdb(8)` and `udevadm(8)` as far as
 /// `devdry` has them, and its own:
-/// `verify [-r DIR] [--all] [--format FORMAT] [--ignore CODES].. [--no-summary] [--no-style] [FILE]..`,
+/// `verify [-r DIR] [--all] [--format FORMAT] [--ignore CODES].. [--no-summary] [--no-style] [--lint]
+/// [--udev] [--users FILE] [--groups FILE] [FILE]..`,
 /// `query [-r DIR] [--sources] [--index FILE] MODALIAS [FILE]..`,
 /// `update [-r DIR] [-s] [--all] [--format FORMAT] [--ignore CODES].. [FILE]..`,
 /// `events [-r DIR] [--sources] [--why FILE[:LINE]].. [--index FILE] [FILE]..`,
@@ -103,7 +104,7 @@ fn request_of<'a>(alloc: Global, matches: &ArgMatches<'a>) -> Result<Request<'a>
 /// subcommand, and for `explain` with a code, whose text is then the section on its message.
 /// `LineFault::Usage` comes for all else that `clap` does not take, no words at all among it; for a
 /// `query` with both files and an index; for `--all`, `files` or `compare` with a root that is given
-/// and empty; for a format that there is not; for a part of `--ignore` that is neither a code nor the
+/// and empty; for `--users` or `--groups` without `--udev`; for a format that there is not; for a part of `--ignore` that is neither a code nor the
 /// word `comments`; and for `explain` with a code that there is not. `LineFault::Memory` comes where
 /// an allocation was refused.
 pub fn parse_line<'a>(alloc: Global, words: &'a [String]) -> Result<Request<'a>, LineFault>

@@ -5,7 +5,7 @@
 ghost use Rattle.std.specs.Prelude.{◌≡◌};
 ghost use Rattle.clap.specs.Words.{found_of, rows_of};
 ghost use Rattle.devdry_words.specs.Answers.{IsUsageOf};
-ghost use Rattle.devdry_words.specs.Refusals.{lacks_root, lacks_side, names_two, refusal_of, said_of, unknown_value};
+ghost use Rattle.devdry_words.specs.Refusals.{lacks_root, lacks_side, lacks_udev, names_two, refusal_of, said_of, unknown_value};
 
 use crate::ignored::{unknown_part, unknown_text};
 use crate::line_reading::format_of;
@@ -33,6 +33,13 @@ const EMPTY_SIDE: &str =
 For more information, try '--help'.
 ";
 
+const NO_UDEV: &str = "error: the arguments '--users <FILE>' and '--groups <FILE>' need '--udev'
+
+Usage: devdry verify --udev --users <FILE> --groups <FILE> [FILE]...
+
+For more information, try '--help'.
+";
+
 const NO_SUCH_FORMAT: &str = "' for '--format <FORMAT>'
   [possible values: plain, gcc, github, gitlab, json, human]
 
@@ -55,6 +62,8 @@ pub(crate) enum Refusal {
     EmptyRoot,
     /// A root that is compared is empty.
     EmptySide,
+    /// Users or groups are named, which udev alone looks up, and rules are not read as it reads them.
+    NoUdev,
     /// There is no such format.
     UnknownFormat,
     /// A part of `--ignore` is neither the code of a remark nor the word `comments`.
@@ -83,6 +92,14 @@ fn lacks_side(matches: &ArgMatches<'_>) -> bool
     is_empty(matches, "OLD") | is_empty(matches, "NEW")
 }
 
+/// Whether matches name users or groups, and do not ask to read rules as udev reads them.
+fn lacks_udev(matches: &ArgMatches<'_>) -> bool
+    ensures { result ≡ lacks_udev (rows_of (found_of matches.now)) }
+{
+    (value(matches, "users").is_some() | value(matches, "groups").is_some())
+        & !is_given(matches, "udev")
+}
+
 /// Why a value of matches is refused that has to be one of a few, if it is.
 fn unknown_value(matches: &ArgMatches<'_>) -> Option<Refusal>
     ensures { result ≡ unknown_value (rows_of (found_of matches.now)) }
@@ -106,6 +123,8 @@ pub(crate) fn refusal_of(name: &str, matches: &ArgMatches<'_>) -> Option<Refusal
         Some(Refusal::EmptyRoot)
     } else if lacks_side(matches) {
         Some(Refusal::EmptySide)
+    } else if lacks_udev(matches) {
+        Some(Refusal::NoUdev)
     } else {
         unknown_value(matches)
     }
@@ -119,6 +138,7 @@ pub(crate) fn usage_of(alloc: Global, refusal: Refusal, matches: &ArgMatches<'_>
         Refusal::TwoDatabases => usage(alloc, TWO_DATABASES),
         Refusal::EmptyRoot => usage(alloc, EMPTY_ROOT),
         Refusal::EmptySide => usage(alloc, EMPTY_SIDE),
+        Refusal::NoUdev => usage(alloc, NO_UDEV),
         Refusal::UnknownFormat => usage_on_value(alloc, text(matches, "format"), NO_SUCH_FORMAT),
         Refusal::UnknownPart => usage_on_value(alloc, unknown_text(matches), NOT_IGNORABLE),
     }

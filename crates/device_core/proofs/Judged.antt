@@ -4,6 +4,7 @@ use Rattle.std.proofs.lemmas.List.{append-nil, length-append}
 use Rattle.std.specs.Option.{option_to_list}
 use Rattle.std.specs.List.{zip}
 use Rattle.text_bytes.specs.Texts.{is_empty}
+use Rattle.text_bytes.specs.declared.profile.Profile.TheVariants.{Manual}
 use Rattle.text_tables.specs.Texts.{Text, is_among}
 use Rattle.text_tables.specs.Pairs.{Pair as NameAndValue, named}
 use Rattle.device_core.specs.Lines.{Row, row_of, kind_of, begins_answer}
@@ -300,7 +301,7 @@ counted above line below e = counted_by above below (has_nul line) (row_of line)
 -- ---- the end
 
 module _ (above : List Row) (action : Text) (s : Sofar) (h : Holds above action s) where
-  event_is : s.asked ≡ None → (device : DeviceValue) (parents : List DeviceValue) → event above device parents ≡ record { action = action; device = device; parents = parents; programs = s.programs; constants = s.constants }
+  event_is : s.asked ≡ None → (device : DeviceValue) (parents : List DeviceValue) → event above device parents ≡ record { action = action; device = device; parents = parents; programs = s.programs; constants = s.constants; profile = Manual }
   unfolding event programs
   event_is idle device parents =
       let commands : texts Command above ≡ h.answered = h.asked_are ∙ ap (λ o. h.answered ++ option_to_list o) idle ∙ append-nil h.answered in
@@ -310,6 +311,7 @@ module _ (above : List Row) (action : Text) (s : Sofar) (h : Holds above action 
         parents = parents;
         programs = (ap (λ cs. zip cs (answers above)) commands ∙ h.programs_are) i;
         constants = h.constants_are i;
+        profile = Manual;
       }
 
   end_with : s.asked ≡ None → (ds : List DeviceValue) → with_devices action s (length above) ds ≡ given_with above ds

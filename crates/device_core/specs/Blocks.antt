@@ -2,6 +2,7 @@
 -- before each `P:`, and each group that begins with one describes a device.
 use Rattle.std.specs.Prelude.{Bool, List, [], ◌∷◌, ◌==◌, Option, Some, None, unwrap_or, map, if◌then◌else◌}
 use Rattle.std.specs.List.{filter_map, zip}
+use Rattle.text_bytes.specs.declared.profile.Profile.TheVariants.{Manual}
 use Rattle.text_tables.specs.Texts.{Text}
 use Rattle.text_tables.specs.Pairs.{Pair}
 use Rattle.device_core.specs.Lines.{Row, letter_of}
@@ -72,7 +73,7 @@ devices rows = map device (groups rows)
 unfoldable pub programs : List Row → List (Text × AnswerValue)
 programs rows = zip (texts Command rows) (answers rows)
 
--- the event that lines describe, none of which is faulty, whose devices are these
+-- the event that lines describe, none of which is faulty, whose devices are these; rules are evaluated by the manual
 unfoldable pub event : List Row → DeviceValue → List DeviceValue → EventValue
 event rows device parents = record {
   action = unwrap_or (first (texts Action rows)) [];
@@ -80,4 +81,5 @@ event rows device parents = record {
   parents = parents;
   programs = programs rows;
   constants = pairs Constant rows;
+  profile = Manual;
 }

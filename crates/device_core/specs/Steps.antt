@@ -3,6 +3,7 @@
 use Rattle.std.specs.Prelude.{◌≡◌, ℕ, ◌+◌, Bool, not, ◌||◌, List, [], ◌∷◌, ◌++◌, length, nat_le, Option, Some, None, option_map, Result, Ok, Err, if◌then◌else◌, is_some}
 use Rattle.std.specs.Option.{option_to_list}
 use Rattle.text_bytes.specs.Texts.{is_empty}
+use Rattle.text_bytes.specs.declared.profile.Profile.TheVariants.{Manual}
 use Rattle.text_tables.specs.Texts.{Text, is_among}
 use Rattle.text_tables.specs.Pairs.{Pair as NameAndValue, named}
 use Rattle.device_core.specs.Lines.{Row, row_of, begins_answer}
@@ -205,7 +206,7 @@ some_devices (device ∷ parents) = Ok (device ∷ parents)
 -- the event with these devices
 abbrev pub with_devices : Text → Sofar → ℕ → List DeviceValue → Result EventValue BlockFault
 with_devices action s count [] = Err (record { line = count; kind = NoDevice })
-with_devices action s count (device ∷ parents) = Ok (record { action = action; device = device; parents = parents; programs = s.programs; constants = s.constants })
+with_devices action s count (device ∷ parents) = Ok (record { action = action; device = device; parents = parents; programs = s.programs; constants = s.constants; profile = Manual })
 
 -- the event of all lines
 unfoldable pub finished : Text → Sofar → ℕ → Result EventValue BlockFault

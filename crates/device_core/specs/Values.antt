@@ -2,6 +2,7 @@
 use Rattle.std.specs.Prelude.{ℕ, List, ◌∷◌, Option}
 use Rattle.text_tables.specs.Texts.{Text}
 use Rattle.text_tables.specs.Pairs.{Pair}
+use Rattle.text_bytes.specs.declared.profile.Profile.{Profile}
 
 -- a device number, its two parts as written
 pub record NumberValue : Type 0 where
@@ -25,17 +26,23 @@ pub record AnswerValue : Type 0 where
   pub status : ℕ
   pub text : Text
 
--- an event: its action, its device, the parents of that from the nearest on, the answers of programs under their commands, and the constants
+-- an event: its action, its device, the parents of that from the nearest on, the answers of programs under their commands, the constants, and by
+-- whose word rules are evaluated over it
 pub record EventValue : Type 0 where
   pub action : Text
   pub device : DeviceValue
   pub parents : List DeviceValue
   pub programs : List (Text × AnswerValue)
   pub constants : List Pair
+  pub profile : Profile
 
 -- the devices of an event: its own, then the parents
 abbrev pub chain : EventValue → List DeviceValue
 chain event = event.device ∷ event.parents
+
+-- an event over which rules are evaluated by a profile
+abbrev pub by_profile : Profile → EventValue → EventValue
+by_profile profile event = record event { profile = profile }
 
 -- the most devices that an event may have
 abbrev pub most_devices : ℕ

@@ -3,11 +3,12 @@
 //! The event device stands apart from its parents, so that nothing has to say what an event without
 //! a device would be. `read_block` alone makes an event.
 ghost use Rattle.std.specs.Prelude.{◌≡◌, ◌<◌, ◌≤◌, length, option_copied, slice_get};
-ghost use Rattle.device_core.specs.Values.{chain, most_devices};
+ghost use Rattle.device_core.specs.Values.{by_profile, chain, most_devices};
 
 use crate::devices::Device;
 use crate::programs::ProgramAnswer;
 use std::marker::Model;
+use text_bytes::Profile;
 use text_tables::{Pairs, Table};
 
 /// An event: what happened, to which device, and what else the block says.
@@ -18,6 +19,7 @@ pub struct Event<'a> {
     pub(crate) parents: Vec<Device<'a>>,
     pub(crate) programs: Table<'a, ProgramAnswer<'a>>,
     pub(crate) constants: Pairs<'a>,
+    pub(crate) profile: Profile,
 }
 
 impl<'a> Model for Event<'a> {
@@ -26,7 +28,7 @@ impl<'a> Model for Event<'a> {
 
     ghost Value = { EventValue };
 
-    ghost view = { λ e. record { action = e.action.now; device = e.device; parents = e.parents.items; programs = e.programs; constants = e.constants } };
+    ghost view = { λ e. record { action = e.action.now; device = e.device; parents = e.parents.items; programs = e.programs; constants = e.constants; profile = e.profile } };
 
     ghost invariant = { λ e. length e.parents.items < most_devices };
 }
@@ -85,5 +87,20 @@ impl<'a> Event<'a> {
         ensures { result.now ≡ self.now.constants }
     {
         &self.constants
+    }
+
+    /// By whose word rules are evaluated over the event: the manual's, unless `with_profile` said otherwise.
+    pub fn profile(&self) -> Profile
+        ensures { result ≡ self.now.profile }
+    {
+        self.profile
+    }
+
+    /// The same event, over which rules are evaluated by a profile.
+    pub fn with_profile(mut self, profile: Profile) -> Event<'a>
+        ensures { result ≡ by_profile profile self.entry }
+    {
+        self.profile = profile;
+        self
     }
 }

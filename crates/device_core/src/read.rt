@@ -14,7 +14,7 @@ use crate::events::Event;
 use crate::faults::{BlockFault, BlockFaultKind};
 use crate::lines::{LineKind, plain_row};
 use std::alloc::Global;
-use text_bytes::first_line;
+use text_bytes::{Profile, first_line};
 
 /// The most bytes of a block.
 const MOST_BYTES: usize = 65536;
@@ -123,6 +123,7 @@ fn finish<'a>(action: &'a [u8], draft: Draft<'a>, count: usize) -> Result<Event<
             parents: devices,
             programs,
             constants,
+            profile: Profile::Manual,
         }),
         Err(kind) => {
             drop(devices);

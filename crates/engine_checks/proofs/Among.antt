@@ -68,7 +68,7 @@ module _ (lint style : Bool) (ignored : List Text) (file : FileText) (ignores : 
 rules_are_found : (line : Line) (file : SourceFile) → All (λ d. is_found d.remark ≡ true) (rules_found line file)
 rules_are_found line file =
     both_hold (λ d. is_found d.remark ≡ true) (messages_in line file) (map (lint_diagnostic (file_text line file)) (lints_counted line.profile line.lint (ignored_by line) file))
-    (All-map (λ d. is_found d.remark ≡ true) (rule_diagnostic (file_text line file)) (findings_of line.profile file) (λ k d h. refl))
+    (All-map (λ d. is_found d.remark ≡ true) (rule_diagnostic (file_text line file)) (findings_of line file) (λ k d h. refl))
     (All-map (λ d. is_found d.remark ≡ true) (lint_diagnostic (file_text line file)) (lints_counted line.profile line.lint (ignored_by line) file) (λ k d h. refl))
 
 database_is_found : (line : Line) (file : SourceFile) → All (λ d. is_found d.remark ≡ true) (database_found line file)
@@ -137,7 +137,7 @@ module _ (line : Line) (file : SourceFile) (counts : has_comments (ignored_by li
       by true e = All-weaker (λ d. is_found d.remark ≡ true) (λ d. is_counted line.lint d ≡ true) (λ d h. asked_lint (is_lint d.remark) line.lint e) (rules_found line file) (rules_are_found line file)
       by false e =
           subst (λ ds. All (λ d. is_counted line.lint d ≡ true) ds) (sym (messages_alone line file e counts))
-          (All-map (λ d. is_counted line.lint d ≡ true) (rule_diagnostic (file_text line file)) (findings_of line.profile file) (λ k d h. refl))
+          (All-map (λ d. is_counted line.lint d ≡ true) (rule_diagnostic (file_text line file)) (findings_of line file) (λ k d h. refl))
 
   pub rules_plainly_told : rules_told line file ≡ filter (λ d. (line.style || not (is_about_style d.remark)) && not (is_among (ignored_by line) (code_of d.remark))) (rules_found line file)
   unfolding rules_told

@@ -28,7 +28,7 @@ use Rattle.engine_formats.specs.Diagnostics.{DiagnosticValue}
 use Rattle.engine_formats.specs.Formats.{formatted}
 use Rattle.engine_formats.specs.Made.{AreMadeOf, IsMadeOf}
 use Rattle.engine_checks.specs.Codes.{has_comments}
-use Rattle.engine_checks.specs.Files.{file_text, findings_of, found_with, ignored_by, ignores_counted, rule_diagnostic, rules_found, rules_told}
+use Rattle.engine_checks.specs.Files.{accounts_by, file_text, findings_of, found_with, ignored_by, ignores_counted, rule_diagnostic, rules_found, rules_told}
 use Rattle.engine_checks.specs.Laws.{messages_in}
 use Rattle.engine_checks.specs.Outcomes.{bad_count, checks_outcome, checks_said, is_named_in, rules_checks}
 use Rattle.engine_checks.specs.Told.{FileText, by_line, file_told, is_told}
@@ -66,8 +66,8 @@ findings_made false file (p ∷ ps) = by (is_style p.kind) (findings_made false 
 -- where no lints are looked for, what is found is the messages
 pub messages_alone : (line : Line) (file : SourceFile) → line.lint ≡ false → has_comments (ignored_by line) ≡ false → rules_found line file ≡ messages_in line file
 messages_alone line file unasked counts =
-    ap (λ b. found_with (file_text line file) (findings_of line.profile file) (cond (b || has_comments (ignored_by line)) (placed_lints line.profile file) [])) unasked
-    ∙ ap (λ b. found_with (file_text line file) (findings_of line.profile file) (cond b (placed_lints line.profile file) [])) counts
+    ap (λ b. found_with (file_text line file) (findings_of line file) (cond (b || has_comments (ignored_by line)) (placed_lints line.profile file) [])) unasked
+    ∙ ap (λ b. found_with (file_text line file) (findings_of line file) (cond b (placed_lints line.profile file) [])) counts
     ∙ none_among (messages_in line file)
 
 -- with nothing ignored and no lints, the messages are told, or all but those about style
@@ -83,7 +83,7 @@ file_made : (line : Line) (file : SourceFile) → line.profile ≡ Manual → li
 unfolding findings_as
 file_made line file plain unasked none =
     subst (λ ds. AreMadeOf (told line.style (file_messages Manual file)) ds) (sym (messages_told line file unasked none))
-    (subst (λ ms. AreMadeOf (told line.style ms) (filter (is_told false line.style [] []) (messages_in line file))) (ap (λ by. map (as_message file.name) (findings_of by file)) plain ∙ findings_told Manual file) (findings_made line.style (file_text line file) (findings_of line.profile file)))
+    (subst (λ ms. AreMadeOf (told line.style ms) (filter (is_told false line.style [] []) (messages_in line file))) (ap (λ by. map (as_message file.name) (findings_as by (accounts_by line) file)) plain ∙ findings_told Manual file) (findings_made line.style (file_text line file) (findings_of line file)))
 
 pub both_made : (ms ns : List Message) (ds es : List DiagnosticValue) → AreMadeOf ms ds → AreMadeOf ns es → AreMadeOf (ms ++ ns) (ds ++ es)
 both_made [] ns [] es f g = g

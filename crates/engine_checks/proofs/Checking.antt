@@ -11,6 +11,7 @@ use Rattle.hwdb_core.specs.declared.fault.HwdbFault.TheVariants as hwdb
 use Rattle.rule_types.specs.Rules.{tokens_in}
 use Rattle.rule_core.specs.Rules.{set_of_as}
 use Rattle.rule_lints.specs.FileLints.{placed_lints}
+use Rattle.rule_pairs.specs.Accounts.{Accounts}
 use Rattle.rule_core.specs.declared.fault.RulesFault.{RulesFault}
 use Rattle.rule_core.specs.declared.fault.RulesFault.TheVariants as rules
 use Rattle.engine_ends.specs.declared.line.Line.{Line}
@@ -21,7 +22,7 @@ use Rattle.engine_formats.specs.Diagnostics.{DiagnosticValue}
 use Rattle.engine_formats.specs.Remarks.{code_of}
 use Rattle.engine_formats.specs.declared.remark.Remark.{Remark}
 use Rattle.engine_checks.specs.Codes.{comments_word, has_comments}
-use Rattle.engine_checks.specs.Files.{database_found, database_told, file_text, findings_of, found_with, ignored_by, rules_found, rules_told, told_of}
+use Rattle.engine_checks.specs.Files.{accounts_by, database_found, database_told, file_text, findings_of, found_with, ignored_by, rules_found, rules_told, told_of}
 use Rattle.engine_checks.specs.Ignores.{Ignore, ignores_in}
 use Rattle.engine_checks.specs.Outcomes.{checks_said, database_checks, rules_checks, entries_said}
 use Rattle.engine_checks.specs.Tables.{database_told_by, read_by, rules_found_by, rules_told_by}
@@ -52,27 +53,28 @@ module _ (line : Line) (profile : Profile) (lint style comments : Bool) (ignored
       ∙ ap (λ b. file_told line.lint line.style (ignored_by line) (file_text line file) (cond b (ignores_in line.profile file) []) found) (c ∙ e comments_word)
 
   -- what is found, by tables
-  found_file : (file : SourceFile) → rules_found_by profile lint ignored (read_by line comments file) ≡ rules_found line file
-  found_file file =
-      ap (λ by. rules_found_by by lint ignored (read_by line comments file)) p
-      ∙ ap (λ b. found_with (file_text line file) (findings_of line.profile file) (cond (b || has_comments ignored) (placed_lints line.profile file) [])) l
-      ∙ ap (λ b. found_with (file_text line file) (findings_of line.profile file) (cond (line.lint || b) (placed_lints line.profile file) [])) (e comments_word)
+  found_file : (accounts : Accounts) → accounts ≡ accounts_by line → (file : SourceFile) → rules_found_by profile accounts lint ignored (read_by line comments file) ≡ rules_found line file
+  found_file accounts a file =
+      ap (λ by. rules_found_by by accounts lint ignored (read_by line comments file)) p
+      ∙ ap (λ known. rules_found_by line.profile known lint ignored (read_by line comments file)) a
+      ∙ ap (λ b. found_with (file_text line file) (findings_of line file) (cond (b || has_comments ignored) (placed_lints line.profile file) [])) l
+      ∙ ap (λ b. found_with (file_text line file) (findings_of line file) (cond (line.lint || b) (placed_lints line.profile file) [])) (e comments_word)
 
-  rules_file : (file : SourceFile) → rules_told_by profile lint style ignored (read_by line comments file) ≡ rules_told line file
+  rules_file : (accounts : Accounts) → accounts ≡ accounts_by line → (file : SourceFile) → rules_told_by profile accounts lint style ignored (read_by line comments file) ≡ rules_told line file
   unfolding rules_told
-  rules_file file =
-      ap (file_told lint style ignored (file_text line file) (cond comments (ignores_in line.profile file) [])) (found_file file) ∙ one_file file (rules_found line file)
+  rules_file accounts a file =
+      ap (file_told lint style ignored (file_text line file) (cond comments (ignores_in line.profile file) [])) (found_file accounts a file) ∙ one_file file (rules_found line file)
 
   database_file : (file : SourceFile) → database_told_by lint style ignored (read_by line comments file) ≡ database_told line file
   unfolding database_told
   database_file file = one_file file (database_found line file)
 
   -- rules files that are read, by tables
-  pub files_by : (files : List SourceFile) → flat_map (rules_told_by profile lint style ignored) (map (read_by line comments) files) ≡ flat_map (rules_told line) files
-  files_by [] = refl
-  files_by (file ∷ files) =
-      ap (λ ds. ds ++ flat_map (rules_told_by profile lint style ignored) (map (read_by line comments) files)) (rules_file file)
-      ∙ ap (λ ds. rules_told line file ++ ds) (files_by files)
+  pub files_by : (accounts : Accounts) → accounts ≡ accounts_by line → (files : List SourceFile) → flat_map (rules_told_by profile accounts lint style ignored) (map (read_by line comments) files) ≡ flat_map (rules_told line) files
+  files_by accounts a [] = refl
+  files_by accounts a (file ∷ files) =
+      ap (λ ds. ds ++ flat_map (rules_told_by profile accounts lint style ignored) (map (read_by line comments) files)) (rules_file accounts a file)
+      ∙ ap (λ ds. rules_told line file ++ ds) (files_by accounts a files)
 
   -- files of a database that are read, by tables
   pub database_by : (files : List SourceFile) → flat_map (database_told_by lint style ignored) (map (read_by line comments) files) ≡ flat_map (database_told line) files

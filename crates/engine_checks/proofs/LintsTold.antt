@@ -60,7 +60,7 @@ module _ (line : Line) (file : SourceFile) where
   found_lints : lints_among (rules_found line file) ≡ looked_for
   found_lints =
       others_left (λ d. is_lint d.remark) (messages_in line file) looked_for
-      (All-map (λ d. is_lint d.remark ≡ false) (rule_diagnostic (file_text line file)) (findings_of line.profile file) (λ k d h. refl))
+      (All-map (λ d. is_lint d.remark ≡ false) (rule_diagnostic (file_text line file)) (findings_of line file) (λ k d h. refl))
       ∙ filter_all (λ d. is_lint d.remark) looked_for
       (All-map (λ d. is_lint d.remark ≡ true) (lint_diagnostic (file_text line file)) (lints_counted line.profile line.lint (ignored_by line) file) (λ k d h. refl))
 
@@ -69,7 +69,7 @@ module _ (line : Line) (file : SourceFile) where
       first_left (λ d. is_message d.remark) (messages_in line file) looked_for
       (All-map (λ d. is_message d.remark ≡ false) (lint_diagnostic (file_text line file)) (lints_counted line.profile line.lint (ignored_by line) file) (λ k d h. refl))
       ∙ filter_all (λ d. is_message d.remark) (messages_in line file)
-      (All-map (λ d. is_message d.remark ≡ true) (rule_diagnostic (file_text line file)) (findings_of line.profile file) (λ k d h. refl))
+      (All-map (λ d. is_message d.remark ≡ true) (rule_diagnostic (file_text line file)) (findings_of line file) (λ k d h. refl))
 
   -- where comments count all lints are found
   pub commented_lints : has_comments (ignored_by line) ≡ true → lints_among (rules_found line file) ≡ lints_in line file
@@ -106,7 +106,7 @@ module _ (line : Line) (file : SourceFile) where
       told_part line.lint line.style ignored (file_text line file) comments (rules_found line file) is_message message_is_found
       ∙ ap (filter told) found_messages
       ∙ filter_alike told (is_told false line.style ignored comments) (messages_in line file)
-      (All-map (λ d. told d ≡ is_told false line.style ignored comments d) (rule_diagnostic (file_text line file)) (findings_of line.profile file) (λ k d h. refl))
+      (All-map (λ d. told d ≡ is_told false line.style ignored comments d) (rule_diagnostic (file_text line file)) (findings_of line file) (λ k d h. refl))
 
   -- no lint is told of a database
   pub database_lints : lints_among (database_told line file) ≡ []

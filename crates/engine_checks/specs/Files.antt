@@ -1,12 +1,14 @@
 -- What is found in a file and told of it.
-use Rattle.std.specs.Prelude.{Bool, ◌||◌, if◌then◌else◌, List, [], ◌∷◌, map}
+use Rattle.std.specs.Prelude.{Bool, ◌||◌, if◌then◌else◌, List, [], ◌∷◌, map, option_map}
 use Rattle.text_bytes.specs.Lines.{numbered_lines}
 use Rattle.text_bytes.specs.declared.message.Message.{Message}
 use Rattle.text_bytes.specs.declared.profile.Profile.{Profile}
 use Rattle.text_bytes.specs.declared.source_file.SourceFile.{SourceFile}
 use Rattle.text_tables.specs.Texts.{Text}
 use Rattle.hwdb_core.specs.Sources.{messages_of}
-use Rattle.rule_pairs.specs.Accounts.{nobody}
+use Rattle.rule_pairs.specs.Accounts.{Accounts}
+use Rattle.rule_pairs.specs.declared.accounts.AccountKind.TheVariants.{User, Group}
+use Rattle.rule_remarks.specs.AccountLines.{accounts_of}
 use Rattle.rule_remarks.specs.Findings.{findings_as}
 use Rattle.rule_places.specs.declared.placed_finding.PlacedFinding.{PlacedFinding}
 use Rattle.rule_lints.specs.FileLints.{placed_lints}
@@ -72,9 +74,16 @@ database_diagnostic file message =
 abbrev pub ignored_by : Line → List Text
 ignored_by line = map (λ t. t.now) line.ignored.items
 
--- what is told of the rules of a file; of the names of users and groups nothing is known
-abbrev pub findings_of : Profile → SourceFile → List PlacedFinding
-findings_of profile file = findings_as profile nobody file
+-- the users and the groups that a command line knows: those that its files list
+abbrev pub accounts_by : Line → Accounts
+accounts_by line = record {
+  users = option_map (λ file. accounts_of User file.bytes) line.users;
+  groups = option_map (λ file. accounts_of Group file.bytes) line.groups;
+}
+
+-- what is told of the rules of a file
+abbrev pub findings_of : Line → SourceFile → List PlacedFinding
+findings_of line file = findings_as line.profile (accounts_by line) file
 
 -- the lints of a rules file, where they are asked for, or comments count, which may silence them
 abbrev pub lints_counted : Profile → Bool → List Text → SourceFile → List PlacedLint
@@ -86,7 +95,7 @@ found_with file findings lints = by_line (map (rule_diagnostic file) findings) (
 
 -- all that is found in a rules file
 abbrev pub rules_found : Line → SourceFile → List DiagnosticValue
-rules_found line file = found_with (file_text line file) (findings_of line.profile file) (lints_counted line.profile line.lint (ignored_by line) file)
+rules_found line file = found_with (file_text line file) (findings_of line file) (lints_counted line.profile line.lint (ignored_by line) file)
 
 -- all that is found in a file of a database
 abbrev pub database_found : Line → SourceFile → List DiagnosticValue

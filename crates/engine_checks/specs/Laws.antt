@@ -43,7 +43,7 @@ lints_among told = filter (λ d. is_lint d.remark) told
 
 -- the messages about a rules file
 abbrev pub messages_in : Line → SourceFile → List DiagnosticValue
-messages_in line file = map (rule_diagnostic (file_text line file)) (findings_of line.profile file)
+messages_in line file = map (rule_diagnostic (file_text line file)) (findings_of line file)
 
 -- the lints of a rules file
 abbrev pub lints_in : Line → SourceFile → List DiagnosticValue

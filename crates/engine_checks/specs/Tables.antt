@@ -10,9 +10,11 @@ use Rattle.engine_formats.specs.declared.remark.Remark.TheVariants.{IdleIgnore, 
 use Rattle.text_bytes.specs.declared.profile.Profile.{Profile}
 use Rattle.text_bytes.specs.declared.source_file.SourceFile.{SourceFile}
 use Rattle.hwdb_core.specs.Sources.{messages_of}
+use Rattle.rule_pairs.specs.Accounts.{Accounts}
+use Rattle.rule_remarks.specs.Findings.{findings_as}
 use Rattle.engine_ends.specs.declared.line.Line.{Line}
 use Rattle.engine_checks.specs.Ignores.{Ignore, ignores_in}
-use Rattle.engine_checks.specs.Files.{database_diagnostic, file_text, findings_of, found_with, lints_counted}
+use Rattle.engine_checks.specs.Files.{database_diagnostic, file_text, found_with, lints_counted}
 use Rattle.engine_checks.specs.Told.{FileText, file_told, is_asked, is_unknown}
 use Rattle.engine_checks.specs.declared.ignores.Scope.{Scope}
 use Rattle.engine_checks.specs.declared.ignores.Scope.TheVariants.{File, Next, Unread}
@@ -83,12 +85,14 @@ abbrev pub read_by : Line → Bool → SourceFile → FileRead
 read_by line comments file = record { file = file; text = file_text line file; ignores = if comments then ignores_in line.profile file else [] }
 
 -- all that is found in a rules file that is read
-abbrev pub rules_found_by : Profile → Bool → List Text → FileRead → List DiagnosticValue
-rules_found_by profile lint ignored read = found_with read.text (findings_of profile read.file) (lints_counted profile lint ignored read.file)
+abbrev pub rules_found_by : Profile → Accounts → Bool → List Text → FileRead → List DiagnosticValue
+rules_found_by profile accounts lint ignored read =
+    found_with read.text (findings_as profile accounts read.file) (lints_counted profile lint ignored read.file)
 
 -- what is told of a rules file that is read
-abbrev pub rules_told_by : Profile → Bool → Bool → List Text → FileRead → List DiagnosticValue
-rules_told_by profile lint style ignored read = file_told lint style ignored read.text read.ignores (rules_found_by profile lint ignored read)
+abbrev pub rules_told_by : Profile → Accounts → Bool → Bool → List Text → FileRead → List DiagnosticValue
+rules_told_by profile accounts lint style ignored read =
+    file_told lint style ignored read.text read.ignores (rules_found_by profile accounts lint ignored read)
 
 -- what is told of a file of a database that is read
 abbrev pub database_told_by : Bool → Bool → List Text → FileRead → List DiagnosticValue

@@ -1,11 +1,14 @@
 //! What the texts of `--ignore` ask for.
-ghost use Rattle.std.specs.Prelude.{◌≡◌, IfOk, map};
+ghost use Rattle.std.specs.Prelude.{◌≡◌, IfOk, map, option_map};
 ghost use Rattle.text_tables.specs.Texts.{Text, is_among};
 ghost use Rattle.engine_checks.specs.Codes.{has_comments};
-ghost use Rattle.engine_checks.specs.Files.{ignored_by};
+ghost use Rattle.engine_checks.specs.Files.{accounts_by, ignored_by};
+ghost use Rattle.rule_remarks.specs.AccountLines.{accounts_of};
 
 use crate::told::Asked;
-use engine_ends::Line;
+use engine_ends::{AccountFile, Line};
+use rule_pairs::{Account, AccountKind, Accounts};
+use rule_remarks::read_accounts;
 use std::alloc::{AllocError, Global};
 use text_tables::Texts;
 
@@ -30,15 +33,41 @@ pub(crate) fn has_comments(codes: &Texts<'_>) -> bool
     codes.contains(COMMENTS)
 }
 
+/// The accounts that a file lists, if there is one. The error comes where memory is refused.
+fn accounts_in(
+    alloc: Global,
+    kind: AccountKind,
+    file: &Option<AccountFile<'_>>,
+) -> Result<Option<Vec<Account>>, AllocError>
+    ensures { IfOk result (λ list. option_map (λ accounts. accounts.items) list ≡ option_map (λ f. accounts_of kind f.bytes) file.now) }
+{
+    match file {
+        Some(file) => Ok(Some(read_accounts(alloc, kind, file.bytes.as_slice())?)),
+        None => Ok(None),
+    }
+}
+
+/// The users and the groups that a line knows. The error comes where memory is refused.
+fn accounts_by(alloc: Global, line: &Line<'_>) -> Result<Accounts, AllocError>
+    ensures { IfOk result (λ accounts. accounts ≡ accounts_by line.now) }
+{
+    Ok(Accounts {
+        users: accounts_in(alloc, AccountKind::User, &line.users)?,
+        groups: accounts_in(alloc, AccountKind::Group, &line.groups)?,
+    })
+}
+
 /// What a line asks for of messages. The error comes where memory is refused.
 pub(crate) fn asked_by<'a>(alloc: Global, line: &Line<'a>) -> Result<Asked<'a>, AllocError>
     ensures profile { IfOk result (λ asked. asked.profile ≡ line.now.profile) }
+    ensures accounts { IfOk result (λ asked. asked.accounts ≡ accounts_by line.now) }
     ensures style { IfOk result (λ asked. asked.style ≡ line.now.style) }
     ensures lint { IfOk result (λ asked. asked.lint ≡ line.now.lint) }
     ensures ignored { IfOk result (λ asked. (code : Text) → is_among asked.ignored code ≡ is_among (ignored_by line.now) code) }
 {
     Ok(Asked {
         profile: line.profile,
+        accounts: accounts_by(alloc, line)?,
         style: line.style,
         lint: line.lint,
         ignored: ignored_codes(alloc, &line.ignored)?,

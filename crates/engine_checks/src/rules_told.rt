@@ -9,7 +9,6 @@ use crate::lints::{lint_diagnostics, lints_counted};
 use crate::reads::FileRead;
 use crate::told::{Asked, file_told};
 use engine_formats::Diagnostic;
-use rule_pairs::Accounts;
 use rule_remarks::file_findings;
 use std::alloc::{AllocError, Global};
 
@@ -19,9 +18,9 @@ fn rules_found<'r>(
     asked: &Asked<'_>,
     read: &'r FileRead<'_>,
 ) -> Result<Vec<Diagnostic<'r>>, AllocError>
-    ensures { IfOk result (λ found. map shown found.items ≡ rules_found_by asked.now.profile asked.now.lint asked.now.ignored read.now) }
+    ensures { IfOk result (λ found. map shown found.items ≡ rules_found_by asked.now.profile asked.now.accounts asked.now.lint asked.now.ignored read.now) }
 {
-    let findings = file_findings(alloc, asked.profile, &Accounts::nobody(), read.file())?;
+    let findings = file_findings(alloc, asked.profile, &asked.accounts, read.file())?;
     let found = rule_diagnostics(alloc, read.text(), findings)?;
     let lints = lints_counted(alloc, asked, read.file())?;
     let lent = lint_diagnostics(alloc, read.text(), &lints)?;
@@ -34,7 +33,7 @@ fn told_of_file<'r>(
     asked: &Asked<'_>,
     read: &'r FileRead<'_>,
 ) -> Result<Vec<Diagnostic<'r>>, AllocError>
-    ensures { IfOk result (λ told. map shown told.items ≡ rules_told_by asked.now.profile asked.now.lint asked.now.style asked.now.ignored read.now) }
+    ensures { IfOk result (λ told. map shown told.items ≡ rules_told_by asked.now.profile asked.now.accounts asked.now.lint asked.now.style asked.now.ignored read.now) }
 {
     let found = rules_found(alloc, asked, read)?;
     file_told(alloc, asked, read.text(), read.ignores(), found)
@@ -46,7 +45,7 @@ pub(crate) fn rules_told<'r>(
     asked: &Asked<'_>,
     reads: &'r [FileRead<'_>],
 ) -> Result<Vec<Diagnostic<'r>>, AllocError>
-    ensures { IfOk result (λ told. map shown told.items ≡ flat_map (rules_told_by asked.now.profile asked.now.lint asked.now.style asked.now.ignored) reads.now) }
+    ensures { IfOk result (λ told. map shown told.items ≡ flat_map (rules_told_by asked.now.profile asked.now.accounts asked.now.lint asked.now.style asked.now.ignored) reads.now) }
 {
     let mut told = Vec::new(alloc);
     for read in reads {

@@ -13,6 +13,7 @@ use crate::met::Met;
 use crate::silenced::Silenced;
 use engine_formats::{Diagnostic, Remark};
 use engine_reports::is_style;
+use rule_pairs::Accounts;
 use std::alloc::{AllocError, Global};
 use text_bytes::Profile;
 use text_tables::Texts;
@@ -22,6 +23,8 @@ use text_tables::Texts;
 pub(crate) struct Asked<'a> {
     /// By whose word rules are read.
     pub(crate) profile: Profile,
+    /// The users and the groups that are known.
+    pub(crate) accounts: Accounts,
     /// Whether those about style are told.
     pub(crate) style: bool,
     /// Whether lints are told.

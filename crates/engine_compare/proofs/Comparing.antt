@@ -1,5 +1,6 @@
 -- From the steps of a comparison to what it serves.
 use Rattle.std.proofs.Common.{◌≡◌, ℕ, ◌++◌, inl, inr, refl, subst, Result, Ok, Err}
+use Rattle.text_bytes.specs.declared.profile.Profile.{Profile}
 use Rattle.text_tables.specs.Texts.{Text}
 use Rattle.engine_ends.specs.Streams.{Streams, outputs}
 use Rattle.engine_ends.specs.Delivery.{Outcome, Delivers, Tells, TellsFaults, out_of_memory}
@@ -13,16 +14,17 @@ use Rattle.device_core.specs.Values.{EventValue}
 use Rattle.engine_core.specs.Answering.{TablesValue, answer_by}
 use Rattle.engine_sessions.specs.Findings.{FindsAll}
 use Rattle.engine_sessions.specs.Serves.{Serves}
+use Rattle.engine_sessions.specs.Sessions.{answers_as}
 use Rattle.engine_sessions.proofs.Serving.{reports_serve}
 use Rattle.engine_sessions.proofs.FindServing.{finds_serve}
 use Rattle.engine_compare.specs.Differences.{differences}
 use Rattle.engine_compare.specs.Outcomes.{compare_outcome, differences_by}
 use Rattle.engine_compare.specs.Runs.{ComparesBy}
 
-pub compares_serve : (old new : Result OpeningValue Outcome) (status : ℕ) (before now : Streams) → ComparesBy old new status before now → Serves (compare_outcome old new) status before now
-compares_serve (Ok old) (Ok new) status before now r = finds_serve (old.messages ++ new.messages) (differences_by old new) status before now r
-compares_serve (Ok old) (Err said) status before now r = reports_serve (λ text. said) said status before now (λ text. refl) r
-compares_serve (Err said) new status before now r = reports_serve (λ text. said) said status before now (λ text. refl) r
+pub compares_serve : (profile : Profile) (old new : Result OpeningValue Outcome) (status : ℕ) (before now : Streams) → ComparesBy profile old new status before now → Serves (compare_outcome profile old new) status before now
+compares_serve profile (Ok old) (Ok new) status before now r = finds_serve (old.messages ++ new.messages) (answers_as profile (differences_by old new)) status before now r
+compares_serve profile (Ok old) (Err said) status before now r = reports_serve (λ text. said) said status before now (λ text. refl) r
+compares_serve profile (Err said) new status before now r = reports_serve (λ text. said) said status before now (λ text. refl) r
 
 -- what is delivered where one side can't be opened
 pub record Refuses (refusal : Refusal) (status : ℕ) (before now : Streams) : Type 0 where
@@ -32,24 +34,24 @@ pub record Refuses (refusal : Refusal) (status : ℕ) (before now : Streams) : T
   pub unread : now.input ≡ before.input
 
 -- the old side is refused
-pub old_refused : (refusal : Refusal) (old new : Result OpeningValue Outcome) (status : ℕ) (before now : Streams) → IsRefused refusal old → Refuses refusal status before now → ComparesBy old new status before now
-old_refused TooManyEntries old new status before now is r = rw is (record { delivers = r.delivers too_many_entries refl; faults = r.faults; unread = r.unread })
-old_refused TooManyRules old new status before now is r = rw is (record { delivers = r.delivers too_many_rules refl; faults = r.faults; unread = r.unread })
-old_refused (Index fault) old new status before now is r = rw is (record { delivers = r.delivers (refused_index fault) refl; faults = r.faults; unread = r.unread })
-old_refused Memory (Ok old) (Ok new) status before now is r = inl (record { unread = r.unread; unanswered = (r.memory refl).1; tells = inr (r.memory refl).0 })
-old_refused Memory (Ok old) (Err said) status before now is r = record { delivers = r.delivers said tt; faults = r.faults; unread = r.unread }
-old_refused Memory (Err said) new status before now is r = record { delivers = r.delivers said tt; faults = r.faults; unread = r.unread }
+pub old_refused : (profile : Profile) (refusal : Refusal) (old new : Result OpeningValue Outcome) (status : ℕ) (before now : Streams) → IsRefused refusal old → Refuses refusal status before now → ComparesBy profile old new status before now
+old_refused profile TooManyEntries old new status before now is r = rw is (record { delivers = r.delivers too_many_entries refl; faults = r.faults; unread = r.unread })
+old_refused profile TooManyRules old new status before now is r = rw is (record { delivers = r.delivers too_many_rules refl; faults = r.faults; unread = r.unread })
+old_refused profile (Index fault) old new status before now is r = rw is (record { delivers = r.delivers (refused_index fault) refl; faults = r.faults; unread = r.unread })
+old_refused profile Memory (Ok old) (Ok new) status before now is r = inl (record { unread = r.unread; unanswered = (r.memory refl).1; tells = inr (r.memory refl).0 })
+old_refused profile Memory (Ok old) (Err said) status before now is r = record { delivers = r.delivers said tt; faults = r.faults; unread = r.unread }
+old_refused profile Memory (Err said) new status before now is r = record { delivers = r.delivers said tt; faults = r.faults; unread = r.unread }
 
 -- the new side is refused, where the old one is not
-pub new_refused : (refusal : Refusal) (old new : Result OpeningValue Outcome) (value : OpeningValue) (status : ℕ) (before now : Streams) → old ≡ Ok value → IsRefused refusal new → Refuses refusal status before now → ComparesBy old new status before now
-new_refused TooManyEntries old new value status before now e is r = rw (e, is) (record { delivers = r.delivers too_many_entries refl; faults = r.faults; unread = r.unread })
-new_refused TooManyRules old new value status before now e is r = rw (e, is) (record { delivers = r.delivers too_many_rules refl; faults = r.faults; unread = r.unread })
-new_refused (Index fault) old new value status before now e is r = rw (e, is) (record { delivers = r.delivers (refused_index fault) refl; faults = r.faults; unread = r.unread })
-new_refused Memory old new value status before now e is r = old_refused Memory old new status before now tt r
+pub new_refused : (profile : Profile) (refusal : Refusal) (old new : Result OpeningValue Outcome) (value : OpeningValue) (status : ℕ) (before now : Streams) → old ≡ Ok value → IsRefused refusal new → Refuses refusal status before now → ComparesBy profile old new status before now
+new_refused profile TooManyEntries old new value status before now e is r = rw (e, is) (record { delivers = r.delivers too_many_entries refl; faults = r.faults; unread = r.unread })
+new_refused profile TooManyRules old new value status before now e is r = rw (e, is) (record { delivers = r.delivers too_many_rules refl; faults = r.faults; unread = r.unread })
+new_refused profile (Index fault) old new value status before now e is r = rw (e, is) (record { delivers = r.delivers (refused_index fault) refl; faults = r.faults; unread = r.unread })
+new_refused profile Memory old new value status before now e is r = old_refused profile Memory old new status before now tt r
 
 -- what comes and goes between two tables
 abbrev pub told_by : TablesValue × TablesValue → EventValue → Text
 told_by both event = differences event (answer_by both.0 event) (answer_by both.1 event)
 
-pub finds_both : (messages said : Text) (both tables : TablesValue × TablesValue) (status : ℕ) (before now : Streams) → messages ≡ said → both ≡ tables → FindsAll messages (told_by both) status before now → FindsAll said (told_by tables) status before now
-finds_both messages said both tables status before now e f h = subst (λ m. FindsAll m (told_by tables) status before now) e (subst (λ t. FindsAll messages (told_by t) status before now) f h)
+pub finds_both : (profile : Profile) (messages said : Text) (both tables : TablesValue × TablesValue) (status : ℕ) (before now : Streams) → messages ≡ said → both ≡ tables → FindsAll messages (answers_as profile (told_by both)) status before now → FindsAll said (answers_as profile (told_by tables)) status before now
+finds_both profile messages said both tables status before now e f h = subst (λ m. FindsAll m (answers_as profile (told_by tables)) status before now) e (subst (λ t. FindsAll messages (answers_as profile (told_by t)) status before now) f h)

@@ -1,12 +1,14 @@
 -- What a comparison says: its outcome, as a function of the two command lines, of the files handed in for each, of what comes of an index
 -- and of the input.
 use Rattle.std.specs.Prelude.{◌++◌, Result, Ok, Err}
+use Rattle.text_bytes.specs.declared.profile.Profile.{Profile}
 use Rattle.text_tables.specs.Texts.{Text}
 use Rattle.device_core.specs.Values.{EventValue}
 use Rattle.engine_ends.specs.Delivery.{Outcome}
 use Rattle.engine_reports.specs.Openings.{OpeningValue}
 use Rattle.engine_sessions.specs.Findings.{found}
 use Rattle.engine_sessions.specs.Outcomes.{input_outcome}
+use Rattle.engine_sessions.specs.Sessions.{answers_as}
 use Rattle.engine_core.specs.Answering.{answer_by}
 use Rattle.engine_core.specs.Outcomes.{tables_of}
 use Rattle.engine_compare.specs.Differences.{differences}
@@ -15,10 +17,10 @@ use Rattle.engine_compare.specs.Differences.{differences}
 abbrev pub differences_by : OpeningValue → OpeningValue → EventValue → Text
 differences_by old new event = differences event (answer_by (tables_of old) event) (answer_by (tables_of new) event)
 
--- The outcome of a comparison over an input, by what comes of both sides' files: the messages about the old and then about the new rules,
+-- The outcome of a comparison over an input, by the profile by which rules are evaluated and what comes of both sides' files: the messages about the old and then about the new rules,
 -- and for each block of the input what comes and goes, which is a finding. Where one side can't be opened, what is said of that, of the
 -- old one first.
-abbrev pub compare_outcome : Result OpeningValue Outcome → Result OpeningValue Outcome → Text → Outcome
-compare_outcome (Ok old) (Ok new) input = found (input_outcome (old.messages ++ new.messages) (differences_by old new) input)
-compare_outcome (Ok old) (Err said) input = said
-compare_outcome (Err said) new input = said
+abbrev pub compare_outcome : Profile → Result OpeningValue Outcome → Result OpeningValue Outcome → Text → Outcome
+compare_outcome profile (Ok old) (Ok new) input = found (input_outcome (old.messages ++ new.messages) (answers_as profile (differences_by old new)) input)
+compare_outcome profile (Ok old) (Err said) input = said
+compare_outcome profile (Err said) new input = said

@@ -1,5 +1,6 @@
 -- A comparison step by step.
 use Rattle.std.specs.Prelude.{ℕ, List, ◌++◌, Option, Result, Ok, Err}
+use Rattle.text_bytes.specs.declared.profile.Profile.{Profile}
 use Rattle.text_bytes.specs.declared.source_file.SourceFile.{SourceFile}
 use Rattle.text_tables.specs.Texts.{Text}
 use Rattle.index_reading.specs.declared.fault.IndexFault.{IndexFault}
@@ -11,18 +12,19 @@ use Rattle.engine_reports.specs.Indexes.{Opens}
 use Rattle.engine_reports.specs.Openings.{OpeningValue, opening}
 use Rattle.engine_sessions.specs.Findings.{FindsAll}
 use Rattle.engine_sessions.specs.Serves.{Reports, Serves}
+use Rattle.engine_sessions.specs.Sessions.{answers_as}
 use Rattle.engine_compare.specs.Outcomes.{compare_outcome, differences_by}
 
--- a comparison, by what comes of both sides' files
-abbrev pub ComparesBy : Result OpeningValue Outcome → Result OpeningValue Outcome → ℕ → Streams → Streams → Type 0
-ComparesBy (Ok old) (Ok new) status before now = FindsAll (old.messages ++ new.messages) (differences_by old new) status before now
-ComparesBy (Ok old) (Err said) status before now = Reports said status before now
-ComparesBy (Err said) new status before now = Reports said status before now
+-- a comparison, by the profile by which rules are evaluated and what comes of both sides' files
+abbrev pub ComparesBy : Profile → Result OpeningValue Outcome → Result OpeningValue Outcome → ℕ → Streams → Streams → Type 0
+ComparesBy profile (Ok old) (Ok new) status before now = FindsAll (old.messages ++ new.messages) (answers_as profile (differences_by old new)) status before now
+ComparesBy profile (Ok old) (Err said) status before now = Reports said status before now
+ComparesBy profile (Err said) new status before now = Reports said status before now
 
--- A comparison over what comes of the index: what is written and answered is one function of the two lines, the files of each, the index
+-- A comparison over what comes of the index, by the old line's profile: what is written and answered is one function of the two lines, the files of each, the index
 -- and the input; and the same step by step.
 pub record ComparesOver (old_line new_line : Line) (old_files new_files : List SourceFile) (index : Option Text) (status : ℕ) (before now : Streams) : Type 0 where
   pub opened : Option (Result Contents IndexFault)
   pub opens : Opens index opened
-  pub serves : Serves (compare_outcome (opening old_line old_files opened) (opening new_line new_files opened)) status before now
-  pub steps : ComparesBy (opening old_line old_files opened) (opening new_line new_files opened) status before now
+  pub serves : Serves (compare_outcome old_line.profile (opening old_line old_files opened) (opening new_line new_files opened)) status before now
+  pub steps : ComparesBy old_line.profile (opening old_line old_files opened) (opening new_line new_files opened) status before now

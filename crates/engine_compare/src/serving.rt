@@ -7,6 +7,7 @@ ghost use Rattle.engine_reports.specs.Indexes.{entries_in};
 ghost use Rattle.engine_reports.specs.Openings.{OpeningValue, opening};
 ghost use Rattle.engine_reports.specs.Reports.{IsRefused, shown_rules};
 ghost use Rattle.engine_sessions.specs.Findings.{FindsAll};
+ghost use Rattle.engine_sessions.specs.Sessions.{answers_as};
 
 use crate::compared::Compared;
 use crate::shared::Shared;
@@ -17,12 +18,14 @@ use engine_sessions::find_behind;
 use hwdb_lookup::Lookup;
 use index_reading::{Index, IndexFault};
 use std::alloc::{AllocError, Global};
-use text_bytes::SourceFile;
+use text_bytes::{Profile, SourceFile};
 
 /// Compares the answers to the events of an input by two sets of rules, writes what comes and goes, and
 /// gives the status to exit with.
 ///
-/// The files of each side are those handed in for its line, taken as `events` takes them. Messages
+/// The files of each side are those handed in for its line, taken and read as `events` does; rules are
+/// evaluated by the profile of the old line, which is that of the new one where a command line made both.
+/// Messages
 /// about the old and then about the new rules go to `error`; to `output`, for each block of `input`
 /// whose answers differ, what comes and goes, written and flushed before the next read. Where `index`
 /// is handed in, both sides ask it, and no file of a database is read.
@@ -65,7 +68,7 @@ fn compare_opened<R: Source, W: Sink, E: Sink>(
     output: &mut W,
     error: &mut E,
 ) -> u8
-    ensures { ComparesBy (opening old_line.now old_files.items opened.entry) (opening new_line.now new_files.items opened.entry) result
+    ensures { ComparesBy old_line.now.profile (opening old_line.now old_files.items opened.entry) (opening new_line.now new_files.items opened.entry) result
         (record { input = R.shown input.old; out = W.shown output.old; err = E.shown error.old })
         (record { input = R.shown input.new; out = W.shown output.new; err = E.shown error.new }) }
 {
@@ -73,12 +76,12 @@ fn compare_opened<R: Source, W: Sink, E: Sink>(
         None => {
             let old = open_with_database(alloc, old_line, old_files);
             let new = open_with_database(alloc, new_line, new_files);
-            compare_read(alloc, old, new, input, output, error)
+            compare_read(alloc, old_line.profile, old, new, input, output, error)
         }
         Some(Ok(index)) => {
             let old = open_beside(alloc, old_line, old_files, &index);
             let new = open_beside(alloc, new_line, new_files, &index);
-            compare_read(alloc, old, new, input, output, error)
+            compare_read(alloc, old_line.profile, old, new, input, output, error)
         }
         Some(Err(fault)) => deliver_refusal(Refusal::Index(fault), output, error),
     }
@@ -87,6 +90,7 @@ fn compare_opened<R: Source, W: Sink, E: Sink>(
 /// Compares two sets of rules with their databases, or writes why there are not both.
 fn compare_read<L: Lookup + Drop, M: Lookup + Drop, R: Source, W: Sink, E: Sink>(
     alloc: Global,
+    profile: Profile,
     old: Result<(RulesRead, L), Refusal>,
     new: Result<(RulesRead, M), Refusal>,
     input: &mut R,
@@ -96,14 +100,14 @@ fn compare_read<L: Lookup + Drop, M: Lookup + Drop, R: Source, W: Sink, E: Sink>
     ensures { (old_opened new_opened : Result OpeningValue Outcome)
         → IfOk old (λ r. old_opened ≡ Ok (shown_rules r.0 (L.entries r.1))) → IfErr old (λ e. IsRefused e old_opened)
         → IfOk new (λ r. new_opened ≡ Ok (shown_rules r.0 (M.entries r.1))) → IfErr new (λ e. IsRefused e new_opened)
-        → ComparesBy old_opened new_opened result
+        → ComparesBy profile old_opened new_opened result
         (record { input = R.shown input.old; out = W.shown output.old; err = E.shown error.old })
         (record { input = R.shown input.new; out = W.shown output.new; err = E.shown error.new }) }
 {
     match old {
         Ok((old_rules, old_lookup)) => match new {
             Ok((new_rules, new_lookup)) => compare_rules(
-                alloc, old_rules, old_lookup, new_rules, new_lookup, input, output, error,
+                alloc, profile, old_rules, old_lookup, new_rules, new_lookup, input, output, error,
             ),
             Err(refusal) => deliver_refusal(refusal, output, error),
         },
@@ -114,6 +118,7 @@ fn compare_read<L: Lookup + Drop, M: Lookup + Drop, R: Source, W: Sink, E: Sink>
 /// Writes the messages, and what comes and goes behind them.
 fn compare_rules<L: Lookup + Drop, M: Lookup + Drop, R: Source, W: Sink, E: Sink>(
     alloc: Global,
+    profile: Profile,
     old: RulesRead,
     old_lookup: L,
     new: RulesRead,
@@ -122,12 +127,14 @@ fn compare_rules<L: Lookup + Drop, M: Lookup + Drop, R: Source, W: Sink, E: Sink
     output: &mut W,
     error: &mut E,
 ) -> u8
-    ensures { FindsAll (old.messages.items ++ new.messages.items) (differences_by (shown_rules old (L.entries old_lookup)) (shown_rules new (M.entries new_lookup))) result
+    ensures { FindsAll (old.messages.items ++ new.messages.items) (answers_as profile (differences_by (shown_rules old (L.entries old_lookup)) (shown_rules new (M.entries new_lookup)))) result
         (record { input = R.shown input.old; out = W.shown output.old; err = E.shown error.old })
         (record { input = R.shown input.new; out = W.shown output.new; err = E.shown error.new }) }
 {
     match both_tables(alloc, old, old_lookup, new, new_lookup) {
-        Ok((messages, tables)) => find_behind(alloc, &messages, &tables, input, output, error),
+        Ok((messages, tables)) => find_behind(
+            alloc, profile, &messages, &tables, input, output, error,
+        ),
         Err(_) => tell_out_of_memory(error),
     }
 }

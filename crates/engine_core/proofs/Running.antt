@@ -1,5 +1,5 @@
 -- From the steps of a run to what it serves.
-use Rattle.std.proofs.Common.{◌≡◌, ℕ, List, inl, inr, refl, ap, Result, Ok, Err}
+use Rattle.std.proofs.Common.{◌≡◌, ℕ, true, cond, List, inl, inr, refl, ap, subst, sym, Result, Ok, Err}
 use Rattle.text_tables.specs.Texts.{Text}
 use Rattle.engine_ends.specs.declared.line.Line.{Line}
 use Rattle.engine_ends.specs.Streams.{Streams, outputs}
@@ -11,10 +11,13 @@ use Rattle.engine_reports.specs.Reports.{IsRefused, IsReport, IsSaid}
 use Rattle.engine_reports.specs.declared.report.Report.{Report}
 use Rattle.engine_reports.specs.declared.refusal.Refusal.{Refusal}
 use Rattle.engine_reports.specs.declared.refusal.Refusal.TheVariants.{TooManyEntries, TooManyRules, Index, Memory}
-use Rattle.engine_sessions.specs.Serves.{Serves}
+use Rattle.engine_sessions.specs.Serves.{AnswersAll, Serves}
+use Rattle.engine_sessions.specs.Sessions.{answers_as}
 use Rattle.engine_sessions.proofs.Serving.{answers_serve, reports_serve}
-use Rattle.engine_core.specs.Outcomes.{answer_with, asked_of, outcome_by}
+use Rattle.engine_core.specs.Answering.{answer_by}
+use Rattle.engine_core.specs.Outcomes.{answer_with, asked_of, asks_more, outcome_by, tables_of, told_of}
 use Rattle.engine_core.specs.Runs.{RunsBy}
+use Rattle.engine_core.specs.Told.{ToldValue, told_by}
 
 pub runs_serve : (line : Line) (opened : Result OpeningValue Outcome) (status : ℕ) (before now : Streams) → RunsBy line opened status before now → Serves (outcome_by line opened) status before now
 runs_serve line (Ok opening) status before now r = answers_serve opening.messages (answer_with line opening) status before now r
@@ -41,3 +44,13 @@ asked_refused TooManyEntries why opened is = ap (asked_of why) is
 asked_refused TooManyRules why opened is = ap (asked_of why) is
 asked_refused (Index fault) why opened is = ap (asked_of why) is
 asked_refused Memory why opened is = tt
+
+-- a line that asks for more is answered with that
+pub told_runs : (line : Line) (opening : OpeningValue) (messages : Text) (tables : ToldValue) (status : ℕ) (before now : Streams) → asks_more line ≡ true → messages ≡ opening.messages → tables ≡ told_of line opening
+    → AnswersAll messages (answers_as line.profile (told_by tables)) status before now → AnswersAll opening.messages (answer_with line opening) status before now
+told_runs line opening messages tables status before now a m t h =
+    let of : AnswersAll messages (answers_as line.profile (told_by (told_of line opening))) status before now =
+    subst (λ u. AnswersAll messages (answers_as line.profile (told_by u)) status before now) t h in
+    let told : AnswersAll opening.messages (answers_as line.profile (told_by (told_of line opening))) status before now =
+    subst (λ u. AnswersAll u (answers_as line.profile (told_by (told_of line opening))) status before now) m of in
+    subst (λ b. AnswersAll opening.messages (cond b (answers_as line.profile (told_by (told_of line opening))) (answers_as line.profile (answer_by (tables_of opening)))) status before now) (sym a) told

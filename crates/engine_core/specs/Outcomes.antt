@@ -16,6 +16,7 @@ use Rattle.engine_core.specs.Answering.{TablesValue, answer_by}
 use Rattle.engine_core.specs.Checking.{update_said, verify_said}
 use Rattle.engine_core.specs.Told.{ToldValue, told_by}
 use Rattle.engine_sessions.specs.Outcomes.{input_outcome}
+use Rattle.engine_sessions.specs.Sessions.{answers_as}
 
 -- the texts of a line's `--why`
 abbrev pub why_of : Line → List Text
@@ -33,9 +34,12 @@ told_of line opening = record { sources = line.sources; why = why_of line; messa
 abbrev pub asks_more : Line → Bool
 asks_more line = line.sources || not (vec_len line.why == 0)
 
--- the answer to an event by what an opening has: where the line asks for no more the answer alone
+-- the answer to an event by what an opening has, over which rules are evaluated by the line's profile: where the line asks for no more
+-- the answer alone
 abbrev pub answer_with : Line → OpeningValue → EventValue → Text
-answer_with line opening = if asks_more line then told_by (told_of line opening) else answer_by (tables_of opening)
+answer_with line opening =
+    if asks_more line then answers_as line.profile (told_by (told_of line opening))
+    else answers_as line.profile (answer_by (tables_of opening))
 
 -- an opening, or what is said in its place where the line asks for a rule that is not there
 abbrev pub opening_unless : Option Text → OpeningValue → Result OpeningValue Outcome

@@ -22,8 +22,8 @@ use std::alloc::Global;
 use text_bytes::SourceFile;
 use trie_build::{Trie, trie_of};
 
-/// Reads what events are answered by, writes the messages about it, answers the input, and gives the
-/// status to exit with. The database is the index that was opened, or else that of the files.
+/// Reads what events are answered by, writes the messages about it, answers the input, both by the line's
+/// profile, and gives the status to exit with. The database is the index that was opened, or else that of the files.
 pub(crate) fn serve_events<R: Source, W: Sink, E: Sink>(
     alloc: Global,
     line: &Line<'_>,
@@ -111,12 +111,13 @@ fn answer_by_rules<L: Lookup + Drop, R: Source, W: Sink, E: Sink>(
         (record { input = R.shown input.new; out = W.shown output.new; err = E.shown error.new }) }
 {
     let RulesRead { messages, rules } = read;
+    let profile = line.profile;
     if line.sources || !line.why.is_empty() {
         let tables = ToldTables::new(line.sources, &line.why, rules, lookup);
-        return answer_behind(alloc, &messages, &tables, input, output, error);
+        return answer_behind(alloc, profile, &messages, &tables, input, output, error);
     }
     match Tables::new(alloc, rules, lookup) {
-        Ok(tables) => answer_behind(alloc, &messages, &tables, input, output, error),
+        Ok(tables) => answer_behind(alloc, profile, &messages, &tables, input, output, error),
         Err(_) => tell_out_of_memory(error),
     }
 }

@@ -20,8 +20,8 @@ use text_bytes::SourceFile;
 /// `input`, written and flushed before the next read, with the rule before each line that it comes from
 /// and behind the lines what rules met, where `line` asks for that. Where `line` names files of the
 /// kind that the command reads, those handed in are read in their order, and else those whose names end
-/// in `.hwdb` or `.rules`, of each name the one of least rank, sorted by name. Where `index` is handed
-/// in, `query` and `events` answer from it and read no file of the database. The input is looked at by
+/// in `.hwdb` or `.rules`, of each name the one of least rank, sorted by name. `verify` and `events` read
+/// rules, and `events` evaluates them, by the profile of `line`. Where `index` is handed in, `query` and `events` answer from it and read no file of the database. The input is looked at by
 /// `events` alone.
 ///
 /// The status is 0; 1 where `update` is strict and there is a message, where `verify` finds a bad file,

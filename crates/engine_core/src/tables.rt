@@ -13,7 +13,7 @@ use std::alloc::{AllocError, Global};
 use std::marker::Model;
 use text_bytes::Bytes;
 
-/// Rules and a database, by which events are answered.
+/// Rules and a database, by which events are answered, each as its profile has it.
 #[derive(Drop)]
 pub struct Tables<L: Lookup> {
     program: Program,

@@ -20,7 +20,7 @@ pub use delivery::{
 pub use device::{DeviceFault, Sink, Source};
 pub use folders::folder_path;
 pub use kinds::same_kind;
-pub use line::{Format, Line, LineFault, Request, Verb};
+pub use line::{AccountFile, Format, Line, LineFault, Request, Verb};
 pub use memory_sink::MemorySink;
 pub use memory_source::MemorySource;
 pub use places::{push_place, push_word};

@@ -6,7 +6,7 @@
 
 use std::error::Error;
 use std::fmt;
-use text_bytes::Profile;
+use text_bytes::{Bytes, Profile};
 
 /// The subcommand.
 #[derive(Clone, Copy, Debug, PartialEq, Eq)]
@@ -38,6 +38,15 @@ pub enum Format {
     Human,
     /// The same in colors, for a terminal. No word names it.
     HumanInColor,
+}
+
+/// A file that lists users or groups, in the form of /etc/passwd or of /etc/group.
+#[derive(Debug, Drop)]
+pub struct AccountFile<'a> {
+    /// Its path, as it is named.
+    pub path: &'a str,
+    /// Its bytes; none before it is read.
+    pub bytes: Bytes,
 }
 
 /// What a command line asks for.
@@ -73,8 +82,14 @@ pub struct Line<'a> {
     /// The codes of the messages that `verify` and `update` leave out, in the order given; `comments`
     /// among them says that comments in the files are asked, too.
     pub ignored: Vec<&'a str>,
-    /// By whose word `verify` reads rules; the manual's for the other subcommands.
+    /// By whose word `verify` reads rules, and `events` and `compare` read and evaluate them; the manual's
+    /// for the other subcommands.
     pub profile: Profile,
+    /// The users that `verify` knows where it reads rules as udev does; without a list it tells of no
+    /// name of a user.
+    pub users: Option<AccountFile<'a>>,
+    /// The groups, likewise.
+    pub groups: Option<AccountFile<'a>>,
 }
 
 /// What the words of a command line ask for.

@@ -10,13 +10,14 @@ use Rattle.eval_rendering.specs.declared.rendered.Rendered.{Rendered}
 use Rattle.eval_rendering.specs.declared.rendered.Rendered.TheVariants as rendered
 use Rattle.eval_state.specs.Runs.{RunValue}
 use Rattle.eval_state.specs.Scenes.{start}
+use Rattle.eval_state.specs.declared.made_runs.MadeRun.{MadeRun}
 use Rattle.eval_state.specs.declared.state.State.{State}
 use Rattle.eval_rules.specs.Jumps.{run}
-use Rattle.eval_rules.specs.Outcomes.{command, commands, outcome, outcome_of, run_text}
+use Rattle.eval_rules.specs.Outcomes.{command, commands, made_command, outcome, outcome_of, run_text}
 use Rattle.eval_rules.specs.declared.outcome.Command.{Command}
 use Rattle.eval_rules.specs.declared.outcome.Outcome.{Outcome}
 use Rattle.eval_sources.specs.Sources.{Source, source_of}
-use Rattle.eval_sources.specs.Told.{event_commands, sourced_commands, stages}
+use Rattle.eval_sources.specs.Told.{event_commands, sourced_commands, sourced_made, stages}
 use Rattle.engine_answers.specs.Lines.{env_lines, event_line, given_line, note_lines, pair_lines, persist_line, priority_line, run_line, text_lines, watch_line}
 use Rattle.engine_answers.specs.Answers.{answer_lines, node_lines, run_lines}
 use Rattle.engine_sources.specs.Lines.{command_line, command_lines, given_line as given_behind, member_line, sourced_persist, sourced_priority, sourced_watch, value_line, word_line}
@@ -71,10 +72,24 @@ module _ (state : State) where
       ∙ sym (flat_map-append (λ (c : Command). run_line c.kind c.text) (alone kept) (commands state runs))
       ∙ ap run_lines (sym (flat_map-cons alone kept runs))
 
+-- commands that were made at their rules, without these
+made_lines : (made : List MadeRun) → command_lines nothing (map sourced_made made) ≡ run_lines (map made_command made)
+unfolding command_line
+made_lines [] = refl
+made_lines (m ∷ made) =
+    flat_map-cons (command_line nothing) (sourced_made m) (map sourced_made made)
+    ∙ ap (λ rest. command_line nothing (sourced_made m) ++ rest) (made_lines made)
+    ∙ sym (flat_map-cons (λ (c : Command). run_line c.kind c.text) (made_command m) (map made_command made))
+
 -- an event's commands without their rules
 event_lines : (rules : List Rule) (entries : List Entry) (event : EventValue) → command_lines nothing (event_commands rules entries event) ≡ run_lines (outcome rules entries event).runs
 unfolding outcome_of
-event_lines rules entries event = let end = run entries None rules (start event) in all_commands end.state end.runs
+event_lines rules entries event =
+    let end = run entries None rules (start event) in
+    flat_map-append (command_line nothing) (sourced_commands end.state end.runs) (map sourced_made end.made)
+    ∙ ap (λ first. first ++ command_lines nothing (map sourced_made end.made)) (all_commands end.state end.runs)
+    ∙ ap (λ rest. run_lines (commands end.state end.runs) ++ rest) (made_lines end.made)
+    ∙ sym (flat_map-append (λ (c : Command). run_line c.kind c.text) (commands end.state end.runs) (map made_command end.made))
 
 abbrev around : EventValue → Outcome → Text → Text → Text
 around event o node runs =

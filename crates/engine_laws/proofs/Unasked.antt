@@ -7,6 +7,7 @@ use Rattle.engine_reports.specs.Openings.{OpeningValue}
 use Rattle.engine_core.specs.Answering.{answer_by}
 use Rattle.engine_core.specs.Outcomes.{answer_with, asked_of, tables_of, told_of, why_of}
 use Rattle.engine_core.specs.Told.{told_by}
+use Rattle.engine_sessions.specs.Sessions.{answers_as}
 
 none_asked : {A B : Type 0} (f : A → B) (l : List A) → length l ≡ 0 → map f l ≡ []
 none_asked f [] e = refl
@@ -23,5 +24,7 @@ opened_as_it_is (Err said) = refl
 pub asked_as_it_is : (line : Line) (opened : Result OpeningValue Outcome) → vec_len line.why ≡ 0 → asked_of (why_of line) opened ≡ opened
 asked_as_it_is line opened e = ap (λ why. asked_of why opened) (nothing_asked line e) ∙ opened_as_it_is opened
 
-pub answered_alone : (line : Line) (opened : OpeningValue) → line.sources ≡ false → vec_len line.why ≡ 0 → answer_with line opened ≡ answer_by (tables_of opened)
-answered_alone line opened a b = ap (λ (s : Bool). cond (s || not (vec_len line.why == 0)) (told_by (told_of line opened)) (answer_by (tables_of opened))) a ∙ ap (λ (n : ℕ). cond (not (n == 0)) (told_by (told_of line opened)) (answer_by (tables_of opened))) b
+pub answered_alone : (line : Line) (opened : OpeningValue) → line.sources ≡ false → vec_len line.why ≡ 0 → answer_with line opened ≡ answers_as line.profile (answer_by (tables_of opened))
+answered_alone line opened a b =
+    ap (λ (s : Bool). cond (s || not (vec_len line.why == 0)) (answers_as line.profile (told_by (told_of line opened))) (answers_as line.profile (answer_by (tables_of opened)))) a
+    ∙ ap (λ (n : ℕ). cond (not (n == 0)) (answers_as line.profile (told_by (told_of line opened))) (answers_as line.profile (answer_by (tables_of opened)))) b

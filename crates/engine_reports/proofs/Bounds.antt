@@ -4,12 +4,13 @@ use Rattle.std.proofs.lemmas.Bool.{leb-true, le-leb, false_from_ne_true}
 use Rattle.std.proofs.Math.Dec.{leb}
 use Rattle.text_bytes.specs.declared.source_file.SourceFile.{SourceFile}
 use Rattle.text_bytes.specs.declared.message.Message.{Message}
+use Rattle.text_bytes.specs.declared.profile.Profile.{Profile}
 use Rattle.hwdb_lookup.specs.declared.entry.Entry.{Entry}
 use Rattle.hwdb_core.specs.Sources.{WithinBounds, entries_of, match_bytes_of, messages_of, properties_of, text_len}
 use Rattle.hwdb_core.specs.declared.fault.HwdbFault.{HwdbFault}
 use Rattle.hwdb_core.specs.declared.fault.HwdbFault.TheVariants as hwdb
 use Rattle.rule_types.specs.Rules.{tokens_in}
-use Rattle.rule_core.specs.Rules.{set_of}
+use Rattle.rule_core.specs.Rules.{set_of, set_of_as}
 use Rattle.rule_core.specs.declared.fault.RulesFault.{RulesFault}
 use Rattle.rule_core.specs.declared.fault.RulesFault.TheVariants as rules
 use Rattle.index_reading.specs.declared.fault.IndexFault.{IndexFault}
@@ -112,27 +113,27 @@ pub rules_said : (refusal : Refusal) (outcome : Outcome) → refusal ≡ TooMany
 rules_said refusal outcome e said = subst (λ r. IsSaid r outcome) e said
 
 -- what comes of rules files beside a database, by the bound of rules
-pub rules_opened : (files : List SourceFile) (messages : List Message) (entries : List Entry) → tokens_in (set_of files).rules ≤ 2 ^ 24 → opening_by files messages entries ≡ Ok (record { messages = opening_messages (set_of files).messages messages; about_rules = (set_of files).messages; rules = (set_of files).rules; entries = entries })
+pub rules_opened : (by : Profile) (files : List SourceFile) (messages : List Message) (entries : List Entry) → tokens_in (set_of_as by files).rules ≤ 2 ^ 24 → opening_by by files messages entries ≡ Ok (record { messages = opening_messages (set_of_as by files).messages messages; about_rules = (set_of_as by files).messages; rules = (set_of_as by files).rules; entries = entries })
 unfolding opening_by
-rules_opened files messages entries w = rw (le-leb (tokens_in (set_of files).rules) (2 ^ 24) w) refl
+rules_opened by files messages entries w = rw (le-leb (tokens_in (set_of_as by files).rules) (2 ^ 24) w) refl
 
-rules_unopened : (files : List SourceFile) (messages : List Message) (entries : List Entry) → 2 ^ 24 < tokens_in (set_of files).rules → opening_by files messages entries ≡ Err too_many_rules
+rules_unopened : (by : Profile) (files : List SourceFile) (messages : List Message) (entries : List Entry) → 2 ^ 24 < tokens_in (set_of_as by files).rules → opening_by by files messages entries ≡ Err too_many_rules
 unfolding opening_by
-rules_unopened files messages entries h = rw (beyond (tokens_in (set_of files).rules) (2 ^ 24) h) refl
+rules_unopened by files messages entries h = rw (beyond (tokens_in (set_of_as by files).rules) (2 ^ 24) h) refl
 
-pub opening_rules_refused : (files : List SourceFile) (messages : List Message) (entries : List Entry) (fault : RulesFault) → (fault ≡ rules.TooMany → 2 ^ 24 < tokens_in (set_of files).rules) → IsRefused (refused_rules fault) (opening_by files messages entries)
-opening_rules_refused files messages entries rules.TooMany h = rules_unopened files messages entries (h refl)
-opening_rules_refused files messages entries rules.Memory h = tt
+pub opening_rules_refused : (by : Profile) (files : List SourceFile) (messages : List Message) (entries : List Entry) (fault : RulesFault) → (fault ≡ rules.TooMany → 2 ^ 24 < tokens_in (set_of_as by files).rules) → IsRefused (refused_rules fault) (opening_by by files messages entries)
+opening_rules_refused by files messages entries rules.TooMany h = rules_unopened by files messages entries (h refl)
+opening_rules_refused by files messages entries rules.Memory h = tt
 
 -- what comes of both, by the bounds of a database
-pub opening_few : (files database : List SourceFile) → WithinBounds database → opening_within files database ≡ opening_by files (messages_of database) (entries_of database)
+pub opening_few : (by : Profile) (files database : List SourceFile) → WithinBounds database → opening_within by files database ≡ opening_by by files (messages_of database) (entries_of database)
 unfolding opening_within
-opening_few files database few = rw (few_within database few) refl
+opening_few by files database few = rw (few_within database few) refl
 
-opening_many_entries : (files database : List SourceFile) → (WithinBounds database → ⊥) → opening_within files database ≡ Err too_many_entries
+opening_many_entries : (by : Profile) (files database : List SourceFile) → (WithinBounds database → ⊥) → opening_within by files database ≡ Err too_many_entries
 unfolding opening_within
-opening_many_entries files database many = rw (few_beyond database many) refl
+opening_many_entries by files database many = rw (few_beyond database many) refl
 
-pub opening_entries_refused : (files database : List SourceFile) (fault : HwdbFault) → (fault ≡ hwdb.TooMany → WithinBounds database → ⊥) → IsRefused (refused_entries fault) (opening_within files database)
-opening_entries_refused files database hwdb.TooMany beyond = opening_many_entries files database (beyond refl)
-opening_entries_refused files database hwdb.Memory beyond = tt
+pub opening_entries_refused : (by : Profile) (files database : List SourceFile) (fault : HwdbFault) → (fault ≡ hwdb.TooMany → WithinBounds database → ⊥) → IsRefused (refused_entries fault) (opening_within by files database)
+opening_entries_refused by files database hwdb.TooMany beyond = opening_many_entries by files database (beyond refl)
+opening_entries_refused by files database hwdb.Memory beyond = tt

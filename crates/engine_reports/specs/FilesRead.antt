@@ -1,9 +1,11 @@
 -- Which of the files handed in are read, and in which order.
-use Rattle.std.specs.Prelude.{if◌then◌else◌, List, filter}
+use Rattle.std.specs.Prelude.{if◌then◌else◌, List, filter, map}
 use Rattle.text_bytes.specs.FileOrder.{ordered}
 use Rattle.text_bytes.specs.Kinds.{suffix_of}
 use Rattle.text_bytes.specs.declared.source_file.SourceFile.{SourceFile}
 use Rattle.text_bytes.specs.declared.source_file.FileKind.{FileKind}
+use Rattle.text_bytes.specs.declared.source_file.FileKind.TheVariants.{Rules}
+use Rattle.rule_core.specs.Ends.{file_as_read}
 use Rattle.engine_ends.specs.Kinds.{names_files_of, same_kind}
 use Rattle.engine_ends.specs.declared.line.Line.{Line}
 
@@ -19,3 +21,7 @@ chosen kind line files = if names_files_of line kind then files else ordered (su
 -- the files of a kind that a run reads, of all that are handed in
 abbrev pub files_read : FileKind → Line → List SourceFile → List SourceFile
 files_read kind line files = chosen kind line (of_kind kind files)
+
+-- the rules files that a run reads, with the ends of their lines as the line's profile has them
+abbrev pub rules_read : Line → List SourceFile → List SourceFile
+rules_read line files = map (file_as_read line.profile) (files_read Rules line files)

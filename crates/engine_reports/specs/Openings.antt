@@ -2,18 +2,19 @@
 use Rattle.std.specs.Prelude.{◌^◌, false, if◌then◌else◌, List, [], ◌++◌, Option, Some, None, Result, Ok, Err, nat_le}
 use Rattle.text_tables.specs.Texts.{Text}
 use Rattle.text_bytes.specs.declared.message.Message.{Message}
+use Rattle.text_bytes.specs.declared.profile.Profile.{Profile}
 use Rattle.text_bytes.specs.declared.source_file.SourceFile.{SourceFile}
-use Rattle.text_bytes.specs.declared.source_file.FileKind.TheVariants.{Hwdb, Rules}
+use Rattle.text_bytes.specs.declared.source_file.FileKind.TheVariants.{Hwdb}
 use Rattle.hwdb_lookup.specs.declared.entry.Entry.{Entry}
 use Rattle.hwdb_core.specs.Sources.{entries_of, messages_of}
 use Rattle.rule_types.specs.Rules.{Rule, tokens_in}
-use Rattle.rule_core.specs.Rules.{set_of}
+use Rattle.rule_core.specs.Rules.{set_of_as}
 use Rattle.index_reading.specs.declared.fault.IndexFault.{IndexFault}
 use Rattle.index_reading.specs.Contents.{Contents}
 use Rattle.engine_ends.specs.declared.line.Line.{Line}
 use Rattle.engine_reports.specs.Checks.{told}
 use Rattle.engine_ends.specs.Delivery.{Outcome}
-use Rattle.engine_reports.specs.FilesRead.{files_read}
+use Rattle.engine_reports.specs.FilesRead.{files_read, rules_read}
 use Rattle.engine_reports.specs.Indexes.{entries_in, refused_index}
 use Rattle.engine_reports.specs.Messages.{message_lines}
 use Rattle.engine_reports.specs.Outcomes.{are_few, too_many_entries, too_many_rules}
@@ -29,19 +30,19 @@ pub record OpeningValue : Type 0 where
 abbrev pub opening_messages : List Message → List Message → Text
 opening_messages rules database = message_lines (told false rules) ++ message_lines database
 
--- what comes of rules files, of messages about a database and of its entries, where the rules hold no more than they may, and else
--- what is said of that
-unfoldable pub opening_by : List SourceFile → List Message → List Entry → Result OpeningValue Outcome
-opening_by rules messages entries =
-    if nat_le (tokens_in (set_of rules).rules) (2 ^ 24) then Ok (record { messages = opening_messages (set_of rules).messages messages; about_rules = (set_of rules).messages; rules = (set_of rules).rules; entries = entries })
+-- what comes of rules files read by a profile, of messages about a database and of its entries, where the rules hold no more than
+-- they may, and else what is said of that
+unfoldable pub opening_by : Profile → List SourceFile → List Message → List Entry → Result OpeningValue Outcome
+opening_by profile rules messages entries =
+    if nat_le (tokens_in (set_of_as profile rules).rules) (2 ^ 24) then Ok (record { messages = opening_messages (set_of_as profile rules).messages messages; about_rules = (set_of_as profile rules).messages; rules = (set_of_as profile rules).rules; entries = entries })
     else Err too_many_rules
 
 -- the same of rules files and of files of a database, where these too hold no more than they may: what is said is said of the database first
-unfoldable pub opening_within : List SourceFile → List SourceFile → Result OpeningValue Outcome
-opening_within rules database = if are_few database then opening_by rules (messages_of database) (entries_of database) else Err too_many_entries
+unfoldable pub opening_within : Profile → List SourceFile → List SourceFile → Result OpeningValue Outcome
+opening_within profile rules database = if are_few database then opening_by profile rules (messages_of database) (entries_of database) else Err too_many_entries
 
--- what comes of the files handed in, or in place of those of a database of what comes of an index
+-- what comes of the files handed in, of rules by the line's profile, or in place of those of a database of what comes of an index
 abbrev pub opening : Line → List SourceFile → Option (Result Contents IndexFault) → Result OpeningValue Outcome
-opening line files None = opening_within (files_read Rules line files) (files_read Hwdb line files)
-opening line files (Some (Ok contents)) = opening_by (files_read Rules line files) [] (entries_in contents)
+opening line files None = opening_within line.profile (rules_read line files) (files_read Hwdb line files)
+opening line files (Some (Ok contents)) = opening_by line.profile (rules_read line files) [] (entries_in contents)
 opening line files (Some (Err fault)) = Err (refused_index fault)

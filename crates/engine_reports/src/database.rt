@@ -1,7 +1,7 @@
 //! What `query` and `update` say of the database.
 //!
-//! `query` asks an index where one is handed in, and else a trie of the entries that were read, as
-//! events do. `update` makes the same trie, of which the index is written.
+//! `query` asks an index where one is handed in; of files it keeps just the entries that the modalias fits. `update` makes
+//! the trie of all entries, as events do, of which the index is written.
 ghost use Rattle.std.specs.Prelude.{◌≡◌, ◌<◌, List, length, IfOk, IfErr};
 ghost use Rattle.text_bytes.specs.declared.message.Message.{Message};
 ghost use Rattle.hwdb_lookup.specs.declared.entry.Entry.{Entry};
@@ -16,8 +16,8 @@ use crate::messages::message_lines;
 use crate::refusal::Refusal;
 use crate::report::Report;
 use engine_ends::Line;
-use hwdb_core::read_sources;
-use hwdb_lookup::Lookup;
+use hwdb_core::{read_fitting, read_sources};
+use hwdb_lookup::{Lookup, PlainDb};
 use index_reading::{Index, IndexFault};
 use std::alloc::{AllocError, Global};
 use text_bytes::{FileKind, Message, SourceFile};
@@ -40,12 +40,26 @@ pub fn report_on_query(
 {
     match opened {
         None => {
-            let (trie, messages) = read_database(alloc, line, files)?;
-            Ok(answered(alloc, line, &trie, &messages)?)
+            let (entries, messages) = read_answer(alloc, line, files)?;
+            Ok(answered(alloc, line, &entries, &messages)?)
         }
         Some(Ok(index)) => Ok(answered(alloc, line, &index, &[])?),
         Some(Err(fault)) => Err(Refusal::Index(fault)),
     }
+}
+
+/// The entries of the files that are read which the line's modalias fits, and the messages about these files.
+fn read_answer(
+    alloc: Global,
+    line: &Line<'_>,
+    files: Vec<SourceFile>,
+) -> Result<(PlainDb, Vec<Message>), Refusal>
+    ensures read { IfOk result (λ read. query_outcome line.now read.0 read.1.items ≡ database_outcome (query_outcome line.now) (files_read FileKind.Hwdb line.now files.items)) }
+    ensures refused { IfErr result (λ e. IsSaid e (database_outcome (query_outcome line.now) (files_read FileKind.Hwdb line.now files.items))) }
+{
+    let files = files_read(alloc, FileKind::Hwdb, line, files)?;
+    let database = read_fitting(alloc, &files, line.modalias.as_bytes())?;
+    Ok((PlainDb::new(database.entries), database.messages))
 }
 
 /// The trie of the entries of the files that are read, and the messages about these. The files are

@@ -3,7 +3,7 @@ ghost use Rattle.std.specs.Prelude.{◌≡◌, List, [], None, Ok, IfOk, IfErr};
 ghost use Rattle.hwdb_lookup.specs.Orders.{Rising};
 ghost use Rattle.trie_build.specs.Sizes.{KeepsBounds};
 ghost use Rattle.hwdb_lookup.specs.declared.entry.Entry.{Entry};
-ghost use Rattle.engine_reports.specs.FilesRead.{files_read};
+ghost use Rattle.engine_reports.specs.FilesRead.{rules_read};
 ghost use Rattle.engine_reports.specs.Openings.{opening, opening_by, opening_messages, opening_within};
 ghost use Rattle.engine_reports.specs.Reports.{IsRefused, shown_opening, shown_rules};
 
@@ -13,9 +13,9 @@ use crate::refusal::Refusal;
 use engine_ends::Line;
 use hwdb_core::read_sources;
 use hwdb_lookup::Entry;
-use rule_core::{RuleSet, read_rules};
+use rule_core::{RuleSet, files_as_read, read_rules_as};
 use std::alloc::{AllocError, Global};
-use text_bytes::{FileKind, Message, SourceFile};
+use text_bytes::{FileKind, Message, Profile, SourceFile};
 
 /// What comes before the first answer to an event.
 #[derive(Drop)]
@@ -37,7 +37,7 @@ pub struct RulesRead {
     pub rules: RuleSet,
 }
 
-/// Reads what events are answered by from the files handed in.
+/// Reads what events are answered by from the files handed in, rules by the line's profile.
 ///
 /// `TooManyEntries` comes exactly where the files of the database hold more than they may, else
 /// `TooManyRules` exactly where the rules have more than 2^24 tokens; `Memory` where memory is refused.
@@ -52,22 +52,24 @@ pub fn open_files(
     ensures refused { IfErr result (λ e. IsRefused e (opening line.now files.items None)) }
 {
     let (rules, database) = both_read(alloc, line, files)?;
-    open_these(alloc, &rules, &database)
+    let rules = files_as_read(alloc, line.profile, rules)?;
+    open_these(alloc, line.profile, &rules, &database)
 }
 
-/// The same of the files that are read.
+/// The same of the files that are read, rules with their ends of lines as the profile has them.
 fn open_these(
     alloc: Global,
+    profile: Profile,
     rules: &[SourceFile],
     database: &[SourceFile],
 ) -> Result<Opening, Refusal>
-    ensures opening { IfOk result (λ o. opening_within rules.now database.now ≡ Ok (shown_opening o)) }
+    ensures opening { IfOk result (λ o. opening_within profile rules.now database.now ≡ Ok (shown_opening o)) }
     ensures rising { IfOk result (λ o. Rising o.entries.items) }
     ensures bounds { IfOk result (λ o. KeepsBounds o.entries.items) }
-    ensures refused { IfErr result (λ e. IsRefused e (opening_within rules.now database.now)) }
+    ensures refused { IfErr result (λ e. IsRefused e (opening_within profile rules.now database.now)) }
 {
     let database = read_sources(alloc, database)?;
-    let read = open_these_rules(alloc, rules, &database.messages)?;
+    let read = open_these_rules(alloc, profile, rules, &database.messages)?;
     Ok(Opening {
         messages: read.messages,
         rules: read.rules,
@@ -75,8 +77,8 @@ fn open_these(
     })
 }
 
-/// Reads the rules that events are answered by beside an index, from the files handed in. No file of
-/// a database is read, and so there are no messages about one.
+/// Reads the rules that events are answered by beside an index, from the files handed in and by the
+/// line's profile. No file of a database is read, and so there are no messages about one.
 ///
 /// `TooManyRules` comes exactly where the rules have more than 2^24 tokens; `Memory` where memory is
 /// refused.
@@ -85,23 +87,25 @@ pub fn open_rules(
     line: &Line<'_>,
     files: Vec<SourceFile>,
 ) -> Result<RulesRead, Refusal>
-    ensures opening { IfOk result (λ r. (entries : List Entry) → opening_by (files_read FileKind.Rules line.now files.items) [] entries ≡ Ok (shown_rules r entries)) }
-    ensures refused { IfErr result (λ e. (entries : List Entry) → IsRefused e (opening_by (files_read FileKind.Rules line.now files.items) [] entries)) }
+    ensures opening { IfOk result (λ r. (entries : List Entry) → opening_by line.now.profile (rules_read line.now files.items) [] entries ≡ Ok (shown_rules r entries)) }
+    ensures refused { IfErr result (λ e. (entries : List Entry) → IsRefused e (opening_by line.now.profile (rules_read line.now files.items) [] entries)) }
 {
     let rules = files_read(alloc, FileKind::Rules, line, files)?;
-    open_these_rules(alloc, &rules, &[])
+    let rules = files_as_read(alloc, line.profile, rules)?;
+    open_these_rules(alloc, line.profile, &rules, &[])
 }
 
-/// The rules of the files that are read, and the messages about them and about a database.
+/// The rules of the files that are read, by a profile, and the messages about them and about a database.
 fn open_these_rules(
     alloc: Global,
+    profile: Profile,
     files: &[SourceFile],
     messages: &[Message],
 ) -> Result<RulesRead, Refusal>
-    ensures opening { IfOk result (λ r. (entries : List Entry) → opening_by files.now messages.now entries ≡ Ok (shown_rules r entries)) }
-    ensures refused { IfErr result (λ e. (entries : List Entry) → IsRefused e (opening_by files.now messages.now entries)) }
+    ensures opening { IfOk result (λ r. (entries : List Entry) → opening_by profile files.now messages.now entries ≡ Ok (shown_rules r entries)) }
+    ensures refused { IfErr result (λ e. (entries : List Entry) → IsRefused e (opening_by profile files.now messages.now entries)) }
 {
-    let rules = read_rules(alloc, files)?;
+    let rules = read_rules_as(alloc, profile, files)?;
     let messages = all_message_lines(alloc, rules.messages(), messages)?;
     Ok(RulesRead { messages, rules })
 }

@@ -8,3 +8,4 @@ pub mod Turns
 pub mod FindingLemmas
 pub mod FindServing
 pub mod Serving
+pub mod Manual

@@ -1,16 +1,34 @@
 -- What a session is to its callers, and what its calls do.
 use Rattle.std.specs.Prelude.{◌≡◌, ℕ, ◌+◌, ◌<◌, ◌≤◌, Bool, true, false, List, [], ◌∷◌, ◌++◌, Option, None, Err, length, take}
 use Rattle.std.specs.Option.{option_to_list}
+use Rattle.text_bytes.specs.declared.profile.Profile.{Profile}
 use Rattle.text_tables.specs.Texts.{Text}
 use Rattle.device_core.specs.Runs.{complete_runs, rest_of, runs}
 use Rattle.device_core.specs.RunBlocks.{most_bytes}
-use Rattle.device_core.specs.Values.{EventValue}
+use Rattle.device_core.specs.Values.{EventValue, by_profile}
 use Rattle.device_core.specs.Faults.{block_gives}
 use Rattle.device_core.specs.declared.faults.BlockFault.{BlockFault}
 use Rattle.engine_sessions.specs.Answers.{answers_to, well, counted, number_behind}
 use Rattle.engine_sessions.specs.declared.session.Step.{Step}
 use Rattle.engine_sessions.specs.declared.session.SessionFault.{SessionFault}
 use Rattle.engine_sessions.specs.declared.session.SessionFault.TheVariants.{Block, Memory, Ended}
+
+-- answers to events, over which rules are evaluated by a profile
+abbrev pub answers_as : Profile → (EventValue → Text) → EventValue → Text
+answers_as profile answer event = answer (by_profile profile event)
+
+-- what answers the events, and by whose word rules are evaluated over them
+pub record Asked (A : Type 0) : Type 0 where
+  pub answering : A
+  pub profile : Profile
+
+-- this, asked by a profile
+abbrev pub asked_by : {A : Type 0} → Profile → A → Asked A
+asked_by profile answering = record { answering = answering; profile = profile }
+
+-- the answers of what is asked, by its profile
+abbrev pub answer_of : {A : Type 0} → (A → EventValue → Text) → Asked A → EventValue → Text
+answer_of answers asked = answers_as asked.profile (answers asked.answering)
 
 -- what answers the events, the bytes taken of a block that is not complete, how many blocks were answered, and whether no more is
 -- taken

@@ -2,6 +2,7 @@
 ghost use Rattle.std.specs.Prelude.{◌≡◌, Err};
 ghost use Rattle.engine_sessions.specs.Findings.{FindsAll, found};
 ghost use Rattle.engine_sessions.specs.Outcomes.{input_outcome};
+ghost use Rattle.engine_sessions.specs.Sessions.{answer_of, asked_by};
 ghost use Rattle.engine_sessions.specs.Serves.{AnswersAll, Concludes, Serves};
 
 use crate::answering::Answering;
@@ -11,52 +12,55 @@ use crate::session::SessionFault;
 use crate::turning::TurnFault;
 use engine_ends::{Sink, Source, hand_on, tell, tell_out_of_memory};
 use std::alloc::Global;
+use text_bytes::Profile;
 
 const READ_FAILED: &[u8] = b"devdry: read failed\n";
 
 const WRITE_FAILED: &[u8] = b"devdry: write failed\n";
 
-/// Writes messages to `error`, and then answers the blocks of the input on `output`; gives the status
-/// to exit with.
+/// Writes messages to `error`, and then answers the blocks of the input on `output`, over whose
+/// events rules are evaluated by a profile; gives the status to exit with.
 ///
 /// The status is 0; 1 where a block is faulty, which is told on `error` behind the answers to those
 /// before it; 3 where the input or an output failed, or the input did not end within 2^48 reads; 4
 /// where memory was refused.
 pub fn answer_behind<A: Answering, R: Source, W: Sink, E: Sink>(
     alloc: Global,
+    profile: Profile,
     messages: &[u8],
     answering: &A,
     input: &mut R,
     output: &mut W,
     error: &mut E,
 ) -> u8
-    ensures serves { Serves (input_outcome messages.now (A.answers answering.now)) result
+    ensures serves { Serves (input_outcome messages.now (answer_of A.answers (asked_by profile answering.now))) result
         (record { input = R.shown input.old; out = W.shown output.old; err = E.shown error.old })
         (record { input = R.shown input.new; out = W.shown output.new; err = E.shown error.new }) }
-    ensures steps { AnswersAll messages.now (A.answers answering.now) result
+    ensures steps { AnswersAll messages.now (answer_of A.answers (asked_by profile answering.now)) result
         (record { input = R.shown input.old; out = W.shown output.old; err = E.shown error.old })
         (record { input = R.shown input.new; out = W.shown output.new; err = E.shown error.new }) }
 {
-    answer_in_steps(alloc, messages, answering, input, output, error)
+    answer_in_steps(alloc, profile, messages, answering, input, output, error)
 }
 
 /// The same, step by step.
 fn answer_in_steps<A: Answering, R: Source, W: Sink, E: Sink>(
     alloc: Global,
+    profile: Profile,
     messages: &[u8],
     answering: &A,
     input: &mut R,
     output: &mut W,
     error: &mut E,
 ) -> u8
-    ensures { AnswersAll messages.now (A.answers answering.now) result
+    ensures { AnswersAll messages.now (answer_of A.answers (asked_by profile answering.now)) result
         (record { input = R.shown input.old; out = W.shown output.old; err = E.shown error.old })
         (record { input = R.shown input.new; out = W.shown output.new; err = E.shown error.new }) }
 {
     if hand_on(error, messages).is_err() {
         return 3;
     }
-    match answer_input(alloc, answering, input, output) {
+    match answer_input(alloc, profile, answering, input, output) {
         Ok(_) => 0,
         Err(fault) => conclude(fault, error),
     }
@@ -69,39 +73,41 @@ fn answer_in_steps<A: Answering, R: Source, W: Sink, E: Sink>(
 /// `answer_behind`, whatever was answered.
 pub fn find_behind<A: Answering, R: Source, W: Sink, E: Sink>(
     alloc: Global,
+    profile: Profile,
     messages: &[u8],
     answering: &A,
     input: &mut R,
     output: &mut W,
     error: &mut E,
 ) -> u8
-    ensures serves { Serves (λ text. found (input_outcome messages.now (A.answers answering.now) text)) result
+    ensures serves { Serves (λ text. found (input_outcome messages.now (answer_of A.answers (asked_by profile answering.now)) text)) result
         (record { input = R.shown input.old; out = W.shown output.old; err = E.shown error.old })
         (record { input = R.shown input.new; out = W.shown output.new; err = E.shown error.new }) }
-    ensures steps { FindsAll messages.now (A.answers answering.now) result
+    ensures steps { FindsAll messages.now (answer_of A.answers (asked_by profile answering.now)) result
         (record { input = R.shown input.old; out = W.shown output.old; err = E.shown error.old })
         (record { input = R.shown input.new; out = W.shown output.new; err = E.shown error.new }) }
 {
-    find_in_steps(alloc, messages, answering, input, output, error)
+    find_in_steps(alloc, profile, messages, answering, input, output, error)
 }
 
 /// The same, step by step.
 fn find_in_steps<A: Answering, R: Source, W: Sink, E: Sink>(
     alloc: Global,
+    profile: Profile,
     messages: &[u8],
     answering: &A,
     input: &mut R,
     output: &mut W,
     error: &mut E,
 ) -> u8
-    ensures { FindsAll messages.now (A.answers answering.now) result
+    ensures { FindsAll messages.now (answer_of A.answers (asked_by profile answering.now)) result
         (record { input = R.shown input.old; out = W.shown output.old; err = E.shown error.old })
         (record { input = R.shown input.new; out = W.shown output.new; err = E.shown error.new }) }
 {
     if hand_on(error, messages).is_err() {
         return 3;
     }
-    match answer_input(alloc, answering, input, output) {
+    match answer_input(alloc, profile, answering, input, output) {
         Ok(true) => 1,
         Ok(false) => 0,
         Err(fault) => conclude(fault, error),

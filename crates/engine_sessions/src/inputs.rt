@@ -1,6 +1,6 @@
 //! The turns over an input.
 ghost use Rattle.std.specs.Prelude.{◌≡◌};
-ghost use Rattle.engine_sessions.specs.Sessions.{opened};
+ghost use Rattle.engine_sessions.specs.Sessions.{answer_of, asked_by, opened};
 ghost use Rattle.engine_sessions.specs.Findings.{AnswersFinding};
 
 use crate::answering::Answering;
@@ -8,11 +8,12 @@ use crate::session::{Session, SessionFault};
 use crate::turning::{TurnFault, turn_finding};
 use engine_ends::{Sink, Source};
 use std::alloc::Global;
+use text_bytes::Profile;
 
 /// The most turns over one input.
 const MOST_TURNS: u64 = 1 << 48;
 
-/// Answers the blocks of an input: each answer is written and flushed before the next read. Says whether
+/// Answers the blocks of an input, over whose events rules are evaluated by a profile: each answer is written and flushed before the next read. Says whether
 /// any answer has a byte.
 ///
 /// `Session(Block(..))` comes where a block is faulty, with the answers to all blocks before it sent;
@@ -20,14 +21,15 @@ const MOST_TURNS: u64 = 1 << 48;
 /// failed, or did not end within 2^48 reads.
 pub fn answer_input<A: Answering, R: Source, W: Sink>(
     alloc: Global,
+    profile: Profile,
     answering: &A,
     input: &mut R,
     output: &mut W,
 ) -> Result<bool, TurnFault>
-    ensures { AnswersFinding (A.answers answering.now) result
+    ensures { AnswersFinding (answer_of A.answers (asked_by profile answering.now)) result
         (R.shown input.old) (R.shown input.new) (W.shown output.old) (W.shown output.new) }
 {
-    match Session::new(alloc, answering) {
+    match Session::new_as(alloc, profile, answering) {
         Ok(mut session) => make_turns(alloc, &mut session, input, output),
         Err(_) => Err(TurnFault::Session(SessionFault::Memory)),
     }
@@ -41,7 +43,7 @@ fn make_turns<A: Answering, R: Source, W: Sink>(
     output: &mut W,
 ) -> Result<bool, TurnFault>
     requires { session.old ≡ opened session.old.answering }
-    ensures { AnswersFinding (A.answers session.old.answering) result
+    ensures { AnswersFinding (answer_of A.answers session.old.answering) result
         (R.shown input.old) (R.shown input.new) (W.shown output.old) (W.shown output.new) }
 {
     let mut finds = false;

@@ -1,6 +1,7 @@
 //! What holds of the answers to blocks, whatever is answered, and of a session's calls however an
 //! input is cut. Each law is the contract of a function that does nothing.
 ghost use Rattle.std.specs.Prelude.{◌≡◌, List, ℕ, true, false, [], ◌∷◌, ◌++◌, map, Ok, Err, Option, Some, None};
+ghost use Rattle.text_bytes.specs.declared.profile.Profile.TheVariants.{Manual};
 ghost use Rattle.text_tables.specs.Texts.{Text};
 ghost use Rattle.device_core.specs.Runs.{rest_of};
 ghost use Rattle.device_core.specs.Values.{EventValue};
@@ -8,7 +9,7 @@ ghost use Rattle.device_core.specs.Faults.{block_gives};
 ghost use Rattle.device_core.specs.declared.faults.BlockFault.{BlockFault};
 ghost use Rattle.engine_sessions.specs.Answers.{Answers, well, answers_to, answers_of};
 ghost use Rattle.engine_sessions.specs.Known.{known_blocks};
-ghost use Rattle.engine_sessions.specs.Sessions.{Held, opened, Ends, FailsBy};
+ghost use Rattle.engine_sessions.specs.Sessions.{Asked, Held, answer_of, answers_as, opened, Ends, FailsBy};
 ghost use Rattle.engine_sessions.specs.Calls.{Call, TakesAll, GiveAnswers, GiveAll, GiveUntil, used_by, given_by};
 ghost use Rattle.engine_sessions.specs.declared.session.SessionFault.TheVariants.{Block};
 
@@ -40,23 +41,29 @@ pub fn known_answers_stay()
         } }
 {}
 
+/// By the manual events are answered as their blocks are read: the event of a block is one of the manual's.
+pub fn the_manual_changes_no_event()
+    ensures events { (block : Text) (event : EventValue) → block_gives block ≡ Ok event → event.profile ≡ Manual }
+    ensures answers { (answer : EventValue → Text) (input : Text) → answers_of (answers_as Manual answer) input ≡ answers_of answer input }
+{}
+
 /// However an input is cut into pieces, a new session gives the answers to the complete runs of the
 /// bytes that it used and keeps their rest, and with its end those to the whole input. Where it names
 /// a faulty block, that ends the answers to the input, whatever comes later.
 pub fn answers_do_not_depend_on_the_pieces<A: Answering>()
-    ensures takes { (answering : A) (calls : List (Call A)) (now : Held A)
-        → TakesAll (A.answers answering) (opened answering) calls now
-        → GiveAnswers (A.answers answering) calls now }
-    ensures end { (answering : A) (calls : List (Call A)) (now last : Held A) (answer : Option Text)
-        → TakesAll (A.answers answering) (opened answering) calls now
-        → Ends (A.answers answering) now answer last
-        → GiveAll (A.answers answering) calls answer }
-    ensures faulty_take { (answering : A) (calls : List (Call A)) (now last : Held A) (piece later : Text) (number : ℕ) (fault : BlockFault)
-        → TakesAll (A.answers answering) (opened answering) calls now
+    ensures takes { (answering : Asked A) (calls : List (Call (Asked A))) (now : Held (Asked A))
+        → TakesAll (answer_of A.answers answering) (opened answering) calls now
+        → GiveAnswers (answer_of A.answers answering) calls now }
+    ensures end { (answering : Asked A) (calls : List (Call (Asked A))) (now last : Held (Asked A)) (answer : Option Text)
+        → TakesAll (answer_of A.answers answering) (opened answering) calls now
+        → Ends (answer_of A.answers answering) now answer last
+        → GiveAll (answer_of A.answers answering) calls answer }
+    ensures faulty_take { (answering : Asked A) (calls : List (Call (Asked A))) (now last : Held (Asked A)) (piece later : Text) (number : ℕ) (fault : BlockFault)
+        → TakesAll (answer_of A.answers answering) (opened answering) calls now
         → FailsBy (Block number fault) now (known_blocks true (now.pending ++ piece)) last
-        → GiveUntil (A.answers answering) (used_by calls ++ piece ++ later) (given_by calls) number fault }
-    ensures faulty_end { (answering : A) (calls : List (Call A)) (now last : Held A) (number : ℕ) (fault : BlockFault)
-        → TakesAll (A.answers answering) (opened answering) calls now
+        → GiveUntil (answer_of A.answers answering) (used_by calls ++ piece ++ later) (given_by calls) number fault }
+    ensures faulty_end { (answering : Asked A) (calls : List (Call (Asked A))) (now last : Held (Asked A)) (number : ℕ) (fault : BlockFault)
+        → TakesAll (answer_of A.answers answering) (opened answering) calls now
         → FailsBy (Block number fault) now (known_blocks false now.pending) last
-        → GiveUntil (A.answers answering) (used_by calls) (given_by calls) number fault }
+        → GiveUntil (answer_of A.answers answering) (used_by calls) (given_by calls) number fault }
 {}

@@ -6,14 +6,14 @@ ghost use Rattle.std.specs.Prelude.{◌≡◌, ◌≤◌, ◌+◌, true, false, 
 ghost use Rattle.device_core.specs.RunBlocks.{most_bytes};
 ghost use Rattle.device_core.specs.Faults.{block_gives};
 ghost use Rattle.engine_sessions.specs.Known.{known_blocks};
-ghost use Rattle.engine_sessions.specs.Sessions.{opened, closed, Takes, Ends, FailsBy};
+ghost use Rattle.engine_sessions.specs.Sessions.{answer_of, asked_by, opened, closed, Takes, Ends, FailsBy};
 ghost use Rattle.engine_sessions.specs.Holding.{IsGoing, IsAnswer, IsRefused, IsSplitRefused};
 
 use crate::answering::Answering;
 use device_core::{BlockFault, BlockFaultKind, SplitFault, Splitter, read_block};
 use std::alloc::{AllocError, Global};
 use std::marker::Model;
-use text_bytes::Bytes;
+use text_bytes::{Bytes, Profile};
 
 /// What taking a piece came to.
 #[derive(Drop)]
@@ -39,6 +39,7 @@ pub enum SessionFault {
 #[derive(Drop)]
 pub struct Session<'a, A: Answering> {
     answering: &'a A,
+    profile: Profile,
     splitter: Splitter,
     /// How many blocks were answered.
     answered: u64,
@@ -47,27 +48,41 @@ pub struct Session<'a, A: Answering> {
 
 impl<'a, A: Answering> Model for Session<'a, A> {
     ghost use Rattle.std.specs.Prelude.{◌≡◌, false};
-    ghost use Rattle.engine_sessions.specs.Sessions.{Held};
+    ghost use Rattle.engine_sessions.specs.Sessions.{Asked, Held, asked_by};
     ghost use Rattle.engine_sessions.specs.Holding.{held, IsOpen};
 
-    ghost Value = { Held A };
+    ghost Value = { Held (Asked A) };
 
-    ghost view = { λ s. held s.answering.now s.splitter.pending s.answered s.ended };
+    ghost view = { λ s. held (asked_by s.profile s.answering.now) s.splitter.pending s.answered s.ended };
 
     ghost invariant = { λ s. s.ended ≡ false → IsOpen s.splitter s.answered };
 }
 
 impl<'a, A: Answering> Session<'a, A> {
     /// A session at the input's start, with all the room that its pending bytes will need: 65,536
-    /// bytes.
+    /// bytes. Rules are evaluated over its events as the manual pages say.
     ///
     /// The error comes where memory is refused.
     pub fn new(alloc: Global, answering: &'a A) -> Result<Session<'a, A>, AllocError>
-        ensures { IfOk result (λ s. s ≡ opened answering.now) }
+        ensures { IfOk result (λ s. s ≡ opened (asked_by Profile.Manual answering.now)) }
+    {
+        Session::new_as(alloc, Profile::Manual, answering)
+    }
+
+    /// The same session, over whose events rules are evaluated by a profile.
+    ///
+    /// The error comes where memory is refused.
+    pub fn new_as(
+        alloc: Global,
+        profile: Profile,
+        answering: &'a A,
+    ) -> Result<Session<'a, A>, AllocError>
+        ensures { IfOk result (λ s. s ≡ opened (asked_by profile answering.now)) }
     {
         let splitter = Splitter::new(alloc)?;
         Ok(Session {
             answering,
+            profile,
             splitter,
             answered: 0,
             ended: false,
@@ -80,7 +95,7 @@ impl<'a, A: Answering> Session<'a, A> {
     /// `Block` comes where the block is faulty, also at byte 65,537 of one that is too long; `Memory`
     /// where memory is refused; `Ended` after these, after `end`, and nowhere else.
     pub fn take(&mut self, alloc: Global, piece: &[u8]) -> Result<Step, SessionFault>
-        ensures ok { IfOk result (λ step. Takes (A.answers self.old.answering) self.old piece.now step self.new) }
+        ensures ok { IfOk result (λ step. Takes (answer_of A.answers self.old.answering) self.old piece.now step self.new) }
         ensures err { IfErr result (λ fault. FailsBy fault self.old (known_blocks true (self.old.pending ++ piece.now)) self.new) }
     {
         if self.ended {
@@ -95,7 +110,8 @@ impl<'a, A: Answering> Session<'a, A> {
                         answer: None,
                     });
                 }
-                match answer_to(alloc, self.answering, self.splitter.block(), number) {
+                let block = self.splitter.block();
+                match answer_to(alloc, self.profile, self.answering, block, number) {
                     Ok(text) => {
                         self.answered = number;
                         Ok(Step {
@@ -122,7 +138,7 @@ impl<'a, A: Answering> Session<'a, A> {
     /// `Block` comes where that block is faulty, `Memory` where memory is refused, `Ended` after
     /// these, after `end` and after a fault of `take`, and nowhere else.
     pub fn end(&mut self, alloc: Global) -> Result<Option<Bytes>, SessionFault>
-        ensures ok { IfOk result (λ last. Ends (A.answers self.old.answering) self.old last self.new) }
+        ensures ok { IfOk result (λ last. Ends (answer_of A.answers self.old.answering) self.old last self.new) }
         ensures err { IfErr result (λ fault. FailsBy fault self.old (known_blocks false self.old.pending) self.new) }
     {
         if self.ended {
@@ -131,13 +147,16 @@ impl<'a, A: Answering> Session<'a, A> {
         self.ended = true;
         let number = self.answered.saturating_add(1);
         match self.splitter.end() {
-            Ok(true) => match answer_to(alloc, self.answering, self.splitter.block(), number) {
-                Ok(text) => {
-                    self.answered = number;
-                    Ok(Some(text))
+            Ok(true) => {
+                let last = self.splitter.block();
+                match answer_to(alloc, self.profile, self.answering, last, number) {
+                    Ok(answer) => {
+                        self.answered = number;
+                        Ok(Some(answer))
+                    }
+                    Err(fault) => Err(fault),
                 }
-                Err(fault) => Err(fault),
-            },
+            }
             Ok(false) => Ok(None),
             Err(fault) => Err(split_refused(fault, number)),
         }
@@ -160,18 +179,20 @@ impl<'a, A: Answering> Session<'a, A> {
     }
 }
 
-/// The answer to a block of this number.
+/// The answer to a block of this number, over whose event rules are evaluated by a profile.
 fn answer_to<A: Answering>(
     alloc: Global,
+    profile: Profile,
     answering: &A,
     block: &[u8],
     number: u64,
 ) -> Result<Bytes, SessionFault>
-    ensures ok { IfOk result (λ text. IsAnswer (A.answers answering.now) block.now text) }
+    ensures ok { IfOk result (λ text. IsAnswer (answer_of A.answers (asked_by profile answering.now)) block.now text) }
     ensures err { IfErr result (λ fault. IsRefused fault number block.now) }
 {
     match read_block(alloc, block) {
         Ok(event) => {
+            let event = event.with_profile(profile);
             let said = answering.answer(alloc, &event);
             drop(event);
             match said {

@@ -6,6 +6,7 @@ ghost use Rattle.std.specs.Prelude.{◌≡◌, ◌≤◌, true, false, [], lengt
 ghost use Rattle.std.specs.Option.{option_to_list};
 ghost use Rattle.device_core.specs.RunBlocks.{most_bytes};
 ghost use Rattle.engine_ends.specs.Sinks.{SinkState};
+ghost use Rattle.engine_sessions.specs.Sessions.{answer_of};
 ghost use Rattle.engine_sessions.specs.Turns.{due, HasEnded, say_something, Sends, SendsDue, SendsUntil, Turns, FailsBy};
 ghost use Rattle.engine_sessions.specs.Findings.{TurnsFinding};
 ghost use Rattle.engine_sessions.specs.Holding.{IsGoing, BreaksOffAt};
@@ -53,9 +54,9 @@ pub fn turn<A: Answering, R: Source, W: Sink>(
     input: &mut R,
     output: &mut W,
 ) -> Result<bool, TurnFault>
-    ensures ok { IfOk result (λ more. Turns (A.answers session.old.answering) more session.old session.new
+    ensures ok { IfOk result (λ more. Turns (answer_of A.answers session.old.answering) more session.old session.new
         (R.shown input.old) (R.shown input.new) (W.shown output.old) (W.shown output.new)) }
-    ensures err { IfErr result (λ fault. FailsBy (A.answers session.old.answering) fault session.old
+    ensures err { IfErr result (λ fault. FailsBy (answer_of A.answers session.old.answering) fault session.old
         (R.shown input.old) (R.shown input.new) (W.shown output.old) (W.shown output.new)) }
     ensures ended { OnErr result (HasEnded session.old session.new) }
     ensures fits { length session.new.pending ≤ most_bytes }
@@ -74,9 +75,9 @@ pub(crate) fn turn_finding<A: Answering, R: Source, W: Sink>(
     input: &mut R,
     output: &mut W,
 ) -> Result<Turned, TurnFault>
-    ensures ok { IfOk result (λ turned. TurnsFinding (A.answers session.old.answering) turned.more turned.finds session.old session.new
+    ensures ok { IfOk result (λ turned. TurnsFinding (answer_of A.answers session.old.answering) turned.more turned.finds session.old session.new
         (R.shown input.old) (R.shown input.new) (W.shown output.old) (W.shown output.new)) }
-    ensures err { IfErr result (λ fault. FailsBy (A.answers session.old.answering) fault session.old
+    ensures err { IfErr result (λ fault. FailsBy (answer_of A.answers session.old.answering) fault session.old
         (R.shown input.old) (R.shown input.new) (W.shown output.old) (W.shown output.new)) }
     ensures ended { OnErr result (HasEnded session.old session.new) }
     ensures fits { length session.new.pending ≤ most_bytes }
@@ -110,9 +111,9 @@ fn answer_piece<A: Answering, W: Sink>(
     output: &mut W,
 ) -> Result<bool, TurnFault>
     requires { IsGoing session.old }
-    ensures finds { IfOk result (λ finds. finds ≡ say_something (due (A.answers session.old.answering) true session.old.pending piece.now).texts) }
-    ensures ok { OnOk result (SendsDue (A.answers session.old.answering) true session.old piece.now session.new (W.shown output.old) (W.shown output.new)) }
-    ensures err { IfErr result (λ fault. SendsUntil fault (due (A.answers session.old.answering) true session.old.pending piece.now) session.old.answered (W.shown output.old) (W.shown output.new)) }
+    ensures finds { IfOk result (λ finds. finds ≡ say_something (due (answer_of A.answers session.old.answering) true session.old.pending piece.now).texts) }
+    ensures ok { OnOk result (SendsDue (answer_of A.answers session.old.answering) true session.old piece.now session.new (W.shown output.old) (W.shown output.new)) }
+    ensures err { IfErr result (λ fault. SendsUntil fault (due (answer_of A.answers session.old.answering) true session.old.pending piece.now) session.old.answered (W.shown output.old) (W.shown output.new)) }
     ensures ended { OnErr result (HasEnded session.old session.new) }
     ensures fits { length session.new.pending ≤ most_bytes }
 {
@@ -144,9 +145,9 @@ fn answer_last<A: Answering, W: Sink>(
     output: &mut W,
 ) -> Result<bool, TurnFault>
     requires { IsGoing session.old }
-    ensures finds { IfOk result (λ finds. finds ≡ say_something (due (A.answers session.old.answering) false session.old.pending []).texts) }
-    ensures ok { OnOk result (SendsDue (A.answers session.old.answering) false session.old [] session.new (W.shown output.old) (W.shown output.new)) }
-    ensures err { IfErr result (λ fault. SendsUntil fault (due (A.answers session.old.answering) false session.old.pending []) session.old.answered (W.shown output.old) (W.shown output.new)) }
+    ensures finds { IfOk result (λ finds. finds ≡ say_something (due (answer_of A.answers session.old.answering) false session.old.pending []).texts) }
+    ensures ok { OnOk result (SendsDue (answer_of A.answers session.old.answering) false session.old [] session.new (W.shown output.old) (W.shown output.new)) }
+    ensures err { IfErr result (λ fault. SendsUntil fault (due (answer_of A.answers session.old.answering) false session.old.pending []) session.old.answered (W.shown output.old) (W.shown output.new)) }
     ensures ended { HasEnded session.old session.new }
 {
     match session.end(alloc) {

@@ -1,6 +1,11 @@
 -- What an act of a rule does, and whether the rule goes on.
-use Rattle.std.specs.Prelude.{Bool, false, List, []}
+use Rattle.std.specs.Prelude.{ℕ, Bool, false, List, [], ◌∷◌}
+use Rattle.text_bytes.specs.declared.profile.Profile.{Profile}
+use Rattle.text_bytes.specs.declared.profile.Profile.TheVariants.{Manual, Udev}
 use Rattle.text_tables.specs.Texts.{Text}
+use Rattle.text_core.specs.Fnmatch.{fnmatch_items}
+use Rattle.text_core.specs.declared.item.Item.{Item}
+use Rattle.text_core.specs.declared.reading.Reading.TheVariants.{Exact}
 use Rattle.hwdb_lookup.specs.declared.entry.Entry.{Entry}
 use Rattle.rule_types.specs.WrittenParts.{attribute_of_deed, key_of_deed}
 use Rattle.rule_types.specs.declared.part.Act.{Act}
@@ -8,10 +13,10 @@ use Rattle.rule_types.specs.declared.part.Deed.{Deed}
 use Rattle.rule_types.specs.declared.part.Deed.TheVariants as deed
 use Rattle.rule_types.specs.declared.part.Import.{Import}
 use Rattle.rule_types.specs.declared.part.Import.TheVariants as import
+use Rattle.rule_types.specs.declared.roles.MatchOperator.{MatchOperator}
+use Rattle.rule_templates.specs.Template.{Parts as Template}
 use Rattle.rule_types.specs.Rules.{Rule}
 use Rattle.eval_state.specs.Chains.{device_at}
-use Rattle.eval_rendering.specs.Rendering.{render}
-use Rattle.eval_rendering.specs.declared.rendered.Mode.TheVariants.{Plain}
 use Rattle.eval_rendering.specs.declared.rendered.Rendered.{Rendered}
 use Rattle.eval_rendering.specs.declared.rendered.Rendered.TheVariants as rendered
 use Rattle.eval_matching.specs.Holding.{agrees}
@@ -19,36 +24,67 @@ use Rattle.eval_state.specs.Notes.{word_of_key}
 use Rattle.eval_state.specs.Scenes.{noted}
 use Rattle.eval_state.specs.declared.note_kind.NoteKind.TheVariants.{TextTooLong}
 use Rattle.eval_state.specs.declared.scene.Scene.{Scene}
+use Rattle.eval_acts.specs.ActTexts.{import_text, most_command_bytes, most_path_bytes, names_text, program_text, test_text}
 use Rattle.eval_acts.specs.Imports.{from_parent, not_run, run_builtin}
 use Rattle.eval_acts.specs.Questions.{asked, tested, with_result}
+use Rattle.eval_acts.specs.declared.came.Came.{Came}
+use Rattle.eval_acts.specs.declared.came.Came.TheVariants.{Tried, Stopped}
+
+-- an act that was tried, by whether it was done
+abbrev pub tried : Scene × Bool → Scene × Came
+tried after = (after.0, Tried after.1)
+
+-- what comes of a text that is too long: by the manual its act is not done, and udev stops the rule
+abbrev pub came_too_long : Profile → Came
+came_too_long Manual = Tried false
+came_too_long Udev = Stopped
 
 -- an act whose text is too long is a note, and not done
-abbrev pub too_long : Rule → Deed → Scene → Scene × Bool
-too_long r d s = (noted r TextTooLong (word_of_key (key_of_deed d) (attribute_of_deed d)) s, false)
+abbrev pub too_long : Rule → Deed → Scene → Scene × Came
+too_long r d s = (noted r TextTooLong (word_of_key (key_of_deed d) (attribute_of_deed d)) s, came_too_long s.state.event.profile)
 
 -- an act that looks at a rendered text
-abbrev pub on_text : Rule → Deed → (Text → Scene → Scene × Bool) → Rendered → Scene → Scene × Bool
-on_text r d act (rendered.Text text) s = act text s
+abbrev pub on_text : Rule → Deed → (Text → Scene → Scene × Bool) → Rendered → Scene → Scene × Came
+on_text r d act (rendered.Text text) s = tried (act text s)
 on_text r d act rendered.TooLong s = too_long r d s
 
+-- the properties of the second device whose names fit a text of udev's, which is one pattern
+abbrev pub from_parent_by : Text → Scene → Scene × Bool
+from_parent_by text s = from_parent (fnmatch_items Exact text 0 ∷ []) (device_at s.state.event 1) s
+
+-- IMPORT{parent}, by its value read as the manual has it and as it is written; udev renders it
+abbrev pub parent_imported : Profile → Rule → Deed → List (List Item) → Text → Scene → Scene × Came
+parent_imported Manual r d names text s = tried (from_parent names (device_at s.state.event 1) s)
+parent_imported Udev r d names text s = on_text r d from_parent_by (names_text text s.state) s
+
+-- an IMPORT that is never run; udev renders its value all the same, which may have so many bytes
+abbrev pub unrun : Profile → Rule → Deed → Import → ℕ → Template → Scene → Scene × Came
+unrun Manual r d import most template s = tried (not_run r import s)
+unrun Udev r d import most template s = on_text r d (λ text. not_run r import) (import_text most template s.state) s
+
 -- IMPORT, by from where it takes properties
-abbrev pub imported : List Entry → Rule → Deed → Import → Scene → Scene × Bool
-imported entries r d (import.Builtin template) s = on_text r d (run_builtin entries r) (render template s.state Plain) s
-imported entries r d (import.Parent names text) s = from_parent names (device_at s.state.event 1) s
-imported entries r d (import.Program template) s = not_run r (import.Program template) s
-imported entries r d (import.File template) s = not_run r (import.File template) s
-imported entries r d (import.Cmdline name) s = not_run r (import.Cmdline name) s
-imported entries r d (import.Db name) s = not_run r (import.Db name) s
+abbrev pub imported : List Entry → Rule → Deed → Import → Scene → Scene × Came
+imported entries r d (import.Builtin template) s = on_text r d (run_builtin entries r) (import_text most_command_bytes template s.state) s
+imported entries r d (import.Parent names text) s = parent_imported s.state.event.profile r d names text s
+imported entries r d (import.Program template) s = unrun s.state.event.profile r d (import.Program template) most_command_bytes template s
+imported entries r d (import.File template) s = unrun s.state.event.profile r d (import.File template) most_path_bytes template s
+imported entries r d (import.Cmdline name) s = tried (not_run r (import.Cmdline name) s)
+imported entries r d (import.Db name) s = tried (not_run r (import.Db name) s)
 
 -- what an act comes to, and whether it was done; PROGRAM empties the result before its command is looked at
-abbrev pub performed : List Entry → Rule → Deed → Scene → Scene × Bool
-performed entries r (deed.Test mask template) s = on_text r (deed.Test mask template) (tested r mask) (render template s.state Plain) s
-performed entries r (deed.Program template) s = on_text r (deed.Program template) (asked r) (render template s.state Plain) (with_result [] s)
+abbrev pub performed : List Entry → Rule → Deed → Scene → Scene × Came
+performed entries r (deed.Test mask template) s = on_text r (deed.Test mask template) (tested r mask) (test_text template s.state) s
+performed entries r (deed.Program template) s = on_text r (deed.Program template) (asked r) (program_text template s.state) (with_result [] s)
 performed entries r (deed.Import from) s = imported entries r (deed.Import from) from s
 
 -- whether a rule goes on: with `==` where its act was done, with `!=` where it was not
-abbrev pub going_on : Act → Scene × Bool → Scene × Bool
-going_on act after = (after.0, agrees act.operator after.1)
+abbrev pub goes_on : MatchOperator → Came → Bool
+goes_on operator (Tried done) = agrees operator done
+goes_on operator Stopped = false
+
+-- what an act comes to, and whether its rule goes on
+abbrev pub going_on : Act → Scene × Came → Scene × Bool
+going_on act after = (after.0, goes_on act.operator after.1)
 
 -- an act of a rule, and whether the rule goes on; what was changed stays either way
 unfoldable pub act_step : List Entry → Rule → Act → Scene → Scene × Bool

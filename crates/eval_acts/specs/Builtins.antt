@@ -1,6 +1,11 @@
 -- What a builtin's command asks for.
 use Rattle.std.specs.Prelude.{if◌then◌else◌, List, [], ◌∷◌, Option, Some, None, codes}
+use Rattle.text_bytes.specs.declared.profile.Profile.{Profile}
+use Rattle.text_bytes.specs.declared.profile.Profile.TheVariants.{Manual, Udev}
 use Rattle.text_tables.specs.Texts.{Text, same_text}
+use Rattle.rule_parts.specs.Builtins as udev
+use Rattle.rule_parts.specs.declared.builtins.Builtin as known
+use Rattle.rule_parts.specs.declared.builtins.Builtin.TheVariants as known_as
 use Rattle.eval_acts.specs.declared.builtin.Builtin.{Builtin}
 use Rattle.eval_acts.specs.declared.builtin.Builtin.TheVariants as asked
 use Rattle.eval_acts.specs.declared.hwdb.Hwdb.{Hwdb}
@@ -22,6 +27,19 @@ abbrev pub builtin_of : Option (List Text) → Builtin
 builtin_of None = asked.BadArguments
 builtin_of (Some words) = builtin_of_words words
 
--- what a command asks for, by its text
-abbrev pub builtin : Text → Builtin
-builtin text = builtin_of (command_words text)
+-- the words of `hwdb`, of which the first is its name
+abbrev pub hwdb_of_words : Option (List Text) → Builtin
+hwdb_of_words None = asked.BadArguments
+hwdb_of_words (Some []) = hwdb_asked (hwdb_of [])
+hwdb_of_words (Some (name ∷ words)) = hwdb_asked (hwdb_of words)
+
+-- what a command asks for, by the builtin of udev's that it means; one that means none is told as it is
+abbrev pub builtin_meant : Option known.Builtin → Text → Builtin
+builtin_meant None text = asked.Other text
+builtin_meant (Some known_as.Hwdb) text = hwdb_of_words (command_words text)
+builtin_meant (Some other) text = asked.Other (udev.builtin_name other)
+
+-- what a command asks for, by its text: for the manual the first word is the builtin's name, and for udev its beginning
+abbrev pub builtin : Profile → Text → Builtin
+builtin Manual text = builtin_of (command_words text)
+builtin Udev text = builtin_meant (udev.builtin_of text) text

@@ -1,5 +1,7 @@
 -- IMPORT, by from where it takes properties. Each comes to the scene after it, and whether it was done.
 use Rattle.std.specs.Prelude.{Bool, true, false, not, ◌==◌, List, length, filter, Option, Some, None}
+use Rattle.text_bytes.specs.declared.profile.Profile.{Profile}
+use Rattle.text_bytes.specs.declared.profile.Profile.TheVariants.{Manual, Udev}
 use Rattle.text_tables.specs.Texts.{Text}
 use Rattle.text_tables.specs.Pairs.{Pair, with_values}
 use Rattle.text_core.specs.Choices.{choice_fits}
@@ -14,13 +16,19 @@ use Rattle.eval_acts.specs.Builtins.{builtin}
 use Rattle.eval_acts.specs.LookUps.{found}
 use Rattle.eval_acts.specs.declared.builtin.Builtin.{Builtin}
 use Rattle.eval_acts.specs.declared.builtin.Builtin.TheVariants as asked
+use Rattle.eval_state.specs.Properties.{properties_set}
 use Rattle.eval_state.specs.Scenes.{noted, with_env}
 use Rattle.eval_state.specs.declared.note_kind.NoteKind.TheVariants.{BadHwdbArguments, BuiltinNotRun, ImportNotRun}
 use Rattle.eval_state.specs.declared.scene.Scene.{Scene}
 
+-- properties with others set one behind another; for udev an empty value takes its property away
+abbrev pub with_found : Profile → List Pair → List Pair → List Pair
+with_found Manual env properties = with_values env properties
+with_found Udev env properties = properties_set env properties
+
 -- properties are set one behind another; it was done where there are any
 abbrev pub taken : List Pair → Scene → Scene × Bool
-taken properties s = (with_env (with_values s.state.env properties) s, not (length properties == 0))
+taken properties s = (with_env (with_found s.state.event.profile s.state.env properties) s, not (length properties == 0))
 
 -- what a command asks for: `hwdb` takes what it finds, other builtins are not run
 abbrev pub builtin_run : List Entry → Rule → Text → Builtin → Scene → Scene × Bool
@@ -30,7 +38,7 @@ builtin_run entries r command asked.BadArguments s = (noted r BadHwdbArguments c
 
 -- IMPORT{builtin} of a command
 abbrev pub run_builtin : List Entry → Rule → Text → Scene → Scene × Bool
-run_builtin entries r command s = builtin_run entries r command (builtin command) s
+run_builtin entries r command s = builtin_run entries r command (builtin s.state.event.profile command) s
 
 -- the properties whose names fit
 abbrev pub names_fitting : List (List Item) → List Pair → List Pair

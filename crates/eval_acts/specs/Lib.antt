@@ -6,3 +6,4 @@ pub mod Imports
 pub mod Reaching
 pub mod Acts
 pub mod Questions
+pub mod ActTexts

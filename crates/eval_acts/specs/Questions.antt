@@ -1,11 +1,17 @@
 -- TEST and PROGRAM: what the event answers. Each comes to the scene after it, and whether it was done.
-use Rattle.std.specs.Prelude.{Bool, true, false, ◌==◌, ◌||◌, if◌then◌else◌, Option, Some, None, is_some}
+use Rattle.std.specs.Prelude.{ℕ, Bool, true, false, ◌==◌, ◌||◌, if◌then◌else◌, Option, Some, None, is_some}
 use Rattle.text_bytes.specs.Names.{slash}
 use Rattle.text_bytes.specs.Texts.{begins_with}
+use Rattle.text_bytes.specs.declared.profile.Profile.{Profile}
+use Rattle.text_bytes.specs.declared.profile.Profile.TheVariants.{Manual, Udev}
 use Rattle.text_tables.specs.Texts.{Text}
 use Rattle.text_tables.specs.Pairs.{value_of}
-use Rattle.device_core.specs.Values.{AnswerValue}
+use Rattle.device_core.specs.Values.{AnswerValue, DeviceValue}
 use Rattle.rule_types.specs.Rules.{Rule}
+use Rattle.eval_rendering.specs.Safe.{attribute_marks, safe}
+use Rattle.eval_state.specs.Chains.{device_at}
+use Rattle.eval_state.specs.Files.{has_file}
+use Rattle.eval_state.specs.Named.{NamedValue, named, named_place}
 use Rattle.eval_state.specs.Scenes.{noted}
 use Rattle.eval_state.specs.declared.note_kind.NoteKind.TheVariants.{TestNotMade, NoAnswer}
 use Rattle.eval_state.specs.declared.scene.Scene.{Scene}
@@ -14,19 +20,44 @@ use Rattle.eval_state.specs.declared.scene.Scene.{Scene}
 abbrev pub with_result : Text → Scene → Scene
 with_result result s = record s { state = record s.state { result = result } }
 
--- TEST by whether it has a mask: it is not made with one, nor of an absolute path; else it asks for an attribute of the event device
+-- whether there is a device, and udev finds a file or a folder of it by a name
+abbrev pub is_found : Text → Option DeviceValue → Bool
+is_found name None = false
+is_found name (Some device) = has_file device name
+
+-- TEST of a file of the device at a place of the chain; it is not made where the device that is asked for stands at none
+abbrev pub tested_at : Option ℕ → Rule → Text → Text → Scene → Scene × Bool
+tested_at None r name path s = (noted r TestNotMade path s, false)
+tested_at (Some place) r name path s = (s, is_found name (device_at s.state.event place))
+
+-- TEST as udev makes it: of a file or a folder of the event device, or of the device that the path names
+abbrev pub tested_by_udev : Option NamedValue → Rule → Text → Scene → Scene × Bool
+tested_by_udev None r path s = (s, has_file s.state.event.device path)
+tested_by_udev (Some n) r path s = tested_at (named_place n s.state.event) r n.attribute path s
+
+-- TEST of a relative path without a mask: by the manual it asks for an attribute of the event device
+abbrev pub tested_by : Profile → Rule → Text → Scene → Scene × Bool
+tested_by Manual r path s = (s, is_some (value_of s.state.event.device.attrs path))
+tested_by Udev r path s = tested_by_udev (named path) r path s
+
+-- TEST by whether it has a mask: it is not made with one, nor of an absolute path
 abbrev pub tested_unless : Rule → Bool → Text → Scene → Scene × Bool
 tested_unless r has_mask path s =
     if has_mask || begins_with slash path then (noted r TestNotMade path s, false)
-    else (s, is_some (value_of s.state.event.device.attrs path))
+    else tested_by s.state.event.profile r path s
 
 -- TEST of a path
 abbrev pub tested : Rule → Option Text → Text → Scene → Scene × Bool
 tested r mask path s = tested_unless r (is_some mask) path s
 
+-- the result that a program's text makes; udev replaces its bytes as those of an attribute in a text
+abbrev pub result_of : Profile → Text → Text
+result_of Manual text = text
+result_of Udev text = safe attribute_marks text
+
 -- a program that answered: where its status is 0, its text is the result
 abbrev pub answered : AnswerValue → Scene → Scene × Bool
-answered answer s = if answer.status == 0 then (with_result answer.text s, true) else (s, false)
+answered answer s = if answer.status == 0 then (with_result (result_of s.state.event.profile answer.text) s, true) else (s, false)
 
 -- an answer to a command, or a note that there is none
 abbrev pub answered_or_noted : Rule → Text → Option AnswerValue → Scene → Scene × Bool

@@ -1,12 +1,20 @@
 -- What a match leaves that is only reached.
+use Rattle.std.specs.Prelude.{if◌then◌else◌}
+use Rattle.text_tables.specs.Texts.{Text}
 use Rattle.rule_types.specs.declared.roles.PlainKey.{PlainKey}
 use Rattle.rule_types.specs.declared.roles.PlainKey.TheVariants as plain
 use Rattle.rule_types.specs.Rules.{Rule}
+use Rattle.eval_matching.specs.Attributes.{is_not_read}
 use Rattle.eval_state.specs.Scenes.{noted}
-use Rattle.eval_state.specs.declared.note_kind.NoteKind.TheVariants.{SysctlNotRead}
+use Rattle.eval_state.specs.declared.note_kind.NoteKind.TheVariants.{AttributeNotRead, SysctlNotRead}
 use Rattle.eval_state.specs.declared.scene.Scene.{Scene}
 
--- a match of the event that is reached: SYSCTL, which is not read, leaves a note
+-- a match of an attribute that is reached: one that udev would read, and a dry run does not, leaves a note
+abbrev pub attribute_reached : Rule → Text → Scene → Scene
+attribute_reached r name s = if is_not_read name s.state.event then noted r AttributeNotRead name s else s
+
+-- a match of the event that is reached: SYSCTL, which is not read, leaves a note, and so does an attribute that is not read
 abbrev pub reached : Rule → PlainKey → Scene → Scene
 reached r (plain.Sysctl name) s = noted r SysctlNotRead name s
+reached r (plain.Attr name) s = attribute_reached r name s
 reached r key s = s

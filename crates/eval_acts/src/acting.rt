@@ -1,22 +1,25 @@
 //! An act of a rule, by what it does.
 ghost use Rattle.std.specs.Prelude.{◌≡◌, [], IfOk, OnErr, option_copied};
 ghost use Rattle.eval_state.specs.Scenes.{blank};
-ghost use Rattle.eval_rendering.specs.Rendering.{render};
-ghost use Rattle.eval_rendering.specs.declared.rendered.Mode.TheVariants.{Plain};
-ghost use Rattle.eval_acts.specs.Acts.{act_step, imported, on_text, performed, too_long};
-ghost use Rattle.eval_acts.specs.Imports.{run_builtin};
+ghost use Rattle.eval_acts.specs.ActTexts.{import_text, most_command_bytes, names_text, program_text, test_text};
+ghost use Rattle.eval_acts.specs.Acts.{act_step, from_parent_by, imported, on_text, parent_imported, performed, too_long, unrun};
+ghost use Rattle.eval_acts.specs.Imports.{not_run, run_builtin};
 ghost use Rattle.eval_acts.specs.Questions.{asked, tested, with_result};
 
-use crate::imports::{import_parent, not_run, run_builtin};
+use crate::act_texts::{
+    MOST_COMMAND_BYTES, MOST_PATH_BYTES, import_text, names_text, program_text, test_text,
+};
+use crate::came::Came;
+use crate::imports::{import_named, import_parent, not_run, run_builtin};
 use crate::questions::{ask, clear_result, look_for};
-use eval_matching::agrees;
-use eval_rendering::{Mode, Rendered, render};
+use eval_rendering::Rendered;
 use eval_state::Scene;
 use hwdb_lookup::Lookup;
 use rule_templates::Template;
 use rule_types::{Act, Deed, Import, Rule};
 use std::alloc::{AllocError, Global};
-use text_bytes::Bytes;
+use text_bytes::{Bytes, Profile};
+use text_core::Choice;
 
 /// Notes that the text of an act is too long, so that it is not done.
 fn too_long(
@@ -24,12 +27,12 @@ fn too_long(
     rule: &Rule,
     deed: &Deed,
     scene: &mut Scene<'_>,
-) -> Result<bool, AllocError>
-    ensures scene { IfOk result (λ done. (scene.new, done) ≡ too_long rule.now deed.now scene.old) }
+) -> Result<Came, AllocError>
+    ensures scene { IfOk result (λ came. (scene.new, came) ≡ too_long rule.now deed.now scene.old) }
     ensures refused { OnErr result (scene.new.state.event ≡ scene.old.state.event) }
 {
     scene.note_too_long(alloc, rule, deed.key(), deed.attribute())?;
-    Ok(false)
+    Ok(Came::too_long(scene.state.event.event().profile()))
 }
 
 /// TEST.
@@ -40,12 +43,15 @@ fn test(
     mask: Option<&Bytes>,
     template: &Template,
     scene: &mut Scene<'_>,
-) -> Result<bool, AllocError>
-    ensures scene { IfOk result (λ done. (scene.new, done) ≡ on_text rule.now deed.now (tested rule.now (option_copied mask.entry)) (render template.now scene.old.state Plain) scene.old) }
+) -> Result<Came, AllocError>
+    ensures scene { IfOk result (λ came. (scene.new, came) ≡ on_text rule.now deed.now (tested rule.now (option_copied mask.entry)) (test_text template.now scene.old.state) scene.old) }
     ensures refused { OnErr result (scene.new.state.event ≡ scene.old.state.event) }
 {
-    match render(alloc, template, &scene.state, Mode::Plain)? {
-        Rendered::Text(path) => look_for(alloc, rule, mask.is_some(), path.as_slice(), scene),
+    match test_text(alloc, template, &scene.state)? {
+        Rendered::Text(path) => {
+            let done = look_for(alloc, rule, mask.is_some(), path.as_slice(), scene)?;
+            Ok(Came::Tried(done))
+        }
         Rendered::TooLong => too_long(alloc, rule, deed, scene),
     }
 }
@@ -57,14 +63,14 @@ fn program(
     deed: &Deed,
     template: &Template,
     scene: &mut Scene<'_>,
-) -> Result<bool, AllocError>
-    ensures scene { IfOk result (λ done. (scene.new, done) ≡ on_text rule.now deed.now (asked rule.now) (render template.now scene.old.state Plain) (with_result [] scene.old)) }
+) -> Result<Came, AllocError>
+    ensures scene { IfOk result (λ came. (scene.new, came) ≡ on_text rule.now deed.now (asked rule.now) (program_text template.now scene.old.state) (with_result [] scene.old)) }
     ensures refused { OnErr result (scene.new.state.event ≡ scene.old.state.event) }
 {
-    let rendered = render(alloc, template, &scene.state, Mode::Plain)?;
+    let text = program_text(alloc, template, &mut scene.state)?;
     clear_result(alloc, scene);
-    match rendered {
-        Rendered::Text(command) => ask(alloc, rule, command.as_slice(), scene),
+    match text {
+        Rendered::Text(command) => Ok(Came::Tried(ask(alloc, rule, command.as_slice(), scene)?)),
         Rendered::TooLong => too_long(alloc, rule, deed, scene),
     }
 }
@@ -77,13 +83,91 @@ fn builtin<L: Lookup>(
     template: &Template,
     database: &L,
     scene: &mut Scene<'_>,
-) -> Result<bool, AllocError>
-    ensures scene { IfOk result (λ done. (scene.new, done) ≡ on_text rule.now deed.now (run_builtin (L.entries database.now) rule.now) (render template.now scene.old.state Plain) scene.old) }
+) -> Result<Came, AllocError>
+    ensures scene { IfOk result (λ came. (scene.new, came) ≡ on_text rule.now deed.now (run_builtin (L.entries database.now) rule.now) (import_text most_command_bytes template.now scene.old.state) scene.old) }
     ensures refused { OnErr result (scene.new.state.event ≡ scene.old.state.event) }
 {
-    match render(alloc, template, &scene.state, Mode::Plain)? {
-        Rendered::Text(command) => run_builtin(alloc, rule, command.as_slice(), database, scene),
+    match import_text(alloc, MOST_COMMAND_BYTES, template, &scene.state)? {
+        Rendered::Text(command) => {
+            let done = run_builtin(alloc, rule, command.as_slice(), database, scene)?;
+            Ok(Came::Tried(done))
+        }
         Rendered::TooLong => too_long(alloc, rule, deed, scene),
+    }
+}
+
+/// IMPORT{parent} of udev's.
+fn parent_named(
+    alloc: Global,
+    rule: &Rule,
+    deed: &Deed,
+    text: &[u8],
+    scene: &mut Scene<'_>,
+) -> Result<Came, AllocError>
+    ensures scene { IfOk result (λ came. (scene.new, came) ≡ on_text rule.now deed.now from_parent_by (names_text text.now scene.old.state) scene.old) }
+    ensures refused { OnErr result (scene.new.state.event ≡ scene.old.state.event) }
+{
+    match names_text(alloc, text, &scene.state)? {
+        Rendered::Text(names) => Ok(Came::Tried(import_named(alloc, names.as_slice(), scene)?)),
+        Rendered::TooLong => too_long(alloc, rule, deed, scene),
+    }
+}
+
+/// IMPORT{parent}, by its value read as the manual has it and as it is written.
+fn parent(
+    alloc: Global,
+    rule: &Rule,
+    deed: &Deed,
+    names: &Choice,
+    text: &[u8],
+    scene: &mut Scene<'_>,
+) -> Result<Came, AllocError>
+    ensures scene { IfOk result (λ came. (scene.new, came) ≡ parent_imported scene.old.state.event.profile rule.now deed.now names.now text.now scene.old) }
+    ensures refused { OnErr result (scene.new.state.event ≡ scene.old.state.event) }
+{
+    match scene.state.event.event().profile() {
+        Profile::Manual => Ok(Came::Tried(import_parent(alloc, names, scene)?)),
+        Profile::Udev => parent_named(alloc, rule, deed, text, scene),
+    }
+}
+
+/// An IMPORT of udev's that is never run, by its value.
+fn unrun_value(
+    alloc: Global,
+    rule: &Rule,
+    deed: &Deed,
+    from: &Import,
+    text: Rendered,
+    scene: &mut Scene<'_>,
+) -> Result<Came, AllocError>
+    ensures scene { IfOk result (λ came. (scene.new, came) ≡ on_text rule.now deed.now (λ t. not_run rule.now from.now) text scene.old) }
+    ensures refused { OnErr result (scene.new.state.event ≡ scene.old.state.event) }
+{
+    match text {
+        Rendered::Text(_) => Ok(Came::Tried(not_run(alloc, rule, from, scene)?)),
+        Rendered::TooLong => too_long(alloc, rule, deed, scene),
+    }
+}
+
+/// An IMPORT that is never run; udev renders its value all the same, which may have so many bytes.
+fn unrun(
+    alloc: Global,
+    rule: &Rule,
+    deed: &Deed,
+    from: &Import,
+    most: usize,
+    template: &Template,
+    scene: &mut Scene<'_>,
+) -> Result<Came, AllocError>
+    ensures scene { IfOk result (λ came. (scene.new, came) ≡ unrun scene.old.state.event.profile rule.now deed.now from.now most template.now scene.old) }
+    ensures refused { OnErr result (scene.new.state.event ≡ scene.old.state.event) }
+{
+    match scene.state.event.event().profile() {
+        Profile::Manual => Ok(Came::Tried(not_run(alloc, rule, from, scene)?)),
+        Profile::Udev => {
+            let text = import_text(alloc, most, template, &scene.state)?;
+            unrun_value(alloc, rule, deed, from, text, scene)
+        }
     }
 }
 
@@ -95,29 +179,33 @@ fn import<L: Lookup>(
     from: &Import,
     database: &L,
     scene: &mut Scene<'_>,
-) -> Result<bool, AllocError>
-    ensures scene { IfOk result (λ done. (scene.new, done) ≡ imported (L.entries database.now) rule.now deed.now from.now scene.old) }
+) -> Result<Came, AllocError>
+    ensures scene { IfOk result (λ came. (scene.new, came) ≡ imported (L.entries database.now) rule.now deed.now from.now scene.old) }
     ensures refused { OnErr result (scene.new.state.event ≡ scene.old.state.event) }
 {
     match from {
         Import::Builtin(template) => builtin(alloc, rule, deed, template, database, scene),
-        Import::Parent(names, _) => import_parent(alloc, names, scene),
-        Import::Program(_) => not_run(alloc, rule, from, scene),
-        Import::File(_) => not_run(alloc, rule, from, scene),
-        Import::Cmdline(_) => not_run(alloc, rule, from, scene),
-        Import::Db(_) => not_run(alloc, rule, from, scene),
+        Import::Parent(names, text) => { parent(alloc, rule, deed, names, text.as_slice(), scene) }
+        Import::Program(template) => {
+            unrun(alloc, rule, deed, from, MOST_COMMAND_BYTES, template, scene)
+        }
+        Import::File(template) => {
+            unrun(alloc, rule, deed, from, MOST_PATH_BYTES, template, scene)
+        }
+        Import::Cmdline(_) => Ok(Came::Tried(not_run(alloc, rule, from, scene)?)),
+        Import::Db(_) => Ok(Came::Tried(not_run(alloc, rule, from, scene)?)),
     }
 }
 
-/// Does what an act asks for, and answers whether it was done.
+/// Does what an act asks for, and answers what became of it.
 fn perform<L: Lookup>(
     alloc: Global,
     rule: &Rule,
     deed: &Deed,
     database: &L,
     scene: &mut Scene<'_>,
-) -> Result<bool, AllocError>
-    ensures scene { IfOk result (λ done. (scene.new, done) ≡ performed (L.entries database.now) rule.now deed.now scene.old) }
+) -> Result<Came, AllocError>
+    ensures scene { IfOk result (λ came. (scene.new, came) ≡ performed (L.entries database.now) rule.now deed.now scene.old) }
     ensures refused { OnErr result (scene.new.state.event ≡ scene.old.state.event) }
 {
     match deed {
@@ -140,6 +228,16 @@ fn perform<L: Lookup>(
 /// note `import not run` and are not done. A text over 16,384 bytes is the note `text too long`, and its
 /// act is not done.
 ///
+/// In an event of udev's (systemd 257) TEST is done where the name of an attribute is the path or begins
+/// with it and a slash, and of the empty path; the first `*/` in it stands for a folder, and
+/// `[SUBSYSTEM/KERNEL]` in front for a device of the chain, without which it is not made. PROGRAM empties
+/// the result before its command is rendered, and the result has `_` for bytes that do not belong in an
+/// attribute. The value of IMPORT{parent} is rendered, and is one pattern of fnmatch(3). `hwdb` may be
+/// written as its beginning; an empty value that it finds takes the property away. A text over 1,023 bytes
+/// of TEST, IMPORT{parent} and IMPORT{file}, or over 16,383 bytes of PROGRAM and other types of IMPORT, is
+/// the note `text too long`, and stops the rule with either operator; so does a TEST whose path has over
+/// 1,023 bytes with `/sys`, the path of the event device and a slash before it.
+///
 /// The error comes where memory is refused; nothing is then left of the scene but its event.
 #[tactic(auto, unfolding(crate::specs::Acts::act_step))]
 pub fn act_step<L: Lookup>(
@@ -153,7 +251,7 @@ pub fn act_step<L: Lookup>(
     ensures refused { OnErr result (scene.new ≡ blank scene.old.state.event) }
 {
     match perform(alloc, rule, &act.deed, database, scene) {
-        Ok(done) => Ok(agrees(act.operator, done)),
+        Ok(came) => Ok(came.goes_on(act.operator)),
         Err(refused) => {
             scene.clear(alloc);
             Err(refused)

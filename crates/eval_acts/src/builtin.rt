@@ -1,21 +1,36 @@
 //! What a builtin's command asks for.
-ghost use Rattle.std.specs.Prelude.{◌≡◌, IfOk, Some, option_map};
-ghost use Rattle.eval_acts.specs.Builtins.{builtin, builtin_of_words};
+ghost use Rattle.std.specs.Prelude.{◌≡◌, IfOk};
+ghost use Rattle.rule_parts.specs.Builtins as udev;
+ghost use Rattle.eval_acts.specs.Builtins.{builtin, builtin_meant, builtin_of, builtin_of_words, hwdb_asked, hwdb_of_words};
+ghost use Rattle.eval_acts.specs.Hwdb.{hwdb_of};
+ghost use Rattle.eval_acts.specs.Words.{command_words};
 
 use crate::hwdb::{Hwdb, hwdb_of};
 use crate::words::command_words;
+use rule_parts::builtin_of;
 use std::alloc::{AllocError, Global};
-use text_bytes::Bytes;
+use text_bytes::{Bytes, Profile};
 
 /// What the command of an IMPORT{builtin} asks for, as udev(7) has it.
 #[derive(Drop)]
 pub enum Builtin {
     /// The hardware database is looked up.
     Hwdb(Hwdb),
-    /// Another builtin, which is not run: the first word of the command, empty where it has none.
+    /// Another builtin, which is not run: the first word of the command, empty where it has none; for udev
+    /// the whole name of the builtin, and where the command means none the command.
     Other(Bytes),
     /// A quote stays open, whatever the builtin; or the words behind `hwdb` are not its arguments.
     BadArguments,
+}
+
+/// What the words behind `hwdb` ask for.
+fn hwdb_asked(alloc: Global, arguments: &[Bytes]) -> Result<Builtin, AllocError>
+    ensures { IfOk result (λ b. b ≡ hwdb_asked (hwdb_of arguments.now)) }
+{
+    match hwdb_of(alloc, arguments)? {
+        Some(hwdb) => Ok(Builtin::Hwdb(hwdb)),
+        None => Ok(Builtin::BadArguments),
+    }
 }
 
 /// What words ask for.
@@ -28,9 +43,40 @@ fn builtin_of_words(alloc: Global, words: &[Bytes]) -> Result<Builtin, AllocErro
     if name.as_slice() != b"hwdb".as_slice() {
         return Ok(Builtin::Other(Bytes::copy_of(alloc, name.as_slice())?));
     }
-    match hwdb_of(alloc, arguments)? {
-        Some(hwdb) => Ok(Builtin::Hwdb(hwdb)),
+    hwdb_asked(alloc, arguments)
+}
+
+/// What a command asks for by the manual.
+fn read_as_manual(alloc: Global, command: &[u8]) -> Result<Builtin, AllocError>
+    ensures { IfOk result (λ b. b ≡ builtin_of (command_words command.now)) }
+{
+    match command_words(alloc, command)? {
+        Some(words) => builtin_of_words(alloc, &words),
         None => Ok(Builtin::BadArguments),
+    }
+}
+
+/// What a command of `hwdb` asks for, of which the first word is the name.
+fn read_hwdb(alloc: Global, command: &[u8]) -> Result<Builtin, AllocError>
+    ensures { IfOk result (λ b. b ≡ hwdb_of_words (command_words command.now)) }
+{
+    let Some(words) = command_words(alloc, command)? else {
+        return Ok(Builtin::BadArguments);
+    };
+    match words.split_first() {
+        Some((_, arguments)) => hwdb_asked(alloc, arguments),
+        None => hwdb_asked(alloc, &[]),
+    }
+}
+
+/// What a command asks for as udev has it.
+fn read_as_udev(alloc: Global, command: &[u8]) -> Result<Builtin, AllocError>
+    ensures { IfOk result (λ b. b ≡ builtin_meant (udev.builtin_of command.now) command.now) }
+{
+    match builtin_of(command) {
+        Some(rule_parts::Builtin::Hwdb) => read_hwdb(alloc, command),
+        Some(other) => Ok(Builtin::Other(Bytes::copy_of(alloc, other.name())?)),
+        None => Ok(Builtin::Other(Bytes::copy_of(alloc, command)?)),
     }
 }
 
@@ -40,14 +86,15 @@ impl Builtin {
     ///
     /// The first word is the builtin's name. `hwdb` takes `--subsystem=NAME`, `--lookup-prefix=TEXT` and
     /// `--filter=PATTERN`, of each the last, and at most one modalias; a word that begins with `-` and is
-    /// no such option, a second modalias and a last filter that is no pattern are bad arguments. The
-    /// error comes where memory is refused.
-    pub fn read(alloc: Global, command: &[u8]) -> Result<Builtin, AllocError>
-        ensures { IfOk result (λ b. b ≡ builtin command.now) }
+    /// no such option, a second modalias and a last filter that is no pattern are bad arguments. For udev
+    /// (systemd 257) the first word is the beginning of a name, that of the first builtin which has it,
+    /// and another builtin has its whole name. The error comes where memory is refused.
+    pub fn read(alloc: Global, profile: Profile, command: &[u8]) -> Result<Builtin, AllocError>
+        ensures { IfOk result (λ b. b ≡ builtin profile command.now) }
     {
-        match command_words(alloc, command)? {
-            Some(words) => builtin_of_words(alloc, &words),
-            None => Ok(Builtin::BadArguments),
+        match profile {
+            Profile::Manual => read_as_manual(alloc, command),
+            Profile::Udev => read_as_udev(alloc, command),
         }
     }
 }

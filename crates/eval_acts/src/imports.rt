@@ -3,15 +3,19 @@ ghost use Rattle.std.specs.Prelude.{◌≡◌, IfOk, OnErr, OnOk};
 ghost use Rattle.text_tables.specs.Pairs.{with_values};
 ghost use Rattle.hwdb_lookup.specs.Query.{shown};
 ghost use Rattle.eval_state.specs.Chains.{device_at};
-ghost use Rattle.eval_acts.specs.Imports.{from_parent, names_fitting, not_run, run_builtin, taken};
+ghost use Rattle.eval_state.specs.Properties.{properties_set};
+ghost use Rattle.text_core.specs.Choices.{choice_fits};
+ghost use Rattle.eval_acts.specs.Acts.{from_parent_by};
+ghost use Rattle.eval_acts.specs.Imports.{from_parent, names_fitting, not_run, run_builtin, taken, with_found};
 
 use crate::builtin::Builtin;
 use crate::lookups::look_up;
-use eval_state::{NoteKind, Scene};
+use eval_state::{NoteKind, Scene, set_property};
 use hwdb_lookup::Lookup;
 use rule_types::{Import, Rule};
 use std::alloc::{AllocError, Global};
-use text_core::Choice;
+use text_bytes::Profile;
+use text_core::{Choice, Pattern, Reading};
 use text_tables::{OwnedPairs, Pairs};
 
 /// Sets each of these properties.
@@ -24,12 +28,42 @@ fn set_each(alloc: Global, env: &mut OwnedPairs, found: &[(&[u8], &[u8])]) -> Re
     Ok(())
 }
 
+/// Sets each of these properties as udev does: an empty value takes its property away.
+fn set_as_udev(
+    alloc: Global,
+    env: &mut OwnedPairs,
+    found: &[(&[u8], &[u8])],
+) -> Result<(), AllocError>
+    ensures { OnOk result (env.new ≡ properties_set env.old (shown found.now)) }
+{
+    for (name, value) in found {
+        set_property(alloc, name, value, env)?;
+    }
+    Ok(())
+}
+
+/// Sets the properties that were found.
+fn set_found(
+    alloc: Global,
+    profile: Profile,
+    env: &mut OwnedPairs,
+    found: &[(&[u8], &[u8])],
+) -> Result<(), AllocError>
+    ensures { OnOk result (env.new ≡ with_found profile env.old (shown found.now)) }
+{
+    match profile {
+        Profile::Manual => set_each(alloc, env, found),
+        Profile::Udev => set_as_udev(alloc, env, found),
+    }
+}
+
 /// Takes the properties that were found, and answers whether there are any.
 fn take(alloc: Global, found: &[(&[u8], &[u8])], scene: &mut Scene<'_>) -> Result<bool, AllocError>
     ensures scene { IfOk result (λ done. (scene.new, done) ≡ taken (shown found.now) scene.old) }
     ensures refused { OnErr result (scene.new.state.event ≡ scene.old.state.event) }
 {
-    set_each(alloc, &mut scene.state.env, found)?;
+    let profile = scene.state.event.event().profile();
+    set_found(alloc, profile, &mut scene.state.env, found)?;
     Ok(!found.is_empty())
 }
 
@@ -44,7 +78,7 @@ pub(crate) fn run_builtin<L: Lookup>(
     ensures scene { IfOk result (λ done. (scene.new, done) ≡ run_builtin (L.entries database.now) rule.now command.now scene.old) }
     ensures refused { OnErr result (scene.new.state.event ≡ scene.old.state.event) }
 {
-    match Builtin::read(alloc, command)? {
+    match Builtin::read(alloc, scene.state.event.event().profile(), command)? {
         Builtin::Hwdb(hwdb) => {
             let found = look_up(alloc, &hwdb, &scene.state, database)?;
             take(alloc, &found, scene)
@@ -60,27 +94,34 @@ pub(crate) fn run_builtin<L: Lookup>(
     }
 }
 
-/// Sets those of a device's properties whose names fit.
+/// Whether one of these patterns fits a name.
+fn any_fits(patterns: &[Pattern], name: &[u8]) -> bool
+    ensures { result ≡ choice_fits patterns.now name.now }
+{
+    patterns.iter().any(|pattern| pattern.fits(name))
+}
+
+/// Sets those of a device's properties whose names fit one of these patterns.
 fn set_fitting(
     alloc: Global,
     env: &mut OwnedPairs,
-    names: &Choice,
+    names: &[Pattern],
     properties: &Pairs<'_>,
 ) -> Result<(), AllocError>
     ensures { OnOk result (env.new ≡ with_values env.old (names_fitting names.now properties.now)) }
 {
     for (name, value) in properties.as_map().iter() {
-        if names.fits(name) {
+        if any_fits(names, name) {
             env.set(alloc, name, value)?;
         }
     }
     Ok(())
 }
 
-/// Takes the properties of the second device of the chain whose names fit, if there is one.
-pub(crate) fn import_parent(
+/// Takes the properties of the second device of the chain whose names fit one of these patterns, if there is one.
+fn import_fitting(
     alloc: Global,
-    names: &Choice,
+    names: &[Pattern],
     scene: &mut Scene<'_>,
 ) -> Result<bool, AllocError>
     ensures scene { IfOk result (λ done. (scene.new, done) ≡ from_parent names.now (device_at scene.old.state.event 1) scene.old) }
@@ -93,6 +134,31 @@ pub(crate) fn import_parent(
         }
         None => Ok(false),
     }
+}
+
+/// IMPORT{parent} by the manual.
+pub(crate) fn import_parent(
+    alloc: Global,
+    names: &Choice,
+    scene: &mut Scene<'_>,
+) -> Result<bool, AllocError>
+    ensures scene { IfOk result (λ done. (scene.new, done) ≡ from_parent names.now (device_at scene.old.state.event 1) scene.old) }
+    ensures refused { OnErr result (scene.new.state.event ≡ scene.old.state.event) }
+{
+    import_fitting(alloc, names.parts(), scene)
+}
+
+/// IMPORT{parent} of udev's, whose rendered value is one pattern of fnmatch(3).
+pub(crate) fn import_named(
+    alloc: Global,
+    text: &[u8],
+    scene: &mut Scene<'_>,
+) -> Result<bool, AllocError>
+    ensures scene { IfOk result (λ done. (scene.new, done) ≡ from_parent_by text.now scene.old) }
+    ensures refused { OnErr result (scene.new.state.event ≡ scene.old.state.event) }
+{
+    let names = [Pattern::read_fnmatch(alloc, Reading::Exact, text)?];
+    import_fitting(alloc, &names, scene)
 }
 
 /// Notes that an IMPORT of a type is never run.

@@ -1,8 +1,10 @@
 //! What TEST, PROGRAM and IMPORT do, what a builtin's command asks for, and what a match leaves that is reached.
 #![tactic(auto)]
 
+mod act_texts;
 mod acting;
 mod builtin;
+mod came;
 mod candidates;
 mod hwdb;
 mod imports;
@@ -11,6 +13,9 @@ mod questions;
 mod reaching;
 mod words;
 
+pub use act_texts::{
+    MOST_COMMAND_BYTES, MOST_PATH_BYTES, import_text, names_text, program_text, test_text,
+};
 pub use acting::act_step;
 pub use builtin::Builtin;
 pub use hwdb::Hwdb;

@@ -1,14 +1,82 @@
 //! TEST and PROGRAM: what the event answers.
-ghost use Rattle.std.specs.Prelude.{◌≡◌, [], IfOk, OnErr};
-ghost use Rattle.eval_acts.specs.Questions.{answered, asked, tested_unless, with_result};
+ghost use Rattle.std.specs.Prelude.{◌≡◌, [], IfOk, OnErr, option_copied};
+ghost use Rattle.eval_acts.specs.Questions.{answered, asked, is_found, result_of, tested_at, tested_by, tested_by_udev, tested_unless, with_result};
+ghost use Rattle.eval_state.specs.Named.{named};
 
-use device_core::ProgramAnswer;
-use eval_state::{NoteKind, Scene};
+use device_core::{Device, ProgramAnswer};
+use eval_rendering::attribute_safe;
+use eval_state::{Named, NoteKind, Scene, has_file};
 use rule_types::Rule;
 use std::alloc::{AllocError, Global};
-use text_bytes::{Bytes, begins_with};
+use text_bytes::{Bytes, Profile, begins_with};
 
-/// Looks whether the event device has an attribute of a path, which is not done with a mask.
+/// Whether there is a device, and udev finds a file or a folder of it by a name.
+fn is_found(alloc: Global, device: Option<&Device<'_>>, name: &[u8]) -> Result<bool, AllocError>
+    ensures { IfOk result (λ found. found ≡ is_found name.now (option_copied device.entry)) }
+{
+    match device {
+        Some(device) => has_file(alloc, device, name),
+        None => Ok(false),
+    }
+}
+
+/// TEST of a file of the device at a place of the chain, which is not made where the device stands at none.
+fn look_at(
+    alloc: Global,
+    rule: &Rule,
+    place: Option<usize>,
+    name: &[u8],
+    path: &[u8],
+    scene: &mut Scene<'_>,
+) -> Result<bool, AllocError>
+    ensures scene { IfOk result (λ done. (scene.new, done) ≡ tested_at place rule.now name.now path.now scene.old) }
+    ensures refused { OnErr result (scene.new.state.event ≡ scene.old.state.event) }
+{
+    match place {
+        Some(place) => is_found(alloc, scene.state.event.device_at(place), name),
+        None => {
+            scene.note(alloc, rule, NoteKind::TestNotMade, path)?;
+            Ok(false)
+        }
+    }
+}
+
+/// TEST as udev makes it: of a file or a folder of the event device, or of the device that the path names.
+fn look_as_udev(
+    alloc: Global,
+    rule: &Rule,
+    path: &[u8],
+    scene: &mut Scene<'_>,
+) -> Result<bool, AllocError>
+    ensures scene { IfOk result (λ done. (scene.new, done) ≡ tested_by_udev (named path.now) rule.now path.now scene.old) }
+    ensures refused { OnErr result (scene.new.state.event ≡ scene.old.state.event) }
+{
+    match Named::read(path) {
+        Some(named) => {
+            let place = scene.state.event.named_place(&named);
+            look_at(alloc, rule, place, named.attribute, path, scene)
+        }
+        None => has_file(alloc, scene.state.event.event().device(), path),
+    }
+}
+
+/// TEST of a relative path without a mask: by the manual it asks for an attribute of the event device.
+fn look_by(
+    alloc: Global,
+    rule: &Rule,
+    path: &[u8],
+    scene: &mut Scene<'_>,
+) -> Result<bool, AllocError>
+    ensures scene { IfOk result (λ done. (scene.new, done) ≡ tested_by scene.old.state.event.profile rule.now path.now scene.old) }
+    ensures refused { OnErr result (scene.new.state.event ≡ scene.old.state.event) }
+{
+    match scene.state.event.event().profile() {
+        Profile::Manual => Ok(scene.state.event.device().attrs().get(path).is_some()),
+        Profile::Udev => look_as_udev(alloc, rule, path, scene),
+    }
+}
+
+/// TEST of a path, which is not made of an absolute one and not with a mask.
 pub(crate) fn look_for(
     alloc: Global,
     rule: &Rule,
@@ -23,7 +91,7 @@ pub(crate) fn look_for(
         scene.note(alloc, rule, NoteKind::TestNotMade, path)?;
         return Ok(false);
     }
-    Ok(scene.state.event.device().attrs().get(path).is_some())
+    look_by(alloc, rule, path, scene)
 }
 
 /// Empties the result.
@@ -31,6 +99,16 @@ pub(crate) fn clear_result(alloc: Global, scene: &mut Scene<'_>)
     ensures { scene.new ≡ with_result [] scene.old }
 {
     scene.state.result = Bytes::new(Vec::new(alloc));
+}
+
+/// The result that a program's text makes.
+fn result_of(alloc: Global, profile: Profile, text: &[u8]) -> Result<Bytes, AllocError>
+    ensures { IfOk result (λ made. made ≡ result_of profile text.now) }
+{
+    match profile {
+        Profile::Manual => Bytes::copy_of(alloc, text),
+        Profile::Udev => Ok(Bytes::new(attribute_safe(alloc, text)?)),
+    }
 }
 
 /// Takes what a program answered: where its status is 0, its text is the result.
@@ -45,7 +123,7 @@ fn take_answer(
     if answer.status() != 0 {
         return Ok(false);
     }
-    scene.state.result = Bytes::copy_of(alloc, answer.text())?;
+    scene.state.result = result_of(alloc, scene.state.event.event().profile(), answer.text())?;
     Ok(true)
 }
 

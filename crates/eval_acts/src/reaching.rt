@@ -1,14 +1,34 @@
 //! What a match leaves that is only reached.
 ghost use Rattle.std.specs.Prelude.{◌≡◌, OnOk, OnErr};
-ghost use Rattle.eval_acts.specs.Reaching.{reached};
+ghost use Rattle.eval_acts.specs.Reaching.{attribute_reached, reached};
 
+use eval_matching::is_not_read;
 use eval_state::{NoteKind, Scene};
 use rule_types::{PlainKey, PlainMatch, Rule};
 use std::alloc::{AllocError, Global};
 
+/// Leaves what a match of an attribute leaves when it is reached: a note where the attribute is not read.
+fn attribute_reached(
+    alloc: Global,
+    rule: &Rule,
+    name: &[u8],
+    scene: &mut Scene<'_>,
+) -> Result<(), AllocError>
+    ensures scene { OnOk result (scene.new ≡ attribute_reached rule.now name.now scene.old) }
+    ensures refused { OnErr result (scene.new ≡ scene.old) }
+{
+    if is_not_read(name, &scene.state.event) {
+        scene.note(alloc, rule, NoteKind::AttributeNotRead, name)
+    } else {
+        Ok(())
+    }
+}
+
 /// Leaves what a match of the event leaves when it is reached, whether it holds or not: that of SYSCTL,
-/// which a dry run does not read, the note `sysctl not read` with the parameter's name; any other
-/// nothing. The error comes where memory is refused; the scene then stays as it is.
+/// which a dry run does not read, the note `sysctl not read` with the parameter's name; that of an
+/// attribute which udev would read and a dry run does not the note `attribute not read` with its name,
+/// in an event of udev's alone; any other nothing. The error comes where memory is refused; the scene
+/// then stays as it is.
 pub fn reached(
     alloc: Global,
     rule: &Rule,
@@ -22,6 +42,7 @@ pub fn reached(
         PlainKey::Sysctl(name) => {
             scene.note(alloc, rule, NoteKind::SysctlNotRead, name.as_slice())
         }
+        PlainKey::Attr(name) => attribute_reached(alloc, rule, name.as_slice(), scene),
         _ => Ok(()),
     }
 }

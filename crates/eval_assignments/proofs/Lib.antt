@@ -1,2 +1,5 @@
-pub mod Names
+pub mod Cutting
+pub mod Digits
+pub mod Joining
+pub mod PlainLinks
 pub mod Staying

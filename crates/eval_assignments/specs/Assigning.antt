@@ -1,5 +1,7 @@
 -- What each key makes of what is assigned to it: a row for each key.
 use Rattle.std.specs.Prelude.{true, false, List, [], ◌∷◌, Option, Some, None}
+use Rattle.text_bytes.specs.declared.profile.Profile.{Profile}
+use Rattle.text_bytes.specs.declared.profile.Profile.TheVariants.{Manual, Udev}
 use Rattle.text_tables.specs.Texts.{Text}
 use Rattle.text_tables.specs.Pairs.{Pair, with_value}
 use Rattle.rule_types.specs.declared.roles.AssignOperator.{AssignOperator}
@@ -8,23 +10,27 @@ use Rattle.rule_types.specs.declared.roles.Target.{Target}
 use Rattle.rule_types.specs.declared.roles.Target.TheVariants as target
 use Rattle.rule_types.specs.declared.rule_option.RuleOption.{RuleOption}
 use Rattle.rule_types.specs.declared.rule_option.RuleOption.TheVariants as option
+use Rattle.rule_types.specs.declared.keys.Key.TheVariants as key
 use Rattle.rule_types.specs.Rules.{Rule}
+use Rattle.eval_state.specs.Scenes.{noted_key}
+use Rattle.eval_state.specs.declared.note_kind.NoteKind.TheVariants.{NoValue}
 use Rattle.eval_state.specs.declared.scene.Scene.{Scene}
+use Rattle.eval_assignments.specs.Attributes.{attribute_set}
 use Rattle.eval_assignments.specs.Escapes.{turned}
+use Rattle.eval_assignments.specs.Links.{links_changed}
 use Rattle.eval_assignments.specs.Lists.{changed, names, one_tag}
-use Rattle.eval_assignments.specs.Properties.{property_changed}
+use Rattle.eval_assignments.specs.Modes.{mode_set}
+use Rattle.eval_assignments.specs.Names.{name_text}
+use Rattle.eval_assignments.specs.Parameters.{parameter_set}
+use Rattle.eval_assignments.specs.Properties.{property_changed, udev_property_changed}
+use Rattle.eval_assignments.specs.Tags.{tag_changed}
 use Rattle.eval_assignments.specs.declared.escapes.Escape.{Escape}
-use Rattle.eval_assignments.specs.declared.escapes.Escape.TheVariants.{Keep, Replace}
+use Rattle.eval_assignments.specs.declared.escapes.Escape.TheVariants.{Replace}
 
 -- a text that is assigned; an empty one is none
 abbrev pub given : Text → Option Text
 given [] = None
 given (b ∷ t) = Some (b ∷ t)
-
--- the name of a network device: its spaces are turned to `_` unless the rule keeps its bytes
-abbrev pub name_text : Escape → Text → Text
-name_text Keep t = t
-name_text e t = turned t
 
 -- the names of links: their spaces are turned to `_` where the rule replaces them too
 abbrev pub link_text : Escape → Text → Text
@@ -36,18 +42,43 @@ abbrev pub labels_before : AssignOperator → List Pair → List Pair
 labels_before Add labels = labels
 labels_before _ labels = []
 
--- what each key makes of a text
-abbrev pub assigned : Rule → Escape → AssignOperator → Target → Text → Scene → Scene
-assigned r e o target.Owner t s = record s { owner = given t }
-assigned r e o target.Group t s = record s { group = given t }
-assigned r e o target.Mode t s = record s { mode = given t }
-assigned r e o target.Tag t s = record s { state = record s.state { tags = changed o (one_tag t) s.state.tags } }
-assigned r e o (target.Seclabel name) t s = record s { labels = with_value (labels_before o s.labels) name t }
-assigned r e o (target.Env name) t s = property_changed r o name t s
-assigned r e o target.Name t s = record s { state = record s.state { name = given (name_text e t) } }
-assigned r e o target.Symlink t s = record s { state = record s.state { links = changed o (names (link_text e t)) s.state.links } }
-assigned r e o (target.Attr name) t s = record s { attrs = with_value s.attrs name t }
-assigned r e o (target.Sysctl name) t s = record s { sysctls = with_value s.sysctls name t }
+-- an owner is set as udev takes it: an empty one leaves a note, and the one before stays
+abbrev pub owner_set : Rule → Text → Scene → Scene
+owner_set r [] s = noted_key r NoValue key.Owner None s
+owner_set r (b ∷ t) s = record s { owner = Some (b ∷ t) }
+
+-- a group is set as udev takes it, so too
+abbrev pub group_set : Rule → Text → Scene → Scene
+group_set r [] s = noted_key r NoValue key.Group None s
+group_set r (b ∷ t) s = record s { group = Some (b ∷ t) }
+
+-- a text, or as it was written where it is empty
+abbrev pub or_written : Text → Text → Text
+or_written written [] = written
+or_written written (b ∷ t) = b ∷ t
+
+-- what each key makes of a text, as it is written and once it is rendered
+abbrev pub assigned : Profile → Rule → Escape → AssignOperator → Target → Text → Text → Scene → Scene
+assigned Manual r e o target.Owner written t s = record s { owner = given t }
+assigned Manual r e o target.Group written t s = record s { group = given t }
+assigned Manual r e o target.Mode written t s = record s { mode = given t }
+assigned Manual r e o target.Tag written t s = record s { state = record s.state { tags = changed o (one_tag t) s.state.tags } }
+assigned Manual r e o (target.Seclabel name) written t s = record s { labels = with_value (labels_before o s.labels) name t }
+assigned Manual r e o (target.Env name) written t s = property_changed r o name t s
+assigned Manual r e o target.Name written t s = record s { state = record s.state { name = given (name_text Manual e t) } }
+assigned Manual r e o target.Symlink written t s = record s { state = record s.state { links = changed o (names (link_text e t)) s.state.links } }
+assigned Manual r e o (target.Attr name) written t s = record s { attrs = with_value s.attrs name t }
+assigned Manual r e o (target.Sysctl name) written t s = record s { sysctls = with_value s.sysctls name t }
+assigned Udev r e o target.Owner written t s = owner_set r t s
+assigned Udev r e o target.Group written t s = group_set r t s
+assigned Udev r e o target.Mode written t s = mode_set r t s
+assigned Udev r e o target.Tag written t s = tag_changed r o t s
+assigned Udev r e o (target.Seclabel name) written t s = record s { labels = with_value (labels_before o s.labels) name (or_written written t) }
+assigned Udev r e o (target.Env name) written t s = udev_property_changed r e o name written t s
+assigned Udev r e o target.Name written t s = record s { state = record s.state { name = given (name_text Udev e t) } }
+assigned Udev r e o target.Symlink written t s = links_changed r o (link_text e t) s
+assigned Udev r e o (target.Attr name) written t s = attribute_set r name t s
+assigned Udev r e o (target.Sysctl name) written t s = parameter_set r name t s
 
 -- what each option changes; `string_escape` holds for its whole rule and changes nothing by itself
 abbrev pub with_option : RuleOption → Scene → Scene

@@ -1,6 +1,8 @@
 -- What becomes of bytes of links and names that do not belong there, as OPTIONS of a rule has it.
 use Rattle.std.specs.Prelude.{ℕ, ◌==◌, if◌then◌else◌, map, fold, List}
 use Rattle.text_bytes.specs.Names.{space, underscore}
+use Rattle.text_bytes.specs.declared.profile.Profile.{Profile}
+use Rattle.text_bytes.specs.declared.profile.Profile.TheVariants.{Manual, Udev}
 use Rattle.text_tables.specs.Texts.{Text}
 use Rattle.rule_types.specs.declared.roles.Target.{Target}
 use Rattle.rule_types.specs.declared.roles.Target.TheVariants as target
@@ -23,16 +25,21 @@ escape_after e c = e
 unfoldable pub escape_of : List Assignment → Escape
 escape_of sets = fold (λ e a. escape_after e a.change) Usual sets
 
+-- what a name is rendered for: the manual makes it safe as a link, udev has bytes of its own for it
+abbrev pub mode_of_name : Profile → Mode
+mode_of_name Manual = Link
+mode_of_name Udev = Plain
+
 -- what a text is rendered for where bytes are replaced: the names of links and devices are made safe
-abbrev pub mode_in : Target → Mode
-mode_in target.Name = Link
-mode_in target.Symlink = Link
-mode_in t = Plain
+abbrev pub mode_in : Profile → Target → Mode
+mode_in profile target.Name = mode_of_name profile
+mode_in profile target.Symlink = Link
+mode_in profile t = Plain
 
 -- what a text is rendered for: nothing is made safe where the rule keeps the bytes
-abbrev pub mode_of : Target → Escape → Mode
-mode_of t Keep = Plain
-mode_of t e = mode_in t
+abbrev pub mode_of : Profile → Target → Escape → Mode
+mode_of profile t Keep = Plain
+mode_of profile t e = mode_in profile t
 
 -- a byte with a space turned to `_`
 abbrev pub turned_byte : ℕ → ℕ

@@ -1,5 +1,7 @@
 -- Which keys `:=` makes final, and when an assignment comes too late.
 use Rattle.std.specs.Prelude.{Bool, false, Option, Some, None}
+use Rattle.text_bytes.specs.declared.profile.Profile.{Profile}
+use Rattle.text_bytes.specs.declared.profile.Profile.TheVariants.{Manual, Udev}
 use Rattle.rule_types.specs.declared.roles.AssignOperator.{AssignOperator}
 use Rattle.rule_types.specs.declared.roles.AssignOperator.TheVariants.{AssignFinal}
 use Rattle.rule_types.specs.declared.roles.Target.{Target}
@@ -23,18 +25,23 @@ final_target target.Name = Some Name
 final_target target.Symlink = Some Symlink
 final_target t = None
 
+-- the key of the priority of links that `:=` makes final: for udev it never is
+abbrev pub final_priority : Profile → Option FinalKey
+final_priority Manual = Some Priority
+final_priority Udev = None
+
 -- the key of an option that `:=` makes final, if there is one
-abbrev pub final_option : RuleOption → Option FinalKey
-final_option (option.LinkPriority n) = Some Priority
-final_option option.Watch = Some Watch
-final_option option.NoWatch = Some Watch
-final_option o = None
+abbrev pub final_option : Profile → RuleOption → Option FinalKey
+final_option profile (option.LinkPriority n) = final_priority profile
+final_option profile option.Watch = Some Watch
+final_option profile option.NoWatch = Some Watch
+final_option profile o = None
 
 -- the key of an assignment that `:=` makes final, if there is one
-abbrev pub final_key : Change → Option FinalKey
-final_key (change.Option known) = final_option known
-final_key (change.Text t template) = final_target t
-final_key (change.Run kind template) = Some Run
+abbrev pub final_key : Profile → Change → Option FinalKey
+final_key profile (change.Option known) = final_option profile known
+final_key profile (change.Text t template) = final_target t
+final_key profile (change.Run kind template) = Some Run
 
 -- whether a key, if there is one, no longer changes
 abbrev pub is_settled : Option FinalKey → Finals → Bool

@@ -2,5 +2,13 @@ pub mod Lists
 pub mod Properties
 pub mod Finality
 pub mod Escapes
+pub mod Bounds
+pub mod Links
+pub mod Modes
+pub mod Names
+pub mod Parameters
+pub mod Tags
+pub mod Attributes
+pub mod Runs
 pub mod Assigning
 pub mod Steps

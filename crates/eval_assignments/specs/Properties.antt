@@ -1,23 +1,24 @@
 -- Properties, as ENV changes them.
-use Rattle.std.specs.Prelude.{List, [], ◌∷◌, ◌++◌, Option, Some, None}
-use Rattle.text_bytes.specs.Names.{space}
+use Rattle.std.specs.Prelude.{ℕ, ◌==◌, nat_lt, if◌then◌else◌, [], ◌∷◌, ◌++◌, length, map, Option, Some, None}
+use Rattle.text_bytes.specs.Names.{slash, space, underscore}
 use Rattle.text_tables.specs.Texts.{Text}
-use Rattle.text_tables.specs.Pairs.{Pair, value_of, with_value, without_name}
+use Rattle.text_tables.specs.Pairs.{value_of, with_value}
 use Rattle.rule_types.specs.declared.keys.Key.TheVariants as key
 use Rattle.rule_types.specs.declared.roles.AssignOperator.{AssignOperator}
 use Rattle.rule_types.specs.declared.roles.AssignOperator.TheVariants.{Add}
 use Rattle.rule_types.specs.Rules.{Rule}
 use Rattle.eval_state.specs.Texts.{or_empty}
 use Rattle.eval_rendering.specs.Bounds.{bounded}
+use Rattle.eval_rendering.specs.Safe.{link_marks, safe}
 use Rattle.eval_state.specs.Notes.{word_of_key}
+use Rattle.eval_state.specs.Properties.{property_set}
 use Rattle.eval_state.specs.Scenes.{noted, with_env}
 use Rattle.eval_state.specs.declared.note_kind.NoteKind.TheVariants.{TextTooLong}
 use Rattle.eval_state.specs.declared.scene.Scene.{Scene}
-
--- a property is set; the empty text takes it away
-abbrev pub property_set : Text → Text → List Pair → List Pair
-property_set name [] env = without_name env name
-property_set name (b ∷ t) env = with_value env name (b ∷ t)
+use Rattle.eval_assignments.specs.Bounds.{most_value_bytes}
+use Rattle.eval_assignments.specs.Escapes.{turned}
+use Rattle.eval_assignments.specs.declared.escapes.Escape.{Escape}
+use Rattle.eval_assignments.specs.declared.escapes.Escape.TheVariants.{Replace}
 
 -- a text behind a value, with a space between them, unless that is too long; a value without a byte gives its place to the text
 abbrev pub appended : Text → Text → Option Text
@@ -38,3 +39,36 @@ property_added r name (b ∷ t) s = property_joined r name (appended (or_empty (
 abbrev pub property_changed : Rule → AssignOperator → Text → Text → Scene → Scene
 property_changed r Add name t s = property_added r name t s
 property_changed r _ name t s = with_env (property_set name t s.state.env) s
+
+-- a byte with a slash as `_`
+abbrev pub unslashed_byte : ℕ → ℕ
+unslashed_byte b = if b == slash then underscore else b
+
+-- the value of a property as udev takes it: where the rule replaces bytes, those that do not belong in a link, spaces and slashes are `_`
+abbrev pub env_text : Escape → Text → Text
+env_text Replace t = map unslashed_byte (turned (safe link_marks t))
+env_text e t = t
+
+-- a text that is not too long for a value
+abbrev pub short_value : Text → Option Text
+short_value t = if nat_lt most_value_bytes (length t) then None else Some t
+
+-- a text behind a value, with a space between them, as udev puts it together; without a value it is the text
+abbrev pub extended : Option Text → Text → Option Text
+extended None t = short_value t
+extended (Some value) t = short_value (value ++ space ∷ t)
+
+-- a property takes a value that udev put together, unless that is too long
+abbrev pub property_put : Rule → Text → Option Text → Scene → Scene
+property_put r name None s = noted r TextTooLong (word_of_key key.Env (Some name)) s
+property_put r name (Some value) s = with_env (property_set name value s.state.env) s
+
+-- a text is put behind the value of a property of udev's; one that is written empty changes nothing
+abbrev pub property_extended : Rule → Text → Text → Text → Scene → Scene
+property_extended r name [] t s = s
+property_extended r name (b ∷ written) t s = property_put r name (extended (value_of s.state.env name) t) s
+
+-- a property as an operator of udev's changes it, with a text as it is written and once it is rendered
+abbrev pub udev_property_changed : Rule → Escape → AssignOperator → Text → Text → Text → Scene → Scene
+udev_property_changed r e Add name written t s = property_extended r name written (env_text e t) s
+udev_property_changed r e _ name written t s = with_env (property_set name (env_text e t) s.state.env) s

@@ -1,8 +1,11 @@
 -- One assignment of a rule.
-use Rattle.std.specs.Prelude.{Bool, false, not, codes, if◌then◌else◌, Option, Some, None}
-use Rattle.text_tables.specs.Texts.{Text, same_text}
+use Rattle.std.specs.Prelude.{Bool, true, false, not, if◌then◌else◌, [], Option, Some, None}
+use Rattle.text_bytes.specs.declared.profile.Profile.{Profile}
+use Rattle.text_bytes.specs.declared.profile.Profile.TheVariants.{Manual, Udev}
+use Rattle.text_tables.specs.Texts.{Text}
 use Rattle.rule_types.specs.Written.{attribute_of_target, key_of_target}
 use Rattle.rule_types.specs.declared.roles.AssignOperator.{AssignOperator}
+use Rattle.rule_types.specs.declared.roles.AssignOperator.TheVariants.{Assign, AssignFinal}
 use Rattle.rule_types.specs.declared.roles.Target.{Target}
 use Rattle.rule_types.specs.declared.roles.Target.TheVariants as target
 use Rattle.rule_types.specs.declared.types.RunType.{RunType}
@@ -11,55 +14,94 @@ use Rattle.rule_types.specs.declared.part.Assignment.{Assignment}
 use Rattle.rule_types.specs.declared.part.Change.{Change}
 use Rattle.rule_types.specs.declared.part.Change.TheVariants as change
 use Rattle.rule_types.specs.Rules.{Rule}
+use Rattle.device_core.specs.Values.{NumberValue}
+use Rattle.eval_rendering.specs.Bounds.{within}
 use Rattle.eval_rendering.specs.Rendering.{render}
 use Rattle.eval_rendering.specs.declared.rendered.Rendered.{Rendered}
 use Rattle.eval_rendering.specs.declared.rendered.Rendered.TheVariants as rendered
 use Rattle.eval_state.specs.Notes.{word_of_key}
-use Rattle.eval_state.specs.Runs.{RunValue, runs_after}
-use Rattle.eval_state.specs.Scenes.{noted}
-use Rattle.eval_state.specs.declared.finals.FinalKey.TheVariants as final
-use Rattle.eval_state.specs.declared.note_kind.NoteKind.TheVariants.{TextTooLong, NameIgnored}
+use Rattle.eval_state.specs.Scenes.{noted, noted_key}
+use Rattle.eval_state.specs.declared.note_kind.NoteKind.TheVariants.{NameIgnored, NoDeviceNumber, TextTooLong}
 use Rattle.eval_state.specs.declared.scene.Scene.{Scene}
 use Rattle.eval_assignments.specs.Assigning.{assigned, with_option}
+use Rattle.eval_assignments.specs.Bounds.{most_bytes_of}
 use Rattle.eval_assignments.specs.Escapes.{escape_of, mode_of}
 use Rattle.eval_assignments.specs.Finality.{final_key, final_option, final_target, finally, is_settled}
+use Rattle.eval_assignments.specs.Names.{has_name}
+use Rattle.eval_assignments.specs.Runs.{run_kept, run_rendered}
 use Rattle.eval_assignments.specs.declared.escapes.Escape.{Escape}
 
--- whether a device is a network device, by its subsystem: only those have a name to assign
-abbrev pub is_net : Option Text → Bool
-is_net None = false
-is_net (Some subsystem) = same_text subsystem (codes "net")
-
--- whether an assignment is ignored: NAME where the event device is no network device
-abbrev pub is_ignored : Target → Scene → Bool
-is_ignored target.Name s = not (is_net s.state.event.device.subsystem)
-is_ignored t s = false
+-- whether an assignment is ignored: NAME where the event device has no name to assign
+abbrev pub is_ignored : Profile → Target → Scene → Bool
+is_ignored profile target.Name s = not (has_name profile s.state.event.device)
+is_ignored profile t s = false
 
 -- an assignment of a text that is not too long; one that is ignored leaves a note, and makes nothing final
-abbrev pub text_given : Rule → Escape → AssignOperator → Target → Text → Scene → Scene
-text_given r e o about t s =
-    if is_ignored about s then noted r NameIgnored t s else finally o (final_target about) (assigned r e o about t s)
+abbrev pub text_given : Profile → Rule → Escape → AssignOperator → Target → Text → Text → Scene → Scene
+text_given profile r e o about written t s =
+    if is_ignored profile about s then noted r NameIgnored t s else finally o (final_target about) (assigned profile r e o about written t s)
 
--- an assignment of a text once it is rendered; one that is too long leaves a note, and makes nothing final
-abbrev pub text_set : Rule → Escape → AssignOperator → Target → Rendered → Scene → Scene
-text_set r e o about (rendered.Text t) s = text_given r e o about t s
-text_set r e o about rendered.TooLong s = noted r TextTooLong (word_of_key (key_of_target about) (attribute_of_target about)) s
+-- what stands behind an assignment of a text that is too long: for the manual nothing is made final, for udev all the same
+abbrev pub finally_too_long : Profile → AssignOperator → Target → Scene → Scene
+finally_too_long Manual o about s = s
+finally_too_long Udev o about s = finally o (final_target about) s
 
--- a RUN as it is written, with the device that is selected now
-abbrev pub run_of : Rule → Option RunType → Template → Scene → RunValue
-run_of r braces template s = record { rule = r; braces = braces; template = template; selected = s.state.selected }
+-- an assignment of a text once it is rendered; one that is too long leaves a note
+abbrev pub text_set : Profile → Rule → Escape → AssignOperator → Target → Text → Rendered → Scene → Scene
+text_set profile r e o about written (rendered.Text t) s = text_given profile r e o about written t s
+text_set profile r e o about written rendered.TooLong s =
+    finally_too_long profile o about (noted r TextTooLong (word_of_key (key_of_target about) (attribute_of_target about)) s)
 
--- a RUN is taken in as it is written
-abbrev pub run_kept : Rule → AssignOperator → Option RunType → Template → Scene → Scene
-run_kept r o braces template s = finally o (Some final.Run) (record s { runs = runs_after o s.runs (run_of r braces template s) })
+-- whether udev does nothing with a text where the device has no number: what is said of nodes and of links to them
+abbrev pub is_of_node : Target → Bool
+is_of_node target.Owner = true
+is_of_node target.Group = true
+is_of_node target.Mode = true
+is_of_node (target.Seclabel name) = true
+is_of_node target.Symlink = true
+is_of_node t = false
+
+-- whether udev passes an assignment over since the device has no number
+abbrev pub lacks_number : Target → Option NumberValue → Bool
+lacks_number about None = is_of_node about
+lacks_number about (Some number) = false
+
+-- a scene without links
+abbrev pub without_links : Scene → Scene
+without_links s = record s { state = record s.state { links = [] } }
+
+-- what udev takes away before a text is rendered: with `=` and `:=` the links, whatever comes of the text
+abbrev pub emptied : AssignOperator → Target → Scene → Scene
+emptied Assign target.Symlink s = without_links s
+emptied AssignFinal target.Symlink s = without_links s
+emptied o about s = s
+
+-- a text is rendered and assigned
+abbrev pub text_rendered : Profile → Rule → AssignOperator → Target → Template → Scene → Scene
+text_rendered Manual r o about template s =
+    text_set Manual r (escape_of r.sets) o about template.written (render template s.state (mode_of Manual about (escape_of r.sets))) s
+text_rendered Udev r o about template s =
+    text_set Udev r (escape_of r.sets) o about template.written (within (most_bytes_of about) (render template s.state (mode_of Udev about (escape_of r.sets)))) s
+
+-- an assignment of a text: udev passes some over where the device has no number, and leaves a note
+abbrev pub text_step : Profile → Rule → AssignOperator → Target → Template → Scene → Scene
+text_step Manual r o about template s = text_rendered Manual r o about template s
+text_step Udev r o about template s =
+    if lacks_number about s.state.event.device.number then noted_key r NoDeviceNumber (key_of_target about) (attribute_of_target about) s
+    else text_rendered Udev r o about template (emptied o about s)
+
+-- a RUN is taken in: as it is written, and by udev rendered
+abbrev pub run_step : Profile → Rule → AssignOperator → Option RunType → Template → Scene → Scene
+run_step Manual r o braces template s = run_kept r o braces template s
+run_step Udev r o braces template s = run_rendered r o braces template s
 
 -- an assignment, by what it changes: an option, a text once it is rendered, or what is to be run
-abbrev pub step_by : Rule → AssignOperator → Change → Scene → Scene
-step_by r o (change.Option known) s = finally o (final_option known) (with_option known s)
-step_by r o (change.Text about template) s =
-    text_set r (escape_of r.sets) o about (render template s.state (mode_of about (escape_of r.sets))) s
-step_by r o (change.Run braces template) s = run_kept r o braces template s
+abbrev pub step_by : Profile → Rule → AssignOperator → Change → Scene → Scene
+step_by profile r o (change.Option known) s = finally o (final_option profile known) (with_option known s)
+step_by profile r o (change.Text about template) s = text_step profile r o about template s
+step_by profile r o (change.Run braces template) s = run_step profile r o braces template s
 
 -- an assignment of a rule; one to a key that is final changes nothing
 unfoldable pub set_step : Rule → Scene → Assignment → Scene
-set_step r s a = if is_settled (final_key a.change) s.finals then s else step_by r a.operator a.change s
+set_step r s a =
+    if is_settled (final_key s.state.event.profile a.change) s.finals then s else step_by s.state.event.profile r a.operator a.change s

@@ -1,15 +1,21 @@
 //! What each key makes of the text that is assigned to it.
-ghost use Rattle.std.specs.Prelude.{◌≡◌, OnOk, OnErr, IfOk};
+ghost use Rattle.std.specs.Prelude.{◌≡◌, ℕ, List, OnOk, OnErr, IfOk};
 ghost use Rattle.text_tables.specs.Pairs.{with_value};
-ghost use Rattle.eval_assignments.specs.Assigning.{assigned, given, labels_before, link_text, name_text};
+ghost use Rattle.eval_assignments.specs.Assigning.{assigned, given, group_set, labels_before, link_text, or_written, owner_set};
 
+use crate::attributes::set_attribute;
 use crate::escapes::{Escape, turned};
+use crate::links::change_udev_links;
 use crate::lists::{change_links, change_tags};
-use crate::properties::change_property;
-use eval_state::Scene;
-use rule_types::{AssignOperator, Rule, Target};
+use crate::modes::set_mode;
+use crate::names::name_text;
+use crate::parameters::set_parameter;
+use crate::properties::{change_property, change_udev_property};
+use crate::tags::change_udev_tags;
+use eval_state::{NoteKind, Scene};
+use rule_types::{AssignOperator, Key, Rule, Target};
 use std::alloc::{AllocError, Global};
-use text_bytes::Bytes;
+use text_bytes::{Bytes, Profile};
 use text_tables::OwnedPairs;
 
 /// A text that is assigned; an empty one is none.
@@ -20,16 +26,6 @@ fn given(text: Bytes) -> Option<Bytes>
         None
     } else {
         Some(text)
-    }
-}
-
-/// The name of a network device; its spaces are turned unless the rule keeps its bytes.
-fn name_text(alloc: Global, escape: Escape, text: Bytes) -> Result<Bytes, AllocError>
-    ensures { IfOk result (λ name. name ≡ name_text escape text) }
-{
-    match escape {
-        Escape::Keep => Ok(text),
-        _ => Ok(Bytes::new(turned(alloc, text.as_slice())?)),
     }
 }
 
@@ -60,8 +56,8 @@ fn set_label(
     labels.put(alloc, name, text)
 }
 
-/// Assigns a text, by what it is assigned to.
-pub(crate) fn assign(
+/// Assigns a text as the manual has it, by what it is assigned to.
+fn assign_manual(
     alloc: Global,
     rule: &Rule,
     escape: Escape,
@@ -70,7 +66,7 @@ pub(crate) fn assign(
     text: Bytes,
     scene: &mut Scene<'_>,
 ) -> Result<(), AllocError>
-    ensures scene { OnOk result (scene.new ≡ assigned rule.now escape operator target.now text scene.old) }
+    ensures scene { OnOk result ((written : List ℕ) → scene.new ≡ assigned Profile.Manual rule.now escape operator target.now written text scene.old) }
     ensures refused { OnErr result (scene.new.state.event ≡ scene.old.state.event) }
 {
     match target {
@@ -91,7 +87,9 @@ pub(crate) fn assign(
                 scene,
             )?;
         }
-        Target::Name => scene.state.name = given(name_text(alloc, escape, text)?),
+        Target::Name => {
+            scene.state.name = given(name_text(alloc, Profile::Manual, escape, text)?);
+        }
         Target::Symlink => {
             let names = link_text(alloc, escape, text)?;
             change_links(alloc, operator, names.as_slice(), &mut scene.state.links)?;
@@ -100,4 +98,112 @@ pub(crate) fn assign(
         Target::Sysctl(name) => scene.sysctls.put(alloc, name.as_slice(), text)?,
     }
     Ok(())
+}
+
+/// Sets the owner of the device's node as udev does (systemd 257): an empty one leaves a note, and the one before stays.
+fn set_owner(
+    alloc: Global,
+    rule: &Rule,
+    text: Bytes,
+    scene: &mut Scene<'_>,
+) -> Result<(), AllocError>
+    ensures scene { OnOk result (scene.new ≡ owner_set rule.now text scene.old) }
+    ensures refused { OnErr result (scene.new ≡ scene.old) }
+{
+    if text.as_slice().is_empty() {
+        return scene.note_key(alloc, rule, NoteKind::NoValue, Key::Owner, None);
+    }
+    scene.owner = Some(text);
+    Ok(())
+}
+
+/// Sets the group of the device's node, as [`set_owner`] sets its owner.
+fn set_group(
+    alloc: Global,
+    rule: &Rule,
+    text: Bytes,
+    scene: &mut Scene<'_>,
+) -> Result<(), AllocError>
+    ensures scene { OnOk result (scene.new ≡ group_set rule.now text scene.old) }
+    ensures refused { OnErr result (scene.new ≡ scene.old) }
+{
+    if text.as_slice().is_empty() {
+        return scene.note_key(alloc, rule, NoteKind::NoValue, Key::Group, None);
+    }
+    scene.group = Some(text);
+    Ok(())
+}
+
+/// A text, or as it was written where it is empty.
+fn or_written(alloc: Global, written: &[u8], text: Bytes) -> Result<Bytes, AllocError>
+    ensures { IfOk result (λ t. t ≡ or_written written.now text) }
+{
+    if text.as_slice().is_empty() {
+        Bytes::copy_of(alloc, written)
+    } else {
+        Ok(text)
+    }
+}
+
+/// Assigns a text as udev does (systemd 257), by what it is assigned to.
+fn assign_udev(
+    alloc: Global,
+    rule: &Rule,
+    escape: Escape,
+    operator: AssignOperator,
+    target: &Target,
+    written: &[u8],
+    text: Bytes,
+    scene: &mut Scene<'_>,
+) -> Result<(), AllocError>
+    ensures scene { OnOk result (scene.new ≡ assigned Profile.Udev rule.now escape operator target.now written.now text scene.old) }
+    ensures refused { OnErr result (scene.new.state.event ≡ scene.old.state.event) }
+{
+    match target {
+        Target::Owner => set_owner(alloc, rule, text, scene),
+        Target::Group => set_group(alloc, rule, text, scene),
+        Target::Mode => set_mode(alloc, rule, text.as_slice(), scene),
+        Target::Tag => change_udev_tags(alloc, rule, operator, text.as_slice(), scene),
+        Target::Seclabel(name) => {
+            let label = or_written(alloc, written, text)?;
+            set_label(alloc, operator, name.as_slice(), label, &mut scene.labels)
+        }
+        Target::Env(name) => {
+            let (name, text) = (name.as_slice(), text.as_slice());
+            change_udev_property(alloc, rule, escape, operator, name, written, text, scene)
+        }
+        Target::Name => {
+            scene.state.name = given(name_text(alloc, Profile::Udev, escape, text)?);
+            Ok(())
+        }
+        Target::Symlink => {
+            let paths = link_text(alloc, escape, text)?;
+            change_udev_links(alloc, rule, operator, paths.as_slice(), scene)
+        }
+        Target::Attr(name) => set_attribute(alloc, rule, name.as_slice(), text, scene),
+        Target::Sysctl(name) => set_parameter(alloc, rule, name.as_slice(), text, scene),
+    }
+}
+
+/// Assigns a text by a profile: as it is written and once it is rendered.
+pub(crate) fn assign(
+    alloc: Global,
+    profile: Profile,
+    rule: &Rule,
+    escape: Escape,
+    operator: AssignOperator,
+    target: &Target,
+    written: &[u8],
+    text: Bytes,
+    scene: &mut Scene<'_>,
+) -> Result<(), AllocError>
+    ensures scene { OnOk result (scene.new ≡ assigned profile rule.now escape operator target.now written.now text scene.old) }
+    ensures refused { OnErr result (scene.new.state.event ≡ scene.old.state.event) }
+{
+    match profile {
+        Profile::Manual => assign_manual(alloc, rule, escape, operator, target, text, scene),
+        Profile::Udev => {
+            assign_udev(alloc, rule, escape, operator, target, written, text, scene)
+        }
+    }
 }

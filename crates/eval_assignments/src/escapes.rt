@@ -1,10 +1,11 @@
 //! What becomes of bytes of links and names that do not belong there, as OPTIONS of a rule has it.
 ghost use Rattle.std.specs.Prelude.{◌≡◌, IfOk};
-ghost use Rattle.eval_assignments.specs.Escapes.{escape_after, escape_of, mode_in, mode_of, turned, turned_byte};
+ghost use Rattle.eval_assignments.specs.Escapes.{escape_after, escape_of, mode_in, mode_of, mode_of_name, turned, turned_byte};
 
 use eval_rendering::Mode;
 use rule_types::{Assignment, Change, RuleOption, Target};
 use std::alloc::{AllocError, Global};
+use text_bytes::Profile;
 
 /// How a rule treats the bytes of links and names.
 #[derive(Clone, Copy, Debug, PartialEq, Eq)]
@@ -41,23 +42,33 @@ pub(crate) fn escape_of(sets: &[Assignment]) -> Escape
 }
 
 /// What a text is rendered for: links and names are made safe unless the rule keeps their bytes.
-pub(crate) fn mode_of(target: &Target, escape: Escape) -> Mode
-    ensures { result ≡ mode_of target.now escape }
+pub(crate) fn mode_of(profile: Profile, target: &Target, escape: Escape) -> Mode
+    ensures { result ≡ mode_of profile target.now escape }
 {
     match escape {
         Escape::Keep => Mode::Plain,
-        _ => mode_in(target),
+        _ => mode_in(profile, target),
     }
 }
 
 /// What a text is rendered for where bytes are replaced.
-fn mode_in(target: &Target) -> Mode
-    ensures { result ≡ mode_in target.now }
+fn mode_in(profile: Profile, target: &Target) -> Mode
+    ensures { result ≡ mode_in profile target.now }
 {
     match target {
-        Target::Name => Mode::Link,
+        Target::Name => mode_of_name(profile),
         Target::Symlink => Mode::Link,
         _ => Mode::Plain,
+    }
+}
+
+/// What a name is rendered for: udev replaces bytes of a name by itself.
+fn mode_of_name(profile: Profile) -> Mode
+    ensures { result ≡ mode_of_name profile }
+{
+    match profile {
+        Profile::Manual => Mode::Link,
+        Profile::Udev => Mode::Plain,
     }
 }
 

@@ -1,9 +1,10 @@
 //! Which key an assignment makes final behind `:=`.
 ghost use Rattle.std.specs.Prelude.{◌≡◌};
-ghost use Rattle.eval_assignments.specs.Finality.{final_key, final_option, final_target, finally, is_settled, settled};
+ghost use Rattle.eval_assignments.specs.Finality.{final_key, final_option, final_priority, final_target, finally, is_settled, settled};
 
 use eval_state::{FinalKey, Finals, Scene};
 use rule_types::{AssignOperator, Change, RuleOption, Target};
+use text_bytes::Profile;
 
 /// The key of a text that `:=` makes final, if there is one.
 pub(crate) fn final_target(target: &Target) -> Option<FinalKey>
@@ -19,24 +20,35 @@ pub(crate) fn final_target(target: &Target) -> Option<FinalKey>
     }
 }
 
+/// The key of the priority of links that `:=` makes final: for udev it never is.
+fn final_priority(profile: Profile) -> Option<FinalKey>
+    ensures { result ≡ final_priority profile }
+{
+    match profile {
+        Profile::Manual => Some(FinalKey::Priority),
+        Profile::Udev => None,
+    }
+}
+
 /// The key of an option that `:=` makes final, if there is one.
-pub(crate) fn final_option(option: RuleOption) -> Option<FinalKey>
-    ensures { result ≡ final_option option }
+pub(crate) fn final_option(profile: Profile, option: RuleOption) -> Option<FinalKey>
+    ensures { result ≡ final_option profile option }
 {
     match option {
-        RuleOption::LinkPriority(_) => Some(FinalKey::Priority),
+        RuleOption::LinkPriority(_) => final_priority(profile),
         RuleOption::Watch => Some(FinalKey::Watch),
         RuleOption::NoWatch => Some(FinalKey::Watch),
         _ => None,
     }
 }
 
-/// The key of an assignment that `:=` makes final, if there is one.
-pub fn final_key(change: &Change) -> Option<FinalKey>
-    ensures { result ≡ final_key change.now }
+/// The key of an assignment that `:=` makes final by a profile, if there is one: for udev (systemd 257) the priority of links is
+/// never final.
+pub fn final_key(profile: Profile, change: &Change) -> Option<FinalKey>
+    ensures { result ≡ final_key profile change.now }
 {
     match change {
-        Change::Option(option) => final_option(*option),
+        Change::Option(option) => final_option(profile, *option),
         Change::Text(target, _) => final_target(target),
         Change::Run(_, _) => Some(FinalKey::Run),
     }

@@ -6,13 +6,24 @@
 #![tactic(auto)]
 
 mod assigning;
+mod attributes;
+mod bounds;
 mod escapes;
 mod finals;
+mod laws;
+mod links;
 mod lists;
+mod modes;
+mod names;
 mod options;
+mod parameters;
 mod properties;
+mod runs;
 mod step;
+mod tags;
 
 pub use escapes::Escape;
 pub use finals::final_key;
+pub use laws::{kept_links_are_plain, plain_paths_are_links, told_modes_are_read_back};
+pub use names::is_interface;
 pub use step::{set_all, set_one};

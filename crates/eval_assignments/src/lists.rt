@@ -28,7 +28,7 @@ fn remove_each(texts: &mut OwnedTexts, gone: &[&[u8]])
 }
 
 /// Changes texts by an operator.
-fn change(
+pub(crate) fn change(
     alloc: Global,
     operator: AssignOperator,
     given: &[&[u8]],
@@ -66,7 +66,7 @@ pub(crate) fn change_tags(
 }
 
 /// Puts a name behind others, unless it is empty.
-fn push_name<'a>(names: &mut Vec<&'a [u8]>, name: &'a [u8]) -> Result<(), AllocError>
+pub(crate) fn push_name<'a>(names: &mut Vec<&'a [u8]>, name: &'a [u8]) -> Result<(), AllocError>
     ensures { OnOk result (map (λ t. t.now) names.new.items ≡ map (λ t. t.now) names.old.items ++ not_empty (name.now ∷ [])) }
 {
     if !name.is_empty() {

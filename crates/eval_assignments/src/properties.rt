@@ -1,32 +1,18 @@
 //! Properties, as ENV changes them.
-ghost use Rattle.std.specs.Prelude.{◌≡◌, OnOk, OnErr, IfOk, option_map};
-ghost use Rattle.eval_assignments.specs.Properties.{appended, property_added, property_changed, property_joined, property_set};
+ghost use Rattle.std.specs.Prelude.{◌≡◌, ◌∷◌, ◌++◌, OnOk, OnErr, IfOk, option_map};
+ghost use Rattle.text_bytes.specs.Names.{space};
+ghost use Rattle.eval_assignments.specs.Properties.{appended, env_text, extended, property_added, property_changed, property_extended, property_joined, property_put, short_value, udev_property_changed, unslashed_byte};
 
-use eval_state::Scene;
+use crate::bounds::MOST_VALUE_BYTES;
+use crate::escapes::{Escape, turned};
+use eval_rendering::link_safe;
+use eval_state::{Scene, set_property};
 use rule_types::{AssignOperator, Key, Rule};
 use std::alloc::{AllocError, Global};
 use text_bytes::Bytes;
-use text_tables::OwnedPairs;
 
 /// The most bytes of a value that is put together.
 const MOST_BYTES: usize = 16384;
-
-/// Sets a property; the empty text takes it away.
-fn set_property(
-    alloc: Global,
-    name: &[u8],
-    text: &[u8],
-    env: &mut OwnedPairs,
-) -> Result<(), AllocError>
-    ensures { OnOk result (env.new ≡ property_set name.now text.now env.old) }
-{
-    if text.is_empty() {
-        env.remove(name);
-        Ok(())
-    } else {
-        env.set(alloc, name, text)
-    }
-}
 
 /// A text behind a value, with a space between them; `None` where that is too long. A value without a
 /// byte gives its place to the text.
@@ -95,5 +81,118 @@ pub(crate) fn change_property(
     match operator {
         AssignOperator::Add => add_to_property(alloc, rule, name, text, scene),
         _ => set_property(alloc, name, text, &mut scene.state.env),
+    }
+}
+
+/// A byte with a slash as `_`.
+fn unslashed_byte(byte: u8) -> u8
+    ensures { result ≡ unslashed_byte byte }
+{
+    if byte == b'/' { b'_' } else { byte }
+}
+
+/// The value of a property as udev takes it: bytes are replaced where the rule says so.
+fn env_text(alloc: Global, escape: Escape, text: &[u8]) -> Result<Bytes, AllocError>
+    ensures { IfOk result (λ value. value ≡ env_text escape text.now) }
+{
+    match escape {
+        Escape::Replace => {
+            let safe = turned(alloc, &link_safe(alloc, text)?)?;
+            let value = safe
+                .iter()
+                .map(|byte| unslashed_byte(*byte))
+                .collect(alloc)?;
+            Ok(Bytes::new(value))
+        }
+        _ => Bytes::copy_of(alloc, text),
+    }
+}
+
+/// A text that is not too long for a value of udev's.
+fn short_value(text: Bytes) -> Option<Bytes>
+    ensures { result ≡ short_value text }
+{
+    if text.as_slice().len() > MOST_VALUE_BYTES {
+        None
+    } else {
+        Some(text)
+    }
+}
+
+/// A text behind a value, with a space between them.
+fn spaced(alloc: Global, value: &[u8], text: &[u8]) -> Result<Bytes, AllocError>
+    ensures { IfOk result (λ whole. whole ≡ value.now ++ space ∷ text.now) }
+{
+    let mut whole = Vec::from_slice(alloc, value)?;
+    whole.push(b' ')?;
+    whole.extend_from_slice(text)?;
+    Ok(Bytes::new(whole))
+}
+
+/// A text behind a value as udev puts it together; `None` where that is too long. Without a value it is the text.
+fn extended(alloc: Global, value: Option<&Bytes>, text: Bytes) -> Result<Option<Bytes>, AllocError>
+    ensures { IfOk result (λ whole. whole ≡ extended (option_map (λ v. v.now) value.entry) text) }
+{
+    match value {
+        Some(value) => Ok(short_value(spaced(alloc, value.as_slice(), text.as_slice())?)),
+        None => Ok(short_value(text)),
+    }
+}
+
+/// Gives a property a value that udev put together, or leaves a note where that is too long.
+fn put_property(
+    alloc: Global,
+    rule: &Rule,
+    name: &[u8],
+    value: Option<Bytes>,
+    scene: &mut Scene<'_>,
+) -> Result<(), AllocError>
+    ensures scene { OnOk result (scene.new ≡ property_put rule.now name.now value scene.old) }
+    ensures refused { OnErr result (scene.new.state.event ≡ scene.old.state.event) }
+{
+    match value {
+        Some(value) => set_property(alloc, name, value.as_slice(), &mut scene.state.env),
+        None => scene.note_too_long(alloc, rule, Key::Env, Some(name)),
+    }
+}
+
+/// Puts a text behind the value of a property of udev's; one that is written empty changes nothing.
+fn extend_property(
+    alloc: Global,
+    rule: &Rule,
+    name: &[u8],
+    written: &[u8],
+    text: Bytes,
+    scene: &mut Scene<'_>,
+) -> Result<(), AllocError>
+    ensures scene { OnOk result (scene.new ≡ property_extended rule.now name.now written.now text scene.old) }
+    ensures refused { OnErr result (scene.new.state.event ≡ scene.old.state.event) }
+{
+    if written.is_empty() {
+        return Ok(());
+    }
+    let value = extended(alloc, scene.state.env.get(name), text)?;
+    put_property(alloc, rule, name, value, scene)
+}
+
+/// Changes a property by an operator as udev does (systemd 257): `+=` puts a space and the text behind the value that is there,
+/// and changes nothing where the text is written empty. Over 511 bytes together a note is left.
+pub(crate) fn change_udev_property(
+    alloc: Global,
+    rule: &Rule,
+    escape: Escape,
+    operator: AssignOperator,
+    name: &[u8],
+    written: &[u8],
+    text: &[u8],
+    scene: &mut Scene<'_>,
+) -> Result<(), AllocError>
+    ensures scene { OnOk result (scene.new ≡ udev_property_changed rule.now escape operator name.now written.now text.now scene.old) }
+    ensures refused { OnErr result (scene.new.state.event ≡ scene.old.state.event) }
+{
+    let value = env_text(alloc, escape, text)?;
+    match operator {
+        AssignOperator::Add => extend_property(alloc, rule, name, written, value, scene),
+        _ => set_property(alloc, name, value.as_slice(), &mut scene.state.env),
     }
 }

@@ -1,36 +1,30 @@
 //! The assignments of a rule, one by one.
-ghost use Rattle.std.specs.Prelude.{◌≡◌, OnOk, OnErr, option_map, fold};
+ghost use Rattle.std.specs.Prelude.{◌≡◌, OnOk, OnErr, option_copied, fold};
 ghost use Rattle.eval_state.specs.Scenes.{blank};
 ghost use Rattle.eval_assignments.specs.Escapes.{escape_of};
-ghost use Rattle.eval_assignments.specs.Steps.{is_ignored, is_net, run_kept, set_step, step_by, text_given, text_set};
+ghost use Rattle.eval_assignments.specs.Steps.{emptied, finally_too_long, is_ignored, is_of_node, lacks_number, run_step, set_step, step_by, text_given, text_rendered, text_set, text_step, without_links};
 
 use crate::assigning::assign;
+use crate::bounds::most_bytes_of;
 use crate::escapes::{Escape, escape_of, mode_of};
 use crate::finals::{final_key, final_option, final_target, finish, is_settled};
+use crate::names::has_name;
 use crate::options::set_option;
+use crate::runs::{keep_run, render_run};
+use device_core::DeviceNumber;
 use eval_rendering::{Rendered, render};
-use eval_state::{FinalKey, NoteKind, Run, Scene};
+use eval_state::{NoteKind, Scene};
 use rule_templates::Template;
 use rule_types::{AssignOperator, Assignment, Change, Rule, RunType, Target};
 use std::alloc::{AllocError, Global};
-use text_bytes::Bytes;
+use text_bytes::{Bytes, Profile};
 
-/// Whether a device is a network device: only those have a name to assign.
-fn is_net(subsystem: Option<&[u8]>) -> bool
-    ensures { result ≡ is_net (option_map (λ t. t.now) subsystem.entry) }
-{
-    match subsystem {
-        Some(subsystem) => subsystem == b"net".as_slice(),
-        None => false,
-    }
-}
-
-/// Whether an assignment is ignored: NAME where the device is no network device.
-fn is_ignored(target: &Target, scene: &Scene<'_>) -> bool
-    ensures { result ≡ is_ignored target.now scene.now }
+/// Whether an assignment is ignored: NAME where the device has no name to assign.
+fn is_ignored(profile: Profile, target: &Target, scene: &Scene<'_>) -> bool
+    ensures { result ≡ is_ignored profile target.now scene.now }
 {
     match target {
-        Target::Name => !is_net(scene.state.event.device().subsystem()),
+        Target::Name => !has_name(profile, scene.state.event.device()),
         _ => false,
     }
 }
@@ -38,85 +32,272 @@ fn is_ignored(target: &Target, scene: &Scene<'_>) -> bool
 /// An assignment of a text that is not too long; one that is ignored leaves a note.
 fn set_given(
     alloc: Global,
+    profile: Profile,
     rule: &Rule,
     escape: Escape,
     operator: AssignOperator,
     target: &Target,
+    written: &[u8],
     text: Bytes,
     scene: &mut Scene<'_>,
 ) -> Result<(), AllocError>
-    ensures scene { OnOk result (scene.new ≡ text_given rule.now escape operator target.now text scene.old) }
+    ensures scene { OnOk result (scene.new ≡ text_given profile rule.now escape operator target.now written.now text scene.old) }
     ensures refused { OnErr result (scene.new.state.event ≡ scene.old.state.event) }
 {
-    if is_ignored(target, scene) {
+    if is_ignored(profile, target, scene) {
         return scene.note(alloc, rule, NoteKind::NameIgnored, text.as_slice());
     }
-    assign(alloc, rule, escape, operator, target, text, scene)?;
+    assign(
+        alloc, profile, rule, escape, operator, target, written, text, scene,
+    )?;
     finish(operator, final_target(target), scene);
     Ok(())
+}
+
+/// What stands behind an assignment of a text that is too long: for udev `:=` makes its key final all the same.
+fn finish_too_long(
+    profile: Profile,
+    operator: AssignOperator,
+    target: &Target,
+    scene: &mut Scene<'_>,
+)
+    ensures { scene.new ≡ finally_too_long profile operator target.now scene.old }
+{
+    match profile {
+        Profile::Manual => {}
+        Profile::Udev => finish(operator, final_target(target), scene),
+    }
 }
 
 /// An assignment of a text once it is rendered; one that is too long leaves a note.
 fn set_text(
     alloc: Global,
+    profile: Profile,
     rule: &Rule,
     escape: Escape,
     operator: AssignOperator,
     target: &Target,
+    written: &[u8],
     rendered: Rendered,
     scene: &mut Scene<'_>,
 ) -> Result<(), AllocError>
-    ensures scene { OnOk result (scene.new ≡ text_set rule.now escape operator target.now rendered scene.old) }
+    ensures scene { OnOk result (scene.new ≡ text_set profile rule.now escape operator target.now written.now rendered scene.old) }
     ensures refused { OnErr result (scene.new.state.event ≡ scene.old.state.event) }
 {
     match rendered {
-        Rendered::Text(text) => set_given(alloc, rule, escape, operator, target, text, scene),
-        Rendered::TooLong => scene.note_too_long(alloc, rule, target.key(), target.attribute()),
+        Rendered::Text(text) => {
+            set_given(
+                alloc, profile, rule, escape, operator, target, written, text, scene,
+            )
+        }
+        Rendered::TooLong => {
+            scene.note_too_long(alloc, rule, target.key(), target.attribute())?;
+            finish_too_long(profile, operator, target, scene);
+            Ok(())
+        }
     }
 }
 
-/// Takes in a RUN as it is written.
-fn keep_run<'a>(
+/// Whether udev does nothing with a text where the device has no number.
+fn is_of_node(target: &Target) -> bool
+    ensures { result ≡ is_of_node target.now }
+{
+    match target {
+        Target::Owner | Target::Group | Target::Mode => true,
+        Target::Seclabel(_) | Target::Symlink => true,
+        _ => false,
+    }
+}
+
+/// Whether udev passes an assignment over since the device has no number.
+fn lacks_number(target: &Target, number: Option<&DeviceNumber<'_>>) -> bool
+    ensures { result ≡ lacks_number target.now (option_copied number.entry) }
+{
+    match number {
+        Some(_) => false,
+        None => is_of_node(target),
+    }
+}
+
+/// Takes all links away.
+fn clear_links(scene: &mut Scene<'_>)
+    ensures { scene.new ≡ without_links scene.old }
+{
+    scene.state.links.clear();
+}
+
+/// What udev takes away before a text is rendered.
+fn empty(operator: AssignOperator, target: &Target, scene: &mut Scene<'_>)
+    ensures { scene.new ≡ emptied operator target.now scene.old }
+{
+    match target {
+        Target::Symlink => match operator {
+            AssignOperator::Assign | AssignOperator::AssignFinal => clear_links(scene),
+            _ => {}
+        },
+        _ => {}
+    }
+}
+
+/// Renders a text and assigns it, as the manual has it.
+fn render_manual(
     alloc: Global,
+    rule: &Rule,
+    escape: Escape,
+    operator: AssignOperator,
+    target: &Target,
+    template: &Template,
+    scene: &mut Scene<'_>,
+) -> Result<(), AllocError>
+    requires { escape ≡ escape_of rule.now.sets }
+    ensures scene { OnOk result (scene.new ≡ text_rendered Profile.Manual rule.now operator target.now template.now scene.old) }
+    ensures refused { OnErr result (scene.new.state.event ≡ scene.old.state.event) }
+{
+    let profile = Profile::Manual;
+    let rendered = render(
+        alloc,
+        template,
+        &scene.state,
+        mode_of(profile, target, escape),
+    )?;
+    set_text(
+        alloc,
+        profile,
+        rule,
+        escape,
+        operator,
+        target,
+        template.written(),
+        rendered,
+        scene,
+    )
+}
+
+/// Renders a text and assigns it, as udev does: it has as many bytes at most as udev has room for.
+fn render_udev(
+    alloc: Global,
+    rule: &Rule,
+    escape: Escape,
+    operator: AssignOperator,
+    target: &Target,
+    template: &Template,
+    scene: &mut Scene<'_>,
+) -> Result<(), AllocError>
+    requires { escape ≡ escape_of rule.now.sets }
+    ensures scene { OnOk result (scene.new ≡ text_rendered Profile.Udev rule.now operator target.now template.now scene.old) }
+    ensures refused { OnErr result (scene.new.state.event ≡ scene.old.state.event) }
+{
+    let profile = Profile::Udev;
+    let rendered = render(
+        alloc,
+        template,
+        &scene.state,
+        mode_of(profile, target, escape),
+    )?;
+    let short = rendered.within(most_bytes_of(target));
+    set_text(
+        alloc,
+        profile,
+        rule,
+        escape,
+        operator,
+        target,
+        template.written(),
+        short,
+        scene,
+    )
+}
+
+/// An assignment of a text, as udev makes it.
+fn step_udev(
+    alloc: Global,
+    rule: &Rule,
+    escape: Escape,
+    operator: AssignOperator,
+    target: &Target,
+    template: &Template,
+    scene: &mut Scene<'_>,
+) -> Result<(), AllocError>
+    requires { escape ≡ escape_of rule.now.sets }
+    ensures scene { OnOk result (scene.new ≡ text_step Profile.Udev rule.now operator target.now template.now scene.old) }
+    ensures refused { OnErr result (scene.new.state.event ≡ scene.old.state.event) }
+{
+    if lacks_number(target, scene.state.event.device().number()) {
+        let (key, attribute) = (target.key(), target.attribute());
+        return scene.note_key(alloc, rule, NoteKind::NoDeviceNumber, key, attribute);
+    }
+    empty(operator, target, scene);
+    render_udev(alloc, rule, escape, operator, target, template, scene)
+}
+
+/// An assignment of a text.
+fn step_text(
+    alloc: Global,
+    profile: Profile,
+    rule: &Rule,
+    escape: Escape,
+    operator: AssignOperator,
+    target: &Target,
+    template: &Template,
+    scene: &mut Scene<'_>,
+) -> Result<(), AllocError>
+    requires { escape ≡ escape_of rule.now.sets }
+    ensures scene { OnOk result (scene.new ≡ text_step profile rule.now operator target.now template.now scene.old) }
+    ensures refused { OnErr result (scene.new.state.event ≡ scene.old.state.event) }
+{
+    match profile {
+        Profile::Manual => render_manual(alloc, rule, escape, operator, target, template, scene),
+        Profile::Udev => step_udev(alloc, rule, escape, operator, target, template, scene),
+    }
+}
+
+/// Takes a RUN in: as it is written, or as udev renders it.
+fn step_run<'a>(
+    alloc: Global,
+    profile: Profile,
     rule: &'a Rule,
     operator: AssignOperator,
     braces: Option<RunType>,
     template: &'a Template,
     scene: &mut Scene<'a>,
 ) -> Result<(), AllocError>
-    ensures scene { OnOk result (scene.new ≡ run_kept rule.now operator braces template.now scene.old) }
+    ensures scene { OnOk result (scene.new ≡ run_step profile rule.now operator braces template.now scene.old) }
     ensures refused { OnErr result (scene.new.state.event ≡ scene.old.state.event) }
 {
-    let run = Run::new(rule, braces, template, scene.state.selected);
-    scene.runs.change(alloc, operator, run)?;
-    finish(operator, Some(FinalKey::Run), scene);
-    Ok(())
+    match profile {
+        Profile::Manual => keep_run(alloc, rule, operator, braces, template, scene),
+        Profile::Udev => render_run(alloc, rule, operator, braces, template, scene),
+    }
 }
 
 /// Makes an assignment, by what it changes, where it is known how its rule treats bytes.
 fn step_by<'a>(
     alloc: Global,
+    profile: Profile,
     rule: &'a Rule,
     escape: Escape,
     assignment: &'a Assignment,
     scene: &mut Scene<'a>,
 ) -> Result<(), AllocError>
     requires { escape ≡ escape_of rule.now.sets }
-    ensures scene { OnOk result (scene.new ≡ step_by rule.now assignment.now.operator assignment.now.change scene.old) }
+    ensures scene { OnOk result (scene.new ≡ step_by profile rule.now assignment.now.operator assignment.now.change scene.old) }
     ensures refused { OnErr result (scene.new.state.event ≡ scene.old.state.event) }
 {
     let operator = assignment.operator;
     match &assignment.change {
         Change::Option(option) => {
             set_option(*option, scene);
-            finish(operator, final_option(*option), scene);
+            finish(operator, final_option(profile, *option), scene);
             Ok(())
         }
         Change::Text(target, template) => {
-            let rendered = render(alloc, template, &scene.state, mode_of(target, escape))?;
-            set_text(alloc, rule, escape, operator, target, rendered, scene)
+            step_text(
+                alloc, profile, rule, escape, operator, target, template, scene,
+            )
         }
-        Change::Run(braces, template) => keep_run(alloc, rule, operator, *braces, template, scene),
+        Change::Run(braces, template) => {
+            step_run(alloc, profile, rule, operator, *braces, template, scene)
+        }
     }
 }
 
@@ -133,10 +314,11 @@ fn set_open<'a>(
     ensures scene { OnOk result (scene.new ≡ set_step rule.now scene.old assignment.now) }
     ensures refused { OnErr result (scene.new.state.event ≡ scene.old.state.event) }
 {
-    if is_settled(final_key(&assignment.change), scene.finals) {
+    let profile = scene.state.event.event().profile();
+    if is_settled(final_key(profile, &assignment.change), scene.finals) {
         return Ok(());
     }
-    step_by(alloc, rule, escape, assignment, scene)
+    step_by(alloc, profile, rule, escape, assignment, scene)
 }
 
 /// Makes the assignments of a rule, one behind another. How the rule treats bytes is looked for once.
@@ -157,6 +339,11 @@ fn set_each<'a>(alloc: Global, rule: &'a Rule, scene: &mut Scene<'a>) -> Result<
 /// A text is rendered first. One of more than 16,384 bytes leaves a note and changes nothing, and so
 /// does a NAME for what is no network device. A RUN is kept as it is written, with the device that is
 /// selected now. Behind a `:=` that was made, its key is final.
+///
+/// Of an event of udev's they are made as udev makes them (systemd 257). A text has 511, 1,023 or 16,383 bytes at most, by its
+/// key; one of more is final with `:=` all the same, and SYMLINK and RUN with `=` or `:=` have taken away what was there. Links,
+/// modes, tags, names and the names of attributes and parameters are as udev keeps them; what it refuses leaves a note, and so
+/// does what is said of a node of a device without a number. A RUN is rendered at its rule.
 ///
 /// The error comes where memory is refused; nothing is then left of the scene but its event.
 pub fn set_all<'a>(alloc: Global, rule: &'a Rule, scene: &mut Scene<'a>) -> Result<(), AllocError>

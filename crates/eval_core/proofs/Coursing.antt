@@ -1,4 +1,4 @@
--- What comes of a rule, by its course.
+-- What comes of a rule, by its course. Over an event by the manual it is known as far as its steps are; over one of udev's nothing is.
 use Rattle.std.proofs.Common.{◌≡◌, ℕ, ◌-◌, ◌<◌, Bool, true, false, cond, ◌&&◌, List, [], ◌∷◌, length, fold, map, get_or, slice_get, is_some, Option, Some, None, option_map, refl, ap, sym, ◌∙◌}
 use Rattle.std.specs.List.{list_all}
 use Rattle.std.specs.Option.{option_and_then, option_or}
@@ -6,6 +6,8 @@ use Rattle.std.proofs.lemmas.List.{get_or-map}
 use Rattle.std.proofs.lemmas.List.Folds.{list_all_at}
 use Rattle.std.proofs.lemmas.Option.{same_Some, slice_get-get_or, slice_get_within}
 use Rattle.text_bytes.specs.Texts.{is_empty}
+use Rattle.text_bytes.specs.declared.profile.Profile.{Profile}
+use Rattle.text_bytes.specs.declared.profile.Profile.TheVariants.{Manual, Udev}
 use Rattle.text_tables.specs.Texts.{Text}
 use Rattle.text_tables.specs.Pairs.{value_of}
 use Rattle.hwdb_lookup.specs.declared.entry.Entry.{Entry}
@@ -23,6 +25,7 @@ use Rattle.eval_core.specs.Sketches.{exact_sketch, sketch}
 use Rattle.device_core.specs.Values.{DeviceValue, EventValue, chain}
 use Rattle.eval_state.specs.Texts.{or_empty, trimmed}
 use Rattle.eval_state.specs.declared.state.State.{State}
+use Rattle.eval_matching.specs.Attributes.{attribute_by, attribute_of}
 use Rattle.eval_matching.specs.Holding.{agrees, attribute, holds, one}
 use Rattle.eval_matching.specs.Subjects.{found_place, holds_at, plain_subject, up_subject}
 use Rattle.eval_matching.proofs.Finding.{none_found}
@@ -30,9 +33,10 @@ use Rattle.eval_state.specs.declared.scene.Scene.{Scene}
 use Rattle.eval_acts.specs.Acts.{act_step}
 use Rattle.eval_acts.specs.Reaching.{reached}
 use Rattle.eval_assignments.specs.Steps.{set_step}
-use Rattle.eval_rules.specs.Steps.{Went, apply, onward, plain_step, result_step, search, set_all, walk, with_selected}
+use Rattle.eval_rules.specs.Idle.{is_idle_by}
+use Rattle.eval_rules.specs.Steps.{Went, apply, only_noted, onward, plain_step, result_step, search, set_all, steps, walk, with_selected}
 use Rattle.eval_core.specs.Checks.{check_of, choice_check, is_other, is_ruled_out, seen}
-use Rattle.eval_core.specs.Courses.{as_foretold, course_behind, course_by, course_in, course_of, foretold, guard_in, guarded, has_no_more, mark_by, mark_in, mark_of, part_mark, refused, search_in, searched}
+use Rattle.eval_core.specs.Courses.{as_foretold, course_behind, course_by, course_in, course_of, foretold, foretold_by, guard_in, guarded, has_no_more, mark_by, mark_in, mark_of, part_mark, refused, search_in, searched}
 use Rattle.eval_core.specs.Marks.{driver, is_lacking, mark, marks, subsystem}
 use Rattle.eval_core.specs.declared.checks.Check.{Check}
 use Rattle.eval_core.specs.declared.courses.Course.{Course}
@@ -67,8 +71,8 @@ done r h =
 
 module _ (es : List Entry) (r : Rule) (s : Scene) where
   -- what follows the matches of the event
-  ended : r.up ≡ [] → IsDone r → walk (plain_step r) r.plain s ≡ (s, true) → apply es r s ≡ (s, true)
-  unfolding apply walk
+  ended : r.up ≡ [] → IsDone r → walk (plain_step r) r.plain s ≡ (s, true) → steps es r s ≡ (s, true)
+  unfolding steps walk
   ended none is first =
       ap (λ (w : Went). onward (set_all r) (onward (walk result_step r.results) (onward (walk (act_step es r) r.acts) (onward (search r.up) w)))) first
       ∙ ap (λ (parts : List UpMatch). onward (set_all r) (onward (walk result_step r.results) (onward (walk (act_step es r) r.acts) (search parts s)))) none
@@ -88,8 +92,8 @@ module _ (es : List Entry) (r : Rule) (s : Scene) where
       ∙ ap (λ b. onward (walk (plain_step r) []) (s, b)) holds_so
 
   -- a rule that searches for one device and finds none
-  stranded : (part : UpMatch) (parts : List UpMatch) → r.plain ≡ [] → r.up ≡ part ∷ parts → found_place (part ∷ parts) s.state ≡ None → apply es r s ≡ (record s { state = with_selected None s.state }, false)
-  unfolding apply walk
+  stranded : (part : UpMatch) (parts : List UpMatch) → r.plain ≡ [] → r.up ≡ part ∷ parts → found_place (part ∷ parts) s.state ≡ None → steps es r s ≡ (record s { state = with_selected None s.state }, false)
+  unfolding steps walk
   stranded part parts plain ups none =
       ap (λ (w : Went). onward (set_all r) (onward (walk result_step r.results) (onward (walk (act_step es r) r.acts) (onward (search r.up) w)))) (none_walked plain)
       ∙ ap (λ (us : List UpMatch). onward (set_all r) (onward (walk result_step r.results) (onward (walk (act_step es r) r.acts) (search us s)))) ups
@@ -97,7 +101,7 @@ module _ (es : List Entry) (r : Rule) (s : Scene) where
 
 -- ---- what no device has
 
-module _ (state : State) where
+module _ (state : State) (manual : state.event.profile ≡ Manual) where
   -- a match holds at no device
   abbrev Absent : UpMatch → Type 0
   Absent part = (place : ℕ) → place < length (chain state.event) → holds_at state place part ≡ false
@@ -140,6 +144,7 @@ module _ (state : State) where
   no_attribute part name found key equal e h place within =
       let d : DeviceValue = get_or (chain state.event) place state.event.device in
       ap (λ k. holds (up_subject k state place) part.wanted) key
+      ∙ ap (λ by. holds (attribute_by by name state.event (attribute_of state.event name place)) part.wanted) manual
       ∙ ap (λ (o : Option DeviceValue). holds (attribute (option_and_then (λ device. value_of device.attrs name) o)) part.wanted) (device place within)
       ∙ attribute_missed part.wanted found (value_of d.attrs name) e (missing place d name found (device place within) h (value_of d.attrs name) refl)
       ∙ ap (λ o. agrees o false) equal
@@ -173,10 +178,10 @@ module _ (state : State) where
 
 -- ---- a rule by its course
 
-module _ (es : List Entry) (names : List Text) (r : Rule) (s : Scene) where
+module _ (es : List Entry) (names : List Text) (r : Rule) (s : Scene) (manual : s.state.event.profile ≡ Manual) where
   -- what a fate says
   abbrev Comes : Fate → Type 0
-  Comes fate = as_foretold fate s (apply es r s) ≡ apply es r s
+  Comes fate = as_foretold fate s (steps es r s) ≡ steps es r s
 
   abbrev Known : Course → Type 0
   Known course = Comes (foretold (seen names s.state.event) (marks s.state.event) course)
@@ -186,7 +191,7 @@ module _ (es : List Entry) (names : List Text) (r : Rule) (s : Scene) where
     where
       holds_by : (check : Check) → part.wanted.operator ≡ NotEqual → choice_check names part.key part.wanted.choice ≡ Some check → (b : Bool) → is_ruled_out (seen names s.state.event) (Some check) ≡ b → Comes (cond b Reached Unknown)
       holds_by check o c true out =
-          let misses = missed names r s part.key part.wanted (ap (is_ruled_out (seen names s.state.event)) c ∙ out) in
+          let misses = missed names r s manual part.key part.wanted (ap (is_ruled_out (seen names s.state.event)) c ∙ out) in
           sym (ended es r s ups is (one_walked es r s part plain misses.0 (misses.1 ∙ ap (λ o. agrees o false) o)))
       holds_by check o c false out = refl
 
@@ -214,11 +219,11 @@ module _ (es : List Entry) (names : List Text) (r : Rule) (s : Scene) where
     where
       by_first : (o : Option ℕ) → part_mark part ≡ o → Known (searched o)
       by_first None e = refl
-      by_first (Some m) e = at_mark part parts m plain ups (λ lacks. none_meets s.state (part ∷ parts) 0 part refl (absent s.state part m e lacks))
+      by_first (Some m) e = at_mark part parts m plain ups (λ lacks. none_meets s.state manual (part ∷ parts) 0 part refl (absent s.state manual part m e lacks))
 
       by_mark : (last : UpMatch) → slice_get (part ∷ parts) (length (part ∷ parts) - 1) ≡ Some last → (o : Option ℕ) → part_mark last ≡ o → Known (searched (option_or o (part_mark part)))
       by_mark last at None e = by_first (part_mark part) refl
-      by_mark last at (Some m) e = at_mark part parts m plain ups (λ lacks. none_meets s.state (part ∷ parts) (length (part ∷ parts) - 1) last at (absent s.state last m e lacks))
+      by_mark last at (Some m) e = at_mark part parts m plain ups (λ lacks. none_meets s.state manual (part ∷ parts) (length (part ∷ parts) - 1) last at (absent s.state manual last m e lacks))
 
       by_last : (u : Option UpMatch) → slice_get (part ∷ parts) (length (part ∷ parts) - 1) ≡ u → Known (searched (option_or (mark_in u) (part_mark part)))
       by_last None e = by_first (part_mark part) refl
@@ -239,27 +244,44 @@ module _ (es : List Entry) (names : List Text) (r : Rule) (s : Scene) where
   at_course = by (check_of names r) refl
     where
       fails : (check : Check) → check_of names r ≡ Some check → (b : Bool) → is_ruled_out (seen names s.state.event) (Some check) ≡ b → Comes (cond b Failed Unknown)
-      fails check e true out = sym (ruled_out es names s.state.event r s refl (ap (is_ruled_out (seen names s.state.event)) e ∙ out))
+      fails check e true out = sym (ruled_out es names r s manual (ap (is_ruled_out (seen names s.state.event)) e ∙ out))
       fails check e false out = refl
 
       by : (check : Option Check) → check_of names r ≡ check → Known (course_by names r check)
       by None e = at_behind
       by (Some check) e = fails check e (is_ruled_out (seen names s.state.event) (Some check)) refl
 
+-- by the manual a rule goes through its steps
+goes_through : (es : List Entry) (r : Rule) (s : Scene) → s.state.event.profile ≡ Manual → apply es r s ≡ steps es r s
+unfolding apply is_idle_by
+goes_through es r s manual = ap (λ by. cond (is_idle_by by r s.state.event) (only_noted es r s) (steps es r s)) manual
+
 -- what is known of a rule by its course comes so
-pub comes_so : (es : List Entry) (names : List Text) (event : EventValue) (r : Rule) (s : Scene) → s.state.event ≡ event → as_foretold (foretold (seen names event) (marks event) (course_of names r)) s (apply es r s) ≡ apply es r s
-comes_so es names event r s same = ap (λ v. as_foretold (foretold (seen names v) (marks v) (course_of names r)) s (apply es r s)) (sym same) ∙ at_course es names r s
+pub comes_so : (es : List Entry) (names : List Text) (event : EventValue) (r : Rule) (s : Scene) → s.state.event ≡ event
+    → as_foretold (foretold_by event.profile (seen names event) (marks event) (course_of names r)) s (apply es r s) ≡ apply es r s
+comes_so es names event r s same = by event.profile refl
+  where
+    by : (profile : Profile) → event.profile ≡ profile → as_foretold (foretold_by profile (seen names event) (marks event) (course_of names r)) s (apply es r s) ≡ apply es r s
+    by Udev e = refl
+    by Manual e =
+        let manual : s.state.event.profile ≡ Manual = ap (λ (v : EventValue). v.profile) same ∙ e in
+        let through : apply es r s ≡ steps es r s = goes_through es r s manual in
+        ap (as_foretold (foretold (seen names event) (marks event) (course_of names r)) s) through
+        ∙ ap (λ v. as_foretold (foretold (seen names v) (marks v) (course_of names r)) s (steps es r s)) (sym same)
+        ∙ at_course es names r s manual
+        ∙ sym through
 
 -- what is foretold of the rule at a place comes so
-pub foretold_so : (es : List Entry) (names : List Text) (event : EventValue) (rules : List Rule) (courses : List Course) (told : List (Option ℕ)) (found : List Bool) (place : ℕ) (r : Rule) (d : Course) (s : Scene) (fate : Fate)
-    → place < length rules → s.state.event ≡ event → courses ≡ map (course_of names) rules → told ≡ seen names event → found ≡ marks event → fate ≡ foretold told found (get_or courses place d)
+pub foretold_so : (es : List Entry) (names : List Text) (event : EventValue) (rules : List Rule) (courses : List Course) (told : List (Option ℕ)) (found : List Bool) (profile : Profile) (place : ℕ) (r : Rule) (d : Course) (s : Scene) (fate : Fate)
+    → place < length rules → s.state.event ≡ event → courses ≡ map (course_of names) rules → told ≡ seen names event → found ≡ marks event → profile ≡ event.profile → fate ≡ foretold_by profile told found (get_or courses place d)
     → as_foretold fate s (apply es (get_or rules place r) s) ≡ apply es (get_or rules place r) s
-foretold_so es names event rules courses told found place r d s fate within same known is are to =
+foretold_so es names event rules courses told found profile place r d s fate within same known is are by to =
     let rule : Rule = get_or rules place r in
     let course : get_or courses place d ≡ course_of names rule = ap (λ cs. get_or cs place d) known ∙ get_or-map (course_of names) rules place r d within in
     ap (λ f. as_foretold f s (apply es rule s))
     (to
-    ∙ ap (λ t. foretold t found (get_or courses place d)) is
-    ∙ ap (λ k. foretold (seen names event) k (get_or courses place d)) are
-    ∙ ap (foretold (seen names event) (marks event)) course)
+    ∙ ap (λ p. foretold_by p told found (get_or courses place d)) by
+    ∙ ap (λ t. foretold_by event.profile t found (get_or courses place d)) is
+    ∙ ap (λ k. foretold_by event.profile (seen names event) k (get_or courses place d)) are
+    ∙ ap (foretold_by event.profile (seen names event) (marks event)) course)
     ∙ comes_so es names event rule s same

@@ -1,4 +1,4 @@
--- A rule that is ruled out changes nothing.
+-- A rule that is ruled out changes nothing, over an event by the manual.
 use Rattle.std.proofs.Common.{◌≡◌, ℕ, zero, suc, ◌+◌, ◌-◌, Bool, true, false, cond, not, ◌&&◌, ◌==◌, List, [], ◌∷◌, length, get_or, position, slice_get, Option, Some, None, option_map, refl, ap, sym, ◌∙◌, true≢false, arith}
 use Rattle.std.specs.List.{list_all}
 use Rattle.std.specs.Option.{option_or}
@@ -7,6 +7,7 @@ use Rattle.std.proofs.lemmas.Bool.{eq-eqb}
 use Rattle.std.proofs.lemmas.List.Quantifiers.{position-Some}
 use Rattle.std.proofs.lemmas.Option.{slice_get-map, slice_get-get_or}
 use Rattle.text_bytes.specs.Names.{is_whitespace}
+use Rattle.text_bytes.specs.declared.profile.Profile.TheVariants.{Manual}
 use Rattle.text_tables.specs.Texts.{Text, same_text}
 use Rattle.text_tables.specs.Pairs.{value_of}
 use Rattle.text_core.specs.Choices.{choice_fits}
@@ -26,12 +27,16 @@ use Rattle.eval_core.proofs.Sketching.{IsExact, exact, fits_same_sketch}
 use Rattle.device_core.specs.Values.{EventValue}
 use Rattle.eval_state.specs.Chains.{kernel_of}
 use Rattle.eval_state.specs.Texts.{or_empty, trimmed}
-use Rattle.eval_matching.specs.Holding.{agrees, attribute, ends_in_whitespace, holds, is_whitespace_item, one, passes}
-use Rattle.eval_matching.specs.Subjects.{plain_subject}
+use Rattle.eval_state.specs.Scenes.{noted}
+use Rattle.eval_state.specs.declared.note_kind.NoteKind.TheVariants.{AttributeNotRead}
+use Rattle.eval_matching.specs.Attributes.{attribute_by, is_not_read, is_not_read_by}
+use Rattle.eval_matching.specs.Holding.{agrees, attribute, ends_in_whitespace, holds, is_whitespace_item, one}
+use Rattle.eval_matching.specs.Subjects.{plain_subject, subsystem_by}
+use Rattle.eval_matching.specs.Udev.{passes}
 use Rattle.eval_state.specs.declared.scene.Scene.{Scene}
 use Rattle.eval_acts.specs.Acts.{act_step}
 use Rattle.eval_acts.specs.Reaching.{reached}
-use Rattle.eval_rules.specs.Steps.{apply, onward, plain_step, result_step, search, set_all, walk}
+use Rattle.eval_rules.specs.Steps.{onward, plain_step, result_step, search, set_all, steps, walk}
 use Rattle.eval_core.specs.Checks.{asked, attribute_seen, behind_five, check_by, check_in, check_of, choice_check, differs, head_slot, is_other, is_ruled_out, seen, slot_of}
 use Rattle.eval_core.specs.declared.checks.Check.{Check}
 
@@ -109,7 +114,12 @@ Misses r s key wanted = (reached r key s ≡ s) × (holds (plain_subject key s.s
 pub nothing_known : {A : Type 0} → false ≡ true → A
 nothing_known h = absurd (true≢false (sym h))
 
-module _ (names : List Text) (r : Rule) (s : Scene) where
+-- by the manual an attribute that is reached leaves nothing
+attribute_reached : (r : Rule) (name : Text) (s : Scene) → s.state.event.profile ≡ Manual → reached r (plain.Attr name) s ≡ s
+unfolding is_not_read
+attribute_reached r name s manual = ap (λ by. cond (is_not_read_by by name s.state.event) (noted r AttributeNotRead name s) s) manual
+
+module _ (names : List Text) (r : Rule) (s : Scene) (manual : s.state.event.profile ≡ Manual) where
   text_ruled : (slot : ℕ) (text : Text) (wanted : Comparison) → slice_get (seen names s.state.event) slot ≡ Some (Some (sketch text)) → (o : Option ℕ) → exact_sketch wanted.choice ≡ o
       → is_ruled_out (seen names s.state.event) (check_by (Some slot) o) ≡ true → holds (one text) wanted ≡ agrees wanted.operator false
   text_ruled slot text wanted at None e h = nothing_known h
@@ -125,9 +135,15 @@ module _ (names : List Text) (r : Rule) (s : Scene) where
   key_missed : (key : PlainKey) (wanted : Comparison) → is_ruled_out (seen names s.state.event) (check_by (slot_of names key) (exact_sketch wanted.choice)) ≡ true → Misses r s key wanted
   key_missed plain.Action wanted h = (refl, text_ruled 0 s.state.event.action wanted refl (exact_sketch wanted.choice) refl h)
   key_missed plain.Kernel wanted h = (refl, text_ruled 1 (kernel_of s.state.event.device) wanted refl (exact_sketch wanted.choice) refl h)
-  key_missed plain.Subsystem wanted h = (refl, text_ruled 2 (or_empty s.state.event.device.subsystem) wanted refl (exact_sketch wanted.choice) refl h)
+  key_missed plain.Subsystem wanted h =
+      let text : Text = or_empty s.state.event.device.subsystem in
+      (refl, ap (λ by. holds (subsystem_by by text) wanted) manual ∙ text_ruled 2 text wanted refl (exact_sketch wanted.choice) refl h)
   key_missed plain.Driver wanted h = (refl, text_ruled 3 (or_empty s.state.event.device.driver) wanted refl (exact_sketch wanted.choice) refl h)
-  key_missed (plain.Attr name) wanted h = (refl, attribute_ruled name wanted (position (same_text name) names) refl (exact_sketch wanted.choice) refl h)
+  key_missed (plain.Attr name) wanted h = (
+    attribute_reached r name s manual,
+    ap (λ by. holds (attribute_by by name s.state.event (value_of s.state.event.device.attrs name)) wanted) manual
+        ∙ attribute_ruled name wanted (position (same_text name) names) refl (exact_sketch wanted.choice) refl h,
+  )
   key_missed key wanted h = nothing_known h
 
   head_ruled : (text : Text) (wanted : Comparison) → slice_get (seen names s.state.event) 4 ≡ Some (Some (first_byte text)) → (o : Option ℕ) → exact_head wanted.choice ≡ o
@@ -151,8 +167,8 @@ module _ (names : List Text) (r : Rule) (s : Scene) where
 
 -- a rule whose first match leaves nothing and does not hold
 stops : (es : List Entry) (r : Rule) (s : Scene) (part : PlainMatch) (parts : List PlainMatch) → r.plain ≡ part ∷ parts → reached r part.key s ≡ s → holds (plain_subject part.key s.state) part.wanted ≡ false
-    → apply es r s ≡ (s, false)
-unfolding apply walk plain_step
+    → steps es r s ≡ (s, false)
+unfolding steps walk plain_step
 stops es r s part parts plain leaves fails =
     let first : walk (plain_step r) r.plain s ≡ (s, false) =
     ap (λ ps. walk (plain_step r) ps s) plain
@@ -161,15 +177,15 @@ stops es r s part parts plain leaves fails =
     ap (λ w. onward (set_all r) (onward (walk result_step r.results) (onward (walk (act_step es r) r.acts) (onward (search r.up) w)))) first
 
 -- a rule that is ruled out changes nothing, and its end is not reached
-pub ruled_out : (es : List Entry) (names : List Text) (event : EventValue) (r : Rule) (s : Scene) → s.state.event ≡ event → is_ruled_out (seen names event) (check_of names r) ≡ true → apply es r s ≡ (s, false)
-ruled_out es names event r s same h = by r.plain refl (ap (λ v. is_ruled_out (seen names v) (check_of names r)) same ∙ h)
+pub ruled_out : (es : List Entry) (names : List Text) (r : Rule) (s : Scene) → s.state.event.profile ≡ Manual → is_ruled_out (seen names s.state.event) (check_of names r) ≡ true → steps es r s ≡ (s, false)
+ruled_out es names r s manual h = by r.plain refl h
   where
-    by : (parts : List PlainMatch) → r.plain ≡ parts → is_ruled_out (seen names s.state.event) (check_in names parts) ≡ true → apply es r s ≡ (s, false)
+    by : (parts : List PlainMatch) → r.plain ≡ parts → is_ruled_out (seen names s.state.event) (check_in names parts) ≡ true → steps es r s ≡ (s, false)
     by [] plain k = nothing_known k
     by (part ∷ parts) plain k = fails part.wanted.operator refl k
       where
-        fails : (o : MatchOperator) → part.wanted.operator ≡ o → is_ruled_out (seen names s.state.event) (asked o (choice_check names part.key part.wanted.choice)) ≡ true → apply es r s ≡ (s, false)
+        fails : (o : MatchOperator) → part.wanted.operator ≡ o → is_ruled_out (seen names s.state.event) (asked o (choice_check names part.key part.wanted.choice)) ≡ true → steps es r s ≡ (s, false)
         fails Equal e k =
-            let misses = missed names r s part.key part.wanted k in
+            let misses = missed names r s manual part.key part.wanted k in
             stops es r s part parts plain misses.0 (misses.1 ∙ ap (λ o. agrees o false) e)
         fails NotEqual e k = nothing_known k

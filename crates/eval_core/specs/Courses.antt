@@ -2,6 +2,8 @@
 use Rattle.std.specs.Prelude.{ℕ, ◌-◌, Bool, true, false, ◌&&◌, if◌then◌else◌, List, [], ◌∷◌, length, slice_get, Option, Some, None}
 use Rattle.std.specs.Option.{option_or}
 use Rattle.text_bytes.specs.Texts.{is_empty}
+use Rattle.text_bytes.specs.declared.profile.Profile.{Profile}
+use Rattle.text_bytes.specs.declared.profile.Profile.TheVariants as profile
 use Rattle.text_tables.specs.Texts.{Text}
 use Rattle.text_core.specs.declared.item.Item.{Item}
 use Rattle.rule_types.specs.declared.roles.MatchOperator.{MatchOperator}
@@ -108,6 +110,11 @@ foretold seen marks Bare = Reached
 foretold seen marks (First check) = if is_ruled_out seen (Some check) then Failed else Unknown
 foretold seen marks (Guard check) = if is_ruled_out seen (Some check) then Reached else Unknown
 foretold seen marks (Search mark) = if is_lacking (slice_get marks mark) then NotFound else Unknown
+
+-- what comes of a rule of an event, by whose word it is evaluated: as udev has it nothing is foretold
+abbrev pub foretold_by : Profile → List (Option ℕ) → List Bool → Course → Fate
+foretold_by profile.Manual seen marks course = foretold seen marks course
+foretold_by profile.Udev seen marks course = Unknown
 
 -- a rule of which it is known what comes of it, so far as it is known
 abbrev pub as_foretold : Fate → Scene → Went → Went

@@ -3,9 +3,9 @@
 //! Of many rules it is known by what is seen of an event how they end, and that they change nothing, or
 //! only forget which device was selected: those that are a label or a jump alone, those that jump where
 //! the event has something else than one text, and those that search for a device with something that no
-//! device of the chain has.
+//! device of the chain has. Over an event of udev's nothing is foretold: there each rule is looked at.
 ghost use Rattle.std.specs.Prelude.{◌≡◌, map, IfOk};
-ghost use Rattle.eval_core.specs.Courses.{course_behind, course_of, foretold, guard_in, guarded, has_no_more, last_mark, part_mark, refused, search_in, searched, thing_of};
+ghost use Rattle.eval_core.specs.Courses.{course_behind, course_of, foretold, foretold_by, guard_in, guarded, has_no_more, last_mark, part_mark, refused, search_in, searched, thing_of};
 
 use crate::checks::{Check, check_of, choice_check};
 use crate::marks::{DRIVER, MarkSet, SUBSYSTEM, mark};
@@ -13,7 +13,7 @@ use crate::seen::is_ruled_out;
 use crate::sketches::{exact_sketch, sketch};
 use rule_types::{MatchOperator, PlainMatch, Rule, UpKey, UpMatch};
 use std::alloc::{AllocError, Global};
-use text_bytes::Bytes;
+use text_bytes::{Bytes, Profile};
 
 /// What is known of a rule before it is looked at.
 #[derive(Clone, Copy, Debug)]
@@ -182,7 +182,7 @@ pub(crate) fn courses(
 }
 
 /// What comes of a rule with a course, as far as it is known by what is seen.
-pub(crate) fn foretold(seen: &[Option<u64>], marks: &MarkSet, course: Course) -> Fate
+fn foretold(seen: &[Option<u64>], marks: &MarkSet, course: Course) -> Fate
     ensures { result ≡ foretold seen.now marks.now course }
 {
     match course {
@@ -209,5 +209,20 @@ pub(crate) fn foretold(seen: &[Option<u64>], marks: &MarkSet, course: Course) ->
                 Fate::Unknown
             }
         }
+    }
+}
+
+/// What comes of a rule with a course, by whose word it is evaluated: as udev has it nothing is known.
+pub(crate) fn foretold_by(
+    profile: Profile,
+    seen: &[Option<u64>],
+    marks: &MarkSet,
+    course: Course,
+) -> Fate
+    ensures { result ≡ foretold_by profile seen.now marks.now course }
+{
+    match profile {
+        Profile::Manual => foretold(seen, marks, course),
+        Profile::Udev => Fate::Unknown,
     }
 }

@@ -3,7 +3,7 @@
 //! What is decided once is decided when rules are laid out: for each rule how many rules its jump passes
 //! over, the check by which it can be passed over without a look at it, and its course, by which it is
 //! known without a look at it how it ends. What rules can't change of an event is looked up once for each
-//! event.
+//! event. Over an event of udev's only the jumps are known beforehand, and each rule is looked at.
 #![tactic(auto)]
 
 mod checks;

@@ -6,7 +6,7 @@ ghost use Rattle.eval_rules.specs.Steps.{apply};
 ghost use Rattle.eval_core.specs.Courses.{as_foretold};
 ghost use Rattle.eval_core.specs.Layout.{IsLaidOut};
 
-use crate::courses::{Course, Fate, foretold};
+use crate::courses::{Course, Fate, foretold_by};
 use crate::marks::marks;
 use crate::seen::seen;
 use eval_rules::apply;
@@ -77,9 +77,10 @@ pub(crate) fn run<'a, L: Lookup>(
 {
     let seen = seen(alloc, layout.names, &scene.state.event)?;
     let found = marks(scene.state.event.event());
+    let profile = scene.state.event.event().profile();
     let mut place = 0;
     while place < layout.rules.len() {
-        let fate = foretold(&seen, &found, layout.courses[place]);
+        let fate = foretold_by(profile, &seen, &found, layout.courses[place]);
         let reached = step(alloc, &layout.rules[place], fate, lookup, scene)?;
         place = behind(layout.rules, layout.passes, place, reached);
     }

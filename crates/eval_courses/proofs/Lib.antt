@@ -3,3 +3,4 @@ pub mod Copying
 pub mod Ending
 pub mod Finding
 pub mod Reaching
+pub mod Looking

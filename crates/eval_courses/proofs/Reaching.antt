@@ -1,5 +1,5 @@
 -- What is told of the keys of a rule, and what the rule comes to, by how far it came.
-use Rattle.std.proofs.Common.{◌≡◌, Bool, true, false, List, [], ◌++◌, append_assoc, refl, ap, sym, ◌∙◌}
+use Rattle.std.proofs.Common.{◌≡◌, Bool, true, false, List, [], ◌++◌, append_assoc, ap, sym, ◌∙◌}
 use Rattle.std.proofs.lemmas.List.{append-nil}
 use Rattle.text_tables.specs.Texts.{Text}
 use Rattle.hwdb_lookup.specs.declared.entry.Entry.{Entry}
@@ -8,7 +8,7 @@ use Rattle.eval_state.specs.declared.scene.Scene.{Scene}
 use Rattle.eval_acts.specs.Acts.{act_step}
 use Rattle.eval_rules.specs.Steps.{Went, onward, plain_step, result_step, walk}
 use Rattle.eval_rules.specs.Steps as steps
-use Rattle.eval_courses.specs.Courses.{acts_told, event_told, keys_told, resulted, results_told, told_onward}
+use Rattle.eval_courses.specs.Courses.{acts_told, event_told, keys_told, results_told, told_onward}
 use Rattle.eval_courses.specs.Upward.{search_told}
 
 -- what is told of four steps, of which the first comes to this

@@ -1,24 +1,27 @@
 -- What TEST, PROGRAM and IMPORT met, by the scene before them and the scene behind.
-use Rattle.std.specs.Prelude.{Bool, not, ◌||◌, if◌then◌else◌, List, [], ◌∷◌, ◌++◌, map, filter, Option, Some, None, is_some, codes, decimal}
+use Rattle.std.specs.Prelude.{ℕ, Bool, false, not, ◌||◌, if◌then◌else◌, List, [], ◌∷◌, ◌++◌, map, filter, Option, Some, None, is_none, is_some, codes, decimal}
 use Rattle.text_bytes.specs.Names.{equals, slash, space}
 use Rattle.text_bytes.specs.Texts.{begins_with, is_empty}
 use Rattle.text_bytes.specs.Escapes.{escape_text}
+use Rattle.text_bytes.specs.declared.profile.Profile.{Profile}
+use Rattle.text_bytes.specs.declared.profile.Profile.TheVariants as profile
 use Rattle.text_tables.specs.Texts.{Text}
 use Rattle.text_tables.specs.Pairs.{Pair, value_of}
 use Rattle.hwdb_lookup.specs.declared.entry.Entry.{Entry}
-use Rattle.device_core.specs.Values.{AnswerValue}
+use Rattle.device_core.specs.Values.{AnswerValue, EventValue}
+use Rattle.rule_templates.specs.Template.{Parts as Template}
 use Rattle.rule_types.specs.declared.part.Act.{Act}
 use Rattle.rule_types.specs.declared.part.Deed.{Deed}
 use Rattle.rule_types.specs.declared.part.Deed.TheVariants as deed
 use Rattle.rule_types.specs.declared.part.Import.{Import}
 use Rattle.rule_types.specs.declared.part.Import.TheVariants as import
 use Rattle.rule_types.specs.Rules.{Rule}
-use Rattle.eval_rendering.specs.Rendering.{render}
-use Rattle.eval_rendering.specs.declared.rendered.Mode.TheVariants.{Plain}
 use Rattle.eval_rendering.specs.declared.rendered.Rendered.{Rendered}
 use Rattle.eval_rendering.specs.declared.rendered.Rendered.TheVariants as rendered
+use Rattle.eval_state.specs.Named.{NamedValue, named, named_place}
 use Rattle.eval_state.specs.declared.scene.Scene.{Scene}
 use Rattle.eval_state.specs.declared.state.State.{State}
+use Rattle.eval_acts.specs.ActTexts.{import_text, most_command_bytes, most_path_bytes, names_text, program_text, test_text}
 use Rattle.eval_acts.specs.Acts.{act_step}
 use Rattle.eval_effects.specs.Items.{stands}
 use Rattle.eval_effects.specs.Shown.{joined, shown}
@@ -30,9 +33,23 @@ abbrev pub on_rendered : (Text → Text) → Rendered → Text
 on_rendered told (rendered.Text text) = told text
 on_rendered told rendered.TooLong = codes "too long"
 
--- the path of a TEST, by whether it has a mask; with one it is not made, nor of an absolute path
-abbrev pub path_told : Bool → Text → Text
-path_told has_mask path = if has_mask || begins_with slash path then codes "not made: " ++ shown path else shown path
+-- whether a device that is named does not stand in the chain
+abbrev pub is_elsewhere : EventValue → Option NamedValue → Bool
+is_elsewhere event None = false
+is_elsewhere event (Some n) = is_none (named_place n event)
+
+-- whether a TEST asks for a file of a device that does not stand in the chain; the manual knows no such paths
+abbrev pub asks_elsewhere : Profile → Text → EventValue → Bool
+asks_elsewhere profile.Manual path event = false
+asks_elsewhere profile.Udev path event = is_elsewhere event (named path)
+
+-- whether a TEST is not made, by whether it has a mask: with one it is not, nor of an absolute path or of a device that is not in the chain
+abbrev pub is_unmade : Bool → Text → EventValue → Bool
+is_unmade has_mask path event = has_mask || (begins_with slash path || asks_elsewhere event.profile path event)
+
+-- the path of a TEST, by whether it has a mask
+abbrev pub path_told : Bool → EventValue → Text → Text
+path_told has_mask event path = if is_unmade has_mask path event then codes "not made: " ++ shown path else shown path
 
 -- a text behind a space; an empty one is left out with its space
 abbrev pub spaced : Text → Text
@@ -59,19 +76,30 @@ newly_set before now = filter (λ property. not (stands property before)) now
 abbrev pub taken_told : List Pair → List Pair → Text
 taken_told before now = set_told (map property_told (newly_set before now))
 
+-- what an IMPORT{parent} met, by the properties behind it; udev renders its value
+abbrev pub parent_told : Profile → Text → State → List Pair → Text
+parent_told profile.Manual value s env = taken_told s.env env
+parent_told profile.Udev value s env = on_rendered (λ names. taken_told s.env env) (names_text value s)
+
+-- an IMPORT that is not run, the value of which udev renders all the same
+abbrev pub unrun_told : Profile → ℕ → Template → State → Text
+unrun_told profile.Manual most template s = codes "not run"
+unrun_told profile.Udev most template s = on_rendered (λ text. codes "not run") (import_text most template s)
+
 -- what an IMPORT met, by the properties behind it
 abbrev pub import_told : Import → State → List Pair → Text
-import_told (import.Builtin template) s env = on_rendered (λ command. shown command ++ space ∷ taken_told s.env env) (render template s Plain)
-import_told (import.Parent names value) s env = taken_told s.env env
-import_told (import.Program template) s env = codes "not run"
-import_told (import.File template) s env = codes "not run"
+import_told (import.Builtin template) s env =
+    on_rendered (λ command. shown command ++ space ∷ taken_told s.env env) (import_text most_command_bytes template s)
+import_told (import.Parent names value) s env = parent_told s.event.profile value s env
+import_told (import.Program template) s env = unrun_told s.event.profile most_command_bytes template s
+import_told (import.File template) s env = unrun_told s.event.profile most_path_bytes template s
 import_told (import.Cmdline name) s env = codes "not run"
 import_told (import.Db name) s env = codes "not run"
 
 -- what an act met, by the properties behind it
 abbrev pub deed_told : Deed → State → List Pair → Text
-deed_told (deed.Test mask template) s env = on_rendered (path_told (is_some mask)) (render template s Plain)
-deed_told (deed.Program template) s env = on_rendered (λ command. answer_told command (value_of s.event.programs command)) (render template s Plain)
+deed_told (deed.Test mask template) s env = on_rendered (path_told (is_some mask) s.event) (test_text template s)
+deed_told (deed.Program template) s env = on_rendered (λ command. answer_told command (value_of s.event.programs command)) (program_text template s)
 deed_told (deed.Import from) s env = import_told from s env
 
 -- an act, whether its rule goes on, and what it met, by what it comes to

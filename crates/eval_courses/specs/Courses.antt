@@ -1,15 +1,15 @@
 -- The course of a rule over a scene: the keys that were reached, each with what it met, and how the rule ended.
-use Rattle.std.specs.Prelude.{if◌then◌else◌, List, [], ◌∷◌, ◌++◌, codes}
+use Rattle.std.specs.Prelude.{Bool, if◌then◌else◌, List, [], ◌∷◌, ◌++◌, codes}
 use Rattle.text_tables.specs.Texts.{Text}
 use Rattle.hwdb_lookup.specs.declared.entry.Entry.{Entry}
 use Rattle.rule_types.specs.Rules.{Rule}
 use Rattle.rule_types.specs.declared.part.Act.{Act}
 use Rattle.rule_types.specs.declared.part.Comparison.{Comparison}
 use Rattle.rule_types.specs.declared.part.PlainMatch.{PlainMatch}
-use Rattle.rule_types.specs.declared.part.UpMatch.{UpMatch}
 use Rattle.eval_state.specs.declared.scene.Scene.{Scene}
 use Rattle.eval_acts.specs.Acts.{act_step}
-use Rattle.eval_rules.specs.Steps.{Went, onward, plain_step, result_step, search, walk}
+use Rattle.eval_rules.specs.Idle.{is_idle}
+use Rattle.eval_rules.specs.Steps.{Went, onward, plain_step, result_step, search, before_sets, walk}
 use Rattle.eval_effects.specs.Effects.{ending}
 use Rattle.eval_effects.specs.Since.{Since}
 use Rattle.eval_courses.specs.Acts.{act_told}
@@ -37,8 +37,7 @@ acts_told entries r parts s = told_walk (act_step entries r) (act_told entries r
 abbrev pub results_told : List Comparison → Scene → List Text
 results_told parts s = told_walk result_step (λ part s. result_told part s.state) parts s
 
--- what a rule comes to behind the matches of the event, behind the search, behind what acts, and behind the matches of the
--- result
+-- what a rule comes to behind the matches of the event, behind the search, and behind what acts
 abbrev pub matched : Rule → Scene → Went
 matched r s = walk (plain_step r) r.plain s
 
@@ -48,9 +47,6 @@ searched r s = onward (search r.up) (matched r s)
 abbrev pub acted : List Entry → Rule → Scene → Went
 acted entries r s = onward (walk (act_step entries r) r.acts) (searched r s)
 
-abbrev pub resulted : List Entry → Rule → Scene → Went
-resulted entries r s = onward (walk result_step r.results) (acted entries r s)
-
 -- the keys of a rule that were reached, in the order of evaluation
 unfoldable pub keys_told : List Entry → Rule → Scene → List Text
 keys_told entries r s =
@@ -59,10 +55,14 @@ keys_told entries r s =
     ++ told_onward (acts_told entries r r.acts) (searched r s)
     ++ told_onward (results_told r.results) (acted entries r s)
 
--- how a rule ended: it was stopped, or its end was reached
-abbrev pub end_of : Since → Rule → Went → Text
-end_of since r went = if went.1 then ending since r went.0 else codes "stops there"
+-- how a rule ended whose keys let it go on: nothing in it counts for the event, so that it is passed over, or its end was reached
+abbrev pub end_reached : Bool → Since → Rule → Scene → Text
+end_reached idle since r s = if idle then codes "nothing in it counts for this device" else ending since r s
+
+-- how a rule ended: it was stopped, or all its keys let it go on
+abbrev pub end_of : Bool → Since → Rule → Went → Text
+end_of idle since r went = if went.1 then end_reached idle since r went.0 else codes "stops there"
 
 -- the course of a rule
 unfoldable pub course : List Entry → Since → Rule → Scene → List Text
-course entries since r s = keys_told entries r s ++ end_of since r (resulted entries r s) ∷ []
+course entries since r s = keys_told entries r s ++ end_of (is_idle r s.state.event) since r (before_sets entries r s) ∷ []

@@ -1,10 +1,17 @@
--- Serves inner proofs only: what is known of an act before it is done, and what a match looks at as it is lent.
-use Rattle.std.specs.Prelude.{List, ◌++◌, map, option_map}
+-- Serves inner proofs only: what is known of an act before it is done, what a match looks at as it is lent, and how a course ends.
+use Rattle.std.specs.Prelude.{Bool, false, if◌then◌else◌, List, [], ◌∷◌, ◌++◌, map, option_map, codes}
 use Rattle.text_tables.specs.Texts.{Text}
 use Rattle.text_tables.specs.Pairs.{Pair}
+use Rattle.hwdb_lookup.specs.declared.entry.Entry.{Entry}
 use Rattle.rule_types.specs.declared.part.Act.{Act}
-use Rattle.eval_matching.specs.Holding.{Subject, one, attribute, constant, members, never, unread}
-use Rattle.eval_rules.specs.Steps.{Went}
+use Rattle.rule_types.specs.Rules.{Rule}
+use Rattle.eval_state.specs.declared.scene.Scene.{Scene}
+use Rattle.eval_effects.specs.Since.{Since}
+use Rattle.eval_matching.specs.Holding.{Subject, one, constant, never, unread}
+use Rattle.eval_matching.specs.Lent.{lent_subject}
+use Rattle.eval_matching.specs.Subjects.{members_by, subsystem_by}
+use Rattle.eval_rules.specs.Steps.{Went, before_sets}
+use Rattle.eval_courses.specs.Courses.{end_of, keys_told}
 use Rattle.eval_courses.specs.Acts.{taken_told}
 use Rattle.eval_courses.specs.Keys.{act_key}
 use Rattle.eval_courses.specs.Looks.{met}
@@ -25,9 +32,22 @@ done_told act told went = act_key act ++ met went.1 ++ told_behind told went.0.s
 -- what a match looks at
 abbrev pub subject_of : lent.Subject → Subject
 subject_of (lent_as.One text) = one text.now
-subject_of (lent_as.Attribute value) = attribute (option_map (λ t. t.now) value)
+subject_of (lent_as.Subsystem profile text) = subsystem_by profile text.now
+subject_of (lent_as.Attribute value) = lent_subject value
 subject_of (lent_as.Constant value) = constant (option_map (λ t. t.now) value)
-subject_of (lent_as.Members texts) = members (map (λ t. t.items) texts.now)
-subject_of (lent_as.Given texts) = members (map (λ t. t.now) texts.now)
+subject_of (lent_as.Members profile texts) = members_by profile (map (λ t. t.items) texts.now)
+subject_of (lent_as.Given profile texts) = members_by profile (map (λ t. t.now) texts.now)
 subject_of lent_as.Unknown = never
 subject_of lent_as.Unread = unread
+
+-- how a rule ends in which nothing counts for the event, by whether its keys let it go on
+abbrev pub idle_end : Bool → Text
+idle_end goes_on = if goes_on then codes "nothing in it counts for this device" else codes "stops there"
+
+-- the course of such a rule
+unfoldable pub idle_told : List Entry → Rule → Scene → List Text
+idle_told entries r s = keys_told entries r s ++ idle_end (before_sets entries r s).1 ∷ []
+
+-- the course of any other
+unfoldable pub steps_told : List Entry → Since → Rule → Scene → List Text
+steps_told entries since r s = keys_told entries r s ++ end_of false since r (before_sets entries r s) ∷ []

@@ -1,5 +1,5 @@
 -- How a key of a rule is written: `KEY{attribute}==i"value"`.
-use Rattle.std.specs.Prelude.{Bool, true, false, List, [], ◌∷◌, ◌++◌, None, codes}
+use Rattle.std.specs.Prelude.{Bool, true, false, [], ◌∷◌, ◌++◌, None, codes}
 use Rattle.text_bytes.specs.Names.{double_quote}
 use Rattle.text_tables.specs.Texts.{Text}
 use Rattle.rule_types.specs.Written.{attribute_of_plain, attribute_of_up, key_of_plain, key_of_up}

@@ -5,7 +5,7 @@ use Rattle.text_tables.specs.Texts.{Text}
 use Rattle.rule_types.specs.declared.part.Comparison.{Comparison}
 use Rattle.rule_types.specs.declared.part.PlainMatch.{PlainMatch}
 use Rattle.eval_state.specs.declared.state.State.{State}
-use Rattle.eval_matching.specs.Holding.{Subject, one, attribute, constant, members, never, unread, holds}
+use Rattle.eval_matching.specs.Holding.{Subject, one, attribute, constant, members, never, unread, udev_attribute, udev_members, udev_subsystem, udev_unread, holds}
 use Rattle.eval_matching.specs.Subjects.{plain_subject}
 use Rattle.eval_effects.specs.Shown.{shown}
 use Rattle.eval_courses.specs.Keys.{plain_key, result_key}
@@ -33,6 +33,10 @@ looked (constant value) = value_told value
 looked (members texts) = members_told texts
 looked never = codes "unknown"
 looked unread = codes "not read"
+looked (udev_subsystem text) = shown text
+looked (udev_attribute value) = value_told value
+looked (udev_members texts) = members_told texts
+looked udev_unread = codes "not read"
 
 -- a match of the event, and what it met
 unfoldable pub plain_told : PlainMatch → State → Text

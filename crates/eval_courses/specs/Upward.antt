@@ -8,7 +8,7 @@ use Rattle.rule_types.specs.declared.part.UpMatch.{UpMatch}
 use Rattle.eval_state.specs.Chains.{device_at, kernel_of}
 use Rattle.eval_state.specs.Texts.{or_empty}
 use Rattle.eval_state.specs.declared.state.State.{State}
-use Rattle.eval_matching.specs.Holding.{Subject, attribute}
+use Rattle.eval_matching.specs.Holding.{Subject, attribute, udev_attribute}
 use Rattle.eval_matching.specs.Subjects.{found_place, holds_at, up_subject}
 use Rattle.eval_effects.specs.Shown.{joined, shown}
 use Rattle.eval_courses.specs.Keys.{up_key}
@@ -25,6 +25,7 @@ name_at state place = shown (or_empty (option_map kernel_of (device_at state.eve
 -- whether a match looked at an attribute that is absent
 abbrev pub is_absent : Subject → Bool
 is_absent (attribute None) = true
+is_absent (udev_attribute None) = true
 is_absent _ = false
 
 -- what a match met, by whether it holds and what it looked at

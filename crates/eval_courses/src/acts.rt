@@ -2,16 +2,15 @@
 //!
 //! What an act looks at is rendered before it is done, and what it sets is known behind it: what is told of it is made in
 //! two parts.
-ghost use Rattle.std.specs.Prelude.{◌≡◌, ◌∷◌, ◌++◌, [], IfOk, OnOk, List, None, Some, option_copied};
+ghost use Rattle.std.specs.Prelude.{◌≡◌, ◌∷◌, ◌++◌, [], IfOk, OnOk, List, None, Some, codes, option_copied};
 ghost use Rattle.text_bytes.specs.Escapes.{escape_text};
 ghost use Rattle.text_tables.specs.Pairs.{Pair, value_of};
 ghost use Rattle.rule_types.specs.declared.part.Import.TheVariants as import;
-ghost use Rattle.eval_rendering.specs.Rendering.{render};
-ghost use Rattle.eval_rendering.specs.declared.rendered.Mode.TheVariants.{Plain};
+ghost use Rattle.eval_acts.specs.ActTexts.{import_text, names_text, program_text, test_text};
 ghost use Rattle.eval_acts.specs.Acts.{act_step};
 ghost use Rattle.text_bytes.specs.Names.{space};
 ghost use Rattle.eval_effects.specs.Shown.{shown};
-ghost use Rattle.eval_courses.specs.Acts.{act_told, answer_told, deed_told, import_told, on_rendered, path_told, spaced};
+ghost use Rattle.eval_courses.specs.Acts.{act_told, answer_told, asks_elsewhere, deed_told, import_told, on_rendered, parent_told, path_told, spaced, taken_told, unrun_told};
 ghost use Rattle.eval_courses.specs.Inner.{done_told, told_behind};
 ghost use Rattle.eval_courses.specs.Keys.{act_key};
 ghost use Rattle.eval_courses.specs.Looks.{met};
@@ -20,16 +19,18 @@ use crate::keys::push_act_key;
 use crate::plain::push_met;
 use crate::properties::{copied, newly_set, push_set};
 use device_core::ProgramAnswer;
-use eval_acts::act_step;
+use eval_acts::{
+    MOST_COMMAND_BYTES, MOST_PATH_BYTES, act_step, import_text, names_text, program_text, test_text,
+};
 use eval_effects::push_shown;
-use eval_rendering::{Mode, Rendered, render};
-use eval_state::{Scene, State};
+use eval_rendering::Rendered;
+use eval_state::{Chain, Named, Scene, State};
 use hwdb_lookup::Lookup;
 use itoa::Buffer;
 use rule_templates::Template;
 use rule_types::{Act, Deed, Import, Rule};
 use std::alloc::{AllocError, Global};
-use text_bytes::{Bytes, begins_with, escape};
+use text_bytes::{Bytes, Profile, begins_with, escape};
 use text_tables::OwnedPairs;
 
 /// What is told of an act before it is done.
@@ -41,12 +42,27 @@ pub enum ToldBefore {
     Taking(Bytes, OwnedPairs),
 }
 
+/// Whether a TEST asks for a file of a device that does not stand in the chain.
+fn asks_elsewhere(path: &[u8], chain: &Chain<'_>) -> bool
+    ensures { result ≡ asks_elsewhere chain.now.profile path.now chain.now }
+{
+    match (chain.event().profile(), Named::read(path)) {
+        (Profile::Udev, Some(named)) => chain.named_place(&named).is_none(),
+        _ => false,
+    }
+}
+
 /// What is told of the path of a TEST.
-fn path_told(alloc: Global, has_mask: bool, path: &[u8]) -> Result<Bytes, AllocError>
-    ensures { IfOk result (λ text. text ≡ path_told has_mask path.now) }
+fn path_told(
+    alloc: Global,
+    has_mask: bool,
+    chain: &Chain<'_>,
+    path: &[u8],
+) -> Result<Bytes, AllocError>
+    ensures { IfOk result (λ text. text ≡ path_told has_mask chain.now path.now) }
 {
     let mut text = Vec::new(alloc);
-    if has_mask || begins_with(b'/', path) {
+    if has_mask || begins_with(b'/', path) || asks_elsewhere(path, chain) {
         text.extend_from_slice(b"not made: ")?;
     }
     push_shown(alloc, &mut text, path)?;
@@ -60,10 +76,10 @@ fn test_told(
     template: &Template,
     state: &State<'_>,
 ) -> Result<Bytes, AllocError>
-    ensures { IfOk result (λ text. text ≡ on_rendered (path_told has_mask) (render template.now state.now Plain)) }
+    ensures { IfOk result (λ text. text ≡ on_rendered (path_told has_mask state.now.event) (test_text template.now state.now)) }
 {
-    match render(alloc, template, state, Mode::Plain)? {
-        Rendered::Text(path) => path_told(alloc, has_mask, path.as_slice()),
+    match test_text(alloc, template, state)? {
+        Rendered::Text(path) => path_told(alloc, has_mask, &state.event, path.as_slice()),
         Rendered::TooLong => Bytes::copy_of(alloc, b"too long"),
     }
 }
@@ -141,10 +157,15 @@ fn command_asked(alloc: Global, command: &[u8], state: &State<'_>) -> Result<Byt
 }
 
 /// What is told of a PROGRAM.
-fn program_told(alloc: Global, template: &Template, state: &State<'_>) -> Result<Bytes, AllocError>
-    ensures { IfOk result (λ text. text ≡ on_rendered (λ command. answer_told command (value_of state.now.event.programs command)) (render template.now state.now Plain)) }
+fn program_told(
+    alloc: Global,
+    template: &Template,
+    state: &mut State<'_>,
+) -> Result<Bytes, AllocError>
+    ensures text { IfOk result (λ text. text ≡ on_rendered (λ command. answer_told command (value_of state.old.event.programs command)) (program_text template.now state.old)) }
+    ensures kept { state.new ≡ state.old }
 {
-    match render(alloc, template, state, Mode::Plain)? {
+    match program_text(alloc, template, state)? {
         Rendered::Text(command) => command_asked(alloc, command.as_slice(), state),
         Rendered::TooLong => Bytes::copy_of(alloc, b"too long"),
     }
@@ -168,12 +189,72 @@ fn builtin_told_before(
 ) -> Result<ToldBefore, AllocError>
     ensures { IfOk result (λ o. (env : List Pair) → told_behind o env ≡ import_told (import.Builtin template.now) state.now env) }
 {
-    match render(alloc, template, state, Mode::Plain)? {
+    match import_text(alloc, MOST_COMMAND_BYTES, template, state)? {
         Rendered::Text(command) => Ok(ToldBefore::Taking(
             command_told(alloc, command.as_slice())?,
             copied(alloc, &state.env)?,
         )),
         Rendered::TooLong => Ok(ToldBefore::Whole(Bytes::copy_of(alloc, b"too long")?)),
+    }
+}
+
+/// What is told of an IMPORT{parent} before it is done, by the properties as they are.
+fn taking(alloc: Global, state: &State<'_>) -> Result<ToldBefore, AllocError>
+    ensures { IfOk result (λ o. (env : List Pair) → told_behind o env ≡ taken_told state.now.env env) }
+{
+    Ok(ToldBefore::Taking(Bytes::new(Vec::new(alloc)), copied(alloc, &state.env)?))
+}
+
+/// What is told of an IMPORT{parent} of udev's before it is done.
+fn names_told_before(
+    alloc: Global,
+    value: &[u8],
+    state: &State<'_>,
+) -> Result<ToldBefore, AllocError>
+    ensures { IfOk result (λ o. (env : List Pair) → told_behind o env ≡ on_rendered (λ names. taken_told state.now.env env) (names_text value.now state.now)) }
+{
+    match names_text(alloc, value, state)? {
+        Rendered::Text(_) => taking(alloc, state),
+        Rendered::TooLong => Ok(ToldBefore::Whole(Bytes::copy_of(alloc, b"too long")?)),
+    }
+}
+
+/// What is told of an IMPORT{parent} before it is done.
+fn parent_told_before(
+    alloc: Global,
+    value: &[u8],
+    state: &State<'_>,
+) -> Result<ToldBefore, AllocError>
+    ensures { IfOk result (λ o. (env : List Pair) → told_behind o env ≡ parent_told state.now.event.profile value.now state.now env) }
+{
+    match state.event.event().profile() {
+        Profile::Manual => taking(alloc, state),
+        Profile::Udev => names_told_before(alloc, value, state),
+    }
+}
+
+/// What is told of an IMPORT of udev's that is not run, by its value.
+fn unrun_value_told(alloc: Global, text: &Rendered) -> Result<Bytes, AllocError>
+    ensures { IfOk result (λ told. told ≡ on_rendered (λ t. codes "not run") text.now) }
+{
+    match text {
+        Rendered::Text(_) => Bytes::copy_of(alloc, b"not run"),
+        Rendered::TooLong => Bytes::copy_of(alloc, b"too long"),
+    }
+}
+
+/// What is told of an IMPORT that is not run, the value of which udev renders all the same.
+fn unrun_told(
+    alloc: Global,
+    most: usize,
+    template: &Template,
+    state: &State<'_>,
+) -> Result<Bytes, AllocError>
+    ensures { IfOk result (λ text. text ≡ unrun_told state.now.event.profile most template.now state.now) }
+{
+    match state.event.event().profile() {
+        Profile::Manual => Bytes::copy_of(alloc, b"not run"),
+        Profile::Udev => unrun_value_told(alloc, &import_text(alloc, most, template, state)?),
     }
 }
 
@@ -187,19 +268,29 @@ fn import_told_before(
 {
     match from {
         Import::Builtin(template) => builtin_told_before(alloc, template, state),
-        Import::Parent(_, _) => Ok(ToldBefore::Taking(
-            Bytes::new(Vec::new(alloc)),
-            copied(alloc, &state.env)?,
-        )),
-        Import::Program(_) | Import::File(_) | Import::Cmdline(_) | Import::Db(_) => {
+        Import::Parent(_, value) => parent_told_before(alloc, value.as_slice(), state),
+        Import::Program(template) => Ok(ToldBefore::Whole(unrun_told(
+            alloc,
+            MOST_COMMAND_BYTES,
+            template,
+            state,
+        )?)),
+        Import::File(template) => Ok(ToldBefore::Whole(unrun_told(
+            alloc,
+            MOST_PATH_BYTES,
+            template,
+            state,
+        )?)),
+        Import::Cmdline(_) | Import::Db(_) => {
             Ok(ToldBefore::Whole(Bytes::copy_of(alloc, b"not run")?))
         }
     }
 }
 
 /// What is told of an act before it is done.
-fn told_before(alloc: Global, deed: &Deed, state: &State<'_>) -> Result<ToldBefore, AllocError>
-    ensures { IfOk result (λ o. (env : List Pair) → told_behind o env ≡ deed_told deed.now state.now env) }
+fn told_before(alloc: Global, deed: &Deed, state: &mut State<'_>) -> Result<ToldBefore, AllocError>
+    ensures told { IfOk result (λ o. (env : List Pair) → told_behind o env ≡ deed_told deed.now state.old env) }
+    ensures kept { state.new ≡ state.old }
 {
     match deed {
         Deed::Test(mask, template) => Ok(ToldBefore::Whole(test_told(
@@ -281,7 +372,7 @@ pub(crate) fn tell_act<L: Lookup>(
     ensures text { OnOk result (texts.new.items ≡ texts.old.items ++ act_told (L.entries lookup.now) rule.now act.now scene.old ∷ []) }
     ensures event { scene.new.state.event ≡ scene.old.state.event }
 {
-    let before = told_before(alloc, &act.deed, &scene.state)?;
+    let before = told_before(alloc, &act.deed, &mut scene.state)?;
     let goes_on = tell_done(alloc, rule, act, &before, lookup, scene, texts);
     drop(before);
     goes_on

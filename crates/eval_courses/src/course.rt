@@ -1,14 +1,17 @@
 //! The course of a rule.
-ghost use Rattle.std.specs.Prelude.{◌≡◌, ◌++◌, IfOk, OnOk, OnErr};
+ghost use Rattle.std.specs.Prelude.{◌≡◌, ◌++◌, true, false, IfOk, OnOk, OnErr};
 ghost use Rattle.eval_state.specs.Scenes.{blank};
 ghost use Rattle.eval_acts.specs.Acts.{act_step};
-ghost use Rattle.eval_rules.specs.Steps.{apply, plain_step, result_step, walk};
-ghost use Rattle.eval_courses.specs.Courses.{acts_told, course, event_told, keys_told, resulted, results_told};
+ghost use Rattle.eval_rules.specs.Idle.{is_idle};
+ghost use Rattle.eval_rules.specs.Steps.{apply, only_noted, plain_step, result_step, steps, before_sets, walk};
+ghost use Rattle.eval_courses.specs.Courses.{acts_told, course, event_told, keys_told, results_told};
+ghost use Rattle.eval_courses.specs.Inner.{idle_end, idle_told, steps_told};
 
 use crate::acts::tell_act;
 use crate::plain::{tell_match, tell_result};
 use crate::upward::tell_search;
 use eval_effects::{Since, end_told};
+use eval_rules::{is_idle, note_all};
 use eval_state::Scene;
 use hwdb_lookup::Lookup;
 use rule_types::{Act, Comparison, PlainMatch, Rule};
@@ -91,7 +94,7 @@ fn tell_keys<L: Lookup>(
     scene: &mut Scene<'_>,
     texts: &mut Vec<Bytes>,
 ) -> Result<bool, AllocError>
-    ensures scene { IfOk result (λ on. (scene.new, on) ≡ resulted (L.entries lookup.now) rule.now scene.old) }
+    ensures scene { IfOk result (λ on. (scene.new, on) ≡ before_sets (L.entries lookup.now) rule.now scene.old) }
     ensures texts { OnOk result (texts.new.items ≡ texts.old.items ++ keys_told (L.entries lookup.now) rule.now scene.old) }
     ensures event { scene.new.state.event ≡ scene.old.state.event }
 {
@@ -107,8 +110,65 @@ fn tell_keys<L: Lookup>(
     tell_results(alloc, rule.results(), scene, texts)
 }
 
-/// Tells the keys of a rule and how it ends, and answers whether its end was reached.
+/// How a rule ends in which nothing counts for the event.
+fn idle_end(goes_on: bool) -> &'static [u8]
+    ensures { result.now ≡ idle_end goes_on }
+{
+    if goes_on {
+        b"nothing in it counts for this device"
+    } else {
+        b"stops there"
+    }
+}
+
+/// Tells the keys of a rule in which nothing counts for the event, and how it ends, and passes over it.
+fn tell_idle<'a, L: Lookup>(
+    alloc: Global,
+    rule: &'a Rule,
+    lookup: &L,
+    scene: &mut Scene<'a>,
+    texts: &mut Vec<Bytes>,
+) -> Result<(), AllocError>
+    requires { is_idle rule.now scene.old.state.event ≡ true }
+    ensures scene { OnOk result ((scene.new, false) ≡ only_noted (L.entries lookup.now) rule.now scene.old) }
+    ensures texts { OnOk result (texts.new.items ≡ texts.old.items ++ idle_told (L.entries lookup.now) rule.now scene.old) }
+    ensures refused { OnErr result (scene.new.state.event ≡ scene.old.state.event) }
+{
+    let selected = scene.state.selected;
+    let finals = scene.finals;
+    let goes_on = tell_keys(alloc, rule, lookup, scene, texts)?;
+    texts.push(Bytes::copy_of(alloc, idle_end(goes_on))?)?;
+    note_all(alloc, rule, goes_on, scene)?;
+    scene.state.selected = selected;
+    scene.finals = finals;
+    Ok(())
+}
+
+/// Tells the keys of a rule in which something counts and how it ends, and answers whether its end was
+/// reached.
 fn tell_steps<'a, L: Lookup>(
+    alloc: Global,
+    rule: &'a Rule,
+    lookup: &L,
+    since: &Since<'a>,
+    scene: &mut Scene<'a>,
+    texts: &mut Vec<Bytes>,
+) -> Result<bool, AllocError>
+    ensures scene { IfOk result (λ on. (scene.new, on) ≡ steps (L.entries lookup.now) rule.now scene.old) }
+    ensures texts { OnOk result (texts.new.items ≡ texts.old.items ++ steps_told (L.entries lookup.now) since.now rule.now scene.old) }
+    ensures refused { OnErr result (scene.new.state.event ≡ scene.old.state.event) }
+{
+    if !tell_keys(alloc, rule, lookup, scene, texts)? {
+        texts.push(Bytes::copy_of(alloc, b"stops there")?)?;
+        return Ok(false);
+    }
+    texts.push(end_told(alloc, rule, since, scene)?)?;
+    Ok(true)
+}
+
+/// Tells a rule, and answers whether its end was reached.
+#[tactic(auto, using(crate::proofs::Ending::idle_comes, crate::proofs::Ending::steps_come, crate::proofs::Ending::idle_course, crate::proofs::Ending::steps_course))]
+fn tell_rule<'a, L: Lookup>(
     alloc: Global,
     rule: &'a Rule,
     lookup: &L,
@@ -120,12 +180,11 @@ fn tell_steps<'a, L: Lookup>(
     ensures texts { OnOk result (texts.new.items ≡ texts.old.items ++ course (L.entries lookup.now) since.now rule.now scene.old) }
     ensures refused { OnErr result (scene.new.state.event ≡ scene.old.state.event) }
 {
-    if !tell_keys(alloc, rule, lookup, scene, texts)? {
-        texts.push(Bytes::copy_of(alloc, b"stops there")?)?;
+    if is_idle(rule, scene.state.event.event()) {
+        tell_idle(alloc, rule, lookup, scene, texts)?;
         return Ok(false);
     }
-    texts.push(end_told(alloc, rule, since, scene)?)?;
-    Ok(true)
+    tell_steps(alloc, rule, lookup, since, scene, texts)
 }
 
 /// Evaluates a rule as `apply` does, and tells its course: a text for each key that was reached, with what it met, and one
@@ -134,7 +193,8 @@ fn tell_steps<'a, L: Lookup>(
 /// A match of the event and one of the result is told with whether it holds and what it looked at; a match of one device
 /// with what it met at each device of the chain, and behind all of these which device meets them all, or how many each
 /// device meets; what acts with whether the rule goes on, what was asked, and what was set. Nothing is told behind a key
-/// that stops the rule but `stops there`. `since` says since which rule each key is final.
+/// that stops the rule but `stops there`; where no key stops a rule that is passed over, since nothing in it counts for the
+/// event, its end is `nothing in it counts for this device`. `since` says since which rule each key is final.
 ///
 /// The error comes where memory is refused; nothing is then left of the scene but its event.
 pub fn tell_course<'a, L: Lookup>(
@@ -149,7 +209,7 @@ pub fn tell_course<'a, L: Lookup>(
     ensures refused { OnErr result (scene.new ≡ blank scene.old.state.event) }
 {
     let mut texts = Vec::new(alloc);
-    match tell_steps(alloc, rule, lookup, since, scene, &mut texts) {
+    match tell_rule(alloc, rule, lookup, since, scene, &mut texts) {
         Ok(reached) => Ok(Course { texts, reached }),
         Err(refused) => {
             scene.clear(alloc);

@@ -2,31 +2,34 @@
 ghost use Rattle.std.specs.Prelude.{◌≡◌, ◌++◌, OnOk, map, option_map};
 ghost use Rattle.eval_state.specs.Chains.{device_at, kernel_of};
 ghost use Rattle.eval_state.specs.Texts.{or_empty};
-ghost use Rattle.eval_matching.specs.Holding.{members};
-ghost use Rattle.eval_matching.specs.Subjects.{named_constant, plain_subject, tags_at, up_subject};
+ghost use Rattle.eval_matching.specs.Lent.{lent_subject};
+ghost use Rattle.eval_matching.specs.Subjects.{members_by, named_constant, plain_subject, tags_at, up_subject};
 ghost use Rattle.eval_courses.specs.Inner.{subject_of};
 ghost use Rattle.eval_courses.specs.Looks.{looked, members_told, value_told};
 ghost use Rattle.eval_courses.specs.Upward.{is_absent};
 
 use eval_effects::push_shown;
-use eval_matching::{attribute_at, driver_at, is_known_constant, subsystem_at};
+use eval_matching::{Attribute, attribute_at, driver_at, is_known_constant, subsystem_at};
 use eval_state::State;
 use rule_types::{PlainKey, UpKey};
 use std::alloc::{AllocError, Global};
+use text_bytes::Profile;
 
 /// What a match looks at.
 #[derive(Drop)]
 pub(crate) enum Subject<'s, 'a> {
     /// One text.
     One(&'s [u8]),
-    /// An attribute, which may be absent.
-    Attribute(Option<&'s [u8]>),
+    /// The subsystem of the event device, by whose word it is compared.
+    Subsystem(Profile, &'s [u8]),
+    /// An attribute, which may be absent or not read.
+    Attribute(Attribute<'a>),
     /// A constant, which may be absent.
     Constant(Option<&'s [u8]>),
-    /// Texts as rules left them.
-    Members(&'s [Vec<u8>]),
-    /// Texts as the event gave them.
-    Given(&'a [&'a [u8]]),
+    /// Texts as rules left them, by whose word they are compared.
+    Members(Profile, &'s [Vec<u8>]),
+    /// Texts as the event gave them, by whose word they are compared.
+    Given(Profile, &'a [&'a [u8]]),
     /// A constant that there is not.
     Unknown,
     /// What is not read.
@@ -54,6 +57,13 @@ fn assigned_name<'s>(state: &'s State<'_>) -> &'s [u8]
     }
 }
 
+/// By whose word rules are evaluated over the event.
+fn profile_of(state: &State<'_>) -> Profile
+    ensures { result ≡ state.now.event.profile }
+{
+    state.event.event().profile()
+}
+
 /// What a match of the event looks at.
 pub(crate) fn plain_subject<'s, 'a>(key: &PlainKey, state: &'s State<'a>) -> Subject<'s, 'a>
     ensures { subject_of result ≡ plain_subject key.now state.now }
@@ -62,11 +72,11 @@ pub(crate) fn plain_subject<'s, 'a>(key: &PlainKey, state: &'s State<'a>) -> Sub
         PlainKey::Action => Subject::One(state.event.event().action()),
         PlainKey::Devpath => Subject::One(state.event.device().path()),
         PlainKey::Kernel => Subject::One(state.event.kernel()),
-        PlainKey::Subsystem => Subject::One(subsystem_at(state, 0)),
+        PlainKey::Subsystem => Subject::Subsystem(profile_of(state), subsystem_at(state, 0)),
         PlainKey::Driver => Subject::One(driver_at(state, 0)),
         PlainKey::Name => Subject::One(assigned_name(state)),
-        PlainKey::Symlink => Subject::Members(state.links.as_slice()),
-        PlainKey::Tag => Subject::Members(state.tags.as_slice()),
+        PlainKey::Symlink => Subject::Members(profile_of(state), state.links.as_slice()),
+        PlainKey::Tag => Subject::Members(profile_of(state), state.tags.as_slice()),
         PlainKey::Attr(name) => Subject::Attribute(attribute_at(state, 0, name.as_slice())),
         PlainKey::Sysctl(_) => Subject::Unread,
         PlainKey::Env(name) => Subject::One(state.property(name.as_slice())),
@@ -76,14 +86,14 @@ pub(crate) fn plain_subject<'s, 'a>(key: &PlainKey, state: &'s State<'a>) -> Sub
 
 /// The tags of the device at a place.
 fn tags_at<'s, 'a>(state: &'s State<'a>, place: usize) -> Subject<'s, 'a>
-    ensures { subject_of result ≡ members (tags_at state.now place) }
+    ensures { subject_of result ≡ members_by state.now.event.profile (tags_at state.now place) }
 {
     if place == 0 {
-        return Subject::Members(state.tags.as_slice());
+        return Subject::Members(profile_of(state), state.tags.as_slice());
     }
     match state.event.device_at(place) {
-        Some(device) => Subject::Given(device.tags().as_slice()),
-        None => Subject::Given(&[]),
+        Some(device) => Subject::Given(profile_of(state), device.tags().as_slice()),
+        None => Subject::Given(profile_of(state), &[]),
     }
 }
 
@@ -107,12 +117,22 @@ pub(crate) fn up_subject<'s, 'a>(key: &UpKey, state: &'s State<'a>, place: usize
     }
 }
 
+/// Whether an attribute is absent.
+fn has_none(attribute: &Attribute<'_>) -> bool
+    ensures { result ≡ is_absent (lent_subject attribute.now) }
+{
+    match attribute {
+        Attribute::Manual(value) | Attribute::Udev(value) => value.is_none(),
+        Attribute::NotRead => false,
+    }
+}
+
 /// Whether it is an attribute that is absent.
 pub(crate) fn is_absent(subject: &Subject<'_, '_>) -> bool
     ensures { result ≡ is_absent (subject_of subject.now) }
 {
     match subject {
-        Subject::Attribute(value) => value.is_none(),
+        Subject::Attribute(value) => has_none(value),
         _ => false,
     }
 }
@@ -157,7 +177,22 @@ fn push_given(alloc: Global, text: &mut Vec<u8>, members: &[&[u8]]) -> Result<()
     Ok(())
 }
 
+/// Puts an attribute behind a text.
+fn push_attribute(
+    alloc: Global,
+    text: &mut Vec<u8>,
+    attribute: &Attribute<'_>,
+) -> Result<(), AllocError>
+    ensures { OnOk result (text.new.items ≡ text.old.items ++ looked (lent_subject attribute.now)) }
+{
+    match attribute {
+        Attribute::Manual(value) | Attribute::Udev(value) => push_value(alloc, text, *value),
+        Attribute::NotRead => text.extend_from_slice(b"not read"),
+    }
+}
+
 /// Puts what a match looked at behind a text.
+#[tactic(auto, using(crate::proofs::Looking::looked_subsystem, crate::proofs::Looking::looked_members))]
 pub(crate) fn push_looked(
     alloc: Global,
     text: &mut Vec<u8>,
@@ -167,10 +202,11 @@ pub(crate) fn push_looked(
 {
     match subject {
         Subject::One(one) => push_shown(alloc, text, one),
-        Subject::Attribute(value) => push_value(alloc, text, *value),
+        Subject::Subsystem(_, subsystem) => push_shown(alloc, text, subsystem),
+        Subject::Attribute(attribute) => push_attribute(alloc, text, attribute),
         Subject::Constant(value) => push_value(alloc, text, *value),
-        Subject::Members(members) => push_members(alloc, text, members),
-        Subject::Given(members) => push_given(alloc, text, members),
+        Subject::Members(_, members) => push_members(alloc, text, members),
+        Subject::Given(_, members) => push_given(alloc, text, members),
         Subject::Unknown => text.extend_from_slice(b"unknown"),
         Subject::Unread => text.extend_from_slice(b"not read"),
     }

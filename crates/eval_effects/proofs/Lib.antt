@@ -2,3 +2,4 @@ pub mod Tables
 pub mod Firsts
 pub mod Following
 pub mod Noted
+pub mod Tags

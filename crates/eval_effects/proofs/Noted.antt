@@ -1,17 +1,31 @@
 -- The note that is left stands behind those that there were.
-use Rattle.std.proofs.Common.{◌≡◌, cond, List, [], ◌∷◌, ◌++◌, length, slice_get, Some, None, option_map, refl, ap, ◌∙◌}
+use Rattle.std.proofs.Common.{◌≡◌, true, false, cond, List, [], ◌∷◌, ◌++◌, length, slice_get, Option, Some, None, option_map, refl, ap, ◌∙◌}
+use Rattle.text_bytes.specs.declared.profile.Profile.{Profile}
+use Rattle.text_bytes.specs.declared.profile.Profile.TheVariants.{Manual, Udev}
+use Rattle.text_tables.specs.Texts.{Text}
+use Rattle.rule_templates.specs.Template.{Parts as Template}
+use Rattle.rule_types.specs.Rules.{Rule}
 use Rattle.rule_types.specs.Written.{attribute_of_target, key_of_target}
+use Rattle.rule_types.specs.declared.roles.AssignOperator.{AssignOperator}
+use Rattle.rule_types.specs.declared.roles.AssignOperator.TheVariants.{Assign, AssignFinal}
+use Rattle.rule_types.specs.declared.roles.Target.{Target}
+use Rattle.rule_types.specs.declared.roles.Target.TheVariants as target
 use Rattle.rule_types.specs.declared.part.Change.TheVariants as change
+use Rattle.eval_rendering.specs.declared.rendered.Rendered.{Rendered}
+use Rattle.eval_rendering.specs.declared.rendered.Rendered.TheVariants as rendered
 use Rattle.eval_state.specs.Notes.{note_about, word_of_key}
-use Rattle.eval_state.specs.Scenes.{noted}
-use Rattle.eval_state.specs.declared.note_kind.NoteKind.TheVariants.{TextTooLong, NameIgnored}
+use Rattle.eval_state.specs.Scenes.{noted, noted_key}
+use Rattle.eval_state.specs.declared.finals.FinalKey.{FinalKey}
+use Rattle.eval_state.specs.declared.note_kind.NoteKind.{NoteKind}
+use Rattle.eval_state.specs.declared.note_kind.NoteKind.TheVariants.{TextTooLong, NameIgnored, NoDeviceNumber}
 use Rattle.eval_state.specs.declared.notes.Note.{Note}
+use Rattle.eval_state.specs.declared.scene.Scene.{Scene}
 use Rattle.eval_assignments.specs.Assigning.{assigned}
 use Rattle.eval_assignments.specs.Escapes.{escape_of}
-use Rattle.eval_assignments.specs.Finality.{final_target, finally}
-use Rattle.eval_assignments.specs.Steps.{set_step, step_by, text_set}
+use Rattle.eval_assignments.specs.Finality.{final_target, finally, is_settled}
+use Rattle.eval_assignments.specs.Steps.{emptied, finally_too_long, is_ignored, set_step, step_by, text_rendered, text_set, text_step}
 use Rattle.eval_effects.specs.Effects.{note_left}
-use Rattle.eval_effects.specs.Laws.{TellsIgnored, TellsNone, TellsTooLong}
+use Rattle.eval_effects.specs.Laws.{TellsIgnored, TellsNone, TellsPassedOver, TellsTooLong, is_passed_over, rendered_of}
 
 none_behind : (notes : List Note) → slice_get notes (length notes) ≡ None
 none_behind [] = refl
@@ -24,17 +38,93 @@ one_behind (note ∷ notes) last = one_behind notes last
 pub tells_none : TellsNone
 tells_none s t same = ap (λ notes. option_map (λ (note : Note). note.kind) (slice_get notes (length s.notes))) same ∙ ap (option_map (λ (note : Note). note.kind)) (none_behind s.notes)
 
+-- a note that stands behind those that there were
+told : (kind : NoteKind) (word : Text) (r : Rule) (s t : Scene) → t.notes ≡ s.notes ++ note_about r kind word ∷ [] → note_left (length s.notes) t ≡ Some kind
+told kind word r s t e =
+    ap (λ notes. option_map (λ (note : Note). note.kind) (slice_get notes (length s.notes))) e
+    ∙ ap (option_map (λ (note : Note). note.kind)) (one_behind s.notes (note_about r kind word))
+
+same_finally : (o : AssignOperator) (k : Option FinalKey) (s : Scene) → (finally o k s).notes ≡ s.notes
+same_finally AssignFinal None s = refl
+same_finally AssignFinal (Some k) s = refl
+same_finally o k s = refl
+
+same_too_long : (profile : Profile) (o : AssignOperator) (about : Target) (s : Scene) → (finally_too_long profile o about s).notes ≡ s.notes
+same_too_long Manual o about s = refl
+same_too_long Udev o about s = same_finally o (final_target about) s
+
+same_emptied : (o : AssignOperator) (about : Target) (s : Scene) → (emptied o about s).notes ≡ s.notes
+same_emptied Assign target.Symlink s = refl
+same_emptied AssignFinal target.Symlink s = refl
+same_emptied o about s = refl
+
+module _ (r : Rule) (o : AssignOperator) (about : Target) (template : Template) where
+  -- the scene that a text is assigned over
+  before : Profile → Scene → Scene
+  before Manual s = s
+  before Udev s = emptied o about s
+
+  same_before : (profile : Profile) (s : Scene) → (before profile s).notes ≡ s.notes
+  unfolding before
+  same_before Manual s = refl
+  same_before Udev s = same_emptied o about s
+
+  -- an assignment of a text that is not passed over
+  step_over : (profile : Profile) (s : Scene) → is_passed_over profile about s ≡ false
+      → text_step profile r o about template s ≡ text_set profile r (escape_of r.sets) o about template.written (rendered_of profile r o about template s) (before profile s)
+  unfolding before
+  step_over Manual s free = refl
+  step_over Udev s free =
+      ap (λ b. cond b (noted_key r NoDeviceNumber (key_of_target about) (attribute_of_target about) s) (text_rendered Udev r o about template (emptied o about s))) free
+
+  too_long_notes : (profile : Profile) (s t : Scene) → t ≡ text_set profile r (escape_of r.sets) o about template.written rendered.TooLong (before profile s)
+      → t.notes ≡ s.notes ++ note_about r TextTooLong (word_of_key (key_of_target about) (attribute_of_target about)) ∷ []
+  too_long_notes profile s t e =
+      ap (λ (u : Scene). u.notes) e
+      ∙ same_too_long profile o about (noted r TextTooLong (word_of_key (key_of_target about) (attribute_of_target about)) (before profile s))
+      ∙ ap (λ notes. notes ++ note_about r TextTooLong (word_of_key (key_of_target about) (attribute_of_target about)) ∷ []) (same_before profile s)
+
+  passed_over : (profile : Profile) (s : Scene) → is_passed_over profile about s ≡ true
+      → text_step profile r o about template s ≡ noted_key r NoDeviceNumber (key_of_target about) (attribute_of_target about) s
+  passed_over Manual s over = cc
+  passed_over Udev s over =
+      ap (λ b. cond b (noted_key r NoDeviceNumber (key_of_target about) (attribute_of_target about) s) (text_rendered Udev r o about template (emptied o about s))) over
+
+  step_free : (s : Scene) → is_settled (final_target about) s.finals ≡ false
+      → set_step r s (record { operator = o; change = change.Text about template }) ≡ text_step s.state.event.profile r o about template s
+  unfolding set_step
+  step_free s free = ap (λ b. cond b s (step_by s.state.event.profile r o (change.Text about template) s)) free
+
+  ignored_same : (profile : Profile) (s : Scene) → is_ignored profile about (before profile s) ≡ is_ignored profile about s
+  unfolding before
+  ignored_same Manual s = refl
+  ignored_same Udev s = by o about
+    where
+      by : (o : AssignOperator) (about : Target) → is_ignored Udev about (emptied o about s) ≡ is_ignored Udev about s
+      by Assign target.Symlink = refl
+      by AssignFinal target.Symlink = refl
+      by o about = refl
+
+pub tells_passed_over : TellsPassedOver
+tells_passed_over r o about template s free over =
+    told NoDeviceNumber (word_of_key (key_of_target about) (attribute_of_target about)) r s (set_step r s (record { operator = o; change = change.Text about template }))
+    (ap (λ (u : Scene). u.notes) (step_free r o about template s free ∙ passed_over r o about template s.state.event.profile s over))
+
 pub tells_too_long : TellsTooLong
-unfolding set_step
-tells_too_long r o about template s free long =
-    ap (note_left (length s.notes)) (ap (λ b. cond b s (step_by r o (change.Text about template) s)) free ∙ ap (λ given. text_set r (escape_of r.sets) o about given s) long)
-    ∙ ap (option_map (λ (note : Note). note.kind)) (one_behind s.notes (note_about r TextTooLong (word_of_key (key_of_target about) (attribute_of_target about))))
+tells_too_long r o about template s free over long =
+    told TextTooLong (word_of_key (key_of_target about) (attribute_of_target about)) r s (set_step r s (record { operator = o; change = change.Text about template }))
+    (too_long_notes r o about template s.state.event.profile s (set_step r s (record { operator = o; change = change.Text about template }))
+    (step_free r o about template s free ∙ step_over r o about template s.state.event.profile s over
+    ∙ ap (λ (given : Rendered). text_set s.state.event.profile r (escape_of r.sets) o about template.written given (before r o about template s.state.event.profile s)) long))
 
 pub tells_ignored : TellsIgnored
-unfolding set_step
-tells_ignored r o about template s t free made ignored =
-    ap (note_left (length s.notes))
-    (ap (λ b. cond b s (step_by r o (change.Text about template) s)) free
-    ∙ ap (λ given. text_set r (escape_of r.sets) o about given s) made
-    ∙ ap (λ b. cond b (noted r NameIgnored t s) (finally o (final_target about) (assigned r (escape_of r.sets) o about t s))) ignored)
-    ∙ ap (option_map (λ (note : Note). note.kind)) (one_behind s.notes (note_about r NameIgnored t))
+tells_ignored r o about template s t free over made ignored =
+    let profile : Profile = s.state.event.profile in
+    let u : Scene = before r o about template profile s in
+    told NameIgnored t r s (set_step r s (record { operator = o; change = change.Text about template }))
+    (ap (λ (u : Scene). u.notes)
+    (step_free r o about template s free ∙ step_over r o about template profile s over
+    ∙ ap (λ (given : Rendered). text_set profile r (escape_of r.sets) o about template.written given u) made
+    ∙ ap (λ b. cond b (noted r NameIgnored t u) (finally o (final_target about) (assigned profile r (escape_of r.sets) o about template.written t u)))
+    (ignored_same r o about template profile s ∙ ignored))
+    ∙ ap (λ notes. notes ++ note_about r NameIgnored t ∷ []) (same_before r o about template profile s))

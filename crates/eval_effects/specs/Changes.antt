@@ -1,25 +1,27 @@
 -- What changed between two scenes, as texts: items that stand only since then or no longer, and RUNs.
-use Rattle.std.specs.Prelude.{ℕ, ◌||◌, if◌then◌else◌, Bool, List, [], ◌∷◌, ◌++◌, is_some, length, codes, flat_map}
-use Rattle.std.specs.List.{list_any}
+use Rattle.std.specs.Prelude.{ℕ, zero, suc, ◌||◌, ◌&&◌, if◌then◌else◌, Bool, List, [], ◌∷◌, ◌++◌, is_some, length, drop, map, codes, flat_map}
+use Rattle.std.specs.List.{list_any, prefix_len, zip}
 use Rattle.text_bytes.specs.Names.{equals, space}
 use Rattle.text_bytes.specs.Texts.{is_empty}
-use Rattle.text_tables.specs.Texts.{Text}
+use Rattle.text_tables.specs.Texts.{Text, same_text}
 use Rattle.text_tables.specs.Pairs.{Pair, value_of}
 use Rattle.rule_types.specs.Names.{run_name}
 use Rattle.eval_state.specs.Runs.{RunValue, run_kind, same_run}
+use Rattle.eval_state.specs.declared.made_runs.MadeRun.{MadeRun}
 use Rattle.eval_state.specs.declared.scene.Scene.{Scene}
 use Rattle.eval_effects.specs.Items.{items}
 use Rattle.eval_effects.specs.Items.{stands}
 use Rattle.eval_effects.specs.Shown.{shown}
 
--- what is compared of a scene: its items, its RUNs, and how many notes it has
+-- what is compared of a scene: its items, its RUNs, those that udev made at their rules, and how many notes it has
 pub record Standing : Type 0 where
   pub items : List Pair
   pub runs : List RunValue
+  pub made : List MadeRun
   pub notes : ℕ
 
 abbrev pub standing : Scene → Standing
-standing s = record { items = items s; runs = s.runs; notes = length s.notes }
+standing s = record { items = items s; runs = s.runs; made = s.made; notes = length s.notes }
 
 -- what becomes of an item that takes a value: without one it is added
 abbrev pub value_part : Text → Text
@@ -71,6 +73,28 @@ removed_runs was now =
 abbrev pub run_changes : List RunValue → List RunValue → List Text
 run_changes was now = flat_map (added_run was) now ++ removed_runs was now
 
+-- whether two RUNs that udev made are the same: of one type, as written and as rendered
+abbrev pub same_made : MadeRun → MadeRun → Bool
+same_made a b = same_run a.run b.run && same_text a.text b.text
+
+-- how many RUNs that udev made stayed: as many as both lists begin with
+abbrev pub stayed : List MadeRun → List MadeRun → ℕ
+stayed was now = prefix_len (λ pair. same_made pair.0 pair.1) (zip was now)
+
+-- a RUN that udev made, and what became of it
+abbrev pub made_run : Text → MadeRun → Text
+made_run became made = run_text made.run ++ became
+
+-- the RUNs that are no longer there, one by one, unless none stayed
+abbrev pub removed_made : ℕ → List MadeRun → List Text
+removed_made n [] = []
+removed_made zero (made ∷ was) = codes "all runs removed" ∷ []
+removed_made (suc n) (made ∷ was) = map (made_run (codes " removed")) (drop n was)
+
+-- what changed of RUNs that udev made, by those before and those now: one may be there several times
+abbrev pub made_changes : List MadeRun → List MadeRun → List Text
+made_changes was now = map (made_run (codes " added")) (drop (stayed was now) now) ++ removed_made (stayed was now) was
+
 -- all that changed
 abbrev pub changes : Standing → Scene → List Text
-changes was s = item_changes was.items (items s) ++ run_changes was.runs s.runs
+changes was s = item_changes was.items (items s) ++ run_changes was.runs s.runs ++ made_changes was.made s.made

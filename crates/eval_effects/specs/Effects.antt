@@ -8,13 +8,14 @@ use Rattle.eval_state.specs.Finals.{is_final}
 use Rattle.eval_state.specs.declared.finals.FinalKey.{FinalKey}
 use Rattle.eval_state.specs.declared.finals.Finals.{Finals}
 use Rattle.eval_state.specs.declared.note_kind.NoteKind.{NoteKind}
-use Rattle.eval_state.specs.declared.note_kind.NoteKind.TheVariants.{TextTooLong, NameIgnored}
+use Rattle.eval_state.specs.declared.note_kind.NoteKind.TheVariants.{TextTooLong, NameIgnored, NoDeviceNumber, NoValue, LinkIgnored, ModeIgnored, TagIgnored, AttributeNotFound}
+use Rattle.eval_state.specs.declared.notes.Note.{Note}
 use Rattle.eval_state.specs.declared.scene.Scene.{Scene}
 use Rattle.eval_assignments.specs.Finality.{final_key}
 use Rattle.eval_assignments.specs.Steps.{set_step}
 use Rattle.eval_effects.specs.Changes.{Standing, changes, standing}
 use Rattle.eval_effects.specs.Named.{change_key, final_name, rule_place}
-use Rattle.eval_effects.specs.Shown.{joined}
+use Rattle.eval_effects.specs.Shown.{joined, shown}
 use Rattle.eval_effects.specs.Since.{Since, since_of}
 
 -- a key, if there is one and it no longer changes
@@ -35,21 +36,40 @@ abbrev pub changed_text : Change → List Text → Text
 changed_text c [] = change_key c ++ codes " changes nothing"
 changed_text c (text ∷ more) = joined (text ∷ more)
 
--- an assignment that was made or left a note, by what stood before it and the scene behind it
-abbrev pub made_text : Option NoteKind → Change → Standing → Scene → Text
-made_text (Some TextTooLong) c was s = change_key c ++ codes " left out, too long"
-made_text (Some NameIgnored) c was s = codes "NAME ignored, no network device"
-made_text _ c was s = changed_text c (changes was s)
+-- the note behind so many, if there is one
+abbrev pub note_behind : ℕ → Scene → Option Note
+note_behind count s = slice_get s.notes count
+
+-- what a note of an assignment is told as
+abbrev pub said_of : Change → NoteKind → Text → List Text
+said_of c TextTooLong word = (change_key c ++ codes " left out, too long") ∷ []
+said_of c NameIgnored word = codes "NAME ignored, no network device" ∷ []
+said_of c NoDeviceNumber word = (change_key c ++ codes " ignored, no device number") ∷ []
+said_of c NoValue word = (change_key c ++ codes " ignored, no value") ∷ []
+said_of c LinkIgnored word = (shown word ++ codes " ignored, no link") ∷ []
+said_of c ModeIgnored word = (change_key c ++ codes " ignored, no mode") ∷ []
+said_of c TagIgnored word = (change_key c ++ codes " ignored, no tag") ∷ []
+said_of c AttributeNotFound word = (change_key c ++ codes " ignored, no such attribute") ∷ []
+said_of c kind word = []
+
+-- what the note of an assignment is told as, if it left one
+abbrev pub said_left : Change → Option Note → List Text
+said_left c None = []
+said_left c (Some note) = said_of c note.kind note.word
+
+-- an assignment that was made or left a note, by what stood before it and the scene behind it: what changed, and what was left out
+abbrev pub made_text : Change → Standing → Scene → Text
+made_text c was s = changed_text c (changes was s ++ said_left c (note_behind was.notes s))
 
 -- an assignment, by its key where that was final, what stood before it, and the scene behind it; a key that no earlier rule made
 -- final is final since the rule itself
 abbrev pub effect_by : Since → Rule → Change → Option FinalKey → Standing → Scene → Text
 effect_by since r c (Some key) was s = final_text key (unwrap_or (since_of since key) r)
-effect_by since r c None was s = made_text (note_left was.notes s) c was s
+effect_by since r c None was s = made_text c was s
 
 -- what an assignment of a rule does over a scene
 unfoldable pub effect : Since → Rule → Scene → Assignment → Text
-effect since r s a = effect_by since r a.change (settled_key s.finals (final_key a.change)) (standing s) (set_step r s a)
+effect since r s a = effect_by since r a.change (settled_key s.finals (final_key s.state.event.profile a.change)) (standing s) (set_step r s a)
 
 -- what assignments do, each over the scene that the one before it left
 abbrev pub effects : Since → Rule → Scene → List Assignment → List Text

@@ -5,6 +5,7 @@ use Rattle.text_bytes.specs.Names.{space}
 use Rattle.text_tables.specs.Texts.{Text, same_text}
 use Rattle.text_tables.specs.Pairs.{Pair, value_of}
 use Rattle.eval_state.specs.declared.scene.Scene.{Scene}
+use Rattle.eval_assignments.specs.Tags.{current_tags}
 
 -- the name of an item that is one of several of its word: the word, and which of them it is
 abbrev pub item_name : Text → Text → Text
@@ -60,7 +61,7 @@ items s =
     node_items s
     ++ pair_items (codes "label") s.labels
     ++ text_items (codes "link") s.state.links
-    ++ text_items (codes "tag") s.state.tags
+    ++ text_items (codes "tag") (current_tags s)
     ++ pair_items (codes "env") s.state.env
     ++ pair_items (codes "attr") s.attrs
     ++ pair_items (codes "sysctl") s.sysctls

@@ -1,25 +1,35 @@
 -- Laws: what the note that an assignment leaves tells of it.
-use Rattle.std.specs.Prelude.{◌≡◌, true, false, length, Option, Some, None}
+use Rattle.std.specs.Prelude.{◌≡◌, Bool, true, false, length, Option, Some, None}
+use Rattle.text_bytes.specs.declared.profile.Profile.{Profile}
+use Rattle.text_bytes.specs.declared.profile.Profile.TheVariants.{Manual, Udev}
 use Rattle.text_tables.specs.Texts.{Text}
 use Rattle.rule_templates.specs.Template.{Parts as Template}
 use Rattle.rule_types.specs.declared.roles.AssignOperator.{AssignOperator}
 use Rattle.rule_types.specs.declared.roles.Target.{Target}
 use Rattle.rule_types.specs.declared.part.Change.TheVariants as change
 use Rattle.rule_types.specs.Rules.{Rule}
+use Rattle.eval_rendering.specs.Bounds.{within}
 use Rattle.eval_rendering.specs.Rendering.{render}
 use Rattle.eval_rendering.specs.declared.rendered.Rendered.{Rendered}
 use Rattle.eval_rendering.specs.declared.rendered.Rendered.TheVariants as rendered
 use Rattle.eval_state.specs.declared.note_kind.NoteKind.{NoteKind}
-use Rattle.eval_state.specs.declared.note_kind.NoteKind.TheVariants.{TextTooLong, NameIgnored}
+use Rattle.eval_state.specs.declared.note_kind.NoteKind.TheVariants.{TextTooLong, NameIgnored, NoDeviceNumber}
 use Rattle.eval_state.specs.declared.scene.Scene.{Scene}
+use Rattle.eval_assignments.specs.Bounds.{most_bytes_of}
 use Rattle.eval_assignments.specs.Escapes.{escape_of, mode_of}
 use Rattle.eval_assignments.specs.Finality.{final_target, is_settled}
-use Rattle.eval_assignments.specs.Steps.{is_ignored, set_step}
+use Rattle.eval_assignments.specs.Steps.{emptied, is_ignored, lacks_number, set_step}
 use Rattle.eval_effects.specs.Effects.{note_left}
 
--- what the text of an assignment is rendered to
-abbrev pub rendered_of : Rule → Target → Template → Scene → Rendered
-rendered_of r about template s = render template s.state (mode_of about (escape_of r.sets))
+-- whether an assignment of a text is passed over: by udev where the device has no number
+abbrev pub is_passed_over : Profile → Target → Scene → Bool
+is_passed_over Manual about s = false
+is_passed_over Udev about s = lacks_number about s.state.event.device.number
+
+-- what the text of an assignment is rendered to: by udev within its bound, and over the links that are left
+abbrev pub rendered_of : Profile → Rule → AssignOperator → Target → Template → Scene → Rendered
+rendered_of Manual r o about template s = render template s.state (mode_of Manual about (escape_of r.sets))
+rendered_of Udev r o about template s = within (most_bytes_of about) (render template (emptied o about s).state (mode_of Udev about (escape_of r.sets)))
 
 -- the note that an assignment of a text leaves
 abbrev pub note_of : Rule → AssignOperator → Target → Template → Scene → Option NoteKind
@@ -29,14 +39,22 @@ note_of r o about template s = note_left (length s.notes) (set_step r s (record 
 abbrev pub TellsNone : Type 0
 TellsNone = (s t : Scene) → t.notes ≡ s.notes → note_left (length s.notes) t ≡ None
 
--- a text that is too long is told as that, unless its key is final
+-- an assignment that is passed over is told as that, unless its key is final
+abbrev pub TellsPassedOver : Type 0
+TellsPassedOver =
+    (r : Rule) (o : AssignOperator) (about : Target) (template : Template) (s : Scene) → is_settled (final_target about) s.finals ≡ false → is_passed_over s.state.event.profile about s ≡ true
+    → note_of r o about template s ≡ Some NoDeviceNumber
+
+-- a text that is too long is told as that, unless its key is final or it is passed over
 abbrev pub TellsTooLong : Type 0
 TellsTooLong =
-    (r : Rule) (o : AssignOperator) (about : Target) (template : Template) (s : Scene) → is_settled (final_target about) s.finals ≡ false → rendered_of r about template s ≡ rendered.TooLong
+    (r : Rule) (o : AssignOperator) (about : Target) (template : Template) (s : Scene) → is_settled (final_target about) s.finals ≡ false → is_passed_over s.state.event.profile about s ≡ false
+    → rendered_of s.state.event.profile r o about template s ≡ rendered.TooLong
     → note_of r o about template s ≡ Some TextTooLong
 
 -- a NAME that is ignored is told as that, unless its key is final or its text too long
 abbrev pub TellsIgnored : Type 0
 TellsIgnored =
-    (r : Rule) (o : AssignOperator) (about : Target) (template : Template) (s : Scene) (t : Text) → is_settled (final_target about) s.finals ≡ false → rendered_of r about template s ≡ rendered.Text t → is_ignored about s ≡ true
+    (r : Rule) (o : AssignOperator) (about : Target) (template : Template) (s : Scene) (t : Text) → is_settled (final_target about) s.finals ≡ false → is_passed_over s.state.event.profile about s ≡ false
+    → rendered_of s.state.event.profile r o about template s ≡ rendered.Text t → is_ignored s.state.event.profile about s ≡ true
     → note_of r o about template s ≡ Some NameIgnored

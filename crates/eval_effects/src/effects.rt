@@ -1,20 +1,22 @@
 //! The assignments of a rule, each told as it is made.
-ghost use Rattle.std.specs.Prelude.{◌≡◌, ◌++◌, IfOk, OnOk, OnErr, fold};
+ghost use Rattle.std.specs.Prelude.{◌≡◌, ◌++◌, ◌∷◌, [], codes, IfOk, OnOk, OnErr, fold, option_map};
 ghost use Rattle.eval_state.specs.Scenes.{blank};
 ghost use Rattle.eval_assignments.specs.Steps.{set_step};
 ghost use Rattle.eval_effects.specs.Changes.{changes};
 ghost use Rattle.eval_effects.specs.Named.{change_key};
-ghost use Rattle.eval_effects.specs.Effects.{changed_text, effect, effects, ending, ending_of, final_text, made_text, note_left, settled_key};
+ghost use Rattle.eval_effects.specs.Effects.{changed_text, effect, effects, ending, ending_of, final_text, made_text, note_behind, said_left, said_of, settled_key};
+ghost use Rattle.eval_effects.specs.Shown.{shown};
 
 use crate::changes::push_item_changes;
 use crate::items::items_of;
+use crate::made::push_made_changes;
 use crate::named::{final_name, push_change_key, push_rule};
 use crate::runs::push_run_changes;
-use crate::shown::push_joined;
+use crate::shown::{push_joined, push_shown};
 use crate::since::Since;
 use crate::standing::Standing;
 use eval_assignments::{final_key, set_one};
-use eval_state::{FinalKey, Finals, NoteKind, Scene};
+use eval_state::{FinalKey, Finals, Note, NoteKind, Scene};
 use rule_types::{Assignment, Change, Rule};
 use std::alloc::{AllocError, Global};
 use text_bytes::Bytes;
@@ -39,11 +41,11 @@ fn final_text(alloc: Global, key: FinalKey, rule: &Rule) -> Result<Bytes, AllocE
     Ok(Bytes::new(text))
 }
 
-/// What the note behind so many is, if there is one.
-fn note_left(count: usize, scene: &Scene<'_>) -> Option<NoteKind>
-    ensures { result ≡ note_left count scene.now }
+/// The note behind so many, if there is one.
+fn note_behind<'s>(count: usize, scene: &'s Scene<'_>) -> Option<&'s Note>
+    ensures { option_map (λ note. note.now) result ≡ note_behind count scene.now }
 {
-    scene.notes.as_slice().get(count).map(|note| note.kind)
+    scene.notes.as_slice().get(count)
 }
 
 /// All that changed since so much stood.
@@ -53,11 +55,12 @@ fn changes(alloc: Global, was: &Standing<'_>, scene: &Scene<'_>) -> Result<Vec<B
     let mut told = Vec::new(alloc);
     push_item_changes(alloc, &mut told, was.items(), &items_of(alloc, scene)?)?;
     push_run_changes(alloc, &mut told, was.runs(), scene.runs.as_slice())?;
+    push_made_changes(alloc, &mut told, was.made(), scene.made.as_slice())?;
     Ok(told)
 }
 
 /// The key of an assignment, and what is said of it.
-fn said_of(alloc: Global, change: &Change, said: &[u8]) -> Result<Bytes, AllocError>
+fn key_with(alloc: Global, change: &Change, said: &[u8]) -> Result<Bytes, AllocError>
     ensures { IfOk result (λ text. text ≡ change_key change.now ++ said.now) }
 {
     let mut text = Vec::new(alloc);
@@ -71,11 +74,82 @@ fn changed_text(alloc: Global, change: &Change, changes: &[Bytes]) -> Result<Byt
     ensures { IfOk result (λ text. text ≡ changed_text change.now changes.now) }
 {
     if changes.is_empty() {
-        return said_of(alloc, change, b" changes nothing");
+        return key_with(alloc, change, b" changes nothing");
     }
     let mut text = Vec::new(alloc);
     push_joined(&mut text, changes)?;
     Ok(Bytes::new(text))
+}
+
+/// A link that was refused.
+fn link_told(alloc: Global, link: &[u8]) -> Result<Bytes, AllocError>
+    ensures { IfOk result (λ text. text ≡ shown link.now ++ codes " ignored, no link") }
+{
+    let mut text = Vec::new(alloc);
+    push_shown(alloc, &mut text, link)?;
+    text.extend_from_slice(b" ignored, no link")?;
+    Ok(Bytes::new(text))
+}
+
+/// Tells the key of an assignment and what is said of it, behind other texts.
+fn push_with_key(
+    alloc: Global,
+    told: &mut Vec<Bytes>,
+    change: &Change,
+    said: &[u8],
+) -> Result<(), AllocError>
+    ensures { OnOk result (told.new.items ≡ told.old.items ++ (change_key change.now ++ said.now) ∷ []) }
+{
+    told.push(key_with(alloc, change, said)?)?;
+    Ok(())
+}
+
+/// Tells what a note of an assignment says, behind other texts.
+fn push_said(
+    alloc: Global,
+    told: &mut Vec<Bytes>,
+    change: &Change,
+    kind: NoteKind,
+    word: &[u8],
+) -> Result<(), AllocError>
+    ensures { OnOk result (told.new.items ≡ told.old.items ++ said_of change.now kind word.now) }
+{
+    match kind {
+        NoteKind::TextTooLong => push_with_key(alloc, told, change, b" left out, too long"),
+        NoteKind::NameIgnored => {
+            told.push(Bytes::copy_of(alloc, b"NAME ignored, no network device")?)?;
+            Ok(())
+        }
+        NoteKind::NoDeviceNumber => {
+            push_with_key(alloc, told, change, b" ignored, no device number")
+        }
+        NoteKind::NoValue => push_with_key(alloc, told, change, b" ignored, no value"),
+        NoteKind::LinkIgnored => {
+            told.push(link_told(alloc, word)?)?;
+            Ok(())
+        }
+        NoteKind::ModeIgnored => push_with_key(alloc, told, change, b" ignored, no mode"),
+        NoteKind::TagIgnored => push_with_key(alloc, told, change, b" ignored, no tag"),
+        NoteKind::AttributeNotFound => {
+            push_with_key(alloc, told, change, b" ignored, no such attribute")
+        }
+        _ => Ok(()),
+    }
+}
+
+/// Tells what the note of an assignment says behind other texts, if it left one.
+fn push_left(
+    alloc: Global,
+    told: &mut Vec<Bytes>,
+    change: &Change,
+    note: Option<&Note>,
+) -> Result<(), AllocError>
+    ensures { OnOk result (told.new.items ≡ told.old.items ++ said_left change.now (option_map (λ n. n.now) note.entry)) }
+{
+    match note {
+        Some(note) => push_said(alloc, told, change, note.kind, note.word.as_slice()),
+        None => Ok(()),
+    }
 }
 
 /// An assignment that was made or left a note, by what stood before it and the scene behind it.
@@ -85,13 +159,11 @@ fn made_text(
     was: &Standing<'_>,
     scene: &Scene<'_>,
 ) -> Result<Bytes, AllocError>
-    ensures { IfOk result (λ text. text ≡ made_text (note_left was.now.notes scene.now) change.now was.now scene.now) }
+    ensures { IfOk result (λ text. text ≡ made_text change.now was.now scene.now) }
 {
-    match note_left(was.notes(), scene) {
-        Some(NoteKind::TextTooLong) => said_of(alloc, change, b" left out, too long"),
-        Some(NoteKind::NameIgnored) => { Bytes::copy_of(alloc, b"NAME ignored, no network device") }
-        _ => changed_text(alloc, change, &changes(alloc, was, scene)?),
-    }
+    let mut told = changes(alloc, was, scene)?;
+    push_left(alloc, &mut told, change, note_behind(was.notes(), scene))?;
+    changed_text(alloc, change, &told)
 }
 
 /// Makes an assignment and tells what it did.
@@ -107,7 +179,8 @@ fn set_told<'a>(
     ensures text { IfOk result (λ text. text ≡ effect since.now rule.now scene.old assignment.now) }
     ensures event { scene.new.state.event ≡ scene.old.state.event }
 {
-    let settled = settled_key(scene.finals, final_key(&assignment.change));
+    let profile = scene.state.event.event().profile();
+    let settled = settled_key(scene.finals, final_key(profile, &assignment.change));
     let was = Standing::of(alloc, scene)?;
     set_one(alloc, rule, assignment, scene)?;
     match settled {
@@ -167,8 +240,8 @@ fn end_open<'a>(
 /// "assign keys".
 ///
 /// The text is `reached its end`, and behind a colon for each assignment, in the order of evaluation: that its key is
-/// final, and since which rule; that its text was too long or its NAME ignored; or what it changed of links, tags,
-/// properties and all else that stands, and of what is to be run. Since which rules keys are final is asked of `since`;
+/// final, and since which rule; or what it changed of links, tags, properties and all else that stands, and of what is to
+/// be run, and that its text was too long or was ignored. Since which rules keys are final is asked of `since`;
 /// a key that no rule there made final is so since this rule.
 ///
 /// The error comes where memory is refused; nothing is then left of the scene but its event.

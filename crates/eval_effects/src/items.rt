@@ -1,5 +1,7 @@
 //! What stands in a scene, as items.
-ghost use Rattle.std.specs.Prelude.{◌≡◌, ◌++◌, ◌∷◌, [], IfOk, OnOk};
+ghost use Rattle.std.specs.Prelude.{◌≡◌, ◌++◌, ◌∷◌, [], codes, IfOk, OnOk};
+ghost use Rattle.eval_assignments.specs.Tags.{current_tags};
+ghost use Rattle.eval_effects.specs.Inner.{tag_item};
 ghost use Rattle.eval_effects.specs.Items.{given_item, item_name, items, node_items, pair_items, persist_item, priority_item, text_items, watch_item, watch_word};
 
 use eval_state::Scene;
@@ -116,6 +118,31 @@ fn push_texts(
     Ok(())
 }
 
+/// Puts a tag behind others, unless it was taken away.
+fn push_tag(
+    alloc: Global,
+    items: &mut Vec<Item>,
+    gone: &OwnedTexts,
+    tag: &[u8],
+) -> Result<(), AllocError>
+    ensures { OnOk result (items.new.items ≡ items.old.items ++ tag_item gone.now tag.now) }
+{
+    if !gone.contains(tag) {
+        push_item(alloc, items, item_name(alloc, b"tag", tag)?, b"")?;
+    }
+    Ok(())
+}
+
+/// Puts the tags that were not taken away behind others.
+fn push_tags(alloc: Global, items: &mut Vec<Item>, scene: &Scene<'_>) -> Result<(), AllocError>
+    ensures { OnOk result (items.new.items ≡ items.old.items ++ text_items (codes "tag") (current_tags scene.now)) }
+{
+    for tag in scene.state.tags.as_slice() {
+        push_tag(alloc, items, &scene.gone, tag)?;
+    }
+    Ok(())
+}
+
 /// Puts names with their values behind others.
 fn push_pairs(
     alloc: Global,
@@ -206,7 +233,7 @@ pub fn items_of(alloc: Global, scene: &Scene<'_>) -> Result<Vec<Item>, AllocErro
     push_node(alloc, &mut found, scene)?;
     push_pairs(alloc, &mut found, b"label", &scene.labels)?;
     push_texts(alloc, &mut found, b"link", &scene.state.links)?;
-    push_texts(alloc, &mut found, b"tag", &scene.state.tags)?;
+    push_tags(alloc, &mut found, scene)?;
     push_pairs(alloc, &mut found, b"env", &scene.state.env)?;
     push_pairs(alloc, &mut found, b"attr", &scene.attrs)?;
     push_pairs(alloc, &mut found, b"sysctl", &scene.sysctls)?;

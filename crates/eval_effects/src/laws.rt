@@ -6,7 +6,7 @@ ghost use Rattle.rule_types.specs.Rules.{Rule};
 ghost use Rattle.eval_state.specs.Finals.{is_final};
 ghost use Rattle.eval_state.specs.declared.finals.FinalKey.{FinalKey};
 ghost use Rattle.eval_state.specs.declared.finals.Finals.{Finals};
-ghost use Rattle.eval_effects.specs.Laws.{TellsIgnored, TellsNone, TellsTooLong};
+ghost use Rattle.eval_effects.specs.Laws.{TellsIgnored, TellsNone, TellsPassedOver, TellsTooLong};
 ghost use Rattle.eval_effects.specs.Since.{since_of, since_over};
 
 /// A key is final since the first rule behind which it is final.
@@ -14,9 +14,11 @@ pub fn final_since_the_first_rule()
     ensures { (stages : List (Rule × Finals)) (key : FinalKey) → since_of (since_over stages) key ≡ option_map (λ stage. stage.0) (find (λ stage. is_final stage.1 key) stages) }
 {}
 
-/// The note that an assignment leaves tells that its text was too long, or its NAME ignored.
+/// The note that an assignment leaves tells that its text was too long or its NAME ignored, and of udev that the device has no
+/// number.
 pub fn notes_tell_what_is_left_out()
     ensures none { TellsNone }
+    ensures passed_over { TellsPassedOver }
     ensures too_long { TellsTooLong }
     ensures ignored { TellsIgnored }
 {}

@@ -9,6 +9,7 @@ mod changes;
 mod effects;
 mod items;
 mod laws;
+mod made;
 mod named;
 mod runs;
 mod shown;

@@ -24,7 +24,7 @@ fn any_kept(was: &[Run<'_>], now: &[Run<'_>]) -> bool
 
 /// A RUN by its type and its written text, and what became of it.
 #[tactic(auto, unfolding(crate::specs::Changes::run_text))]
-fn run_told(alloc: Global, run: &Run<'_>, became: &[u8]) -> Result<Bytes, AllocError>
+pub(crate) fn run_told(alloc: Global, run: &Run<'_>, became: &[u8]) -> Result<Bytes, AllocError>
     ensures { IfOk result (λ text. text ≡ run_text run.now ++ became.now) }
 {
     let mut text = Vec::from_slice(alloc, b"run ")?;

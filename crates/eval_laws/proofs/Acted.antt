@@ -4,10 +4,15 @@ use Rattle.std.proofs.lemmas.List.Sums.{sum_by-cons}
 use Rattle.std.specs.List.{slice_get}
 use Rattle.text_bytes.specs.Names.{slash}
 use Rattle.text_bytes.specs.Texts.{begins_with}
+use Rattle.text_bytes.specs.declared.profile.Profile.{Profile}
+use Rattle.text_bytes.specs.declared.profile.Profile.TheVariants.{Manual, Udev}
 use Rattle.text_tables.specs.Texts.{Text}
-use Rattle.text_tables.specs.Pairs.{Pair, value_of, with_values}
+use Rattle.text_tables.specs.Pairs.{Pair, value_of}
 use Rattle.text_core.specs.Choices.{choice_fits}
+use Rattle.text_core.specs.Fnmatch.{fnmatch_items}
 use Rattle.text_core.specs.declared.item.Item.{Item}
+use Rattle.text_core.specs.declared.reading.Reading.TheVariants.{Exact}
+use Rattle.rule_templates.specs.Template.{Parts as Template}
 use Rattle.hwdb_lookup.specs.declared.entry.Entry.{Entry}
 use Rattle.rule_types.specs.Names.{import_name}
 use Rattle.rule_types.specs.WrittenParts.{attribute_of_deed, key_of_deed, type_of}
@@ -20,8 +25,6 @@ use Rattle.rule_types.specs.Rules.{Rule}
 use Rattle.device_core.specs.Values.{AnswerValue, DeviceValue, EventValue}
 use Rattle.eval_laws.specs.DeviceWeights.{device_weight, devices_weight, event_weight, pair_weight, pairs_weight}
 use Rattle.eval_state.specs.Chains.{device_at}
-use Rattle.eval_rendering.specs.Rendering.{render}
-use Rattle.eval_rendering.specs.declared.rendered.Mode.TheVariants.{Plain}
 use Rattle.eval_rendering.specs.declared.rendered.Rendered.{Rendered}
 use Rattle.eval_rendering.specs.declared.rendered.Rendered.TheVariants as rendered
 use Rattle.eval_state.specs.Notes.{word_of_key}
@@ -33,13 +36,16 @@ use Rattle.eval_acts.specs.Builtins.{builtin}
 use Rattle.eval_acts.specs.LookUps.{found}
 use Rattle.eval_acts.specs.declared.builtin.Builtin.{Builtin}
 use Rattle.eval_acts.specs.declared.builtin.Builtin.TheVariants as asked_for
-use Rattle.eval_acts.specs.Acts.{act_step, imported, on_text, performed}
-use Rattle.eval_acts.specs.Imports.{builtin_run, from_parent, names_fitting, not_run, run_builtin}
-use Rattle.eval_acts.specs.Questions.{answered_or_noted, asked, tested, with_result}
+use Rattle.eval_state.specs.Named.{NamedValue, named, named_place}
+use Rattle.eval_state.specs.Properties.{property_set}
+use Rattle.eval_acts.specs.ActTexts.{import_text, most_command_bytes, most_path_bytes, names_text, program_text, test_text}
+use Rattle.eval_acts.specs.Acts.{act_step, from_parent_by, imported, on_text, parent_imported, performed, unrun}
+use Rattle.eval_acts.specs.Imports.{builtin_run, from_parent, names_fitting, not_run, run_builtin, with_found}
+use Rattle.eval_acts.specs.Questions.{answered_or_noted, asked, result_of, tested, tested_at, tested_by, tested_by_udev, with_result}
 use Rattle.eval_laws.specs.Allowances.{deed_allowance, entries_weight}
 use Rattle.eval_laws.specs.Inner.{Within, scene_weight}
-use Rattle.eval_laws.proofs.Sums.{filter_light}
-use Rattle.eval_laws.proofs.Tables.{with_values_light}
+use Rattle.eval_laws.proofs.Tables.{with_value_light, with_values_light, without_name_light}
+use Rattle.eval_laws.proofs.Sums.{filter_light, fold_light}
 use Rattle.eval_laws.proofs.Found.{found_light}
 use Rattle.eval_laws.proofs.Scenes.{more, noted_within}
 
@@ -60,6 +66,15 @@ second_light first (second ∷ others) =
     let c = env_light second in
     omega (arith, a, b, c)
 
+property_light : (held : List Pair) (pair : Pair) → pairs_weight (property_set pair.0 pair.1 held) ≤ pairs_weight held + pair_weight pair
+property_light held (name, []) = let a = without_name_light held name in omega (arith, a)
+property_light held (name, b ∷ t) = with_value_light held name (b ∷ t)
+
+-- properties with those that were found
+found_more : (profile : Profile) (env properties : List Pair) → pairs_weight (with_found profile env properties) ≤ pairs_weight env + pairs_weight properties
+found_more Manual env properties = with_values_light env properties
+found_more Udev env properties = fold_light pair_weight pair_weight (λ held pair. property_set pair.0 pair.1 held) property_light env properties
+
 -- the second device of an event has some of its texts
 parent_light : (event : EventValue) → pairs_weight (env_of (device_at event 1)) ≤ event_weight event
 unfolding event_weight
@@ -78,12 +93,24 @@ module _ (event : EventValue) where
     on_text_within d act (rendered.Text text) each = each text
     on_text_within d act rendered.TooLong each = notes TextTooLong (word_of_key (key_of_deed d) (attribute_of_deed d))
 
+    at_within : (place : Option ℕ) (name path : Text) → Within event (n + most) (tested_at place r name path s).0
+    at_within None name path = notes TestNotMade path
+    at_within (Some place) name path = stays
+
+    udev_within : (is : Option NamedValue) (path : Text) → Within event (n + most) (tested_by_udev is r path s).0
+    udev_within None path = stays
+    udev_within (Some is) path = at_within (named_place is s.state.event) is.attribute path
+
+    by_within : (profile : Profile) (path : Text) → Within event (n + most) (tested_by profile r path s).0
+    by_within Manual path = stays
+    by_within Udev path = udev_within (named path) path
+
     tested_within : (mask : Option Text) (path : Text) → Within event (n + most) (tested r mask path s).0
     tested_within mask path = by (is_some mask || begins_with slash path)
       where
-        by : (b : Bool) → Within event (n + most) (if◌then◌else◌ {A = Scene × Bool} b (noted r TestNotMade path s, false) (s, is_some (value_of s.state.event.device.attrs path))).0
+        by : (b : Bool) → Within event (n + most) (if◌then◌else◌ {A = Scene × Bool} b (noted r TestNotMade path s, false) (tested_by s.state.event.profile r path s)).0
         by true = notes TestNotMade path
-        by false = stays
+        by false = by_within s.state.event.profile path
 
     result_within : (text : Text) → Within event (n + most) (with_result text s)
     unfolding scene_weight
@@ -93,42 +120,53 @@ module _ (event : EventValue) where
     answered_within command None = notes NoAnswer command
     answered_within command (Some answer) = by (answer.status == 0)
       where
-        by : (b : Bool) → Within event (n + most) (if◌then◌else◌ {A = Scene × Bool} b (with_result answer.text s, true) (s, false)).0
-        by true = result_within answer.text
+        by : (b : Bool) → Within event (n + most) (if◌then◌else◌ {A = Scene × Bool} b (with_result (result_of s.state.event.profile answer.text) s, true) (s, false)).0
+        by true = result_within (result_of s.state.event.profile answer.text)
         by false = stays
 
     asked_within : (command : Text) → Within event (n + most) (asked r command s).0
     asked_within command = answered_within command (value_of s.state.event.programs command)
 
-    more_env : (properties : List Pair) → pairs_weight properties ≤ most → Within event (n + most) (record s { state = record s.state { env = with_values s.state.env properties } })
+    more_env : (profile : Profile) (properties : List Pair) → pairs_weight properties ≤ most → Within event (n + most) (record s { state = record s.state { env = with_found profile s.state.env properties } })
     unfolding scene_weight
-    more_env properties light = let a = h.light in let b = with_values_light s.state.env properties in record { same = h.same; light = omega (arith, a, b, light) }
+    more_env profile properties light = let a = h.light in let b = found_more profile s.state.env properties in record { same = h.same; light = omega (arith, a, b, light) }
 
     parent_within : (names : List (List Item)) (parent : Option DeviceValue) → pairs_weight (env_of parent) ≤ most → Within event (n + most) (from_parent names parent s).0
     parent_within names None light = stays
     parent_within names (Some parent) light =
         let a = filter_light pair_weight (λ property. choice_fits names property.0) parent.env in
-        more_env (names_fitting names parent.env) (omega (arith, a, light))
+        more_env Manual (names_fitting names parent.env) (omega (arith, a, light))
 
     builtin_within : (entries : List Entry) (command : Text) (wanted : Builtin) → entries_weight entries ≤ most → Within event (n + most) (builtin_run entries r command wanted s).0
     builtin_within entries command (asked_for.Hwdb hwdb) light =
         let a = found_light entries hwdb s.state in
-        more_env (found entries hwdb s.state) (omega (arith, a, light))
+        more_env s.state.event.profile (found entries hwdb s.state) (omega (arith, a, light))
     builtin_within entries command (asked_for.Other name) light = notes BuiltinNotRun name
     builtin_within entries command asked_for.BadArguments light = notes BadHwdbArguments command
 
     not_run_within : (from : Import) → Within event (n + most) (not_run r from s).0
     not_run_within from = notes ImportNotRun (import_name (type_of from))
 
+    parent_by_within : (profile : Profile) (d : Deed) (names : List (List Item)) (text : Text) → pairs_weight (env_of (device_at s.state.event 1)) ≤ most
+        → Within event (n + most) (parent_imported profile r d names text s).0
+    parent_by_within Manual d names text light = parent_within names (device_at s.state.event 1) light
+    parent_by_within Udev d names text light =
+        on_text_within d from_parent_by (names_text text s.state) (λ found. parent_within (fnmatch_items Exact found 0 ∷ []) (device_at s.state.event 1) light)
+
+    unrun_within : (profile : Profile) (d : Deed) (from : Import) (bytes : ℕ) (template : Template) → Within event (n + most) (unrun profile r d from bytes template s).0
+    unrun_within Manual d from bytes template = not_run_within from
+    unrun_within Udev d from bytes template = on_text_within d (λ text. not_run r from) (import_text bytes template s.state) (λ text. not_run_within from)
+
     import_within : (entries : List Entry) (from : Import) → entries_weight entries ≤ most → event_weight event ≤ most → Within event (n + most) (imported entries r (deed.Import from) from s).0
     import_within entries (import.Builtin template) light short =
-        on_text_within (deed.Import (import.Builtin template)) (run_builtin entries r) (render template s.state Plain) (λ command. builtin_within entries command (builtin command) light)
+        on_text_within (deed.Import (import.Builtin template)) (run_builtin entries r) (import_text most_command_bytes template s.state)
+        (λ command. builtin_within entries command (builtin s.state.event.profile command) light)
     import_within entries (import.Parent names text) light short =
         let a = parent_light event in
         let b = ap (λ e. pairs_weight (env_of (device_at e 1))) h.same in
-        parent_within names (device_at s.state.event 1) (omega (arith, a, b, short))
-    import_within entries (import.Program template) light short = not_run_within (import.Program template)
-    import_within entries (import.File template) light short = not_run_within (import.File template)
+        parent_by_within s.state.event.profile (deed.Import (import.Parent names text)) names text (omega (arith, a, b, short))
+    import_within entries (import.Program template) light short = unrun_within s.state.event.profile (deed.Import (import.Program template)) (import.Program template) most_command_bytes template
+    import_within entries (import.File template) light short = unrun_within s.state.event.profile (deed.Import (import.File template)) (import.File template) most_path_bytes template
     import_within entries (import.Cmdline name) light short = not_run_within (import.Cmdline name)
     import_within entries (import.Db name) light short = not_run_within (import.Db name)
 
@@ -140,10 +178,10 @@ module _ (event : EventValue) where
     deed_within : (n : ℕ) (r : Rule) (s : Scene) → Within event n s → (d : Deed) → Within event (n + deed_allowance len entries r d) (performed entries r d s).0
     deed_within n r s h (deed.Test mask template) =
         let most : ℕ = deed_allowance len entries r (deed.Test mask template) in
-        on_text_within n r s h most (omega arith) (deed.Test mask template) (tested r mask) (render template s.state Plain) (tested_within n r s h most (omega arith) mask)
+        on_text_within n r s h most (omega arith) (deed.Test mask template) (tested r mask) (test_text template s.state) (tested_within n r s h most (omega arith) mask)
     deed_within n r s h (deed.Program template) =
         let most : ℕ = deed_allowance len entries r (deed.Program template) in
-        on_text_within n r (with_result [] s) (emptied n s h) most (omega arith) (deed.Program template) (asked r) (render template s.state Plain)
+        on_text_within n r (with_result [] s) (emptied n s h) most (omega arith) (deed.Program template) (asked r) (program_text template s.state)
         (asked_within n r (with_result [] s) (emptied n s h) most (omega arith))
     deed_within n r s h (deed.Import from) =
         import_within n r s h (deed_allowance len entries r (deed.Import from)) (omega arith) entries from (omega arith) (omega (arith, short))

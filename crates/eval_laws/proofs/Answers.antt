@@ -4,12 +4,13 @@ use Rattle.std.proofs.lemmas.List.{length-append}
 use Rattle.std.proofs.lemmas.List.Sums.{sum_by-cons}
 use Rattle.text_bytes.specs.Names.{newline, space}
 use Rattle.text_bytes.specs.Escapes.{escape_text}
+use Rattle.text_bytes.specs.declared.profile.Profile.{Profile}
 use Rattle.text_bytes.specs.declared.source_file.SourceFile.{SourceFile}
 use Rattle.text_tables.specs.Texts.{Text}
 use Rattle.hwdb_lookup.specs.declared.entry.Entry.{Entry}
-use Rattle.rule_core.specs.Rules.{set_of}
+use Rattle.rule_core.specs.Rules.{set_of_as}
 use Rattle.device_core.specs.Faults.{block_gives}
-use Rattle.device_core.specs.Values.{DeviceValue, EventValue}
+use Rattle.device_core.specs.Values.{DeviceValue, EventValue, by_profile}
 use Rattle.eval_laws.specs.DeviceWeights.{device_weight, event_weight, pair_weight, text_weight}
 use Rattle.eval_laws.proofs.DeviceWeights.{event_within}
 use Rattle.eval_rules.specs.Outcomes.{outcome}
@@ -20,6 +21,7 @@ use Rattle.engine_answers.specs.Answers.{answer, answer_lines}
 use Rattle.eval_laws.proofs.Lines.{escape_short, line_length, lines_short, note_line_short, pair_line_short, run_line_short, shown_line_short, text_line_short}
 use Rattle.eval_laws.proofs.Nodes.{behind, node_short}
 use Rattle.eval_laws.proofs.Priorities.{outcome_small}
+use Rattle.eval_laws.proofs.Weighing.{weight_by}
 
 path_light : (d : DeviceValue) → text_weight d.path ≤ device_weight d
 unfolding device_weight
@@ -52,13 +54,16 @@ answer_short event o fits =
     let whole = behind _ (newline ∷ []) _ 1 notes (omega arith) in
     omega (arith, whole)
 
-pub block_answer_short : (block : Text) (event : EventValue) (o : Outcome) → block_gives block ≡ Ok event → IfSome o.priority (λ z. unsigned_abs z ≤ 2 ^ 31)
-    → length (answer event o) ≤ 8 * outcome_weight o + 4 * length block + 64
-block_answer_short block event o given fits =
-    let a = answer_short event o fits in
+pub block_answer_short : (profile : Profile) (block : Text) (event : EventValue) (o : Outcome) → block_gives block ≡ Ok event → IfSome o.priority (λ z. unsigned_abs z ≤ 2 ^ 31)
+    → length (answer (by_profile profile event) o) ≤ 8 * outcome_weight o + 4 * length block + 64
+block_answer_short profile block event o given fits =
+    let a = answer_short (by_profile profile event) o fits in
     let b = event_within block event given in
-    omega (arith, a, b)
+    let c = weight_by profile event in
+    omega (arith, a, b, c)
 
-pub files_answer_short : (files : List SourceFile) (entries : List Entry) (block : Text) (event : EventValue) → block_gives block ≡ Ok event
-    → length (answer event (outcome (set_of files).rules entries event)) ≤ 8 * outcome_weight (outcome (set_of files).rules entries event) + 4 * length block + 64
-files_answer_short files entries block event given = block_answer_short block event (outcome (set_of files).rules entries event) given (outcome_small files entries event)
+pub files_answer_short : (read profile : Profile) (files : List SourceFile) (entries : List Entry) (block : Text) (event : EventValue) → block_gives block ≡ Ok event
+    → length (answer (by_profile profile event) (outcome (set_of_as read files).rules entries (by_profile profile event)))
+    ≤ 8 * outcome_weight (outcome (set_of_as read files).rules entries (by_profile profile event)) + 4 * length block + 64
+files_answer_short read profile files entries block event given =
+    block_answer_short profile block event (outcome (set_of_as read files).rules entries (by_profile profile event)) given (outcome_small read files entries (by_profile profile event))

@@ -9,12 +9,15 @@ use Rattle.rule_templates.specs.Template.{Parts as Template}
 use Rattle.rule_types.specs.declared.part.Deed.TheVariants as deed
 use Rattle.rule_types.specs.Rules.{Rule}
 use Rattle.eval_state.specs.declared.scene.Scene.{Scene}
-use Rattle.eval_rendering.specs.Rendering.{render}
-use Rattle.eval_rendering.specs.declared.rendered.Mode.TheVariants.{Plain}
 use Rattle.eval_rendering.specs.declared.rendered.Rendered.{Rendered}
 use Rattle.eval_rendering.specs.declared.rendered.Rendered.TheVariants as outcome
-use Rattle.eval_acts.specs.Acts.{act_step, on_text}
-use Rattle.eval_acts.specs.Questions.{answered_or_noted, asked, with_result}
+use Rattle.text_bytes.specs.declared.profile.Profile.{Profile}
+use Rattle.text_bytes.specs.declared.profile.Profile.TheVariants.{Manual, Udev}
+use Rattle.eval_acts.specs.ActTexts.{program_text}
+use Rattle.eval_acts.specs.Acts as acts
+use Rattle.eval_acts.specs.Acts.{act_step, came_too_long, going_on, goes_on, on_text}
+use Rattle.eval_acts.specs.Questions.{answered_or_noted, asked, result_of, with_result}
+use Rattle.rule_types.specs.declared.roles.MatchOperator.TheVariants.{Equal}
 use Rattle.eval_laws.specs.Answered.{IsAnswered, program}
 
 -- an answer with a status and a text
@@ -24,40 +27,51 @@ answer_with n t = Some (record { status = n; text = t })
 module _ (r : Rule) (template : Template) (s : Scene) where
   -- what PROGRAM comes to, by how its command is rendered
   came : Rendered → Scene × Bool
-  came given = on_text r (deed.Program template) (asked r) given (with_result [] s)
+  came given = going_on (program template) (on_text r (deed.Program template) (asked r) given (with_result [] s))
+
+  -- what comes of an answer, or of none
+  went_by : Scene × Bool → Scene × Bool
+  went_by went = going_on (program template) (acts.tried went)
 
   -- The act stops the rule and leaves no result.
   record Fails (went : Scene × Bool) : Type 0 where
     stops : went.1 ≡ false
     empty : went.0.state.result ≡ []
 
-  by_status : (command : Text) (answer : AnswerValue) → render template s.state Plain ≡ outcome.Text command → value_of s.state.event.programs command ≡ Some answer
+  by_status : (command : Text) (answer : AnswerValue) → program_text template s.state ≡ outcome.Text command → value_of s.state.event.programs command ≡ Some answer
       → (b : Bool) → (answer.status == 0) ≡ b
-      → ((text : Text) × IsAnswered template s text) ⊎ Fails (if◌then◌else◌ {A = Scene × Bool} b (with_result answer.text (with_result [] s), true) (with_result [] s, false))
+      → ((text : Text) × IsAnswered template s text)
+      ⊎ Fails (went_by (if◌then◌else◌ {A = Scene × Bool} b (with_result (result_of s.state.event.profile answer.text) (with_result [] s), true) (with_result [] s, false)))
+  unfolding went_by
   by_status command answer e there true zero =
       inl (answer.text, record { command = command; rendered = e; answered = there ∙ ap (λ (n : ℕ). answer_with n answer.text) (eqb-true answer.status 0 zero) })
   by_status command answer e there false other = inr (record { stops = refl; empty = refl })
 
-  by_answer : (command : Text) → render template s.state Plain ≡ outcome.Text command → (answer : Option AnswerValue) → value_of s.state.event.programs command ≡ answer
-      → ((text : Text) × IsAnswered template s text) ⊎ Fails (answered_or_noted r command answer (with_result [] s))
+  by_answer : (command : Text) → program_text template s.state ≡ outcome.Text command → (answer : Option AnswerValue) → value_of s.state.event.programs command ≡ answer
+      → ((text : Text) × IsAnswered template s text) ⊎ Fails (went_by (answered_or_noted r command answer (with_result [] s)))
+  unfolding went_by
   by_answer command e None there = inr (record { stops = refl; empty = refl })
   by_answer command e (Some answer) there = by_status command answer e there (answer.status == 0) refl
 
-  by_command : (given : Rendered) → render template s.state Plain ≡ given → ((text : Text) × IsAnswered template s text) ⊎ Fails (came given)
-  unfolding came
+  too_long_stops : (profile : Profile) → goes_on Equal (came_too_long profile) ≡ false
+  too_long_stops Manual = refl
+  too_long_stops Udev = refl
+
+  by_command : (given : Rendered) → program_text template s.state ≡ given → ((text : Text) × IsAnswered template s text) ⊎ Fails (came given)
+  unfolding came went_by
   by_command (outcome.Text command) e = by_answer command e (value_of s.state.event.programs command) refl
-  by_command outcome.TooLong e = inr (record { stops = refl; empty = refl })
+  by_command outcome.TooLong e = inr (record { stops = too_long_stops s.state.event.profile; empty = refl })
 
   module _ (entries : List Entry) where
-    pub answered : (text : Text) → IsAnswered template s text → act_step entries r (program template) s ≡ (with_result text s, true)
+    pub answered : (text : Text) → IsAnswered template s text → act_step entries r (program template) s ≡ (with_result (result_of s.state.event.profile text) s, true)
     unfolding act_step
     answered text h =
-        ap (λ given. on_text r (deed.Program template) (asked r) given (with_result [] s)) h.rendered
-        ∙ ap (λ answer. answered_or_noted r h.command answer (with_result [] s)) h.answered
+        ap (λ given. going_on (program template) (on_text r (deed.Program template) (asked r) given (with_result [] s))) h.rendered
+        ∙ ap (λ answer. going_on (program template) (acts.tried (answered_or_noted r h.command answer (with_result [] s)))) h.answered
 
     is_answered : ((text : Text) × IsAnswered template s text) ⊎ Fails (act_step entries r (program template) s)
     unfolding act_step came
-    is_answered = by_command (render template s.state Plain) refl
+    is_answered = by_command (program_text template s.state) refl
 
     pub holds : (act_step entries r (program template) s).1 ≡ true → (text : Text) × IsAnswered template s text
     holds e = by is_answered

@@ -1,8 +1,10 @@
 -- What a scene weighs behind an assignment.
-use Rattle.std.proofs.Common.{◌≡◌, ℕ, ◌+◌, ◌≤◌, not, List, [], ◌∷◌, ◌++◌, length, Option, Some, None, ◌==◌, arith}
+use Rattle.std.proofs.Common.{◌≡◌, ℕ, zero, suc, ◌+◌, ◌≤◌, Bool, true, false, not, nat_lt, ltb-false, refl, List, [], ◌∷◌, ◌++◌, length, Option, Some, None, ◌==◌, if◌then◌else◌, ap, arith}
 use Rattle.std.proofs.lemmas.List.Sums.{sum_by-cons}
 use Rattle.std.specs.List.{slice_split}
 use Rattle.text_bytes.specs.Names.{space}
+use Rattle.text_bytes.specs.declared.profile.Profile.{Profile}
+use Rattle.text_bytes.specs.declared.profile.Profile.TheVariants.{Manual, Udev}
 use Rattle.text_bytes.specs.Texts.{is_empty}
 use Rattle.text_tables.specs.Texts.{Text, without_text}
 use Rattle.text_tables.specs.Pairs.{Pair, value_of, with_value}
@@ -13,22 +15,43 @@ use Rattle.rule_types.specs.declared.roles.AssignOperator.TheVariants.{Assign, A
 use Rattle.rule_types.specs.declared.roles.Target.{Target}
 use Rattle.rule_types.specs.declared.roles.Target.TheVariants as target
 use Rattle.rule_types.specs.Rules.{Rule}
+use Rattle.rule_types.specs.Topics.{mode_of}
 use Rattle.device_core.specs.Values.{EventValue}
-use Rattle.eval_laws.specs.DeviceWeights.{given_weight, pair_weight, pairs_weight, text_weight, texts_weight}
+use Rattle.eval_laws.specs.DeviceWeights.{device_weight, event_weight, given_weight, pair_weight, pairs_weight, text_weight, texts_weight}
 use Rattle.eval_state.specs.Texts.{or_empty}
 use Rattle.eval_state.specs.Notes.{word_of_key}
-use Rattle.eval_state.specs.declared.note_kind.NoteKind.TheVariants.{TextTooLong}
-use Rattle.eval_state.specs.Scenes.{with_env}
+use Rattle.eval_state.specs.declared.note_kind.NoteKind.{NoteKind}
+use Rattle.eval_state.specs.Named.{NamedValue, named, named_place}
+use Rattle.eval_state.specs.declared.note_kind.NoteKind.TheVariants.{AttributeNotFound, LinkIgnored, ModeIgnored, NoValue, TagIgnored, TextTooLong}
+use Rattle.eval_state.specs.Scenes.{noted, noted_key, with_env}
+use Rattle.eval_rendering.specs.Bounds.{within}
+use Rattle.eval_rendering.specs.Rendering.{rendered_as_udev}
+use Rattle.eval_rendering.specs.declared.rendered.Mode.TheVariants.{Plain}
+use Rattle.eval_rendering.specs.declared.rendered.Rendered.{Rendered}
+use Rattle.eval_rendering.specs.declared.rendered.Rendered.TheVariants as rendered
+use Rattle.rule_templates.specs.Reading.{left_of}
 use Rattle.eval_state.specs.declared.scene.Scene.{Scene}
-use Rattle.eval_assignments.specs.Assigning.{assigned, given, labels_before, link_text, name_text}
+use Rattle.eval_assignments.specs.Assigning.{assigned, given, group_set, labels_before, link_text, or_written, owner_set}
+use Rattle.eval_state.specs.Files.{starred}
+use Rattle.eval_assignments.specs.Attributes.{attribute_path, attribute_put, attribute_set, attribute_set_at, attribute_set_by, own_attribute_set}
+use Rattle.eval_assignments.specs.Bounds.{most_name_bytes, most_value_bytes}
+use Rattle.eval_assignments.specs.Links.{first_refused, link_noted, links_changed, plain_links, words}
 use Rattle.eval_assignments.specs.Lists.{changed, names, one_tag}
-use Rattle.eval_assignments.specs.Properties.{appended, property_added, property_changed, property_joined, property_set}
-use Rattle.eval_laws.specs.Allowances.{part_allowance}
+use Rattle.eval_assignments.specs.Modes.{mode_read, mode_set}
+use Rattle.eval_assignments.specs.Names.{name_text}
+use Rattle.eval_assignments.specs.Parameters.{parameter_name, parameter_put, parameter_set}
+use Rattle.eval_state.specs.Properties.{property_set}
+use Rattle.eval_assignments.specs.Properties.{appended, env_text, extended, property_added, property_changed, property_extended, property_joined, property_put, udev_property_changed}
+use Rattle.eval_assignments.specs.Tags.{is_tag, tag_added, tag_changed, tag_standing, without_tags}
+use Rattle.eval_assignments.specs.declared.escapes.Escape.{Escape}
+use Rattle.eval_laws.specs.Allowances.{part_allowance, text_allowance}
 use Rattle.eval_laws.specs.Inner.{Within, scene_weight}
 use Rattle.eval_laws.proofs.Sums.{filter_light, fold_light, split_light}
-use Rattle.eval_laws.proofs.Tables.{with_texts_light, with_value_light, without_name_light, without_text_light}
-use Rattle.eval_laws.proofs.Rendered.{IsBounded, bounded_short}
-use Rattle.eval_laws.proofs.Scenes.{more, noted_within}
+use Rattle.eval_laws.proofs.Tables.{with_text_light, with_texts_light, with_value_light, without_name_light, without_text_light}
+use Rattle.eval_laws.proofs.Rendered.{IsBounded, IsShort, bounded_short, rendered_short, within_short}
+use Rattle.eval_laws.proofs.Scenes.{more, note_within}
+use Rattle.eval_laws.proofs.Escaped.{env_same, link_same, name_same}
+use Rattle.eval_laws.proofs.Written.{IsNoLonger, named_shorter, parameter_light, plain_light, starred_light}
 
 given_light : (t : Text) → given_weight (given t) ≤ length t + 1
 given_light [] = omega arith
@@ -64,14 +87,35 @@ appended_short : (value t : Text) → length t ≤ 16384 → IsBounded (appended
 appended_short [] t short = short
 appended_short (b ∷ value) t short = bounded_short ((b ∷ value) ++ space ∷ t)
 
+or_written_light : (written t : Text) → length (or_written written t) ≤ length written + length t
+or_written_light written [] = omega arith
+or_written_light written (b ∷ t) = omega arith
+
+-- a value of udev's that is not too long
+extended_short : (value : Option Text) (t : Text) → length t ≤ 16384 → IsBounded (extended value t)
+extended_short None t short = by (nat_lt most_value_bytes (length t))
+  where
+    by : (b : Bool) → IsBounded (if◌then◌else◌ {A = Option Text} b None (Some t))
+    by true = tt
+    by false = short
+extended_short (Some value) t short = by (nat_lt most_value_bytes (length (value ++ space ∷ t))) refl
+  where
+    by : (b : Bool) → nat_lt most_value_bytes (length (value ++ space ∷ t)) ≡ b → IsBounded (if◌then◌else◌ {A = Option Text} b None (Some (value ++ space ∷ t)))
+    by true e = tt
+    by false e = let a = ltb-false most_value_bytes (length (value ++ space ∷ t)) e in omega (arith, a)
+
+-- the attributes of the event device stand in the event
+own_light : (event : EventValue) → pairs_weight event.device.attrs ≤ event_weight event
+unfolding event_weight device_weight
+own_light event = let a = sum_by-cons device_weight event.device event.parents in omega (arith, a)
+
 module _ (event : EventValue) (n : ℕ) (r : Rule) (s : Scene) (h : Within event n s) where
   env_within : (env : List Pair) (k : ℕ) → pairs_weight env ≤ pairs_weight s.state.env + k → Within event (n + k) (with_env env s)
   unfolding scene_weight
   env_within env k light = let a = h.light in record { same = h.same; light = omega (arith, a, light) }
 
   joined_within : (name : Text) (value : Option Text) → IsBounded value → Within event (n + part_allowance r (Some name)) (property_joined r name value s)
-  joined_within name None short =
-      more event (n + (length r.file + 56)) (n + part_allowance r (Some name)) _ (omega arith) (noted_within event n r TextTooLong (word_of_key key.Env (Some name)) s h)
+  joined_within name None short = note_within event n (part_allowance r (Some name)) r s h (omega arith) TextTooLong (word_of_key key.Env (Some name))
   joined_within name (Some value) short =
       let a = with_value_light s.state.env name value in
       env_within (with_value s.state.env name value) (part_allowance r (Some name)) (omega (arith, a, short))
@@ -80,6 +124,16 @@ module _ (event : EventValue) (n : ℕ) (r : Rule) (s : Scene) (h : Within event
   added_within name [] short = more event n (n + part_allowance r (Some name)) s (omega arith) h
   added_within name (b ∷ t) short =
       joined_within name (appended (or_empty (value_of s.state.env name)) (b ∷ t)) (appended_short (or_empty (value_of s.state.env name)) (b ∷ t) short)
+
+  put_within : (name : Text) (value : Option Text) → IsBounded value → Within event (n + part_allowance r (Some name)) (property_put r name value s)
+  put_within name None short = note_within event n (part_allowance r (Some name)) r s h (omega arith) TextTooLong (word_of_key key.Env (Some name))
+  put_within name (Some value) short =
+      let a = property_light name value s.state.env in
+      env_within (property_set name value s.state.env) (part_allowance r (Some name)) (omega (arith, a, short))
+
+  extended_within : (name written t : Text) → length t ≤ 16384 → Within event (n + part_allowance r (Some name)) (property_extended r name written t s)
+  extended_within name [] t short = more event n (n + part_allowance r (Some name)) s (omega arith) h
+  extended_within name (b ∷ written) t short = put_within name (extended (value_of s.state.env name) t) (extended_short (value_of s.state.env name) t short)
 
   set_within : (name t : Text) → length t ≤ 16384 → Within event (n + part_allowance r (Some name)) (with_env (property_set name t s.state.env) s)
   set_within name t short =
@@ -92,40 +146,192 @@ module _ (event : EventValue) (n : ℕ) (r : Rule) (s : Scene) (h : Within event
   property_within Remove name t short = set_within name t short
   property_within AssignFinal name t short = set_within name t short
 
-  -- a text of a key
-  pub assigned_within : (e : _) → ((t : Text) → (length (name_text e t) ≡ length t) × (length (link_text e t) ≡ length t)) → (o : AssignOperator) (about : Target) (t : Text) → length t ≤ 16384
-      → Within event (n + part_allowance r (attribute_of_target about)) (assigned r e o about t s)
+  udev_property_within : (e : Escape) (o : AssignOperator) (name written t : Text) → length t ≤ 16384 → Within event (n + part_allowance r (Some name)) (udev_property_changed r e o name written t s)
+  udev_property_within e Add name written t short = let a = env_same e t in extended_within name written (env_text e t) (omega (arith, a, short))
+  udev_property_within e Assign name written t short = let a = env_same e t in set_within name (env_text e t) (omega (arith, a, short))
+  udev_property_within e Remove name written t short = let a = env_same e t in set_within name (env_text e t) (omega (arith, a, short))
+  udev_property_within e AssignFinal name written t short = let a = env_same e t in set_within name (env_text e t) (omega (arith, a, short))
+
+  -- ---- what udev makes of the others
+
+  module _ (k : ℕ) (room : length r.file + 16641 ≤ k) where
+    notes : (kind : NoteKind) (text : Text) → Within event (n + k) (noted r kind text s)
+    notes kind text = note_within event n k r s h (omega (arith, room)) kind text
+
+    owner_within : (t : Text) → length t ≤ 16384 → Within event (n + k) (owner_set r t s)
+    unfolding scene_weight
+    owner_within [] short = notes NoValue (word_of_key key.Owner None)
+    owner_within (b ∷ t) short = let a = h.light in record { same = h.same; light = omega (arith, a, room, short) }
+
+    group_within : (t : Text) → length t ≤ 16384 → Within event (n + k) (group_set r t s)
+    unfolding scene_weight
+    group_within [] short = notes NoValue (word_of_key key.Group None)
+    group_within (b ∷ t) short = let a = h.light in record { same = h.same; light = omega (arith, a, room, short) }
+
+    read_within : (t : Text) (mode : Option ℕ) → Within event (n + k) (mode_read r t mode s)
+    unfolding scene_weight
+    read_within t None = notes ModeIgnored t
+    read_within t (Some mode) = let a = h.light in record { same = h.same; light = omega (arith, a, room) }
+
+    mode_within : (t : Text) → Within event (n + k) (mode_set r t s)
+    mode_within [] = notes NoValue (word_of_key key.Mode None)
+    mode_within (b ∷ t) = read_within (b ∷ t) (mode_of (b ∷ t))
+
+    standing_within : (t : Text) → length t ≤ 16384 → Within event (n + k) (tag_standing t s)
+    unfolding scene_weight
+    standing_within t short = let a = h.light in let b = with_text_light s.state.tags t in record { same = h.same; light = omega (arith, a, b, room, short) }
+
+    tag_within : (t : Text) → length t ≤ 16384 → Within event (n + k) (tag_added r t s)
+    tag_within [] short = notes NoValue (word_of_key key.Tag None)
+    tag_within (b ∷ t) short = by (is_tag (b ∷ t))
+      where
+        by : (is : Bool) → Within event (n + k) (if is then tag_standing (b ∷ t) s else noted r TagIgnored (b ∷ t) s)
+        by true = standing_within (b ∷ t) short
+        by false = notes TagIgnored (b ∷ t)
+
+    found_within : (name : Text) (found : Option Text) (t : Text) → (m : ℕ) → IsNoLonger m found → m + length t + 2 ≤ k → Within event (n + k) (attribute_put r name found t s)
+    unfolding scene_weight
+    found_within name None t m light fits = notes AttributeNotFound name
+    found_within name (Some found) t m light fits =
+        let a = h.light in
+        let b = with_value_light s.attrs found t in
+        record { same = h.same; light = omega (arith, a, b, light, fits) }
+
+    parameter_within : (name : Text) (text : Rendered) (t : Text) → IsShort text → length t + 16387 ≤ k → Within event (n + k) (parameter_put r name text t s)
+    unfolding scene_weight
+    parameter_within name rendered.TooLong t short fits = notes TextTooLong (word_of_key key.Sysctl (Some name))
+    parameter_within name (rendered.Text text) t short fits =
+        let a = h.light in
+        let b = with_value_light s.sysctls (parameter_name text) t in
+        let c = parameter_light text in
+        record { same = h.same; light = omega (arith, a, b, c, short, fits) }
+
+  emptied_within : Within event n (without_tags s)
   unfolding scene_weight
-  assigned_within e same o target.Owner t short = let a = h.light in let b = given_light t in record { same = h.same; light = omega (arith, a, b, short) }
-  assigned_within e same o target.Group t short = let a = h.light in let b = given_light t in record { same = h.same; light = omega (arith, a, b, short) }
-  assigned_within e same o target.Mode t short = let a = h.light in let b = given_light t in record { same = h.same; light = omega (arith, a, b, short) }
-  assigned_within e same o target.Tag t short =
+  emptied_within = let a = h.light in record { same = h.same; light = omega (arith, a) }
+
+  gone_within : (k : ℕ) (gone : List Text) → Within event (n + k) (record s { gone = gone })
+  unfolding scene_weight
+  gone_within k gone = let a = h.light in record { same = h.same; light = omega (arith, a) }
+
+  linked_within : (o : AssignOperator) (t : Text) → Within event (n + (length t + 1)) (record s { state = record s.state { links = changed o (plain_links (words t)) s.state.links } })
+  unfolding scene_weight
+  linked_within o t =
+      let a = h.light in
+      let b = changed_light o (plain_links (words t)) s.state.links in
+      let c = plain_light t in
+      record { same = h.same; light = omega (arith, a, b, c) }
+
+-- a note about a link that is refused
+link_within : (event : EventValue) (n k : ℕ) (r : Rule) (s : Scene) → Within event n s → length r.file + 56 ≤ k → (path : Option Text) → Within event (n + k) (link_noted r path s)
+link_within event n k r s h room None = more event n (n + k) s (omega arith) h
+link_within event n k r s h room (Some path) = note_within event n k r s h room LinkIgnored path
+
+module _ (event : EventValue) (n : ℕ) (r : Rule) (s : Scene) (h : Within event n s) (len : ℕ) (fits : event_weight event ≤ len) where
+  module _ (k : ℕ) (room : length r.file + 16641 ≤ k) where
+    tags_within : (o : AssignOperator) (t : Text) → length t ≤ 16384 → Within event (n + k) (tag_changed r o t s)
+    tags_within Remove t short = gone_within event n r s h k _
+    tags_within Add t short = tag_within event n r s h k room t short
+    tags_within Assign t short = tag_within event n r (without_tags s) (emptied_within event n r s h) k room t short
+    tags_within AssignFinal t short = tag_within event n r (without_tags s) (emptied_within event n r s h) k room t short
+
+    links_within : (o : AssignOperator) (t : Text) → length t ≤ 16384 → Within event (n + k) (links_changed r o t s)
+    links_within o t short =
+        more event (n + (length t + 1) + (length r.file + 56)) (n + k) _ (omega (arith, room, short))
+        (link_within event (n + (length t + 1)) (length r.file + 56) r _ (linked_within event n r s h o t) (omega arith) (first_refused (words t)))
+
+  module _ (name t : Text) (short : length t ≤ 16384) where
+    abbrev most : ℕ
+    most = part_allowance r (Some name) + len
+
+    starred_within : (own : Text) → length own ≤ length name → Within event (n + most) (attribute_put r name (starred s.state.event.device own) t s)
+    starred_within own within_name =
+        let a = own_light event in
+        let b = ap (λ (e : EventValue). pairs_weight e.device.attrs) h.same in
+        found_within event n r s h most (omega arith) name (starred s.state.event.device own) t (length own + pairs_weight s.state.event.device.attrs) (starred_light s.state.event.device own)
+        (omega (arith, a, b, short, within_name, fits))
+
+    own_within : Within event (n + most) (own_attribute_set r name t s)
+    own_within = by (nat_lt most_name_bytes (length (attribute_path s.state.event name)))
+      where
+        by : (b : Bool) → Within event (n + most) (if b then noted_key r TextTooLong key.Attr (Some name) s else attribute_put r name (starred s.state.event.device name) t s)
+        by true = notes event n r s h most (omega arith) TextTooLong (word_of_key key.Attr (Some name))
+        by false = starred_within name (omega arith)
+
+    at_within : (place : Option ℕ) (is : NamedValue) → length is.attribute ≤ length name → Within event (n + most) (attribute_set_at place is r name t s)
+    at_within None is shorter = own_within
+    at_within (Some zero) is shorter = starred_within is.attribute shorter
+    at_within (Some (suc above)) is shorter = found_within event n r s h most (omega arith) name (Some name) t (length name) (omega arith) (omega (arith, short))
+
+    by_within : (is : Option NamedValue) → named name ≡ is → Within event (n + most) (attribute_set_by is r name t s)
+    by_within None e = own_within
+    by_within (Some is) e = at_within (named_place is s.state.event) is (named_shorter name is e)
+
+    attribute_within : Within event (n + most) (attribute_set r name t s)
+    attribute_within = by_within (named name) refl
+
+    named_within : Within event (n + part_allowance r (Some name)) (parameter_set r name t s)
+    named_within =
+        parameter_within event n r s h (part_allowance r (Some name)) (omega arith) name (within most_name_bytes (rendered_as_udev name s.state)) t
+        (within_short most_name_bytes (rendered_as_udev name s.state) (rendered_short (record { written = name; pieces = left_of name }) s.state Plain))
+        (omega (arith, short))
+
+  none_added : (k : ℕ) (t : Scene) → Within event (n + k) t → Within event (n + (k + 0)) t
+  none_added k t inside = more event (n + k) (n + (k + 0)) t (omega arith) inside
+
+  -- a text of a key
+  pub assigned_within : (profile : Profile) (e : Escape) (o : AssignOperator) (about : Target) (written t : Text) → length t ≤ 16384
+      → Within event (n + (part_allowance r (attribute_of_target about) + text_allowance profile len about written)) (assigned profile r e o about written t s)
+  unfolding scene_weight
+  assigned_within Manual e o target.Owner written t short = let a = h.light in let b = given_light t in record { same = h.same; light = omega (arith, a, b, short) }
+  assigned_within Manual e o target.Group written t short = let a = h.light in let b = given_light t in record { same = h.same; light = omega (arith, a, b, short) }
+  assigned_within Manual e o target.Mode written t short = let a = h.light in let b = given_light t in record { same = h.same; light = omega (arith, a, b, short) }
+  assigned_within Manual e o target.Tag written t short =
       let a = h.light in
       let b = changed_light o (one_tag t) s.state.tags in
       let c = tag_light t in
       record { same = h.same; light = omega (arith, a, b, c, short) }
-  assigned_within e same o (target.Seclabel name) t short =
+  assigned_within Manual e o (target.Seclabel name) written t short =
       let a = h.light in
       let b = with_value_light (labels_before o s.labels) name t in
       let c = labels_light o s.labels in
       record { same = h.same; light = omega (arith, a, b, c, short) }
-  assigned_within e same o (target.Env name) t short = property_within o name t short
-  assigned_within e same o target.Name t short =
+  assigned_within Manual e o (target.Env name) written t short = none_added (part_allowance r (Some name)) _ (property_within event n r s h o name t short)
+  assigned_within Manual e o target.Name written t short =
       let a = h.light in
-      let b = given_light (name_text e t) in
-      let c = (same t).0 in
+      let b = given_light (name_text Manual e t) in
+      let c = name_same Manual e t in
       record { same = h.same; light = omega (arith, a, b, c, short) }
-  assigned_within e same o target.Symlink t short =
+  assigned_within Manual e o target.Symlink written t short =
       let a = h.light in
       let b = changed_light o (names (link_text e t)) s.state.links in
       let c = names_light (link_text e t) in
-      let d = (same t).1 in
+      let d = link_same e t in
       record { same = h.same; light = omega (arith, a, b, c, d, short) }
-  assigned_within e same o (target.Attr name) t short =
+  assigned_within Manual e o (target.Attr name) written t short =
       let a = h.light in
       let b = with_value_light s.attrs name t in
       record { same = h.same; light = omega (arith, a, b, short) }
-  assigned_within e same o (target.Sysctl name) t short =
+  assigned_within Manual e o (target.Sysctl name) written t short =
       let a = h.light in
       let b = with_value_light s.sysctls name t in
       record { same = h.same; light = omega (arith, a, b, short) }
+  assigned_within Udev e o target.Owner written t short = none_added (part_allowance r None) _ (owner_within event n r s h (part_allowance r None) (omega arith) t short)
+  assigned_within Udev e o target.Group written t short = none_added (part_allowance r None) _ (group_within event n r s h (part_allowance r None) (omega arith) t short)
+  assigned_within Udev e o target.Mode written t short = none_added (part_allowance r None) _ (mode_within event n r s h (part_allowance r None) (omega arith) t)
+  assigned_within Udev e o target.Tag written t short = none_added (part_allowance r None) _ (tags_within (part_allowance r None) (omega arith) o t short)
+  assigned_within Udev e o (target.Seclabel name) written t short =
+      let a = h.light in
+      let b = with_value_light (labels_before o s.labels) name (or_written written t) in
+      let c = labels_light o s.labels in
+      let d = or_written_light written t in
+      record { same = h.same; light = omega (arith, a, b, c, d, short) }
+  assigned_within Udev e o (target.Env name) written t short = none_added (part_allowance r (Some name)) _ (udev_property_within event n r s h e o name written t short)
+  assigned_within Udev e o target.Name written t short =
+      let a = h.light in
+      let b = given_light (name_text Udev e t) in
+      let c = name_same Udev e t in
+      record { same = h.same; light = omega (arith, a, b, c, short) }
+  assigned_within Udev e o target.Symlink written t short = let a = link_same e t in none_added (part_allowance r None) _ (links_within (part_allowance r None) (omega arith) o (link_text e t) (omega (arith, a, short)))
+  assigned_within Udev e o (target.Attr name) written t short = attribute_within name t short
+  assigned_within Udev e o (target.Sysctl name) written t short = none_added (part_allowance r (Some name)) _ (named_within name t short)

@@ -1,313 +1,193 @@
 -- How many notes a scene has, and how many commands that may leave one: each part of a rule adds at most one.
-use Rattle.std.proofs.Common.{ℕ, ◌+◌, ◌≤◌, Bool, true, false, ◌==◌, List, [], ◌∷◌, ◌++◌, length, fold, Option, Some, None, is_some, ◌||◌, if◌then◌else◌, arith}
-use Rattle.std.proofs.lemmas.List.{length_push, length-append}
+use Rattle.std.proofs.Common.{◌≡◌, ℕ, ◌+◌, ◌≤◌, Bool, true, false, List, [], ◌∷◌, length, fold, Option, None, if◌then◌else◌, refl, arith}
+use Rattle.std.proofs.lemmas.List.{length-append}
 use Rattle.std.proofs.lemmas.List.Sums.{sum_by-cons}
-use Rattle.std.specs.List.{sum_by, list_any}
-use Rattle.text_bytes.specs.Names.{slash}
-use Rattle.text_bytes.specs.Texts.{begins_with, is_empty}
+use Rattle.std.specs.List.{sum_by}
 use Rattle.text_tables.specs.Texts.{Text}
-use Rattle.text_tables.specs.Pairs.{value_of}
-use Rattle.text_core.specs.declared.item.Item.{Item}
 use Rattle.hwdb_lookup.specs.declared.entry.Entry.{Entry}
-use Rattle.rule_types.specs.Names.{import_name}
-use Rattle.rule_types.specs.Written.{attribute_of_target, key_of_target}
-use Rattle.rule_types.specs.declared.roles.AssignOperator.{AssignOperator}
-use Rattle.rule_types.specs.declared.roles.AssignOperator.TheVariants.{Assign, Add, Remove, AssignFinal}
 use Rattle.rule_types.specs.declared.roles.PlainKey.{PlainKey}
 use Rattle.rule_types.specs.declared.roles.PlainKey.TheVariants as plain
-use Rattle.rule_types.specs.declared.roles.Target.{Target}
-use Rattle.rule_types.specs.declared.roles.Target.TheVariants as target
-use Rattle.rule_types.specs.declared.keys.Key.TheVariants as key
-use Rattle.rule_types.specs.WrittenParts.{attribute_of_deed, key_of_deed, type_of}
-use Rattle.rule_types.specs.declared.rule_option.RuleOption.{RuleOption}
-use Rattle.rule_types.specs.declared.rule_option.RuleOption.TheVariants as option
 use Rattle.rule_types.specs.declared.part.Act.{Act}
 use Rattle.rule_types.specs.declared.part.Assignment.{Assignment}
-use Rattle.rule_types.specs.declared.part.Change.{Change}
-use Rattle.rule_types.specs.declared.part.Change.TheVariants as change
 use Rattle.rule_types.specs.declared.part.Comparison.{Comparison}
-use Rattle.rule_types.specs.declared.part.Deed.{Deed}
-use Rattle.rule_types.specs.declared.part.Deed.TheVariants as deed
-use Rattle.rule_types.specs.declared.part.Import.{Import}
-use Rattle.rule_types.specs.declared.part.Import.TheVariants as import
 use Rattle.rule_types.specs.declared.part.PlainMatch.{PlainMatch}
 use Rattle.rule_types.specs.declared.part.UpMatch.{UpMatch}
 use Rattle.rule_types.specs.Rules.{Rule}
-use Rattle.device_core.specs.Values.{AnswerValue, DeviceValue, EventValue}
-use Rattle.eval_state.specs.Chains.{device_at}
-use Rattle.eval_state.specs.Texts.{or_empty}
+use Rattle.device_core.specs.Values.{EventValue}
 use Rattle.eval_state.specs.declared.state.State.{State}
-use Rattle.eval_rendering.specs.Rendering.{render}
-use Rattle.eval_rendering.specs.declared.rendered.Mode.TheVariants.{Plain}
 use Rattle.eval_rendering.specs.declared.rendered.Rendered.{Rendered}
 use Rattle.eval_rendering.specs.declared.rendered.Rendered.TheVariants as rendered
-use Rattle.eval_state.specs.Notes.{note_about, word_of_key}
-use Rattle.eval_state.specs.Runs.{RunValue, runs_after, same_run, with_run}
+use Rattle.eval_state.specs.Notes.{note_about}
+use Rattle.eval_state.specs.Runs.{RunValue}
 use Rattle.eval_state.specs.Scenes.{noted, start}
-use Rattle.eval_state.specs.declared.finals.FinalKey.{FinalKey}
-use Rattle.eval_state.specs.declared.finals.FinalKey.TheVariants as final
+use Rattle.eval_state.specs.declared.notes.Note.{Note}
 use Rattle.eval_state.specs.declared.note_kind.NoteKind.{NoteKind}
-use Rattle.eval_state.specs.declared.note_kind.NoteKind.TheVariants.{BadHwdbArguments, BuiltinNotRun, ImportNotRun, NameIgnored, NoAnswer, SysctlNotRead, TestNotMade, TextTooLong}
+use Rattle.eval_state.specs.declared.note_kind.NoteKind.TheVariants.{AttributeNotRead, SysctlNotRead}
 use Rattle.eval_state.specs.declared.scene.Scene.{Scene}
-use Rattle.eval_acts.specs.Builtins.{builtin}
-use Rattle.eval_acts.specs.declared.builtin.Builtin.{Builtin}
-use Rattle.eval_acts.specs.declared.builtin.Builtin.TheVariants as asked_for
-use Rattle.eval_acts.specs.Acts.{act_step, imported, on_text, performed}
-use Rattle.eval_acts.specs.Imports.{builtin_run, from_parent, not_run, run_builtin}
-use Rattle.eval_acts.specs.Questions.{answered_or_noted, asked, tested, with_result}
+use Rattle.eval_acts.specs.Acts.{act_step}
+use Rattle.eval_matching.specs.Attributes.{is_not_read}
 use Rattle.eval_acts.specs.Reaching.{reached}
-use Rattle.eval_assignments.specs.Assigning.{assigned, with_option}
-use Rattle.eval_assignments.specs.Escapes.{escape_of, mode_of}
-use Rattle.eval_assignments.specs.Finality.{final_key, final_option, final_target, finally, is_settled, settled}
-use Rattle.eval_assignments.specs.Properties.{appended, property_added, property_changed, property_joined}
-use Rattle.eval_assignments.specs.Steps.{is_ignored, run_of, set_step, step_by, text_given, text_set}
+use Rattle.eval_assignments.specs.Steps.{set_step}
 use Rattle.eval_rules.specs.Jumps.{is_passed, run, sought_after}
 use Rattle.eval_rules.specs.Outcomes.{late_note, late_notes, outcome, outcome_of, run_text}
-use Rattle.eval_rules.specs.Steps.{Went, apply, onward, plain_step, result_step, search, set_all, walk}
+use Rattle.eval_rules.specs.Idle.{change_applies, is_idle, note_all, note_step}
+use Rattle.eval_rules.specs.Steps.{Went, apply, before_sets, only_noted, onward, plain_step, result_step, search, steps, walk}
 use Rattle.eval_laws.specs.Counts.{part_count}
+use Rattle.eval_laws.proofs.Sums.{sum_less}
+use Rattle.eval_laws.proofs.CountedActs.{act_counts}
+use Rattle.eval_laws.proofs.CountedSets.{set_counts}
+use Rattle.eval_laws.proofs.Measured.{measured, noted_more}
 
--- the notes of a scene, and the commands that may leave one
-abbrev counted : Scene → ℕ
-counted s = length s.notes + length s.runs
+-- what the parts of a rule add at most, if each adds so much
+abbrev pub parts_most : ℕ → Rule → ℕ
+parts_most most r =
+    sum_by (λ (p : PlainMatch). most) r.plain + sum_by (λ (p : Act). most) r.acts + sum_by (λ (p : Comparison). most) r.results + sum_by (λ (p : Assignment). most) r.sets
 
--- ---- acts
+ones : {X : Type 0} (xs : List X) → sum_by (λ (x : X). 1) xs ≡ length xs
+ones [] = refl
+ones (x ∷ xs) = let a = sum_by-cons (λ y. 1) x xs in let b = ones xs in omega (arith, a, b)
 
-module _ (r : Rule) (s : Scene) where
-  notes : (kind : NoteKind) (text : Text) → counted (noted r kind text s) ≤ counted s + 1
-  notes kind text = let a = length_push s.notes (note_about r kind text) in omega (arith, a)
+no_sum : {X : Type 0} (xs : List X) → sum_by (λ (x : X). 0) xs ≡ 0
+no_sum [] = refl
+no_sum (x ∷ xs) = let a = sum_by-cons (λ y. 0) x xs in let b = no_sum xs in omega (arith, a, b)
 
-  on_text_counts : (d : Deed) (act : Text → Scene → Scene × Bool) (given : Rendered) → ((text : Text) → counted (act text s).0 ≤ counted s + 1) → counted (on_text r d act given s).0 ≤ counted s + 1
-  on_text_counts d act (rendered.Text text) each = each text
-  on_text_counts d act rendered.TooLong each = notes TextTooLong (word_of_key (key_of_deed d) (attribute_of_deed d))
+module _ (w : Note → ℕ) (v : RunValue → ℕ) (c : Rule → ℕ) (light : (r : Rule) (kind : NoteKind) (text : Text) → w (note_about r kind text) ≤ c r) (late : (run : RunValue) → v run ≤ c run.rule) where
+  abbrev counted : Scene → ℕ
+  counted s = measured w v s
 
-  tested_counts : (mask : Option Text) (path : Text) → counted (tested r mask path s).0 ≤ counted s + 1
-  tested_counts mask path = by (is_some mask || begins_with slash path)
+  onward_counts : (next : Scene → Went) (k n : ℕ) (went : Went) → counted went.0 ≤ n → ((s : Scene) → counted (next s).0 ≤ counted s + k) → counted (onward next went).0 ≤ n + k
+  onward_counts next k n went h each = by went.1
     where
-      by : (b : Bool) → counted (if◌then◌else◌ {A = Scene × Bool} b (noted r TestNotMade path s, false) (s, is_some (value_of s.state.event.device.attrs path))).0 ≤ counted s + 1
-      by true = notes TestNotMade path
-      by false = omega arith
+      by : (b : Bool) → counted (if b then next went.0 else went).0 ≤ n + k
+      by true = let a = each went.0 in omega (arith, a, h)
+      by false = omega (arith, h)
 
-  answered_counts : (command : Text) (answer : Option AnswerValue) → counted (answered_or_noted r command answer s).0 ≤ counted s + 1
-  answered_counts command None = notes NoAnswer command
-  answered_counts command (Some answer) = by (answer.status == 0)
+  module _ {P : Type 0} (most : ℕ) (step : P → Scene → Went) (each : (p : P) (s : Scene) → counted (step p s).0 ≤ counted s + most) where
+    walk_counts : (ps : List P) (s : Scene) → counted (walk step ps s).0 ≤ counted s + sum_by (λ (p : P). most) ps
+    unfolding walk
+    walk_counts [] s = omega arith
+    walk_counts (p ∷ ps) s =
+        let a = onward_counts (walk step ps) (sum_by (λ (q : P). most) ps) (counted s + most) (step p s) (each p s) (walk_counts ps) in
+        let b = sum_by-cons (λ (q : P). most) p ps in
+        omega (arith, a, b)
+
+  module _ (r : Rule) where
+    reached_counts : (at : PlainKey) (s : Scene) → counted (reached r at s) ≤ counted s + c r
+    reached_counts (plain.Sysctl name) s = noted_more w v c light r s SysctlNotRead name
+    reached_counts plain.Action s = omega arith
+    reached_counts plain.Devpath s = omega arith
+    reached_counts plain.Kernel s = omega arith
+    reached_counts plain.Subsystem s = omega arith
+    reached_counts plain.Driver s = omega arith
+    reached_counts plain.Name s = omega arith
+    reached_counts plain.Symlink s = omega arith
+    reached_counts plain.Tag s = omega arith
+    reached_counts (plain.Attr name) s = by (is_not_read name s.state.event)
+      where
+        by : (b : Bool) → counted (if b then noted r AttributeNotRead name s else s) ≤ counted s + c r
+        by true = noted_more w v c light r s AttributeNotRead name
+        by false = omega arith
+    reached_counts (plain.Env name) s = omega arith
+    reached_counts (plain.Const name) s = omega arith
+
+    plain_counts : (m : PlainMatch) (s : Scene) → counted (plain_step r m s).0 ≤ counted s + c r
+    unfolding plain_step
+    plain_counts m s = reached_counts m.key s
+
+    result_counts : (wanted : Comparison) (s : Scene) → counted (result_step wanted s).0 ≤ counted s + c r
+    unfolding result_step
+    result_counts wanted s = omega arith
+
+    search_counts : (parts : List UpMatch) (s : Scene) → counted (search parts s).0 ≤ counted s + 0
+    search_counts [] s = omega arith
+    search_counts (part ∷ parts) s = omega arith
+
+    sets_count : (step : Scene → Assignment → Scene) → ((s : Scene) (a : Assignment) → counted (step s a) ≤ counted s + c r)
+        → (sets : List Assignment) (s : Scene) → counted (fold step s sets) ≤ counted s + sum_by (λ (a : Assignment). c r) sets
+    sets_count step each [] s = omega arith
+    sets_count step each (a ∷ sets) s =
+        let one = each s a in
+        let rest = sets_count step each sets (step s a) in
+        let b = sum_by-cons (λ (x : Assignment). c r) a sets in
+        omega (arith, one, rest, b)
+
+  -- a rule with its assignments, however these are made
+  went_counts : (entries : List Entry) (r : Rule) (step : Scene → Assignment → Scene) → ((s : Scene) (a : Assignment) → counted (step s a) ≤ counted s + c r)
+      → (s : Scene) → counted (onward (λ (t : Scene). (fold step t r.sets, true)) (before_sets entries r s)).0 ≤ counted s + parts_most (c r) r
+  went_counts entries r step each s =
+      let most : ℕ = c r in
+      let p : ℕ = counted s + sum_by (λ (x : PlainMatch). most) r.plain in
+      let a : ℕ = p + sum_by (λ (x : Act). most) r.acts in
+      let b : ℕ = a + sum_by (λ (x : Comparison). most) r.results in
+      let plainly : Went = walk (plain_step r) r.plain s in
+      let found : Went = onward (search r.up) plainly in
+      let acted : Went = onward (walk (act_step entries r) r.acts) found in
+      let behind_plain = walk_counts most (plain_step r) (plain_counts r) r.plain s in
+      let behind_up = onward_counts (search r.up) 0 p plainly behind_plain (search_counts r r.up) in
+      let behind_acts =
+      onward_counts (walk (act_step entries r) r.acts) (sum_by (λ (x : Act). most) r.acts) p found (omega (arith, behind_up)) (walk_counts most (act_step entries r) (act_counts w v c light entries r) r.acts) in
+      let behind_results = onward_counts (walk result_step r.results) (sum_by (λ (x : Comparison). most) r.results) a acted behind_acts (walk_counts most result_step (result_counts r) r.results) in
+      let behind_sets = onward_counts (λ (t : Scene). (fold step t r.sets, true)) (sum_by (λ (x : Assignment). most) r.sets) b (before_sets entries r s) behind_results (sets_count r step each r.sets) in
+      omega (arith, behind_sets)
+
+  note_counts : (r : Rule) (s : Scene) (a : Assignment) → counted (note_step r s a) ≤ counted s + c r
+  note_counts r s a = by (change_applies a.change s.state.event.device)
     where
-      by : (b : Bool) → counted (if◌then◌else◌ {A = Scene × Bool} b (with_result answer.text s, true) (s, false)).0 ≤ counted s + 1
+      by : (b : Bool) → counted (if b then s else set_step r s a) ≤ counted s + c r
       by true = omega arith
-      by false = omega arith
+      by false = set_counts w v c light late r s a
 
-  builtin_counts : (entries : List Entry) (command : Text) (wanted : Builtin) → counted (builtin_run entries r command wanted s).0 ≤ counted s + 1
-  builtin_counts entries command (asked_for.Hwdb hwdb) = omega arith
-  builtin_counts entries command (asked_for.Other name) = notes BuiltinNotRun name
-  builtin_counts entries command asked_for.BadArguments = notes BadHwdbArguments command
+  -- a rule that is not passed over, and one that is, of which the notes are kept
+  steps_count : (entries : List Entry) (r : Rule) (s : Scene) → counted (steps entries r s).0 ≤ counted s + parts_most (c r) r
+  unfolding steps
+  steps_count entries r s = went_counts entries r (set_step r) (set_counts w v c light late r) s
 
-  parent_counts : (names : List (List Item)) (parent : Option DeviceValue) → counted (from_parent names parent s).0 ≤ counted s + 1
-  parent_counts names None = omega arith
-  parent_counts names (Some parent) = omega arith
+  notes_count : (entries : List Entry) (r : Rule) (s : Scene) → counted (onward (note_all r) (before_sets entries r s)).0 ≤ counted s + parts_most (c r) r
+  notes_count entries r s = went_counts entries r (note_step r) (note_counts r) s
 
-  not_run_counts : (from : Import) → counted (not_run r from s).0 ≤ counted s + 1
-  not_run_counts from = notes ImportNotRun (import_name (type_of from))
+-- ---- rules one behind another
 
-  import_counts : (entries : List Entry) (d : Deed) (from : Import) → counted (imported entries r d from s).0 ≤ counted s + 1
-  import_counts entries d (import.Builtin template) =
-      on_text_counts d (run_builtin entries r) (render template s.state Plain) (λ command. builtin_counts entries command (builtin command))
-  import_counts entries d (import.Parent names text) = parent_counts names (device_at s.state.event 1)
-  import_counts entries d (import.Program template) = not_run_counts (import.Program template)
-  import_counts entries d (import.File template) = not_run_counts (import.File template)
-  import_counts entries d (import.Cmdline name) = not_run_counts (import.Cmdline name)
-  import_counts entries d (import.Db name) = not_run_counts (import.Db name)
-
-deed_counts : (entries : List Entry) (r : Rule) (s : Scene) (d : Deed) → counted (performed entries r d s).0 ≤ counted s + 1
-deed_counts entries r s (deed.Test mask template) = on_text_counts r s (deed.Test mask template) (tested r mask) (render template s.state Plain) (tested_counts r s mask)
-deed_counts entries r s (deed.Program template) =
-    on_text_counts r (with_result [] s) (deed.Program template) (asked r) (render template s.state Plain)
-    (λ command. answered_counts r (with_result [] s) command (value_of s.state.event.programs command))
-deed_counts entries r s (deed.Import from) = import_counts r s entries (deed.Import from) from
-
--- an act of a rule
-act_counts : (entries : List Entry) (r : Rule) (act : Act) (s : Scene) → counted (act_step entries r act s).0 ≤ counted s + 1
-unfolding act_step
-act_counts entries r act s = deed_counts entries r s act.deed
-
--- ---- assignments
-
-with_run_counts : (runs : List RunValue) (run : RunValue) → length (with_run runs run) ≤ length runs + 1
-with_run_counts runs run = by (is_empty run.template.written || list_any (same_run run) runs)
-  where
-    by : (b : Bool) → length (if b then runs else runs ++ run ∷ []) ≤ length runs + 1
-    by true = omega arith
-    by false = let a = length_push runs run in omega (arith, a)
-
-runs_counts : (o : AssignOperator) (runs : List RunValue) (run : RunValue) → length (runs_after o runs run) ≤ length runs + 1
-runs_counts Add runs run = with_run_counts runs run
-runs_counts Assign runs run = let a = with_run_counts [] run in omega (arith, a)
-runs_counts Remove runs run = let a = with_run_counts [] run in omega (arith, a)
-runs_counts AssignFinal runs run = let a = with_run_counts [] run in omega (arith, a)
-
-settled_counts : (k : Option FinalKey) (s : Scene) → counted (settled k s) ≤ counted s
-settled_counts None s = omega arith
-settled_counts (Some k) s = omega arith
-
-finally_counts : (o : AssignOperator) (k : Option FinalKey) (s : Scene) → counted (finally o k s) ≤ counted s
-finally_counts AssignFinal k s = settled_counts k s
-finally_counts Assign k s = omega arith
-finally_counts Add k s = omega arith
-finally_counts Remove k s = omega arith
-
-option_counts : (known : RuleOption) (s : Scene) → counted (with_option known s) ≤ counted s
-option_counts (option.LinkPriority m) s = omega arith
-option_counts option.Watch s = omega arith
-option_counts option.NoWatch s = omega arith
-option_counts option.DbPersist s = omega arith
-option_counts option.KeepEscapes s = omega arith
-option_counts option.ReplaceEscapes s = omega arith
-option_counts option.Ignored s = omega arith
-
-module _ (r : Rule) (s : Scene) where
-  joined_counts : (name : Text) (value : Option Text) → counted (property_joined r name value s) ≤ counted s + 1
-  joined_counts name None = notes r s TextTooLong (word_of_key key.Env (Some name))
-  joined_counts name (Some value) = omega arith
-
-  added_counts : (name t : Text) → counted (property_added r name t s) ≤ counted s + 1
-  added_counts name [] = omega arith
-  added_counts name (b ∷ t) = joined_counts name (appended (or_empty (value_of s.state.env name)) (b ∷ t))
-
-  property_counts : (o : AssignOperator) (name t : Text) → counted (property_changed r o name t s) ≤ counted s + 1
-  property_counts Add name t = added_counts name t
-  property_counts Assign name t = omega arith
-  property_counts Remove name t = omega arith
-  property_counts AssignFinal name t = omega arith
-
-  assigned_counts : (e : _) → (o : AssignOperator) (about : Target) (t : Text) → counted (assigned r e o about t s) ≤ counted s + 1
-  assigned_counts e o target.Owner t = omega arith
-  assigned_counts e o target.Group t = omega arith
-  assigned_counts e o target.Mode t = omega arith
-  assigned_counts e o target.Tag t = omega arith
-  assigned_counts e o (target.Seclabel name) t = omega arith
-  assigned_counts e o (target.Env name) t = property_counts o name t
-  assigned_counts e o target.Name t = omega arith
-  assigned_counts e o target.Symlink t = omega arith
-  assigned_counts e o (target.Attr name) t = omega arith
-  assigned_counts e o (target.Sysctl name) t = omega arith
-
-  given_counts : (e : _) → (o : AssignOperator) (about : Target) (t : Text) → counted (text_given r e o about t s) ≤ counted s + 1
-  given_counts e o about t = by (is_ignored about s)
-    where
-      by : (b : Bool) → counted (if b then noted r NameIgnored t s else finally o (final_target about) (assigned r e o about t s)) ≤ counted s + 1
-      by true = notes r s NameIgnored t
-      by false =
-          let a = finally_counts o (final_target about) (assigned r e o about t s) in
-          let b = assigned_counts e o about t in
-          omega (arith, a, b)
-
-  text_counts : (e : _) → (o : AssignOperator) (about : Target) (given : Rendered) → counted (text_set r e o about given s) ≤ counted s + 1
-  text_counts e o about (rendered.Text t) = given_counts e o about t
-  text_counts e o about rendered.TooLong = notes r s TextTooLong (word_of_key (key_of_target about) (attribute_of_target about))
-
-  change_counts : (o : AssignOperator) (c : Change) → counted (step_by r o c s) ≤ counted s + 1
-  change_counts o (change.Option known) =
-      let a = finally_counts o (final_option known) (with_option known s) in
-      let b = option_counts known s in
-      omega (arith, a, b)
-  change_counts o (change.Text about template) = text_counts (escape_of r.sets) o about (render template s.state (mode_of about (escape_of r.sets)))
-  change_counts o (change.Run braces template) =
-      let a = finally_counts o (Some final.Run) (record s { runs = runs_after o s.runs (run_of r braces template s) }) in
-      let b = runs_counts o s.runs (run_of r braces template s) in
+module _ (w : Note → ℕ) (c : Rule → ℕ) (light : (r : Rule) (kind : NoteKind) (text : Text) → w (note_about r kind text) ≤ c r) where
+  -- the notes of a rule that is passed over
+  pub noted_counts : (entries : List Entry) (r : Rule) (s : Scene) → sum_by w (only_noted entries r s).0.notes ≤ sum_by w s.notes + parts_most (c r) r
+  noted_counts entries r s =
+      let a = notes_count w (λ run. 0) c light (λ run. omega arith) entries r s in
+      let b = no_sum s.runs in
       omega (arith, a, b)
 
-  -- an assignment of a rule
-  set_counts : (a : Assignment) → counted (set_step r s a) ≤ counted s + 1
-  unfolding set_step
-  set_counts a = by (is_settled (final_key a.change) s.finals)
+module _ (w : Note → ℕ) (v : RunValue → ℕ) (c : Rule → ℕ) (light : (r : Rule) (kind : NoteKind) (text : Text) → w (note_about r kind text) ≤ c r) (late : (run : RunValue) → v run ≤ c run.rule) where
+  abbrev all : Scene → ℕ
+  all s = sum_by w s.notes + sum_by v s.runs
+
+  -- a rule
+  rule_counts : (entries : List Entry) (r : Rule) (s : Scene) → all (apply entries r s).0 ≤ all s + parts_most (c r) r
+  unfolding apply
+  rule_counts entries r s = by (is_idle r s.state.event)
     where
-      by : (b : Bool) → counted (if b then s else step_by r a.operator a.change s) ≤ counted s + 1
-      by true = omega arith
-      by false = change_counts a.operator a.change
+      by : (b : Bool) → all (if b then only_noted entries r s else steps entries r s).0 ≤ all s + parts_most (c r) r
+      by true = let a = noted_counts w c light entries r s in omega (arith, a)
+      by false = steps_count w v c light late entries r s
 
--- ---- rules
+  -- all rules
+  run_counts : (entries : List Entry) (rules : List Rule) (sought : Option Text) (s : Scene) → all (run entries sought rules s) ≤ all s + sum_by (λ (r : Rule). parts_most (c r) r) rules
+  unfolding run
+  run_counts entries [] sought s = omega arith
+  run_counts entries (r ∷ rules) sought s = by (is_passed sought r) (run_counts entries rules)
+    where
+      own : Rule → ℕ
+      own q = parts_most (c q) q
 
-onward_counts : (next : Scene → Went) (k n : ℕ) (went : Went) → counted went.0 ≤ n → ((s : Scene) → counted (next s).0 ≤ counted s + k) → counted (onward next went).0 ≤ n + k
-onward_counts next k n went h each = by went.1
-  where
-    by : (b : Bool) → counted (if b then next went.0 else went).0 ≤ n + k
-    by true = let a = each went.0 in omega (arith, a, h)
-    by false = omega (arith, h)
-
-module _ {P : Type 0} (step : P → Scene → Went) (each : (p : P) (s : Scene) → counted (step p s).0 ≤ counted s + 1) where
-  walk_counts : (ps : List P) (s : Scene) → counted (walk step ps s).0 ≤ counted s + length ps
-  unfolding walk
-  walk_counts [] s = omega arith
-  walk_counts (p ∷ ps) s = let a = onward_counts (walk step ps) (length ps) (counted s + 1) (step p s) (each p s) (walk_counts ps) in omega (arith, a)
-
-module _ (r : Rule) where
-  reached_counts : (at : PlainKey) (s : Scene) → counted (reached r at s) ≤ counted s + 1
-  reached_counts (plain.Sysctl name) s = notes r s SysctlNotRead name
-  reached_counts plain.Action s = omega arith
-  reached_counts plain.Devpath s = omega arith
-  reached_counts plain.Kernel s = omega arith
-  reached_counts plain.Subsystem s = omega arith
-  reached_counts plain.Driver s = omega arith
-  reached_counts plain.Name s = omega arith
-  reached_counts plain.Symlink s = omega arith
-  reached_counts plain.Tag s = omega arith
-  reached_counts (plain.Attr name) s = omega arith
-  reached_counts (plain.Env name) s = omega arith
-  reached_counts (plain.Const name) s = omega arith
-
-  plain_counts : (m : PlainMatch) (s : Scene) → counted (plain_step r m s).0 ≤ counted s + 1
-  unfolding plain_step
-  plain_counts m s = reached_counts m.key s
-
-  result_counts : (c : Comparison) (s : Scene) → counted (result_step c s).0 ≤ counted s + 1
-  unfolding result_step
-  result_counts c s = omega arith
-
-  search_counts : (parts : List UpMatch) (s : Scene) → counted (search parts s).0 ≤ counted s + 0
-  search_counts [] s = omega arith
-  search_counts (part ∷ parts) s = omega arith
-
-  sets_count : (sets : List Assignment) (s : Scene) → counted (fold (set_step r) s sets) ≤ counted s + length sets
-  sets_count [] s = omega arith
-  sets_count (a ∷ sets) s =
-      let one = set_counts r s a in
-      let rest = sets_count sets (set_step r s a) in
-      omega (arith, one, rest)
-
--- a rule
-rule_counts : (entries : List Entry) (r : Rule) (s : Scene) → counted (apply entries r s).0 ≤ counted s + part_count r
-unfolding apply
-rule_counts entries r s =
-    let a : ℕ = counted s + length r.plain in
-    let b : ℕ = a + length r.acts in
-    let c : ℕ = b + length r.results in
-    let plainly : Went = walk (plain_step r) r.plain s in
-    let found : Went = onward (search r.up) plainly in
-    let acted : Went = onward (walk (act_step entries r) r.acts) found in
-    let matched : Went = onward (walk result_step r.results) acted in
-    let behind_plain = walk_counts (plain_step r) (plain_counts r) r.plain s in
-    let behind_up = onward_counts (search r.up) 0 a plainly behind_plain (search_counts r r.up) in
-    let behind_acts =
-    onward_counts (walk (act_step entries r) r.acts) (length r.acts) a found (omega (arith, behind_up)) (walk_counts (act_step entries r) (act_counts entries r) r.acts) in
-    let behind_results = onward_counts (walk result_step r.results) (length r.results) b acted behind_acts (walk_counts result_step (result_counts r) r.results) in
-    let behind_sets = onward_counts (set_all r) (length r.sets) c matched behind_results (sets_count r r.sets) in
-    omega (arith, behind_sets)
-
--- all rules
-run_counts : (entries : List Entry) (rules : List Rule) (sought : Option Text) (s : Scene) → counted (run entries sought rules s) ≤ counted s + sum_by part_count rules
-unfolding run
-run_counts entries [] sought s = omega arith
-run_counts entries (r ∷ rules) sought s = by (is_passed sought r) (run_counts entries rules)
-  where
-    by : (b : Bool) → ((sought : Option Text) (s : Scene) → counted (run entries sought rules s) ≤ counted s + sum_by part_count rules)
-        → counted (if b then run entries sought rules s else run entries (sought_after (apply entries r s).1 r) rules (apply entries r s).0) ≤ counted s + sum_by part_count (r ∷ rules)
-    by true behind =
-        let all = sum_by-cons part_count r rules in
-        let a = behind sought s in
-        omega (arith, all, a)
-    by false behind =
-        let all = sum_by-cons part_count r rules in
-        let own = rule_counts entries r s in
-        let a = behind (sought_after (apply entries r s).1 r) (apply entries r s).0 in
-        omega (arith, all, own, a)
+      by : (b : Bool) → ((sought : Option Text) (s : Scene) → all (run entries sought rules s) ≤ all s + sum_by own rules)
+          → all (if b then run entries sought rules s else run entries (sought_after (apply entries r s).1 r) rules (apply entries r s).0) ≤ all s + sum_by own (r ∷ rules)
+      by true behind =
+          let whole = sum_by-cons own r rules in
+          let a = behind sought s in
+          omega (arith, whole, a)
+      by false behind =
+          let whole = sum_by-cons own r rules in
+          let first = rule_counts entries r s in
+          let a = behind (sought_after (apply entries r s).1 r) (apply entries r s).0 in
+          omega (arith, whole, first, a)
 
 -- ---- the end
 
@@ -323,11 +203,23 @@ lates_count state (kept ∷ runs) =
     let c = lates_count state runs in
     omega (arith, a, b, c)
 
+-- where each part counts one
+parts_count : (r : Rule) → parts_most 1 r ≤ part_count r
+parts_count r =
+    let a = ones r.plain in
+    let b = ones r.acts in
+    let c = ones r.results in
+    let d = ones r.sets in
+    omega (arith, a, b, c, d)
+
 pub notes_counted : (rules : List Rule) (entries : List Entry) (event : EventValue) → length (outcome rules entries event).notes ≤ sum_by part_count rules
 unfolding outcome_of
 notes_counted rules entries event =
     let s : Scene = run entries None rules (start event) in
-    let a = run_counts entries rules None (start event) in
+    let a = run_counts (λ note. 1) (λ run. 1) (λ r. 1) (λ r kind text. omega arith) (λ run. omega arith) entries rules None (start event) in
     let b = lates_count s.state s.runs in
     let c = length-append s.notes (late_notes s.state s.runs) in
-    omega (arith, a, b, c)
+    let d = ones s.notes in
+    let e = ones s.runs in
+    let f = sum_less (λ r. parts_most 1 r) part_count parts_count rules in
+    omega (arith, a, b, c, d, e, f)

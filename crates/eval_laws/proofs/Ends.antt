@@ -1,5 +1,5 @@
 -- What an answer weighs, by the scene that it is made of.
-use Rattle.std.proofs.Common.{◌+◌, ◌≤◌, List, [], ◌∷◌, option_map, arith}
+use Rattle.std.proofs.Common.{◌≡◌, ◌+◌, ◌≤◌, List, [], ◌∷◌, map, option_map, refl, arith}
 use Rattle.std.proofs.lemmas.List.Sums.{sum_by-cons, sum_by-append}
 use Rattle.std.specs.List.{sum_by}
 use Rattle.text_tables.specs.Pairs.{Pair}
@@ -15,14 +15,16 @@ use Rattle.eval_rendering.specs.declared.rendered.Rendered.TheVariants as render
 use Rattle.eval_state.specs.Notes.{note_about, word_of_key}
 use Rattle.eval_state.specs.Runs.{RunValue, run_kind}
 use Rattle.eval_state.specs.declared.note_kind.NoteKind.TheVariants.{TextTooLong}
+use Rattle.eval_state.specs.declared.made_runs.MadeRun.{MadeRun}
 use Rattle.eval_state.specs.declared.scene.Scene.{Scene}
-use Rattle.eval_rules.specs.Outcomes.{by_name, command, commands, late_note, late_notes, outcome_of, put, run_text}
+use Rattle.eval_rules.specs.Outcomes.{by_name, command, commands, late_note, late_notes, made_command, outcome_of, put, run_text}
 use Rattle.eval_rules.specs.Steps.{with_selected}
 use Rattle.eval_laws.specs.Weights.{command_weight, note_weight, outcome_weight}
-use Rattle.eval_laws.specs.Inner.{run_weight, scene_weight}
+use Rattle.eval_laws.specs.Inner.{made_weight, run_weight, scene_weight}
 use Rattle.eval_laws.proofs.Sums.{fold_light, put_light}
 use Rattle.eval_laws.proofs.Rendered.{IsShort, rendered_short}
 use Rattle.eval_laws.proofs.Scenes.{note_light}
+use Rattle.eval_laws.proofs.Tables.{without_texts_light}
 
 sorted_light : (pairs : List Pair) → pairs_weight (by_name pairs) ≤ pairs_weight pairs
 sorted_light pairs =
@@ -54,10 +56,21 @@ runs_light state (kept ∷ runs) =
     let e = runs_light state runs in
     omega (arith, a, b, c, d, e)
 
+made_light : (made : List MadeRun) → sum_by command_weight (map made_command made) ≡ sum_by made_weight made
+made_light [] = refl
+made_light (run ∷ made) =
+    let a = sum_by-cons command_weight (made_command run) (map made_command made) in
+    let b = sum_by-cons made_weight run made in
+    let c = made_light made in
+    omega (arith, a, b, c)
+
 pub outcome_light : (s : Scene) → outcome_weight (outcome_of s) ≤ scene_weight s
 unfolding outcome_weight outcome_of scene_weight
 outcome_light s =
     let a = sorted_light s.state.env in
     let b = runs_light s.state s.runs in
     let c = sum_by-append note_weight s.notes (late_notes s.state s.runs) in
-    omega (arith, a, b, c)
+    let d = sum_by-append command_weight (commands s.state s.runs) (map made_command s.made) in
+    let e = made_light s.made in
+    let f = without_texts_light s.state.tags s.gone in
+    omega (arith, a, b, c, d, e, f)

@@ -1,38 +1,36 @@
--- The name of a network device and the names of links are as long as their text, however bytes are treated. The crate that
--- treats them keeps the type of its ways to itself, so that they are told here by the options that lead to them.
-use Rattle.std.proofs.Common.{◌≡◌, List, [], ◌∷◌, length, fold, refl, arith}
+-- The name of a network device, the names of links and the value of a property are as long as their text, however bytes are treated.
+use Rattle.std.proofs.Common.{◌≡◌, [], ◌∷◌, length, refl, arith, ◌∙◌}
+use Rattle.std.proofs.lemmas.List.{length-map}
+use Rattle.text_bytes.specs.declared.profile.Profile.{Profile}
+use Rattle.text_bytes.specs.declared.profile.Profile.TheVariants.{Manual, Udev}
 use Rattle.text_tables.specs.Texts.{Text}
-use Rattle.rule_types.specs.declared.rule_option.RuleOption.TheVariants as option
-use Rattle.rule_types.specs.declared.part.Assignment.{Assignment}
-use Rattle.rule_types.specs.declared.part.Change.{Change}
-use Rattle.rule_types.specs.declared.part.Change.TheVariants as change
-use Rattle.eval_assignments.specs.Assigning.{link_text, name_text}
-use Rattle.eval_assignments.specs.Escapes.{escape_after, escape_of, turned}
+use Rattle.eval_rendering.specs.Safe.{link_marks, safe}
+use Rattle.eval_rendering.proofs.Places.{length-safe}
+use Rattle.eval_assignments.specs.declared.escapes.Escape.{Escape}
+use Rattle.eval_assignments.specs.declared.escapes.Escape.TheVariants as escape
+use Rattle.eval_assignments.specs.Assigning.{link_text}
+use Rattle.eval_assignments.specs.Escapes.{turned}
+use Rattle.eval_assignments.specs.Names.{name_byte, name_text}
+use Rattle.eval_assignments.specs.Properties.{env_text, unslashed_byte}
 
 turned_same : (t : Text) → length (turned t) ≡ length t
 turned_same [] = omega arith
 turned_same (b ∷ t) = let a = turned_same t in omega (arith, a)
 
--- an assignment more
-after_same : (e : _) (c : Change) → ((t : Text) → (length (name_text e t) ≡ length t) × (length (link_text e t) ≡ length t))
-    → (t : Text) → (length (name_text (escape_after e c) t) ≡ length t) × (length (link_text (escape_after e c) t) ≡ length t)
-after_same e (change.Option option.KeepEscapes) h t = (refl, refl)
-after_same e (change.Option option.ReplaceEscapes) h t = (turned_same t, turned_same t)
-after_same e (change.Option (option.LinkPriority n)) h t = h t
-after_same e (change.Option option.Watch) h t = h t
-after_same e (change.Option option.NoWatch) h t = h t
-after_same e (change.Option option.DbPersist) h t = h t
-after_same e (change.Option option.Ignored) h t = h t
-after_same e (change.Text about template) h t = h t
-after_same e (change.Run kind template) h t = h t
+pub name_same : (profile : Profile) (e : Escape) (t : Text) → length (name_text profile e t) ≡ length t
+name_same Manual escape.Keep t = refl
+name_same Udev escape.Keep t = refl
+name_same Manual escape.Usual t = turned_same t
+name_same Manual escape.Replace t = turned_same t
+name_same Udev escape.Usual t = length-map t name_byte
+name_same Udev escape.Replace t = length-map t name_byte
 
-all_same : (sets : List Assignment) (e : _) → ((t : Text) → (length (name_text e t) ≡ length t) × (length (link_text e t) ≡ length t))
-    → (t : Text) → (length (name_text (fold (λ f (a : Assignment). escape_after f a.change) e sets) t) ≡ length t)
-    × (length (link_text (fold (λ f (a : Assignment). escape_after f a.change) e sets) t) ≡ length t)
-all_same [] e h t = h t
-all_same (a ∷ sets) e h t = all_same sets (escape_after e a.change) (after_same e a.change h) t
+pub link_same : (e : Escape) (t : Text) → length (link_text e t) ≡ length t
+link_same escape.Keep t = refl
+link_same escape.Usual t = refl
+link_same escape.Replace t = turned_same t
 
--- all assignments of a rule
-pub escaped_same : (sets : List Assignment) (t : Text) → (length (name_text (escape_of sets) t) ≡ length t) × (length (link_text (escape_of sets) t) ≡ length t)
-unfolding escape_of
-escaped_same sets t = all_same sets (escape_of []) (λ u. (turned_same u, refl)) t
+pub env_same : (e : Escape) (t : Text) → length (env_text e t) ≡ length t
+env_same escape.Keep t = refl
+env_same escape.Usual t = refl
+env_same escape.Replace t = length-map (turned (safe link_marks t)) unslashed_byte ∙ turned_same (safe link_marks t) ∙ length-safe link_marks t

@@ -1,106 +1,44 @@
 -- Keys that are final stay, assignment by assignment.
 use Rattle.std.proofs.Common.{◌≡◌, ℤ, Bool, true, false, cond, List, [], ◌∷◌, Option, Some, None, refl, sym, ◌∙◌, ap, true≢false}
 use Rattle.std.specs.List.{fold}
+use Rattle.text_bytes.specs.declared.profile.Profile.{Profile}
+use Rattle.text_bytes.specs.declared.profile.Profile.TheVariants.{Manual, Udev}
 use Rattle.text_tables.specs.Texts.{Text}
-use Rattle.text_tables.specs.Pairs.{Pair}
-use Rattle.rule_types.specs.declared.roles.AssignOperator.{AssignOperator}
-use Rattle.rule_types.specs.declared.roles.AssignOperator.TheVariants.{Add, AssignFinal}
-use Rattle.rule_types.specs.declared.roles.Target.{Target}
-use Rattle.rule_types.specs.declared.roles.Target.TheVariants as target
-use Rattle.rule_types.specs.declared.types.RunType.{RunType}
 use Rattle.rule_templates.specs.Template.{Parts as Template}
+use Rattle.rule_types.specs.Written.{attribute_of_target, key_of_target}
+use Rattle.rule_types.specs.declared.roles.AssignOperator.{AssignOperator}
+use Rattle.rule_types.specs.declared.roles.AssignOperator.TheVariants.{Assign, Add, Remove, AssignFinal}
+use Rattle.rule_types.specs.declared.roles.Target.{Target}
 use Rattle.rule_types.specs.declared.rule_option.RuleOption.{RuleOption}
 use Rattle.rule_types.specs.declared.rule_option.RuleOption.TheVariants as option
+use Rattle.rule_types.specs.declared.types.RunType.{RunType}
 use Rattle.rule_types.specs.declared.part.Assignment.{Assignment}
 use Rattle.rule_types.specs.declared.part.Change.{Change}
 use Rattle.rule_types.specs.declared.part.Change.TheVariants as change
 use Rattle.rule_types.specs.Rules.{Rule}
+use Rattle.device_core.specs.Values.{EventValue}
+use Rattle.eval_rendering.specs.Bounds.{within}
+use Rattle.eval_rendering.specs.Rendering.{render}
+use Rattle.eval_rendering.specs.declared.rendered.Mode.TheVariants.{Plain}
 use Rattle.eval_rendering.specs.declared.rendered.Rendered.{Rendered}
 use Rattle.eval_rendering.specs.declared.rendered.Rendered.TheVariants as rendered
 use Rattle.eval_state.specs.Finals.{is_final, made_final}
 use Rattle.eval_state.specs.Runs.{runs_after}
-use Rattle.eval_state.specs.Scenes.{noted, with_env}
-use Rattle.eval_state.specs.declared.note_kind.NoteKind.TheVariants.{NameIgnored}
+use Rattle.eval_state.specs.Scenes.{noted, noted_key}
+use Rattle.eval_state.specs.declared.note_kind.NoteKind.TheVariants.{NameIgnored, NoDeviceNumber}
 use Rattle.eval_state.specs.declared.finals.FinalKey.{FinalKey}
 use Rattle.eval_state.specs.declared.finals.FinalKey.TheVariants as key
 use Rattle.eval_state.specs.declared.finals.Finals.{Finals}
-use Rattle.eval_state.specs.declared.notes.Note.{Note}
 use Rattle.eval_state.specs.declared.scene.Scene.{Scene}
 use Rattle.eval_assignments.specs.declared.escapes.Escape.{Escape}
 use Rattle.eval_assignments.specs.Assigning.{assigned, with_option}
+use Rattle.eval_assignments.specs.Bounds.{most_command_bytes}
 use Rattle.eval_assignments.specs.Escapes.{escape_of}
 use Rattle.eval_assignments.specs.Finality.{final_key, final_option, final_target, finally, is_settled}
-use Rattle.eval_laws.specs.AssignmentLaws.{SameAt, Keeps}
-use Rattle.eval_assignments.specs.Properties.{property_added, property_changed, property_joined}
-use Rattle.eval_assignments.specs.Steps.{is_ignored, run_of, set_step, step_by, text_given, text_set}
-
--- what is true is not false
-absurdly : {A : Type 0} (b : Bool) → b ≡ true → b ≡ false → A
-absurdly b t f = absurd (true≢false (sym t ∙ f))
-
--- neither the value of a key nor what is final differs
-abbrev Same : FinalKey → Scene → Scene → Type 0
-Same k s t = SameAt k s t × (t.finals ≡ s.finals)
-
-same_itself : (k : FinalKey) (s : Scene) → SameAt k s s
-same_itself key.Owner s = refl
-same_itself key.Group s = refl
-same_itself key.Mode s = refl
-same_itself key.Name s = refl
-same_itself key.Symlink s = refl
-same_itself key.Run s = refl
-same_itself key.Priority s = refl
-same_itself key.Watch s = refl
-
-same_through : (k : FinalKey) (s t u : Scene) → SameAt k s t → SameAt k t u → SameAt k s u
-same_through key.Owner s t u a b = b ∙ a
-same_through key.Group s t u a b = b ∙ a
-same_through key.Mode s t u a b = b ∙ a
-same_through key.Name s t u a b = b ∙ a
-same_through key.Symlink s t u a b = b ∙ a
-same_through key.Run s t u a b = b ∙ a
-same_through key.Priority s t u a b = b ∙ a
-same_through key.Watch s t u a b = b ∙ a
-
-same_noted : (k : FinalKey) (s : Scene) (notes : List Note) → SameAt k s (record s { notes = notes })
-same_noted key.Owner s notes = refl
-same_noted key.Group s notes = refl
-same_noted key.Mode s notes = refl
-same_noted key.Name s notes = refl
-same_noted key.Symlink s notes = refl
-same_noted key.Run s notes = refl
-same_noted key.Priority s notes = refl
-same_noted key.Watch s notes = refl
-
-same_finals : (k : FinalKey) (s t : Scene) (f : Finals) → SameAt k s t → SameAt k s (record t { finals = f })
-same_finals key.Owner s t f h = h
-same_finals key.Group s t f h = h
-same_finals key.Mode s t f h = h
-same_finals key.Name s t f h = h
-same_finals key.Symlink s t f h = h
-same_finals key.Run s t f h = h
-same_finals key.Priority s t f h = h
-same_finals key.Watch s t f h = h
-
-same_env : (k : FinalKey) (s : Scene) (env : List Pair) → SameAt k s (with_env env s)
-same_env key.Owner s env = refl
-same_env key.Group s env = refl
-same_env key.Mode s env = refl
-same_env key.Name s env = refl
-same_env key.Symlink s env = refl
-same_env key.Run s env = refl
-same_env key.Priority s env = refl
-same_env key.Watch s env = refl
-
-same_persist : (k : FinalKey) (s : Scene) → SameAt k s (record s { persist = true })
-same_persist key.Owner s = refl
-same_persist key.Group s = refl
-same_persist key.Mode s = refl
-same_persist key.Name s = refl
-same_persist key.Symlink s = refl
-same_persist key.Run s = refl
-same_persist key.Priority s = refl
-same_persist key.Watch s = refl
+use Rattle.eval_assignments.specs.Runs.{made_before, run_made, run_of}
+use Rattle.eval_assignments.specs.Steps.{emptied, finally_too_long, is_ignored, lacks_number, run_step, set_step, step_by, text_given, text_rendered, text_set, text_step}
+use Rattle.eval_laws.specs.AssignmentLaws.{Keeps, may_be_final}
+use Rattle.eval_laws.proofs.Untouched.{At, Kept, value, event, Other, assigned_finals, emptied_finals, itself, made_finals, run_same, same_finally, step_same, through}
 
 -- a key that is made final leaves the others final
 made_final_stays : (k j : FinalKey) (f : Finals) → is_final f k ≡ true → is_final (made_final f j) k ≡ true
@@ -121,119 +59,190 @@ made_final_stays key.Priority j f h = h
 made_final_stays key.Watch key.Watch f h = refl
 made_final_stays key.Watch j f h = h
 
-finally_keeps : (o : AssignOperator) (j : Option FinalKey) (k : FinalKey) (s t : Scene) → is_final s.finals k ≡ true → Same k s t → Keeps k s (finally o j t)
-finally_keeps AssignFinal (Some j) k s t h e = record {
-  same = same_finals k s t (made_final t.finals j) e.0;
-  stays = made_final_stays k j t.finals (ap (λ f. is_final f k) e.1 ∙ h);
-}
-finally_keeps AssignFinal None k s t h e = record { same = e.0; stays = ap (λ f. is_final f k) e.1 ∙ h }
-finally_keeps o j k s t h e = record { same = e.0; stays = ap (λ f. is_final f k) e.1 ∙ h }
+-- a key is final in a scene
+abbrev Final : FinalKey → Scene → Type 0
+Final k s = is_final s.finals k ≡ true
 
--- properties are no key that can be final
-joined_same : (k : FinalKey) (r : Rule) (name : Text) (t : Option Text) (s : Scene) → Same k s (property_joined r name t s)
-joined_same k r name None s = (same_noted k s _, refl)
-joined_same k r name (Some t) s = (same_env k s _, refl)
+same_final : (k : FinalKey) (s t : Scene) → t.finals ≡ s.finals → Final k s → Final k t
+same_final k s t e h = ap (λ f. is_final f k) e ∙ h
 
-added_same : (k : FinalKey) (r : Rule) (name t : Text) (s : Scene) → Same k s (property_added r name t s)
-added_same k r name [] s = (same_itself k s, refl)
-added_same k r name (b ∷ t) s = joined_same k r name _ s
+stays_finally : (k : FinalKey) (o : AssignOperator) (j : Option FinalKey) (t : Scene) → Final k t → Final k (finally o j t)
+stays_finally k AssignFinal (Some j) t h = made_final_stays k j t.finals h
+stays_finally k AssignFinal None t h = h
+stays_finally k Assign j t h = h
+stays_finally k Add j t h = h
+stays_finally k Remove j t h = h
 
-changed_same : (k : FinalKey) (r : Rule) (o : AssignOperator) (name t : Text) (s : Scene) → Same k s (property_changed r o name t s)
-changed_same k r Add name t s = added_same k r name t s
-changed_same k r o name t s = (same_env k s _, refl)
+option_finals : (known : RuleOption) (s : Scene) → (with_option known s).finals ≡ s.finals
+option_finals (option.LinkPriority n) s = refl
+option_finals option.Watch s = refl
+option_finals option.NoWatch s = refl
+option_finals option.DbPersist s = refl
+option_finals known s = refl
 
--- a text that is assigned to another key
-assigned_same : (k : FinalKey) (r : Rule) (e : Escape) (o : AssignOperator) (about : Target) (t : Text) (s : Scene) → is_final s.finals k ≡ true → is_settled (final_target about) s.finals ≡ false → Same k s (assigned r e o about t s)
-assigned_same key.Owner r e o target.Owner t s h g = absurdly _ h g
-assigned_same key.Owner r e o (target.Env name) t s h g = changed_same key.Owner r o name t s
-assigned_same key.Owner r e o about t s h g = (refl, refl)
-assigned_same key.Group r e o target.Group t s h g = absurdly _ h g
-assigned_same key.Group r e o (target.Env name) t s h g = changed_same key.Group r o name t s
-assigned_same key.Group r e o about t s h g = (refl, refl)
-assigned_same key.Mode r e o target.Mode t s h g = absurdly _ h g
-assigned_same key.Mode r e o (target.Env name) t s h g = changed_same key.Mode r o name t s
-assigned_same key.Mode r e o about t s h g = (refl, refl)
-assigned_same key.Name r e o target.Name t s h g = absurdly _ h g
-assigned_same key.Name r e o (target.Env name) t s h g = changed_same key.Name r o name t s
-assigned_same key.Name r e o about t s h g = (refl, refl)
-assigned_same key.Symlink r e o target.Symlink t s h g = absurdly _ h g
-assigned_same key.Symlink r e o (target.Env name) t s h g = changed_same key.Symlink r o name t s
-assigned_same key.Symlink r e o about t s h g = (refl, refl)
-assigned_same key.Run r e o (target.Env name) t s h g = changed_same key.Run r o name t s
-assigned_same key.Run r e o about t s h g = (refl, refl)
-assigned_same key.Priority r e o (target.Env name) t s h g = changed_same key.Priority r o name t s
-assigned_same key.Priority r e o about t s h g = (refl, refl)
-assigned_same key.Watch r e o (target.Env name) t s h g = changed_same key.Watch r o name t s
-assigned_same key.Watch r e o about t s h g = (refl, refl)
+module _ (k : FinalKey) (r : Rule) where
+  given_stays : (profile : Profile) (e : Escape) (o : AssignOperator) (about : Target) (written t : Text) (s : Scene) → Final k s → Final k (text_given profile r e o about written t s)
+  given_stays profile e o about written t s h = by (is_ignored profile about s)
+    where
+      by : (b : Bool) → Final k (cond b (noted r NameIgnored t s) (finally o (final_target about) (assigned profile r e o about written t s)))
+      by true = h
+      by false =
+          stays_finally k o (final_target about) (assigned profile r e o about written t s)
+          (same_final k s (assigned profile r e o about written t s) (assigned_finals profile r e o about written t s) h)
 
-given_keeps : (k : FinalKey) (r : Rule) (e : Escape) (o : AssignOperator) (about : Target) (t : Text) (s : Scene) → is_final s.finals k ≡ true → is_settled (final_target about) s.finals ≡ false → Keeps k s (text_given r e o about t s)
-given_keeps k r e o about t s h g = by (is_ignored about s)
-  where
-    by : (b : Bool) → Keeps k s (cond b (noted r NameIgnored t s) (finally o (final_target about) (assigned r e o about t s)))
-    by true = record { same = same_noted k s _; stays = h }
-    by false = finally_keeps o (final_target about) k s (assigned r e o about t s) h (assigned_same k r e o about t s h g)
+  late_stays : (profile : Profile) (o : AssignOperator) (about : Target) (t : Scene) → Final k t → Final k (finally_too_long profile o about t)
+  late_stays Manual o about t h = h
+  late_stays Udev o about t h = stays_finally k o (final_target about) t h
 
-text_keeps : (k : FinalKey) (r : Rule) (e : Escape) (o : AssignOperator) (about : Target) (text : Rendered) (s : Scene) → is_final s.finals k ≡ true → is_settled (final_target about) s.finals ≡ false → Keeps k s (text_set r e o about text s)
-text_keeps k r e o about (rendered.Text t) s h g = given_keeps k r e o about t s h g
-text_keeps k r e o about rendered.TooLong s h g = record { same = same_noted k s _; stays = h }
+  text_stays : (profile : Profile) (e : Escape) (o : AssignOperator) (about : Target) (written : Text) (text : Rendered) (s : Scene) → Final k s → Final k (text_set profile r e o about written text s)
+  text_stays profile e o about written (rendered.Text t) s h = given_stays profile e o about written t s h
+  text_stays profile e o about written rendered.TooLong s h = late_stays profile o about _ h
+
+  rendered_stays : (profile : Profile) (o : AssignOperator) (about : Target) (template : Template) (s : Scene) → Final k s → Final k (text_rendered profile r o about template s)
+  rendered_stays Manual o about template s h = text_stays Manual (escape_of r.sets) o about template.written _ s h
+  rendered_stays Udev o about template s h = text_stays Udev (escape_of r.sets) o about template.written _ s h
+
+  step_stays : (profile : Profile) (o : AssignOperator) (about : Target) (template : Template) (s : Scene) → Final k s → Final k (text_step profile r o about template s)
+  step_stays Manual o about template s h = rendered_stays Manual o about template s h
+  step_stays Udev o about template s h = by (lacks_number about s.state.event.device.number)
+    where
+      by : (b : Bool) → Final k (cond b (noted_key r NoDeviceNumber (key_of_target about) (attribute_of_target about) s) (text_rendered Udev r o about template (emptied o about s)))
+      by true = h
+      by false = rendered_stays Udev o about template (emptied o about s) (same_final k s (emptied o about s) (emptied_finals o about s) h)
+
+  run_stays : (profile : Profile) (o : AssignOperator) (braces : Option RunType) (template : Template) (s : Scene) → Final k s → Final k (run_step profile r o braces template s)
+  run_stays Manual o braces template s h = stays_finally k o (Some key.Run) (record s { runs = runs_after o s.runs (run_of r braces template s) }) h
+  run_stays Udev o braces template s h =
+      let text : Rendered = within most_command_bytes (render template s.state Plain) in
+      let fewer : Scene = record s { made = made_before o s.made } in
+      stays_finally k o (Some key.Run) (run_made r braces template text fewer) (same_final k s (run_made r braces template text fewer) (made_finals r braces template text fewer) h)
+
+  change_stays : (profile : Profile) (o : AssignOperator) (c : Change) (s : Scene) → Final k s → Final k (step_by profile r o c s)
+  change_stays profile o (change.Option known) s h = stays_finally k o (final_option profile known) (with_option known s) (same_final k s (with_option known s) (option_finals known s) h)
+  change_stays profile o (change.Text about template) s h = step_stays profile o about template s h
+  change_stays profile o (change.Run braces template) s h = run_stays profile o braces template s h
 
 -- an option of another key
-priority_same : (k : FinalKey) (n : ℤ) (s : Scene) → is_final s.finals k ≡ true → s.finals.priority ≡ false → SameAt k s (record s { priority = Some n })
-priority_same key.Owner n s h g = refl
-priority_same key.Group n s h g = refl
-priority_same key.Mode n s h g = refl
-priority_same key.Name n s h g = refl
-priority_same key.Symlink n s h g = refl
-priority_same key.Run n s h g = refl
-priority_same key.Priority n s h g = absurdly _ h g
-priority_same key.Watch n s h g = refl
+module _ (k : Kept) (s : Scene) where
+  priority_same : (priority : Option ℤ) → Other k (Some key.Priority) → At k s (record s { priority = priority })
+  priority_same priority other = by k other
+    where
+      by : (j : Kept) → Other j (Some key.Priority) → At j s (record s { priority = priority })
+      by (value key.Priority) h = absurd (h refl)
+      by (value key.Run) h = (refl, refl)
+      by (value key.Owner) h = refl
+      by (value key.Group) h = refl
+      by (value key.Mode) h = refl
+      by (value key.Name) h = refl
+      by (value key.Symlink) h = refl
+      by (value key.Watch) h = refl
+      by event h = refl
 
-watch_same : (k : FinalKey) (on : Bool) (s : Scene) → is_final s.finals k ≡ true → s.finals.watch ≡ false → SameAt k s (record s { watch = Some on })
-watch_same key.Owner on s h g = refl
-watch_same key.Group on s h g = refl
-watch_same key.Mode on s h g = refl
-watch_same key.Name on s h g = refl
-watch_same key.Symlink on s h g = refl
-watch_same key.Run on s h g = refl
-watch_same key.Priority on s h g = refl
-watch_same key.Watch on s h g = absurdly _ h g
+  watch_same : (watch : Option Bool) → Other k (Some key.Watch) → At k s (record s { watch = watch })
+  watch_same watch other = by k other
+    where
+      by : (j : Kept) → Other j (Some key.Watch) → At j s (record s { watch = watch })
+      by (value key.Watch) h = absurd (h refl)
+      by (value key.Run) h = (refl, refl)
+      by (value key.Owner) h = refl
+      by (value key.Group) h = refl
+      by (value key.Mode) h = refl
+      by (value key.Name) h = refl
+      by (value key.Symlink) h = refl
+      by (value key.Priority) h = refl
+      by event h = refl
 
-option_same : (k : FinalKey) (known : RuleOption) (s : Scene) → is_final s.finals k ≡ true → is_settled (final_option known) s.finals ≡ false → Same k s (with_option known s)
-option_same k (option.LinkPriority n) s h g = (priority_same k n s h g, refl)
-option_same k option.Watch s h g = (watch_same k true s h g, refl)
-option_same k option.NoWatch s h g = (watch_same k false s h g, refl)
-option_same k option.DbPersist s h g = (same_persist k s, refl)
-option_same k known s h g = (same_itself k s, refl)
+  persist_same : At k s (record s { persist = true })
+  persist_same = by k
+    where
+      by : (j : Kept) → At j s (record s { persist = true })
+      by (value key.Run) = (refl, refl)
+      by (value key.Owner) = refl
+      by (value key.Group) = refl
+      by (value key.Mode) = refl
+      by (value key.Name) = refl
+      by (value key.Symlink) = refl
+      by (value key.Priority) = refl
+      by (value key.Watch) = refl
+      by event = refl
 
--- a RUN, where another key is final
-run_same : (k : FinalKey) (r : Rule) (o : AssignOperator) (kind : Option RunType) (template : Template) (s : Scene) → is_final s.finals k ≡ true → is_settled (Some key.Run) s.finals ≡ false → Same k s (record s { runs = runs_after o s.runs (run_of r kind template s) })
-run_same key.Run r o kind template s h g = absurdly _ h g
-run_same key.Owner r o kind template s h g = (refl, refl)
-run_same key.Group r o kind template s h g = (refl, refl)
-run_same key.Mode r o kind template s h g = (refl, refl)
-run_same key.Name r o kind template s h g = (refl, refl)
-run_same key.Symlink r o kind template s h g = (refl, refl)
-run_same key.Priority r o kind template s h g = (refl, refl)
-run_same key.Watch r o kind template s h g = (refl, refl)
+  -- the key of an option, whether `:=` makes it final or not
+  option_same : (known : RuleOption) → Other k (final_option Manual known) → At k s (with_option known s)
+  option_same (option.LinkPriority n) other = priority_same (Some n) other
+  option_same option.Watch other = watch_same (Some true) other
+  option_same option.NoWatch other = watch_same (Some false) other
+  option_same option.DbPersist other = persist_same
+  option_same option.KeepEscapes other = itself k s
+  option_same option.ReplaceEscapes other = itself k s
+  option_same option.Ignored other = itself k s
 
-by_keeps : (k : FinalKey) (r : Rule) (o : AssignOperator) (c : Change) (s : Scene) → is_final s.finals k ≡ true → is_settled (final_key c) s.finals ≡ false → Keeps k s (step_by r o c s)
-by_keeps k r o (change.Option known) s h g = finally_keeps o (final_option known) k s (with_option known s) h (option_same k known s h g)
-by_keeps k r o (change.Text about template) s h g = text_keeps k r (escape_of r.sets) o about _ s h g
-by_keeps k r o (change.Run kind template) s h g = finally_keeps o (Some key.Run) k s _ h (run_same k r o kind template s h g)
+-- an assignment to another key
+change_same : (k : Kept) (r : Rule) (profile : Profile) (o : AssignOperator) (c : Change) (s : Scene) → Other k (final_key Manual c) → At k s (step_by profile r o c s)
+change_same k r profile o (change.Option known) s other = same_finally k s (with_option known s) o (final_option profile known) (option_same k s known other)
+change_same k r profile o (change.Text about template) s other = step_same k r profile o about template s other
+change_same k r profile o (change.Run braces template) s other = run_same k r profile o braces template s other
+
+-- a key that is final is not that of an assignment to a key that is not
+settled_other : (k : FinalKey) (s : Scene) (own : Option FinalKey) → is_final s.finals k ≡ true → is_settled own s.finals ≡ false → Other (value k) own
+settled_other k s own h g e = absurd (true≢false (sym h ∙ sym (ap (λ (j : Option FinalKey). is_settled j s.finals) e) ∙ g))
+
+-- an option's key by the manual is its key by a profile, but that of the priority of links for udev
+manual_key : (k : FinalKey) (profile : Profile) (c : Change) → may_be_final profile k ≡ true → Other (value k) (final_key profile c) → Other (value k) (final_key Manual c)
+manual_key k Manual c may other = other
+manual_key k Udev (change.Text about template) may other = other
+manual_key k Udev (change.Run braces template) may other = other
+manual_key key.Priority Udev (change.Option (option.LinkPriority n)) may other = absurd (true≢false (sym may))
+manual_key key.Owner Udev (change.Option (option.LinkPriority n)) may other = λ e. cc
+manual_key key.Group Udev (change.Option (option.LinkPriority n)) may other = λ e. cc
+manual_key key.Mode Udev (change.Option (option.LinkPriority n)) may other = λ e. cc
+manual_key key.Name Udev (change.Option (option.LinkPriority n)) may other = λ e. cc
+manual_key key.Symlink Udev (change.Option (option.LinkPriority n)) may other = λ e. cc
+manual_key key.Run Udev (change.Option (option.LinkPriority n)) may other = λ e. cc
+manual_key key.Watch Udev (change.Option (option.LinkPriority n)) may other = λ e. cc
+manual_key k Udev (change.Option option.Watch) may other = other
+manual_key k Udev (change.Option option.NoWatch) may other = other
+manual_key k Udev (change.Option option.DbPersist) may other = other
+manual_key k Udev (change.Option option.KeepEscapes) may other = other
+manual_key k Udev (change.Option option.ReplaceEscapes) may other = other
+manual_key k Udev (change.Option option.Ignored) may other = other
+
+-- the event stays whatever is assigned
+pub step_event : (r : Rule) (a : Assignment) (s : Scene) → (set_step r s a).state.event ≡ s.state.event
+unfolding set_step
+step_event r a s = by (is_settled (final_key s.state.event.profile a.change) s.finals)
+  where
+    by : (b : Bool) → (cond b s (step_by s.state.event.profile r a.operator a.change s)).state.event ≡ s.state.event
+    by true = refl
+    by false = change_same event r s.state.event.profile a.operator a.change s tt
+
+-- a key that may be final by the profile of a scene's event
+abbrev pub Lasts : FinalKey → Scene → Type 0
+Lasts k s = may_be_final s.state.event.profile k ≡ true
+
+pub lasts_on : (k : FinalKey) (s t : Scene) → t.state.event ≡ s.state.event → Lasts k s → Lasts k t
+lasts_on k s t e h = ap (λ (v : EventValue). may_be_final v.profile k) e ∙ h
 
 -- a key that is final stays through one assignment
-pub step_keeps : (k : FinalKey) (r : Rule) (a : Assignment) (s : Scene) → is_final s.finals k ≡ true → Keeps k s (set_step r s a)
+pub step_keeps : (k : FinalKey) (r : Rule) (a : Assignment) (s : Scene) → Lasts k s → is_final s.finals k ≡ true → Keeps k s (set_step r s a)
 unfolding set_step
-step_keeps k r a s h = by (is_settled (final_key a.change) s.finals) refl
+step_keeps k r a s lasts h = by (is_settled (final_key s.state.event.profile a.change) s.finals) refl
   where
-    by : (b : Bool) → is_settled (final_key a.change) s.finals ≡ b → Keeps k s (cond b s (step_by r a.operator a.change s))
-    by true g = record { same = same_itself k s; stays = h }
-    by false g = by_keeps k r a.operator a.change s h g
+    by : (b : Bool) → is_settled (final_key s.state.event.profile a.change) s.finals ≡ b → Keeps k s (cond b s (step_by s.state.event.profile r a.operator a.change s))
+    by true g = record { same = itself (value k) s; stays = h }
+    by false g = record {
+      same = change_same (value k) r s.state.event.profile a.operator a.change s
+          (manual_key k s.state.event.profile a.change lasts (settled_other k s (final_key s.state.event.profile a.change) h g));
+      stays = change_stays k r s.state.event.profile a.operator a.change s h;
+    }
 
 -- and through assignments one behind another
-pub fold_keeps : (k : FinalKey) (r : Rule) (sets : List Assignment) (s : Scene) → is_final s.finals k ≡ true → Keeps k s (fold (set_step r) s sets)
-fold_keeps k r [] s h = record { same = same_itself k s; stays = h }
-fold_keeps k r (a ∷ sets) s h =
-    let first = step_keeps k r a s h in
-    let rest = fold_keeps k r sets (set_step r s a) first.stays in
-    record { same = same_through k s (set_step r s a) _ first.same rest.same; stays = rest.stays }
+pub fold_keeps : (k : FinalKey) (r : Rule) (sets : List Assignment) (s : Scene) → Lasts k s → is_final s.finals k ≡ true → Keeps k s (fold (set_step r) s sets)
+fold_keeps k r [] s lasts h = record { same = itself (value k) s; stays = h }
+fold_keeps k r (a ∷ sets) s lasts h =
+    let first = step_keeps k r a s lasts h in
+    let rest = fold_keeps k r sets (set_step r s a) (lasts_on k s (set_step r s a) (step_event r a s) lasts) first.stays in
+    record { same = through (value k) s (set_step r s a) _ first.same rest.same; stays = rest.stays }
+
+pub fold_event : (r : Rule) (sets : List Assignment) (s : Scene) → (fold (set_step r) s sets).state.event ≡ s.state.event
+fold_event r [] s = refl
+fold_event r (a ∷ sets) s = fold_event r sets (set_step r s a) ∙ step_event r a s

@@ -1,13 +1,14 @@
 -- Rules of assignments alone, rules without a jump, and commands one by one.
-use Rattle.std.proofs.Common.{◌≡◌, Bool, true, false, cond, List, [], ◌∷◌, ◌++◌, Option, None, refl, ap, sym, ◌∙◌}
+use Rattle.std.proofs.Common.{◌≡◌, Bool, true, false, cond, List, [], ◌∷◌, ◌++◌, map, Option, None, refl, ap, ◌∙◌, append_assoc}
 use Rattle.std.specs.List.{fold}
 use Rattle.std.proofs.lemmas.List.Concat.{flat_map-append}
+use Rattle.text_bytes.specs.declared.profile.Profile.{Profile}
+use Rattle.text_bytes.specs.declared.profile.Profile.TheVariants.{Manual}
 use Rattle.text_tables.specs.Texts.{Text}
 use Rattle.hwdb_lookup.specs.declared.entry.Entry.{Entry}
 use Rattle.rule_types.specs.Rules.{Rule}
 use Rattle.eval_state.specs.Runs.{RunValue, run_kind}
 use Rattle.eval_state.specs.declared.scene.Scene.{Scene}
-use Rattle.eval_state.specs.declared.state.State.{State}
 use Rattle.eval_acts.specs.Acts.{act_step}
 use Rattle.eval_assignments.specs.Steps.{set_step}
 use Rattle.eval_rendering.specs.Rendering.{render}
@@ -15,17 +16,33 @@ use Rattle.eval_rendering.specs.declared.rendered.Mode.TheVariants.{Plain}
 use Rattle.eval_rendering.specs.declared.rendered.Rendered.{Rendered}
 use Rattle.eval_rendering.specs.declared.rendered.Rendered.TheVariants as rendered
 use Rattle.eval_rules.specs.Jumps.{run, sought_after}
-use Rattle.eval_rules.specs.Outcomes.{command, commands, outcome_of, run_text}
-use Rattle.eval_rules.specs.Steps.{Went, apply, onward, plain_step, result_step, search, set_all, walk}
+use Rattle.eval_rules.specs.Outcomes.{command, commands, made_command, outcome_of, run_text}
+use Rattle.device_core.specs.Values.{EventValue}
+use Rattle.eval_rules.specs.Idle.{is_idle, is_idle_by}
+use Rattle.eval_rules.specs.Steps.{apply, only_noted, onward, plain_step, result_step, search, set_all, steps, walk}
 
 -- a rule of assignments alone
-pub assignments_alone : (es : List Entry) (r : Rule) (s : Scene) → r.plain ≡ [] → r.up ≡ [] → r.acts ≡ [] → r.results ≡ [] → apply es r s ≡ (fold (set_step r) s r.sets, true)
-unfolding apply walk
-assignments_alone es r s plain up acts results =
+steps_alone : (es : List Entry) (r : Rule) (s : Scene) → r.plain ≡ [] → r.up ≡ [] → r.acts ≡ [] → r.results ≡ [] → steps es r s ≡ (fold (set_step r) s r.sets, true)
+unfolding steps walk
+steps_alone es r s plain up acts results =
     ap (λ ps. onward (set_all r) (onward (walk result_step r.results) (onward (walk (act_step es r) r.acts) (onward (search r.up) (walk (plain_step r) ps s))))) plain
     ∙ ap (λ ps. onward (set_all r) (onward (walk result_step r.results) (onward (walk (act_step es r) r.acts) (search ps s)))) up
     ∙ ap (λ ps. onward (set_all r) (onward (walk result_step r.results) (walk (act_step es r) ps s))) acts
     ∙ ap (λ ps. onward (set_all r) (walk result_step ps s)) results
+
+pub assignments_alone : (es : List Entry) (r : Rule) (s : Scene) → is_idle r s.state.event ≡ false → r.plain ≡ [] → r.up ≡ [] → r.acts ≡ [] → r.results ≡ []
+    → apply es r s ≡ (fold (set_step r) s r.sets, true)
+unfolding apply
+assignments_alone es r s idle plain up acts results = ap (λ b. cond b (only_noted es r s) (steps es r s)) idle ∙ steps_alone es r s plain up acts results
+
+never_idle : (r : Rule) (event : EventValue) → event.profile ≡ Manual → is_idle r event ≡ false
+unfolding is_idle_by
+never_idle r event e = ap (λ (p : Profile). is_idle_by p r event) e
+
+-- by the manual no rule is passed over
+pub manual_alone : (es : List Entry) (r : Rule) (s : Scene) → s.state.event.profile ≡ Manual → r.plain ≡ [] → r.up ≡ [] → r.acts ≡ [] → r.results ≡ []
+    → apply es r s ≡ (fold (set_step r) s r.sets, true)
+manual_alone es r s manual = assignments_alone es r s (never_idle r s.state.event manual)
 
 -- a rule whose end is not reached
 pub stopped_follows : (es : List Entry) (r : Rule) (rs : List Rule) (s : Scene) → (apply es r s).1 ≡ false → run es None (r ∷ rs) s ≡ run es None rs (apply es r s).0
@@ -43,9 +60,16 @@ plain_follows es r rs s h = ap (λ (l : Option Text). run es l rs (apply es r s)
 
 -- a RUN among others
 pub one_command : (s : Scene) (before behind : List RunValue) (kept : RunValue) (text : Text) → s.runs ≡ before ++ kept ∷ behind → render kept.template (record s.state { selected = kept.selected }) Plain ≡ rendered.Text text
-    → (outcome_of s).runs ≡ commands s.state before ++ record { kind = run_kind kept.braces; text = text } ∷ commands s.state behind
+    → (outcome_of s).runs ≡ commands s.state before ++ record { kind = run_kind kept.braces; text = text } ∷ (commands s.state behind ++ map made_command s.made)
 unfolding outcome_of
 one_command s before behind kept text split is =
-    ap (commands s.state) split
+    ap (λ cs. cs ++ map made_command s.made)
+    (ap (commands s.state) split
     ∙ flat_map-append (λ (k : RunValue). command k (run_text s.state k)) before (kept ∷ behind)
-    ∙ ap (λ (x : Rendered). commands s.state before ++ (command kept x ++ commands s.state behind)) is
+    ∙ ap (λ (x : Rendered). commands s.state before ++ (command kept x ++ commands s.state behind)) is)
+    ∙ append_assoc (commands s.state before) (record { kind = run_kind kept.braces; text = text } ∷ commands s.state behind) (map made_command s.made)
+
+-- commands that were made at their rules, where no other is kept
+pub made_stand : (s : Scene) → s.runs ≡ [] → (outcome_of s).runs ≡ map made_command s.made
+unfolding outcome_of
+made_stand s none = ap (λ (runs : List RunValue). commands s.state runs ++ map made_command s.made) none

@@ -1,9 +1,16 @@
 -- Keys that are final stay, through any further rules.
-use Rattle.std.proofs.Common.{◌≡◌, Bool, true, false, cond, List, [], ◌∷◌, Option, Some, None, refl, ap, ◌∙◌}
+use Rattle.std.proofs.Common.{◌≡◌, ℕ, Bool, true, false, cond, ◌||◌, is_some, List, [], ◌∷◌, Option, Some, None, refl, ap, ◌∙◌}
 use Rattle.std.specs.List.{fold}
+use Rattle.text_bytes.specs.Names.{slash}
+use Rattle.text_bytes.specs.Texts.{begins_with}
+use Rattle.text_bytes.specs.declared.profile.Profile.{Profile}
+use Rattle.text_bytes.specs.declared.profile.Profile.TheVariants.{Manual, Udev}
 use Rattle.text_tables.specs.Texts.{Text}
 use Rattle.text_tables.specs.Pairs.{value_of}
+use Rattle.text_core.specs.Fnmatch.{fnmatch_items}
 use Rattle.text_core.specs.declared.item.Item.{Item}
+use Rattle.text_core.specs.declared.reading.Reading.TheVariants.{Exact}
+use Rattle.rule_templates.specs.Template.{Parts as Template}
 use Rattle.hwdb_lookup.specs.declared.entry.Entry.{Entry}
 use Rattle.device_core.specs.Values.{AnswerValue, DeviceValue}
 use Rattle.rule_types.specs.declared.roles.PlainKey.{PlainKey}
@@ -17,8 +24,10 @@ use Rattle.rule_types.specs.declared.part.Import.TheVariants as import
 use Rattle.rule_types.specs.declared.part.PlainMatch.{PlainMatch}
 use Rattle.rule_types.specs.declared.part.UpMatch.{UpMatch}
 use Rattle.rule_types.specs.Rules.{Rule}
-use Rattle.eval_rendering.specs.Rendering.{render}
-use Rattle.eval_rendering.specs.declared.rendered.Mode.TheVariants.{Plain}
+use Rattle.eval_state.specs.Chains.{device_at}
+use Rattle.eval_state.specs.Named.{NamedValue, named, named_place}
+use Rattle.eval_state.specs.Scenes.{noted}
+use Rattle.eval_state.specs.declared.note_kind.NoteKind.TheVariants.{AttributeNotRead, TestNotMade}
 use Rattle.eval_rendering.specs.declared.rendered.Rendered.{Rendered}
 use Rattle.eval_rendering.specs.declared.rendered.Rendered.TheVariants as rendered
 use Rattle.eval_acts.specs.declared.builtin.Builtin.{Builtin}
@@ -27,14 +36,19 @@ use Rattle.eval_state.specs.Finals.{is_final}
 use Rattle.eval_state.specs.declared.finals.FinalKey.{FinalKey}
 use Rattle.eval_state.specs.declared.finals.FinalKey.TheVariants as key
 use Rattle.eval_state.specs.declared.scene.Scene.{Scene}
-use Rattle.eval_acts.specs.Acts.{act_step, imported, on_text, performed}
-use Rattle.eval_acts.specs.Imports.{builtin_run, from_parent, run_builtin}
-use Rattle.eval_acts.specs.Questions.{answered_or_noted, asked, tested, with_result}
+use Rattle.eval_matching.specs.Attributes.{is_not_read}
+use Rattle.eval_acts.specs.ActTexts.{import_text, names_text, program_text}
+use Rattle.eval_acts.specs.Acts.{act_step, from_parent_by, imported, on_text, parent_imported, performed, unrun}
+use Rattle.eval_acts.specs.Imports.{builtin_run, from_parent, not_run, run_builtin}
+use Rattle.eval_acts.specs.Questions.{answered_or_noted, asked, result_of, tested, tested_at, tested_by, tested_by_udev, with_result}
 use Rattle.eval_acts.specs.Reaching.{reached}
 use Rattle.eval_laws.specs.AssignmentLaws.{Keeps, SameAt}
 use Rattle.eval_assignments.specs.Steps.{set_step}
-use Rattle.eval_laws.proofs.Finality.{fold_keeps}
-use Rattle.eval_rules.specs.Steps.{Went, apply, onward, plain_step, result_step, search, set_all, walk}
+use Rattle.eval_laws.proofs.Untouched.{value, itself, same_notes}
+use Rattle.eval_laws.proofs.Untouched as untouched
+use Rattle.eval_laws.proofs.Finality.{Lasts, fold_event, fold_keeps, lasts_on}
+use Rattle.eval_rules.specs.Idle.{is_idle}
+use Rattle.eval_rules.specs.Steps.{Went, apply, before_sets, only_noted, onward, plain_step, result_step, search, set_all, steps, walk}
 use Rattle.eval_rules.specs.Jumps.{is_passed, run, sought_after}
 
 -- nothing that a key may make final differs: neither what is collected nor which keys are final
@@ -50,28 +64,15 @@ same_at key.Group s t h = ap (λ (x : Scene). x.group) h
 same_at key.Mode s t h = ap (λ (x : Scene). x.mode) h
 same_at key.Name s t h = ap (λ (x : Scene). x.state.name) h
 same_at key.Symlink s t h = ap (λ (x : Scene). x.state.links) h
-same_at key.Run s t h = ap (λ (x : Scene). x.runs) h
+same_at key.Run s t h = (ap (λ (x : Scene). x.runs) h, ap (λ (x : Scene). x.made) h)
 same_at key.Priority s t h = ap (λ (x : Scene). x.priority) h
 same_at key.Watch s t h = ap (λ (x : Scene). x.watch) h
 
 keeps : (k : FinalKey) (s t : Scene) → Same s t → is_final s.finals k ≡ true → Keeps k s t
 keeps k s t h f = record { same = same_at k s t h; stays = ap (λ (x : Scene). is_final x.finals k) h ∙ f }
 
-at_itself : (k : FinalKey) (s : Scene) → SameAt k s s
-at_itself k s = same_at k s s refl
-
-at_through : (k : FinalKey) (s t u : Scene) → SameAt k s t → SameAt k t u → SameAt k s u
-at_through key.Owner s t u a b = b ∙ a
-at_through key.Group s t u a b = b ∙ a
-at_through key.Mode s t u a b = b ∙ a
-at_through key.Name s t u a b = b ∙ a
-at_through key.Symlink s t u a b = b ∙ a
-at_through key.Run s t u a b = b ∙ a
-at_through key.Priority s t u a b = b ∙ a
-at_through key.Watch s t u a b = b ∙ a
-
 both : (k : FinalKey) (s t u : Scene) → Keeps k s t → Keeps k t u → Keeps k s u
-both k s t u a b = record { same = at_through k s t u a.same b.same; stays = b.stays }
+both k s t u a b = record { same = untouched.through (value k) s t u a.same b.same; stays = b.stays }
 
 -- ---- what acts
 
@@ -83,12 +84,28 @@ on_text_same : (r : Rule) (d : Deed) (act : Text → Scene → Scene × Bool) �
 on_text_same r d act h (rendered.Text t) s = h t s
 on_text_same r d act h rendered.TooLong s = refl
 
+test_at_same : (place : Option ℕ) (r : Rule) (name t : Text) (s : Scene) → Same s (tested_at place r name t s).0
+test_at_same None r name t s = refl
+test_at_same (Some place) r name t s = refl
+
+test_udev_same : (is : Option NamedValue) (r : Rule) (t : Text) (s : Scene) → Same s (tested_by_udev is r t s).0
+test_udev_same None r t s = refl
+test_udev_same (Some is) r t s = test_at_same (named_place is s.state.event) r is.attribute t s
+
+test_by_same : (profile : Profile) (r : Rule) (t : Text) (s : Scene) → Same s (tested_by profile r t s).0
+test_by_same Manual r t s = refl
+test_by_same Udev r t s = test_udev_same (named t) r t s
+
 tested_same : (r : Rule) (mask : Option Text) (t : Text) (s : Scene) → Same s (tested r mask t s).0
-tested_same r mask t s = chosen s _ s false _ _ refl refl
+tested_same r mask t s = by (is_some mask || begins_with slash t)
+  where
+    by : (b : Bool) → Same s (cond {A = Scene × Bool} b (noted r TestNotMade t s, false) (tested_by s.state.event.profile r t s)).0
+    by true = refl
+    by false = test_by_same s.state.event.profile r t s
 
 answered_same : (r : Rule) (t : Text) (a : Option AnswerValue) (s : Scene) → Same s (answered_or_noted r t a s).0
 answered_same r t None s = refl
-answered_same r t (Some a) s = chosen s (with_result a.text s) s true false _ refl refl
+answered_same r t (Some a) s = chosen s (with_result (result_of s.state.event.profile a.text) s) s true false _ refl refl
 
 builtin_same : (es : List Entry) (r : Rule) (t : Text) (b : Builtin) (s : Scene) → Same s (builtin_run es r t b s).0
 builtin_same es r t (builtin.Hwdb h) s = refl
@@ -99,18 +116,26 @@ parent_same : (names : List (List Item)) (d : Option DeviceValue) (s : Scene) �
 parent_same names None s = refl
 parent_same names (Some d) s = refl
 
+parent_by_same : (profile : Profile) (r : Rule) (d : Deed) (names : List (List Item)) (text : Text) (s : Scene) → Same s (parent_imported profile r d names text s).0
+parent_by_same Manual r d names text s = parent_same names (device_at s.state.event 1) s
+parent_by_same Udev r d names text s = on_text_same r d from_parent_by (λ found u. parent_same (fnmatch_items Exact found 0 ∷ []) (device_at u.state.event 1) u) (names_text text s.state) s
+
+unrun_same : (profile : Profile) (r : Rule) (d : Deed) (i : Import) (bytes : ℕ) (template : Template) (s : Scene) → Same s (unrun profile r d i bytes template s).0
+unrun_same Manual r d i bytes template s = refl
+unrun_same Udev r d i bytes template s = on_text_same r d (λ text. not_run r i) (λ text u. refl) (import_text bytes template s.state) s
+
 imported_same : (es : List Entry) (r : Rule) (d : Deed) (i : Import) (s : Scene) → Same s (imported es r d i s).0
 imported_same es r d (import.Builtin t) s = on_text_same r d (run_builtin es r) (λ c u. builtin_same es r c _ u) _ s
-imported_same es r d (import.Parent names text) s = parent_same names _ s
-imported_same es r d (import.Program t) s = refl
-imported_same es r d (import.File t) s = refl
+imported_same es r d (import.Parent names text) s = parent_by_same s.state.event.profile r d names text s
+imported_same es r d (import.Program t) s = unrun_same s.state.event.profile r d (import.Program t) _ t s
+imported_same es r d (import.File t) s = unrun_same s.state.event.profile r d (import.File t) _ t s
 imported_same es r d (import.Cmdline name) s = refl
 imported_same es r d (import.Db name) s = refl
 
 performed_same : (es : List Entry) (r : Rule) (d : Deed) (s : Scene) → Same s (performed es r d s).0
 performed_same es r (deed.Test mask t) s = on_text_same r (deed.Test mask t) (tested r mask) (tested_same r mask) _ s
 performed_same es r (deed.Program t) s =
-    let text : Rendered = render t s.state Plain in
+    let text : Rendered = program_text t s.state in
     through s (with_result [] s) (on_text r (deed.Program t) (asked r) text (with_result [] s)).0 refl
     (on_text_same r (deed.Program t) (asked r) (λ c u. answered_same r c (value_of u.state.event.programs c) u) text (with_result [] s))
 performed_same es r (deed.Import i) s = imported_same es r (deed.Import i) i s
@@ -123,6 +148,11 @@ act_same es r act s = performed_same es r act.deed s
 
 reached_same : (r : Rule) (k : PlainKey) (s : Scene) → Same s (reached r k s)
 reached_same r (plain.Sysctl name) s = refl
+reached_same r (plain.Attr name) s = by (is_not_read name s.state.event)
+  where
+    by : (b : Bool) → Same s (cond b (noted r AttributeNotRead name s) s)
+    by true = refl
+    by false = refl
 reached_same r k s = refl
 
 plain_same : (r : Rule) (part : PlainMatch) (s : Scene) → Same s (plain_step r part s).0
@@ -152,13 +182,6 @@ walk_same step h [] s = refl
 walk_same step h (p ∷ ps) s = onward_same (walk step ps) (walk_same step h ps) s (step p s) (h p s)
 
 -- what a rule has come to before its assignments
-abbrev pub before_sets : List Entry → Rule → Scene → Went
-before_sets es r s =
-    onward (walk result_step r.results)
-    (onward (walk (act_step es r) r.acts)
-    (onward (search r.up)
-    (walk (plain_step r) r.plain s)))
-
 pub before_same : (es : List Entry) (r : Rule) (s : Scene) → Same s (before_sets es r s).0
 before_same es r s =
     onward_same (walk result_step r.results) (walk_same result_step result_same r.results) s _
@@ -166,31 +189,60 @@ before_same es r s =
     (onward_same (search r.up) (search_same r.up) s _
     (walk_same (plain_step r) (plain_same r) r.plain s)))
 
-apply_keeps : (es : List Entry) (r : Rule) (k : FinalKey) (s : Scene) → is_final s.finals k ≡ true → Keeps k s (apply es r s).0
-unfolding apply
-apply_keeps es r k s f = by (before_sets es r s).1
-  where
-    t : Scene
-    t = (before_sets es r s).0
+module _ (es : List Entry) (r : Rule) where
+  -- a rule leaves the event as it is
+  pub steps_event : (s : Scene) → (steps es r s).0.state.event ≡ s.state.event
+  unfolding steps
+  steps_event s = by (before_sets es r s).1
+    where
+      before : (before_sets es r s).0.state.event ≡ s.state.event
+      before = ap (λ (x : Scene). x.state.event) (before_same es r s)
 
-    held : Keeps k s t
-    held = keeps k s t (before_same es r s) f
+      by : (b : Bool) → (cond b (set_all r (before_sets es r s).0) (before_sets es r s)).0.state.event ≡ s.state.event
+      by true = fold_event r r.sets (before_sets es r s).0 ∙ before
+      by false = before
 
-    by : (b : Bool) → Keeps k s (cond b (set_all r t) (before_sets es r s)).0
-    by true = both k s t (fold (set_step r) t r.sets) held (fold_keeps k r r.sets t held.stays)
-    by false = held
+  apply_event : (s : Scene) → (apply es r s).0.state.event ≡ s.state.event
+  unfolding apply
+  apply_event s = by (is_idle r s.state.event)
+    where
+      by : (b : Bool) → (cond b (only_noted es r s) (steps es r s)).0.state.event ≡ s.state.event
+      by true = refl
+      by false = steps_event s
 
-pub run_keeps : (es : List Entry) (sought : Option Text) (rules : List Rule) (k : FinalKey) (s : Scene) → is_final s.finals k ≡ true → Keeps k s (run es sought rules s)
+  steps_keeps : (k : FinalKey) (s : Scene) → Lasts k s → is_final s.finals k ≡ true → Keeps k s (steps es r s).0
+  unfolding steps
+  steps_keeps k s lasts f = by (before_sets es r s).1
+    where
+      t : Scene
+      t = (before_sets es r s).0
+
+      held : Keeps k s t
+      held = keeps k s t (before_same es r s) f
+
+      by : (b : Bool) → Keeps k s (cond b (set_all r t) (before_sets es r s)).0
+      by true = both k s t (fold (set_step r) t r.sets) held (fold_keeps k r r.sets t (lasts_on k s t (ap (λ (x : Scene). x.state.event) (before_same es r s)) lasts) held.stays)
+      by false = held
+
+  apply_keeps : (k : FinalKey) (s : Scene) → Lasts k s → is_final s.finals k ≡ true → Keeps k s (apply es r s).0
+  unfolding apply
+  apply_keeps k s lasts f = by (is_idle r s.state.event)
+    where
+      by : (b : Bool) → Keeps k s (cond b (only_noted es r s) (steps es r s)).0
+      by true = record { same = same_notes (value k) s _; stays = f }
+      by false = steps_keeps k s lasts f
+
+pub run_keeps : (es : List Entry) (sought : Option Text) (rules : List Rule) (k : FinalKey) (s : Scene) → Lasts k s → is_final s.finals k ≡ true → Keeps k s (run es sought rules s)
 unfolding run
-run_keeps es sought [] k s f = record { same = at_itself k s; stays = f }
-run_keeps es sought (r ∷ rs) k s f =
-    by (is_passed sought r) (run_keeps es sought rs k s f) (both k s t (run es next rs t) held (run_keeps es next rs k t held.stays))
+run_keeps es sought [] k s lasts f = record { same = itself (value k) s; stays = f }
+run_keeps es sought (r ∷ rs) k s lasts f =
+    by (is_passed sought r) (run_keeps es sought rs k s lasts f) (both k s t (run es next rs t) held (run_keeps es next rs k t (lasts_on k s t (apply_event es r s) lasts) held.stays))
   where
     t : Scene
     t = (apply es r s).0
 
     held : Keeps k s t
-    held = apply_keeps es r k s f
+    held = apply_keeps es r k s lasts f
 
     next : Option Text
     next = sought_after (apply es r s).1 r

@@ -17,6 +17,7 @@ pub mod Compared
 pub mod TextEnds
 pub mod Runs
 pub mod Gone
+pub mod Untouched
 pub mod Finality
 pub mod Keeping
 pub mod Unmatched
@@ -26,7 +27,11 @@ pub mod Rendered
 pub mod Assigned
 pub mod Sums
 pub mod Escaped
+pub mod Written
 pub mod Found
+pub mod Measured
+pub mod CountedActs
+pub mod CountedSets
 pub mod Counted
 pub mod Ruled
 pub mod Ends
@@ -44,3 +49,7 @@ pub mod Nodes
 pub mod Changing
 pub mod Making
 pub mod Following
+pub mod Operators
+pub mod Tagged
+pub mod Bracketed
+pub mod Attributes

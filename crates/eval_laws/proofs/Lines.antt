@@ -12,7 +12,7 @@ use Rattle.rule_types.specs.Names.{run_name}
 use Rattle.eval_laws.specs.DeviceWeights.{given_weight, pair_weight, text_weight}
 use Rattle.eval_state.specs.Notes.{text_of}
 use Rattle.eval_state.specs.declared.note_kind.NoteKind.{NoteKind}
-use Rattle.eval_state.specs.declared.note_kind.NoteKind.TheVariants.{ImportNotRun, BuiltinNotRun, BadHwdbArguments, NoAnswer, TestNotMade, SysctlNotRead, TextTooLong, NameIgnored}
+use Rattle.eval_state.specs.declared.note_kind.NoteKind.TheVariants.{ImportNotRun, BuiltinNotRun, BadHwdbArguments, NoAnswer, TestNotMade, SysctlNotRead, TextTooLong, NameIgnored, NoDeviceNumber, NoValue, LinkIgnored, ModeIgnored, TagIgnored, AttributeNotRead, AttributeNotFound}
 use Rattle.eval_state.specs.declared.notes.Note.{Note}
 use Rattle.eval_rules.specs.declared.outcome.Command.{Command}
 use Rattle.eval_laws.specs.Weights.{command_weight, note_weight}
@@ -93,7 +93,7 @@ run_line_short command =
     omega (arith, a, b, c)
 
 -- the text of a note is long enough to make up for the number of its line
-kind_long : (kind : NoteKind) → 12 ≤ length (text_of kind)
+kind_long : (kind : NoteKind) → 8 ≤ length (text_of kind)
 kind_long ImportNotRun = omega arith
 kind_long BuiltinNotRun = omega arith
 kind_long BadHwdbArguments = omega arith
@@ -102,6 +102,13 @@ kind_long TestNotMade = omega arith
 kind_long SysctlNotRead = omega arith
 kind_long TextTooLong = omega arith
 kind_long NameIgnored = omega arith
+kind_long NoDeviceNumber = omega arith
+kind_long NoValue = omega arith
+kind_long LinkIgnored = omega arith
+kind_long ModeIgnored = omega arith
+kind_long TagIgnored = omega arith
+kind_long AttributeNotRead = omega arith
+kind_long AttributeNotFound = omega arith
 
 word_short : (word : Text) → length (word_part word) ≤ 4 * length word + 2
 word_short word = by (length word == 0)

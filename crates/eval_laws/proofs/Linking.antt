@@ -1,10 +1,11 @@
 -- A text that is rendered for a link was made safe.
-use Rattle.std.proofs.Common.{◌≡◌, Option, Some, None, ap, subst, flat_map}
+use Rattle.std.proofs.Common.{◌≡◌, Bool, true, false, if◌then◌else◌, Option, Some, None, ap, subst, flat_map}
 use Rattle.text_tables.specs.Texts.{Text}
 use Rattle.eval_rendering.specs.Safe.{link_marks, safe}
 use Rattle.rule_templates.specs.Template.{Parts as Template}
 use Rattle.eval_state.specs.declared.state.State.{State}
 use Rattle.eval_rendering.specs.Bounds.{bounded}
+use Rattle.eval_rendering.specs.Pieces.{has_long}
 use Rattle.eval_rendering.specs.Rendering.{answer, render, text_in}
 use Rattle.eval_rendering.specs.declared.rendered.Mode.TheVariants.{Link}
 use Rattle.eval_rendering.specs.declared.rendered.Rendered.{Rendered}
@@ -19,8 +20,12 @@ text_of other rendered.TooLong = other
 pub link_is_safe : ((text : Text) → IsSafe link_marks (safe link_marks text)) → (template : Template) (state : State) (text : Text)
     → render template state Link ≡ rendered.Text text → IsSafe link_marks text
 unfolding render
-link_is_safe are_safe template state text e = go (bounded (flat_map (text_in Link state) template.pieces)) e
+link_is_safe are_safe template state text e = by (has_long state.event.profile state template.pieces) e
   where
     go : (whole : Option Text) → answer Link whole ≡ rendered.Text text → IsSafe link_marks text
     go None e = absurd (cc)
     go (Some whole) e = let same : safe link_marks whole ≡ text = ap (text_of text) e in subst (IsSafe link_marks) same (are_safe whole)
+
+    by : (b : Bool) → (if b then rendered.TooLong else answer Link (bounded (flat_map (text_in Link state) template.pieces))) ≡ rendered.Text text → IsSafe link_marks text
+    by true e = absurd (cc)
+    by false e = go (bounded (flat_map (text_in Link state) template.pieces)) e

@@ -1,5 +1,5 @@
 -- Where a rule goes on behind its search, one device meets all matches along the chain.
-use Rattle.std.proofs.Common.{◌≡◌, ℕ, Bool, true, false, List, [], ◌∷◌, Option, Some, None, is_some, length, refl, ap, sym, subst, ◌∙◌, true≢false}
+use Rattle.std.proofs.Common.{◌≡◌, ℕ, Bool, true, false, cond, List, [], ◌∷◌, Option, Some, None, is_some, length, refl, ap, sym, subst, ◌∙◌, true≢false}
 use Rattle.std.specs.List.{list_all}
 use Rattle.hwdb_lookup.specs.declared.entry.Entry.{Entry}
 use Rattle.device_core.specs.Values.{chain}
@@ -11,7 +11,8 @@ use Rattle.eval_matching.specs.Subjects.{found_place, holds_at}
 use Rattle.eval_matching.proofs.Finding.{found_first}
 use Rattle.eval_state.specs.declared.scene.Scene.{Scene}
 use Rattle.eval_acts.specs.Acts.{act_step}
-use Rattle.eval_rules.specs.Steps.{Went, apply, onward, plain_step, result_step, search, set_all, walk}
+use Rattle.eval_rules.specs.Idle.{is_idle}
+use Rattle.eval_rules.specs.Steps.{Went, apply, only_noted, onward, plain_step, result_step, search, set_all, steps, walk}
 use Rattle.eval_rules.specs.Laws.{IsMetByOneDevice}
 use Rattle.eval_laws.proofs.Unmatched.{walk_same}
 
@@ -35,9 +36,9 @@ went_on f s true h = (refl, h)
 went_on f s false h = absurd (true≢false (sym h))
 
 -- a rule whose end is reached
-pub reached_end : (es : List Entry) (r : Rule) (s : Scene) (part : UpMatch) (parts : List UpMatch) → r.up ≡ part ∷ parts → (apply es r s).1 ≡ true → IsMetByOneDevice r.up s.state
-unfolding apply
-reached_end es r s part parts up h =
+steps_end : (es : List Entry) (r : Rule) (s : Scene) (part : UpMatch) (parts : List UpMatch) → r.up ≡ part ∷ parts → (steps es r s).1 ≡ true → IsMetByOneDevice r.up s.state
+unfolding steps
+steps_end es r s part parts up h =
     let a : Went = walk (plain_step r) r.plain s in
     let b : Went = onward (search r.up) a in
     let c : Went = onward (walk (act_step es r) r.acts) b in
@@ -49,3 +50,11 @@ reached_end es r s part parts up h =
     let found : IsMetByOneDevice (part ∷ parts) a.0.state = searched part parts a.0 (ap (λ ps. (search ps a.0).1) (sym up) ∙ on_a.1) in
     let state : a.0.state ≡ s.state = ap (λ (t : Scene). t.state) (walk_same r r.plain [] s) in
     subst (λ ps. IsMetByOneDevice ps s.state) (sym up) (subst (IsMetByOneDevice (part ∷ parts)) state found)
+
+pub reached_end : (es : List Entry) (r : Rule) (s : Scene) (part : UpMatch) (parts : List UpMatch) → r.up ≡ part ∷ parts → (apply es r s).1 ≡ true → IsMetByOneDevice r.up s.state
+unfolding apply
+reached_end es r s part parts up = by (is_idle r s.state.event)
+  where
+    by : (b : Bool) → (cond b (only_noted es r s) (steps es r s)).1 ≡ true → IsMetByOneDevice r.up s.state
+    by true h = absurd (true≢false (sym h))
+    by false h = steps_end es r s part parts up h

@@ -1,11 +1,12 @@
 -- A rendered text has at most 16,384 bytes.
-use Rattle.std.proofs.Common.{◌≡◌, ◌≤◌, Bool, true, false, nat_lt, ltb-false, length, flat_map, Option, Some, None, refl, if◌then◌else◌, arith}
+use Rattle.std.proofs.Common.{◌≡◌, ◌≤◌, Bool, true, false, nat_lt, ltb-false, length, flat_map, Option, Some, None, refl, if◌then◌else◌, ℕ, arith}
 use Rattle.text_tables.specs.Texts.{Text}
 use Rattle.eval_rendering.specs.Safe.{link_marks}
 use Rattle.eval_rendering.proofs.Places.{length-safe}
 use Rattle.rule_templates.specs.Template.{Parts as Template}
 use Rattle.eval_state.specs.declared.state.State.{State}
-use Rattle.eval_rendering.specs.Bounds.{bounded, most_bytes}
+use Rattle.eval_rendering.specs.Bounds.{bounded, most_bytes, within}
+use Rattle.eval_rendering.specs.Pieces.{has_long}
 use Rattle.eval_rendering.specs.Rendering.{answer, finished, render, text_in}
 use Rattle.eval_rendering.specs.declared.rendered.Mode.{Mode}
 use Rattle.eval_rendering.specs.declared.rendered.Mode.TheVariants.{Plain, Link}
@@ -39,4 +40,20 @@ answer_short mode (Some text) short = let same = finished_same mode text in omeg
 
 pub rendered_short : (template : Template) (state : State) (mode : Mode) → IsShort (render template state mode)
 unfolding render
-rendered_short template state mode = answer_short mode (bounded (flat_map (text_in mode state) template.pieces)) (bounded_short (flat_map (text_in mode state) template.pieces))
+rendered_short template state mode = by (has_long state.event.profile state template.pieces)
+  where
+    found : Option Text
+    found = bounded (flat_map (text_in mode state) template.pieces)
+
+    by : (b : Bool) → IsShort (if b then rendered.TooLong else answer mode found)
+    by true = tt
+    by false = answer_short mode found (bounded_short (flat_map (text_in mode state) template.pieces))
+
+-- and so it has within a bound
+pub within_short : (most : ℕ) (text : Rendered) → IsShort text → IsShort (within most text)
+within_short most rendered.TooLong short = tt
+within_short most (rendered.Text text) short = by (nat_lt most (length text))
+  where
+    by : (b : Bool) → IsShort (if b then rendered.TooLong else rendered.Text text)
+    by true = tt
+    by false = short

@@ -7,7 +7,6 @@ use Rattle.hwdb_lookup.specs.declared.entry.Entry.{Entry}
 use Rattle.rule_types.specs.Written.{attribute_of_plain}
 use Rattle.rule_types.specs.declared.roles.PlainKey.{PlainKey}
 use Rattle.rule_types.specs.declared.roles.PlainKey.TheVariants as plain
-use Rattle.rule_types.specs.WrittenParts.{attribute_of_change}
 use Rattle.rule_types.specs.declared.part.Act.{Act}
 use Rattle.rule_types.specs.declared.part.Assignment.{Assignment}
 use Rattle.rule_types.specs.declared.part.Comparison.{Comparison}
@@ -16,16 +15,22 @@ use Rattle.rule_types.specs.declared.part.UpMatch.{UpMatch}
 use Rattle.rule_types.specs.Rules.{Rule}
 use Rattle.device_core.specs.Values.{EventValue}
 use Rattle.eval_laws.specs.DeviceWeights.{event_weight}
-use Rattle.eval_state.specs.declared.note_kind.NoteKind.TheVariants.{SysctlNotRead}
+use Rattle.eval_state.specs.declared.note_kind.NoteKind.TheVariants.{AttributeNotRead, SysctlNotRead}
 use Rattle.eval_state.specs.declared.scene.Scene.{Scene}
 use Rattle.eval_acts.specs.Acts.{act_step}
 use Rattle.eval_acts.specs.Reaching.{reached}
+use Rattle.eval_matching.specs.Attributes.{is_not_read}
+use Rattle.eval_state.specs.Scenes.{noted}
 use Rattle.eval_assignments.specs.Steps.{set_step}
 use Rattle.eval_rules.specs.Jumps.{is_passed, run, sought_after}
-use Rattle.eval_rules.specs.Steps.{Went, apply, onward, plain_step, result_step, search, set_all, walk}
-use Rattle.eval_laws.specs.Allowances.{deed_allowance, part_allowance, rule_allowance}
+use Rattle.eval_rules.specs.Idle.{is_idle}
+use Rattle.eval_rules.specs.Steps.{Went, apply, only_noted, onward, plain_step, result_step, search, set_all, steps, walk}
+use Rattle.eval_laws.specs.Allowances.{deed_allowance, part_allowance, rule_allowance, set_allowance}
 use Rattle.eval_laws.specs.Inner.{Within, scene_weight}
-use Rattle.eval_laws.proofs.Scenes.{more, noted_within}
+use Rattle.eval_laws.specs.Weights.{note_weight}
+use Rattle.eval_laws.proofs.Counted.{noted_counts, parts_most}
+use Rattle.eval_laws.proofs.Sums.{sum_less}
+use Rattle.eval_laws.proofs.Scenes.{more, note_light, noted_within}
 use Rattle.eval_laws.proofs.Stepped.{set_within}
 use Rattle.eval_laws.proofs.Acted.{act_within}
 
@@ -59,7 +64,11 @@ module _ (event : EventValue) where
     reached_within plain.Name n s h = more event n (n + (length r.file + 56)) s (omega arith) h
     reached_within plain.Symlink n s h = more event n (n + (length r.file + 56)) s (omega arith) h
     reached_within plain.Tag n s h = more event n (n + (length r.file + 56)) s (omega arith) h
-    reached_within (plain.Attr name) n s h = more event n (n + (length r.file + 56)) s (omega arith) h
+    reached_within (plain.Attr name) n s h = by (is_not_read name s.state.event)
+      where
+        by : (b : Bool) → Within event (n + (length r.file + 56)) (if b then noted r AttributeNotRead name s else s)
+        by true = noted_within event n r AttributeNotRead name s h
+        by false = more event n (n + (length r.file + 56)) s (omega arith) h
     reached_within (plain.Env name) n s h = more event n (n + (length r.file + 56)) s (omega arith) h
     reached_within (plain.Const name) n s h = more event n (n + (length r.file + 56)) s (omega arith) h
 
@@ -76,23 +85,23 @@ module _ (event : EventValue) where
     search_within [] n s h = h
     search_within (part ∷ parts) n s h = record { same = h.same; light = h.light }
 
-    sets_within : (sets : List Assignment) (n : ℕ) (s : Scene) → Within event n s
-        → Within event (n + sum_by (λ (a : Assignment). part_allowance r (attribute_of_change a.change)) sets) (fold (set_step r) s sets)
-    sets_within [] n s h = more event n (n + sum_by (λ (a : Assignment). part_allowance r (attribute_of_change a.change)) []) s (omega arith) h
-    sets_within (a ∷ sets) n s h =
-        let own : Assignment → ℕ = λ b. part_allowance r (attribute_of_change b.change) in
+  module _ (len : ℕ) (short : event_weight event ≤ len) where
+    sets_within : (r : Rule) (sets : List Assignment) (n : ℕ) (s : Scene) → Within event n s → Within event (n + sum_by (set_allowance event.profile len r) sets) (fold (set_step r) s sets)
+    sets_within r [] n s h = more event n (n + sum_by (set_allowance event.profile len r) []) s (omega arith) h
+    sets_within r (a ∷ sets) n s h =
+        let own : Assignment → ℕ = set_allowance event.profile len r in
         let all = sum_by-cons own a sets in
-        more event (n + own a + sum_by own sets) (n + sum_by own (a ∷ sets)) _ (omega (arith, all)) (sets_within sets (n + own a) (set_step r s a) (set_within event n r s h a))
+        more event (n + own a + sum_by own sets) (n + sum_by own (a ∷ sets)) _ (omega (arith, all)) (sets_within r sets (n + own a) (set_step r s a) (set_within event len short n r s h a))
 
   module _ (len : ℕ) (short : event_weight event ≤ len) (entries : List Entry) where
-    -- a rule
-    rule_within : (r : Rule) (n : ℕ) (s : Scene) → Within event n s → Within event (n + rule_allowance len entries r) (apply entries r s).0
-    unfolding apply rule_allowance
-    rule_within r n s h =
+    -- a rule that is not passed over
+    steps_within : (r : Rule) (n : ℕ) (s : Scene) → Within event n s → Within event (n + rule_allowance event.profile len entries r) (steps entries r s).0
+    unfolding steps rule_allowance
+    steps_within r n s h =
         let plain_own : PlainMatch → ℕ = λ m. part_allowance r (attribute_of_plain m.key) in
         let act_own : Act → ℕ = λ act. deed_allowance len entries r act.deed in
         let result_own : Comparison → ℕ = λ c. part_allowance r None in
-        let set_own : Assignment → ℕ = λ a. part_allowance r (attribute_of_change a.change) in
+        let set_own : Assignment → ℕ = set_allowance event.profile len r in
         let p : ℕ = n + sum_by plain_own r.plain in
         let a : ℕ = p + sum_by act_own r.acts in
         let q : ℕ = a + sum_by result_own r.results in
@@ -103,27 +112,55 @@ module _ (event : EventValue) where
         onward_within (walk (act_step entries r) r.acts) (sum_by act_own r.acts) p _ (more event (p + 0) p _ (omega arith) behind_up)
         (λ t within. walk_within (act_step entries r) act_own (λ act m u inside. act_within event len short entries r act m u inside) r.acts p t within) in
         let behind_results = onward_within (walk result_step r.results) (sum_by result_own r.results) a _ behind_acts (λ t within. walk_within result_step result_own (result_within r) r.results a t within) in
-        let behind_sets = onward_within (set_all r) (sum_by set_own r.sets) q _ behind_results (λ t within. sets_within r r.sets q t within) in
-        more event b (n + rule_allowance len entries r) _ (omega arith) behind_sets
+        let behind_sets = onward_within (set_all r) (sum_by set_own r.sets) q _ behind_results (λ t within. sets_within len short r r.sets q t within) in
+        more event b (n + rule_allowance event.profile len entries r) _ (omega arith) behind_sets
+
+    -- what the notes of all parts weigh
+    notes_fit : (r : Rule) → parts_most (length r.file + 56) r ≤ rule_allowance event.profile len entries r
+    unfolding rule_allowance
+    notes_fit r =
+        let most : ℕ = length r.file + 56 in
+        let a = sum_less (λ (m : PlainMatch). most) (λ m. part_allowance r (attribute_of_plain m.key)) (λ m. omega arith) r.plain in
+        let b = sum_less (λ (m : Act). most) (λ act. deed_allowance len entries r act.deed) (λ act. omega arith) r.acts in
+        let c = sum_less (λ (m : Comparison). most) (λ m. part_allowance r None) (λ m. omega arith) r.results in
+        let d = sum_less (λ (m : Assignment). most) (set_allowance event.profile len r) (λ a. omega arith) r.sets in
+        omega (arith, a, b, c, d)
+
+    -- a rule that is passed over
+    passed_within : (r : Rule) (n : ℕ) (s : Scene) → Within event n s → Within event (n + rule_allowance event.profile len entries r) (only_noted entries r s).0
+    unfolding scene_weight
+    passed_within r n s h =
+        let a = h.light in
+        let b = noted_counts note_weight (λ q. length q.file + 56) note_light entries r s in
+        let c = notes_fit r in
+        record { same = h.same; light = omega (arith, a, b, c) }
+
+    rule_within : (r : Rule) (n : ℕ) (s : Scene) → Within event n s → Within event (n + rule_allowance event.profile len entries r) (apply entries r s).0
+    unfolding apply
+    rule_within r n s h = by (is_idle r s.state.event)
+      where
+        by : (b : Bool) → Within event (n + rule_allowance event.profile len entries r) (if b then only_noted entries r s else steps entries r s).0
+        by true = passed_within r n s h
+        by false = steps_within r n s h
 
     -- all rules
-    pub run_within : (rules : List Rule) (sought : Option Text) (n : ℕ) (s : Scene) → Within event n s → Within event (n + sum_by (rule_allowance len entries) rules) (run entries sought rules s)
+    pub run_within : (rules : List Rule) (sought : Option Text) (n : ℕ) (s : Scene) → Within event n s → Within event (n + sum_by (rule_allowance event.profile len entries) rules) (run entries sought rules s)
     unfolding run
-    run_within [] sought n s h = more event n (n + sum_by (rule_allowance len entries) []) s (omega arith) h
+    run_within [] sought n s h = more event n (n + sum_by (rule_allowance event.profile len entries) []) s (omega arith) h
     run_within (r ∷ rules) sought n s h = by (is_passed sought r) (run_within rules)
       where
         own : ℕ
-        own = rule_allowance len entries r
+        own = rule_allowance event.profile len entries r
 
         rest : ℕ
-        rest = sum_by (rule_allowance len entries) rules
+        rest = sum_by (rule_allowance event.profile len entries) rules
 
-        all : own + rest ≡ sum_by (rule_allowance len entries) (r ∷ rules)
-        all = let a = sum_by-cons (rule_allowance len entries) r rules in omega (arith, a)
+        all : own + rest ≡ sum_by (rule_allowance event.profile len entries) (r ∷ rules)
+        all = let a = sum_by-cons (rule_allowance event.profile len entries) r rules in omega (arith, a)
 
         by : (b : Bool) → ((sought : Option Text) (n : ℕ) (s : Scene) → Within event n s → Within event (n + rest) (run entries sought rules s))
-            → Within event (n + sum_by (rule_allowance len entries) (r ∷ rules)) (if b then run entries sought rules s else run entries (sought_after (apply entries r s).1 r) rules (apply entries r s).0)
-        by true behind = more event (n + rest) (n + sum_by (rule_allowance len entries) (r ∷ rules)) _ (omega (arith, all)) (behind sought n s h)
+            → Within event (n + sum_by (rule_allowance event.profile len entries) (r ∷ rules)) (if b then run entries sought rules s else run entries (sought_after (apply entries r s).1 r) rules (apply entries r s).0)
+        by true behind = more event (n + rest) (n + sum_by (rule_allowance event.profile len entries) (r ∷ rules)) _ (omega (arith, all)) (behind sought n s h)
         by false behind =
-            more event (n + own + rest) (n + sum_by (rule_allowance len entries) (r ∷ rules)) _ (omega (arith, all))
+            more event (n + own + rest) (n + sum_by (rule_allowance event.profile len entries) (r ∷ rules)) _ (omega (arith, all))
             (behind (sought_after (apply entries r s).1 r) (n + own) (apply entries r s).0 (rule_within r n s h))

@@ -10,7 +10,7 @@ use Rattle.eval_laws.specs.DeviceWeights.{text_weight}
 use Rattle.eval_state.specs.Notes.{note_about, text_of}
 use Rattle.eval_state.specs.Scenes.{noted}
 use Rattle.eval_state.specs.declared.note_kind.NoteKind.{NoteKind}
-use Rattle.eval_state.specs.declared.note_kind.NoteKind.TheVariants.{ImportNotRun, BuiltinNotRun, BadHwdbArguments, NoAnswer, TestNotMade, SysctlNotRead, TextTooLong, NameIgnored}
+use Rattle.eval_state.specs.declared.note_kind.NoteKind.TheVariants.{ImportNotRun, BuiltinNotRun, BadHwdbArguments, NoAnswer, TestNotMade, SysctlNotRead, TextTooLong, NameIgnored, NoDeviceNumber, NoValue, LinkIgnored, ModeIgnored, TagIgnored, AttributeNotRead, AttributeNotFound}
 use Rattle.eval_state.specs.declared.scene.Scene.{Scene}
 use Rattle.eval_laws.specs.Weights.{note_weight}
 use Rattle.eval_laws.specs.Inner.{Within, scene_weight}
@@ -28,6 +28,13 @@ kind_light TestNotMade = omega arith
 kind_light SysctlNotRead = omega arith
 kind_light TextTooLong = omega arith
 kind_light NameIgnored = omega arith
+kind_light NoDeviceNumber = omega arith
+kind_light NoValue = omega arith
+kind_light LinkIgnored = omega arith
+kind_light ModeIgnored = omega arith
+kind_light TagIgnored = omega arith
+kind_light AttributeNotRead = omega arith
+kind_light AttributeNotFound = omega arith
 
 word_light : (text : Text) → length (take 32 text) ≤ 32
 word_light text = let a = length-take 32 text in let b = min-le_left 32 (length text) in omega (arith, a, b)
@@ -43,3 +50,7 @@ noted_within event n r kind text s h =
     let b = sum_by_push note_weight s.notes (note_about r kind text) in
     let c = note_light r kind text in
     record { same = h.same; light = omega (arith, a, b, c) }
+
+-- the same within a greater bound
+pub note_within : (event : EventValue) (n k : ℕ) (r : Rule) (s : Scene) → Within event n s → length r.file + 56 ≤ k → (kind : NoteKind) (text : Text) → Within event (n + k) (noted r kind text s)
+note_within event n k r s h room kind text = more event (n + (length r.file + 56)) (n + k) (noted r kind text s) (omega (arith, room)) (noted_within event n r kind text s h)

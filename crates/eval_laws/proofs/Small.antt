@@ -1,14 +1,15 @@
 -- The priorities that rules of files assign are numbers of 32 bits.
-use Rattle.std.proofs.Common.{◌≡◌, ℕ, zero, suc, ◌+◌, ◌^◌, ◌≤◌, ◌&&◌, ◌==◌, ℤ, pos, neg_ℤ, not, nat_lt, Bool, true, false, List, [], ◌∷◌, ◌++◌, length, map, filter, flat_map, zip, nat_eq, Option, Some, None, Result, Ok, Err, IfSome, if◌then◌else◌, unsigned_abs, arith, option_map, ◌<◌, codes, refl}
-use Rattle.std.proofs.lemmas.Bool.{ltb-true}
+use Rattle.std.proofs.Common.{◌≡◌, ℕ, zero, suc, ◌+◌, ◌^◌, ◌≤◌, ◌&&◌, ◌==◌, ℤ, pos, negsuc, neg_ℤ, int_le, int_lt, ◌-◌, not, nat_lt, Bool, true, false, List, [], ◌∷◌, ◌++◌, length, map, filter, flat_map, zip, nat_eq, Option, Some, None, Result, Ok, Err, IfSome, if◌then◌else◌, unsigned_abs, arith, option_map, ◌<◌, codes, refl}
+use Rattle.std.proofs.lemmas.Bool.{leb-true, ltb-true}
 use Rattle.std.specs.Prelude.{⊤}
 use Rattle.std.specs.Cmp.Lexicographic.{pointwise}
 use Rattle.std.specs.List.{cons_option, filter_map}
-use Rattle.std.specs.Option.{unwrap_or}
+use Rattle.std.specs.Option.{option_and_then, unwrap_or}
 use Rattle.text_bytes.specs.Numbers.{decimal, decimal_below, is_decimal}
-use Rattle.text_bytes.specs.declared.message.MessageKind.TheVariants.{BadValue, LineTooLong}
+use Rattle.text_bytes.specs.declared.message.MessageKind.TheVariants.{BadValue, LineTooLong, RuleWithoutEffect}
 use Rattle.text_bytes.specs.declared.source_file.SourceFile.{SourceFile}
-use Rattle.text_bytes.specs.declared.profile.Profile.TheVariants.{Manual}
+use Rattle.text_bytes.specs.declared.profile.Profile.{Profile}
+use Rattle.text_bytes.specs.declared.profile.Profile.TheVariants.{Manual, Udev}
 use Rattle.rule_tokens.specs.Grammar.{Item, Placed}
 use Rattle.rule_core.specs.Lines.{NumberedLine, joined_lines}
 use Rattle.rule_types.specs.Names.{key_of}
@@ -19,8 +20,10 @@ use Rattle.rule_types.specs.declared.roles.Role.{Role}
 use Rattle.rule_types.specs.declared.roles.Role.TheVariants as role
 use Rattle.rule_jumps.specs.Jumps.{landings}
 use Rattle.rule_jumps.specs.declared.jumps.Landing.{Landing}
-use Rattle.rule_parts.specs.Options.{behind, beside, is_ignored, number_by, number_of, option_by, option_of, words}
-use Rattle.rule_parts.specs.Parts.{comparison, if_found, ignores_case, import_by, is_match, made, meaning_of, part_by, part_of, value_part}
+use Rattle.rule_templates.specs.Integers.{integer_of}
+use Rattle.rule_parts.specs.Options.{as_priority, behind, beside, is_ignored, level_of, number_by, number_of, option_by, option_of, other_option, priority_of, udev_option, udev_other, words}
+use Rattle.rule_parts.specs.Refusals.{refusal_by}
+use Rattle.rule_parts.specs.Parts.{comparison, if_found, ignores_case, import_by, is_match, made, meaning_of, part_by, part_of, role_as, unless_refused, value_part}
 use Rattle.rule_parts.specs.Values.{as_option, finding, read_name, read_option, read_template}
 use Rattle.rule_parts.specs.declared.finding.Finding.{Finding}
 use Rattle.rule_types.specs.declared.rule_option.RuleOption.{RuleOption}
@@ -30,10 +33,12 @@ use Rattle.rule_types.specs.declared.part.Change.{Change}
 use Rattle.rule_types.specs.declared.part.Change.TheVariants as change
 use Rattle.rule_types.specs.declared.part.Part.{Part}
 use Rattle.rule_types.specs.declared.part.Part.TheVariants as part
-use Rattle.rule_core.specs.Drafts.{Draft, assignment_in, draft_of, draft_with, items_as, most_bytes, part_of_item, parts_of, with_part}
-use Rattle.rule_core.specs.Turns.{by_turn, of_turn, turn_of_assignment, turns_from}
+use Rattle.rule_core.specs.Effects.{lacks_effect}
+use Rattle.rule_core.specs.Ends.{given_up}
+use Rattle.rule_core.specs.Drafts.{Draft, assignment_in, draft, draft_of, draft_with, items_as, most_bytes, part_of_item, parts_of, tokens_of, with_part}
+use Rattle.rule_core.specs.Turns.{assignment_turns, assignments_by_turn, of_turn, turn_of_assignment, turns_from}
 use Rattle.rule_types.specs.Rules.{Rule}
-use Rattle.rule_core.specs.Rules.{Reading, file_rules, line_rules, names_of, reading_of, readings_of, set_of, set_of_as}
+use Rattle.rule_core.specs.Rules.{Reading, file_rules, rules_unless, line_rules, names_of, reading_of, readings_of, set_of_as}
 
 -- a number of 32 bits
 abbrev pub IsSmall : ℤ → Type 0
@@ -118,17 +123,58 @@ word_fits (row ∷ rows) text h = by (pointwise nat_eq row.0 text) (word_fits ro
     by true more = h.0
     by false more = more
 
-option_fits : (text : List ℕ) → IfSome (option_of Manual text) OptionFits
-unfolding option_of
-option_fits text = by (behind (codes "link_priority=") text)
+other_fits : (text : List ℕ) → IfSome (other_option text) OptionFits
+other_fits text = by (is_ignored text)
   where
-    other : (b : Bool) → IfSome (if b then Some option.Ignored else beside words text) OptionFits
-    other true = tt
-    other false = word_fits words text (tt, (tt, (tt, (tt, (tt, tt)))))
+    by : (b : Bool) → IfSome (if b then Some option.Ignored else beside words text) OptionFits
+    by true = tt
+    by false = word_fits words text (tt, (tt, (tt, (tt, (tt, tt)))))
 
-    by : (rest : Option (List ℕ)) → IfSome (option_by text rest) OptionFits
-    by (Some number) = priority_fits (number_of number) (number_fits number)
-    by None = other (is_ignored text)
+manual_fits : (text : List ℕ) (rest : Option (List ℕ)) → IfSome (option_by text rest) OptionFits
+manual_fits text (Some number) = priority_fits (number_of number) (number_fits number)
+manual_fits text None = other_fits text
+
+-- ---- an option of udev's
+
+as_fits : (n : ℤ) → IfSome (as_priority n) IsSmall
+as_fits (pos m) = by (int_le (neg_ℤ (pos (2 ^ 31))) (pos m)) (int_lt (pos m) (pos (2 ^ 31))) refl
+  where
+    by : (b c : Bool) → int_lt (pos m) (pos (2 ^ 31)) ≡ c → IfSome (if b && c then Some (pos m) else None) IsSmall
+    by true true e = let a = ltb-true m (2 ^ 31) e in omega (arith, a)
+    by true false e = tt
+    by false c e = tt
+as_fits (negsuc m) = by (int_le (neg_ℤ (pos (2 ^ 31))) (negsuc m)) (int_lt (negsuc m) (pos (2 ^ 31))) refl
+  where
+    by : (b c : Bool) → int_le (neg_ℤ (pos (2 ^ 31))) (negsuc m) ≡ b → IfSome (if b && c then Some (negsuc m) else None) IsSmall
+    by true true e = let a = leb-true m (2 ^ 31 - 1) e in omega (arith, a)
+    by true false e = tt
+    by false c e = tt
+
+signed_fits : (o : Option ℤ) → IfSome (option_and_then as_priority o) IsSmall
+signed_fits None = tt
+signed_fits (Some n) = as_fits n
+
+level_fits : (o : Option ℤ) → IfSome (option_map (λ n. option.Ignored) o) OptionFits
+level_fits None = tt
+level_fits (Some n) = tt
+
+known_else : (o : Option RuleOption) → IfSome o OptionFits → OptionFits (unwrap_or o option.Ignored)
+known_else None h = tt
+known_else (Some known) h = h
+
+udev_other_fits : (text : List ℕ) (rest : Option (List ℕ)) → IfSome (udev_other text rest) OptionFits
+udev_other_fits text (Some level) = level_fits (level_of level)
+udev_other_fits text None = known_else (other_option text) (other_fits text)
+
+udev_fits : (text : List ℕ) (rest : Option (List ℕ)) → IfSome (udev_option text rest) OptionFits
+unfolding priority_of
+udev_fits text (Some number) = priority_fits (priority_of number) (signed_fits (integer_of number))
+udev_fits text None = udev_other_fits text (behind (codes "log_level=") text)
+
+option_fits : (profile : Profile) (text : List ℕ) → IfSome (option_of profile text) OptionFits
+unfolding option_of
+option_fits Manual text = manual_fits text (behind (codes "link_priority=") text)
+option_fits Udev text = udev_fits text (behind (codes "link_priority=") text)
 
 -- ---- a part
 
@@ -152,43 +198,47 @@ known_fits : (o : _) (text : List ℕ) (known : Option RuleOption) → IfSome kn
 known_fits o text (Some known) h = h
 known_fits o text None h = tt
 
-role_fits : (r : Role) (blind : Bool) (text : List ℕ) → ResultFits (part_by Manual r blind text)
+role_fits : (profile : Profile) (r : Role) (blind : Bool) (text : List ℕ) → ResultFits (part_by profile r blind text)
 unfolding part_by read_option
-role_fits (role.Plain key o) blind text = made_fits _ (λ x. tt) (comparison Manual o blind text)
-role_fits (role.Up key o) blind text = made_fits _ (λ x. tt) (comparison Manual o blind text)
-role_fits (role.Result o) blind text = made_fits _ (λ x. tt) (comparison Manual o blind text)
-role_fits (role.Test mask o) blind text = made_fits _ (λ x. tt) (read_template Manual text)
-role_fits (role.Program o) blind text = made_fits _ (λ x. tt) (read_template Manual text)
-role_fits (role.Import type o) blind text = made_fits _ (λ x. tt) (import_by Manual type text)
-role_fits (role.Set target o) blind text = made_fits _ (λ x. tt) (read_template Manual text)
-role_fits (role.Run type o) blind text = made_fits _ (λ x. tt) (read_template Manual text)
-role_fits (role.Option o) blind text = known_fits o text (option_of Manual text) (option_fits text)
-role_fits role.Label blind text = made_fits _ (λ x. tt) (read_name Manual text)
-role_fits role.Goto blind text = made_fits _ (λ x. tt) (read_name Manual text)
+role_fits profile (role.Plain key o) blind text = made_fits _ (λ x. tt) (comparison profile o blind text)
+role_fits profile (role.Up key o) blind text = made_fits _ (λ x. tt) (comparison profile o blind text)
+role_fits profile (role.Result o) blind text = made_fits _ (λ x. tt) (comparison profile o blind text)
+role_fits profile (role.Test mask o) blind text = made_fits _ (λ x. tt) (read_template profile text)
+role_fits profile (role.Program o) blind text = made_fits _ (λ x. tt) (read_template profile text)
+role_fits profile (role.Import type o) blind text = made_fits _ (λ x. tt) (import_by profile type text)
+role_fits profile (role.Set target o) blind text = made_fits _ (λ x. tt) (read_template profile text)
+role_fits profile (role.Run type o) blind text = made_fits _ (λ x. tt) (read_template profile text)
+role_fits profile (role.Option o) blind text = known_fits o text (option_of profile text) (option_fits profile text)
+role_fits profile role.Label blind text = made_fits _ (λ x. tt) (read_name profile text)
+role_fits profile role.Goto blind text = made_fits _ (λ x. tt) (read_name profile text)
 
-value_fits : (r : Role) (blind : Bool) (text : List ℕ) → ResultFits (value_part Manual r blind text)
+unless_fits : (refusal : Option Finding) (read : Result Part Finding) → ResultFits read → ResultFits (unless_refused refusal read)
+unless_fits None read h = h
+unless_fits (Some found) read h = tt
+
+value_fits : (profile : Profile) (r : Role) (blind : Bool) (text : List ℕ) → ResultFits (value_part profile r blind text)
 unfolding value_part
-value_fits r blind text = by (blind && not (is_match r))
+value_fits profile r blind text = by (blind && not (is_match r))
   where
-    by : (b : Bool) → ResultFits (if b then Err (finding BadValue text) else part_by Manual r blind text)
+    by : (b : Bool) → ResultFits (if b then Err (finding BadValue text) else unless_refused (refusal_by profile r text) (part_by profile (role_as profile r text) blind text))
     by true = tt
-    by false = role_fits r blind text
+    by false = unless_fits (refusal_by profile r text) (part_by profile (role_as profile r text) blind text) (role_fits profile (role_as profile r text) blind text)
 
-part_fits : (t : Placed) → ResultFits (part_of Manual t)
+part_fits : (profile : Profile) (t : Placed) → ResultFits (part_of profile t)
 unfolding part_of
-part_fits t =
+part_fits profile t =
     found_fits _ _ (λ key.
     found_fits _ _ (λ about.
-    found_fits _ _ (λ r. value_fits r (ignores_case t.parts.quote) (meaning_of t))
+    found_fits _ _ (λ r. value_fits profile r (ignores_case t.parts.quote) (meaning_of t))
     (role_of about (read_as key t.parts.head.operator)))
-    (topic_of Manual key t.parts.head.attribute))
+    (topic_of profile key t.parts.head.attribute))
     (key_of t.parts.head.key)
 
 -- ---- a rule
 
-item_fits : (line : List ℕ) (i : Item) → ResultFits (part_of_item Manual line i)
-item_fits line (Ok t) = part_fits t
-item_fits line (Err fault) = tt
+item_fits : (profile : Profile) (line : List ℕ) (i : Item) → ResultFits (part_of_item profile line i)
+item_fits profile line (Ok t) = part_fits profile t
+item_fits profile line (Err fault) = tt
 
 abbrev PartsFit : Result (List Part) Finding → Type 0
 PartsFit (Ok parts) = Each PartFits parts
@@ -199,9 +249,9 @@ with_fits (Ok p) (Ok parts) a b = (a, b)
 with_fits (Ok p) (Err wrong) a b = tt
 with_fits (Err wrong) rest a b = tt
 
-parts_fit : (line : List ℕ) (items : List Item) → PartsFit (parts_of Manual line items)
-parts_fit line [] = tt
-parts_fit line (i ∷ items) = with_fits (part_of_item Manual line i) (parts_of Manual line items) (item_fits line i) (parts_fit line items)
+parts_fit : (profile : Profile) (line : List ℕ) (items : List Item) → PartsFit (parts_of profile line items)
+parts_fit profile line [] = tt
+parts_fit profile line (i ∷ items) = with_fits (part_of_item profile line i) (parts_of profile line items) (item_fits profile line i) (parts_fit profile line items)
 
 -- assignments that assign no other priority
 abbrev pub SetsFit : List Assignment → Type 0
@@ -221,25 +271,29 @@ assignments_fit [] h = tt
 assignments_fit (p ∷ parts) h =
     each_some (λ (a : Assignment). ChangeFits a.change) (assignment_in p) (filter_map assignment_in parts) (assignment_fits p h.0) (assignments_fit parts h.1)
 
-sorted_fit : (sets : List Assignment) → SetsFit sets → SetsFit (by_turn (turn_of_assignment Manual) 12 sets)
-sorted_fit sets h =
-    each_flat_map (λ (a : Assignment). ChangeFits a.change) (of_turn (turn_of_assignment Manual) sets) (λ t. each_filter (λ (a : Assignment). ChangeFits a.change) (λ x. turn_of_assignment Manual x == t) sets h) (turns_from 0 12)
+sorted_fit : (profile : Profile) (sets : List Assignment) → SetsFit sets → SetsFit (assignments_by_turn profile sets)
+sorted_fit profile sets h =
+    each_flat_map (λ (a : Assignment). ChangeFits a.change) (of_turn (turn_of_assignment profile) sets) (λ t. each_filter (λ (a : Assignment). ChangeFits a.change) (λ x. turn_of_assignment profile x == t) sets h) (turns_from 0 (assignment_turns profile))
 
 abbrev DraftFits : Result Draft Finding → Type 0
 DraftFits (Ok d) = SetsFit d.sets
 DraftFits (Err wrong) = ⊤
 
-draft_with_fits : (line : List ℕ) (parts : Result (List Part) Finding) → PartsFit parts → DraftFits (draft_with Manual line parts)
-draft_with_fits line (Ok parts) h = sorted_fit (filter_map assignment_in parts) (assignments_fit parts h)
-draft_with_fits line (Err wrong) h = tt
-
-draft_fits : (line : List ℕ) → DraftFits (draft_of Manual line)
-unfolding draft_of
-draft_fits line = by (nat_lt (most_bytes Manual) (length line))
+draft_with_fits : (profile : Profile) (line : List ℕ) (parts : Result (List Part) Finding) → PartsFit parts → DraftFits (draft_with profile line parts)
+draft_with_fits profile line (Ok parts) h = by (lacks_effect profile (tokens_of (items_as profile line)))
   where
-    by : (b : Bool) → DraftFits (if b then Err (finding LineTooLong []) else draft_with Manual line (parts_of Manual line (items_as Manual line)))
+    by : (b : Bool) → DraftFits (if b then Err (finding RuleWithoutEffect []) else Ok (draft profile line parts))
     by true = tt
-    by false = draft_with_fits line (parts_of Manual line (items_as Manual line)) (parts_fit line (items_as Manual line))
+    by false = sorted_fit profile (filter_map assignment_in parts) (assignments_fit parts h)
+draft_with_fits profile line (Err wrong) h = tt
+
+draft_fits : (profile : Profile) (line : List ℕ) → DraftFits (draft_of profile line)
+unfolding draft_of
+draft_fits profile line = by (nat_lt (most_bytes profile) (length line))
+  where
+    by : (b : Bool) → DraftFits (if b then Err (finding LineTooLong []) else draft_with profile line (parts_of profile line (items_as profile line)))
+    by true = tt
+    by false = draft_with_fits profile line (parts_of profile line (items_as profile line)) (parts_fit profile line (items_as profile line))
 
 -- rules that assign no other priority
 abbrev pub RulesFit : List Rule → Type 0
@@ -249,16 +303,20 @@ line_fits : (name : List ℕ) (line : ℕ) (read : Result Draft Finding) (l : La
 line_fits name line (Ok d) l h = (h, tt)
 line_fits name line (Err wrong) l h = tt
 
-lines_fit : (name : List ℕ) (lines : List NumberedLine) (ls : List Landing) → RulesFit (flat_map (λ (x : Reading × Landing). line_rules name x.0.line x.0.read x.1) (zip (map (reading_of Manual) lines) ls))
-lines_fit name [] ls = tt
-lines_fit name (l ∷ lines) [] = tt
-lines_fit name (l ∷ lines) (landing ∷ ls) =
-    each_append (λ (r : Rule). SetsFit r.sets) (line_rules name l.number (draft_of Manual l.text) landing) _ (line_fits name l.number (draft_of Manual l.text) landing (draft_fits l.text)) (lines_fit name lines ls)
+lines_fit : (profile : Profile) (name : List ℕ) (lines : List NumberedLine) (ls : List Landing) → RulesFit (flat_map (λ (x : Reading × Landing). line_rules name x.0.line x.0.read x.1) (zip (map (reading_of profile) lines) ls))
+lines_fit profile name [] ls = tt
+lines_fit profile name (l ∷ lines) [] = tt
+lines_fit profile name (l ∷ lines) (landing ∷ ls) =
+    each_append (λ (r : Rule). SetsFit r.sets) (line_rules name l.number (draft_of profile l.text) landing) _ (line_fits name l.number (draft_of profile l.text) landing (draft_fits profile l.text)) (lines_fit profile name lines ls)
 
-file_fits : (f : SourceFile) → RulesFit (file_rules Manual f)
-file_fits f = lines_fit f.name (joined_lines Manual f.bytes).lines (landings (map (λ r. names_of r.read) (readings_of Manual f)))
+file_fits : (profile : Profile) (f : SourceFile) → RulesFit (file_rules profile f)
+file_fits profile f = by (given_up profile f.bytes)
+  where
+    by : (line : Option ℕ) → RulesFit (rules_unless profile f line)
+    by (Some line) = tt
+    by None = lines_fit profile f.name (joined_lines profile f.bytes).lines (landings (map (λ r. names_of r.read) (readings_of profile f)))
 
 -- the rules of files
-pub set_fits : (files : List SourceFile) → RulesFit (set_of files).rules
+pub set_fits : (profile : Profile) (files : List SourceFile) → RulesFit (set_of_as profile files).rules
 unfolding set_of_as
-set_fits files = each_flat_map (λ (r : Rule). SetsFit r.sets) (file_rules Manual) file_fits files
+set_fits profile files = each_flat_map (λ (r : Rule). SetsFit r.sets) (file_rules profile) (file_fits profile) files

@@ -9,6 +9,16 @@ use Rattle.text_bytes.specs.Insertion.{by_order, put_by, text_order}
 use Rattle.text_tables.specs.Texts.{Text}
 use Rattle.eval_laws.specs.DeviceWeights.{text_weight}
 
+-- sums of what is never greater
+pub sum_less : {X : Type 0} (small great : X → ℕ) → ((x : X) → small x ≤ great x) → (xs : List X) → sum_by small xs ≤ sum_by great xs
+sum_less small great each [] = omega arith
+sum_less small great each (x ∷ xs) =
+    let a = sum_by-cons small x xs in
+    let b = sum_by-cons great x xs in
+    let c = each x in
+    let d = sum_less small great each xs in
+    omega (arith, a, b, c, d)
+
 module _ {X : Type 0} (weight : X → ℕ) where
   -- some of the elements
   pub filter_light : (keep : X → Bool) (xs : List X) → sum_by weight (filter keep xs) ≤ sum_by weight xs

@@ -3,6 +3,7 @@ use Rattle.std.proofs.Common.{◌+◌, ◌≤◌, Bool, true, false, not, List, 
 use Rattle.std.proofs.lemmas.List.Sums.{sum_by-cons, sum_by_push}
 use Rattle.text_tables.specs.Texts.{Text, is_among, same_text, with_text, with_texts, without_text}
 use Rattle.text_tables.specs.Pairs.{Pair, with_value, with_values, without_name}
+use Rattle.eval_assignments.specs.Lists.{without_texts}
 use Rattle.eval_laws.specs.DeviceWeights.{pair_weight, pairs_weight, text_weight, texts_weight}
 use Rattle.eval_laws.proofs.Sums.{filter_light, fold_light}
 
@@ -27,7 +28,7 @@ with_values_light pairs more = fold_light pair_weight pair_weight (λ held pair.
 pub without_name_light : (pairs : List Pair) (name : Text) → pairs_weight (without_name pairs name) ≤ pairs_weight pairs
 without_name_light pairs name = filter_light pair_weight (λ pair. not (same_text name pair.0)) pairs
 
-with_text_light : (texts : List Text) (text : Text) → texts_weight (with_text texts text) ≤ texts_weight texts + text_weight text
+pub with_text_light : (texts : List Text) (text : Text) → texts_weight (with_text texts text) ≤ texts_weight texts + text_weight text
 with_text_light texts text = by (is_among texts text)
   where
     by : (b : Bool) → texts_weight (if b then texts else texts ++ text ∷ []) ≤ texts_weight texts + text_weight text
@@ -39,3 +40,11 @@ with_texts_light texts more = fold_light text_weight text_weight with_text with_
 
 pub without_text_light : (texts : List Text) (text : Text) → texts_weight (without_text texts text) ≤ texts_weight texts + text_weight text
 without_text_light texts text = let a = filter_light text_weight (λ other. not (same_text text other)) texts in omega (arith, a)
+
+-- texts without those that were taken away
+pub without_texts_light : (texts gone : List Text) → texts_weight (without_texts texts gone) ≤ texts_weight texts
+without_texts_light texts [] = omega arith
+without_texts_light texts (text ∷ gone) =
+    let a = filter_light text_weight (λ other. not (same_text text other)) texts in
+    let b = without_texts_light (without_text texts text) gone in
+    omega (arith, a, b)

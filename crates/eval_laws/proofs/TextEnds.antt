@@ -10,7 +10,8 @@ use Rattle.text_tables.specs.Texts.{Text}
 use Rattle.text_core.specs.declared.item.Item.{Item}
 use Rattle.text_core.specs.declared.item.Item.TheVariants as item
 use Rattle.eval_state.specs.Texts.{trimmed}
-use Rattle.eval_matching.specs.Holding.{ends_in_whitespace, is_whitespace_item, last_is, passes}
+use Rattle.eval_matching.specs.Holding.{ends_in_whitespace, is_whitespace_item}
+use Rattle.eval_matching.specs.Udev.{last_is, passes}
 use Rattle.eval_laws.specs.Comparing.{EndsInWhitespace, HasLast, IsWhitespace, IsWhitespaceItem, IsWithoutItsEnd}
 
 -- ---- last elements

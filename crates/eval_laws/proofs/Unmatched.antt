@@ -1,5 +1,5 @@
 -- Matches change nothing but the notes, so that a rule whose matches do not hold changes nothing else.
-use Rattle.std.proofs.Common.{◌≡◌, Bool, true, false, ◌||◌, ◌&&◌, List, [], ◌∷◌, None, refl, ap, sym, ◌∙◌}
+use Rattle.std.proofs.Common.{◌≡◌, Bool, true, false, cond, ◌||◌, ◌&&◌, List, [], ◌∷◌, None, refl, ap, sym, ◌∙◌}
 use Rattle.std.specs.List.{list_all, list_any}
 use Rattle.hwdb_lookup.specs.declared.entry.Entry.{Entry}
 use Rattle.rule_types.specs.declared.roles.PlainKey.{PlainKey}
@@ -13,7 +13,11 @@ use Rattle.eval_state.specs.declared.notes.Note.{Note}
 use Rattle.eval_state.specs.declared.scene.Scene.{Scene}
 use Rattle.eval_acts.specs.Acts.{act_step}
 use Rattle.eval_acts.specs.Reaching.{reached}
-use Rattle.eval_rules.specs.Steps.{Went, apply, onward, plain_step, result_step, search, set_all, walk}
+use Rattle.eval_matching.specs.Attributes.{is_not_read}
+use Rattle.eval_state.specs.Scenes.{noted}
+use Rattle.eval_state.specs.declared.note_kind.NoteKind.TheVariants.{AttributeNotRead}
+use Rattle.eval_rules.specs.Idle.{is_idle}
+use Rattle.eval_rules.specs.Steps.{Went, apply, only_noted, onward, plain_step, result_step, search, set_all, steps, walk}
 use Rattle.eval_rules.specs.Jumps.{run, sought_after}
 use Rattle.eval_rules.specs.Laws.{SameButNotes, SameOutcomeButNotes, plain_hold}
 use Rattle.eval_rules.specs.Outcomes.{outcome_of}
@@ -27,6 +31,11 @@ all_hold state parts = list_all (λ part. holds (plain_subject part.key state) p
 
 reached_same : (r : Rule) (k : PlainKey) (notes : List Note) (s : Scene) → noting notes (reached r k s) ≡ noting notes s
 reached_same r (plain.Sysctl name) notes s = refl
+reached_same r (plain.Attr name) notes s = by (is_not_read name s.state.event)
+  where
+    by : (b : Bool) → noting notes (cond b (noted r AttributeNotRead name s) s) ≡ noting notes s
+    by true = refl
+    by false = refl
 reached_same r k notes s = refl
 
 reached_state : (r : Rule) (k : PlainKey) (s : Scene) → (reached r k s).state ≡ s.state
@@ -61,14 +70,28 @@ walk_holds r (part ∷ parts) s = by (holds (plain_subject part.key s.state) par
 stopped : (f g h i : Scene → Went) (w : Went) → w.1 ≡ false → onward f (onward g (onward h (onward i w))) ≡ w
 stopped f g h i w n = ap (λ b. onward f (onward g (onward h (onward i (w.0, b))))) n ∙ ap (λ b. (w.0, b)) (sym n)
 
-apply_stops : (es : List Entry) (r : Rule) (s : Scene) → plain_hold s.state r ≡ false → apply es r s ≡ walk (plain_step r) r.plain s
-unfolding apply
-apply_stops es r s h =
+steps_stop : (es : List Entry) (r : Rule) (s : Scene) → plain_hold s.state r ≡ false → steps es r s ≡ walk (plain_step r) r.plain s
+unfolding steps
+steps_stop es r s h =
     stopped (set_all r) (walk result_step r.results) (walk (act_step es r) r.acts) (search r.up) (walk (plain_step r) r.plain s) (walk_holds r r.plain s ∙ h)
 
 -- a rule whose matches of the event do not all hold
 pub unmatched : (es : List Entry) (r : Rule) (s : Scene) → plain_hold s.state r ≡ false → SameButNotes s (apply es r s).0
-unmatched es r s h = ap (λ (w : Went). noting s.notes w.0) (apply_stops es r s h) ∙ walk_same r r.plain s.notes s
+unfolding apply
+unmatched es r s h = by (is_idle r s.state.event)
+  where
+    by : (b : Bool) → SameButNotes s (cond b (only_noted es r s) (steps es r s)).0
+    by true = refl
+    by false = ap (λ (w : Went). noting s.notes w.0) (steps_stop es r s h) ∙ walk_same r r.plain s.notes s
+
+-- its end is not reached
+unmatched_stops : (es : List Entry) (r : Rule) (s : Scene) → plain_hold s.state r ≡ false → (apply es r s).1 ≡ false
+unfolding apply
+unmatched_stops es r s h = by (is_idle r s.state.event)
+  where
+    by : (b : Bool) → (cond b (only_noted es r s) (steps es r s)).1 ≡ false
+    by true = refl
+    by false = ap (λ (w : Went). w.1) (steps_stop es r s h) ∙ walk_holds r r.plain s ∙ h
 
 none_holds : (es : List Entry) (rules : List Rule) (s : Scene) → list_any (plain_hold s.state) rules ≡ false → SameButNotes s (run es None rules s)
 unfolding run
@@ -84,7 +107,7 @@ none_holds es (r ∷ rs) s h = by (none_holds es rs) (plain_hold s.state r) refl
     by more false e none =
         let same : SameButNotes s t = unmatched es r s e in
         let state : t.state ≡ s.state = ap (λ (u : Scene). u.state) same in
-        let on : (apply es r s).1 ≡ false = ap (λ (w : Went). w.1) (apply_stops es r s e) ∙ walk_holds r r.plain s ∙ e in
+        let on : (apply es r s).1 ≡ false = unmatched_stops es r s e in
         let rest : SameButNotes t (run es None rs t) = more t (ap (λ u. list_any (plain_hold u) rs) state ∙ none) in
         ap (λ b. noting s.notes (run es (sought_after b r) rs t)) on ∙ ap (noting s.notes) rest ∙ same
 

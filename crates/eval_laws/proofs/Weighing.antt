@@ -1,10 +1,11 @@
 -- What an answer weighs at most.
-use Rattle.std.proofs.Common.{◌≡◌, ℕ, ◌+◌, ◌≤◌, List, length, None, Ok, arith}
+use Rattle.std.proofs.Common.{◌≡◌, ℕ, ◌+◌, ◌≤◌, List, length, None, Ok, refl, arith}
+use Rattle.text_bytes.specs.declared.profile.Profile.{Profile}
 use Rattle.text_tables.specs.Texts.{Text}
 use Rattle.hwdb_lookup.specs.declared.entry.Entry.{Entry}
 use Rattle.rule_types.specs.Rules.{Rule}
 use Rattle.device_core.specs.Faults.{block_gives}
-use Rattle.device_core.specs.Values.{EventValue}
+use Rattle.device_core.specs.Values.{EventValue, by_profile}
 use Rattle.eval_laws.specs.DeviceWeights.{event_weight}
 use Rattle.eval_laws.proofs.DeviceWeights.{event_within}
 use Rattle.eval_state.specs.Scenes.{start}
@@ -16,11 +17,20 @@ use Rattle.eval_laws.proofs.Starts.{start_within}
 use Rattle.eval_laws.proofs.Ruled.{run_within}
 use Rattle.eval_laws.proofs.Ends.{outcome_light}
 
-answer_within : (len : ℕ) (rules : List Rule) (entries : List Entry) (event : EventValue) → event_weight event ≤ len → outcome_weight (outcome rules entries event) ≤ most_weight len entries rules
+answer_within : (len : ℕ) (rules : List Rule) (entries : List Entry) (event : EventValue) → event_weight event ≤ len → outcome_weight (outcome rules entries event) ≤ most_weight event.profile len entries rules
 answer_within len rules entries event short =
     let a = (run_within event len short entries rules None (event_weight event + 50) (start event) (start_within event)).light in
     let b = outcome_light (run entries None rules (start event)) in
     omega (arith, a, b, short)
 
-pub block_answer : (rules : List Rule) (entries : List Entry) (block : Text) (event : EventValue) → block_gives block ≡ Ok event → outcome_weight (outcome rules entries event) ≤ most_weight (length block) entries rules
-block_answer rules entries block event given = answer_within (length block) rules entries event (event_within block event given)
+-- whose word rules are evaluated by has no weight
+pub weight_by : (profile : Profile) (event : EventValue) → event_weight (by_profile profile event) ≡ event_weight event
+unfolding event_weight
+weight_by profile event = refl
+
+pub block_answer : (profile : Profile) (rules : List Rule) (entries : List Entry) (block : Text) (event : EventValue) → block_gives block ≡ Ok event
+    → outcome_weight (outcome rules entries (by_profile profile event)) ≤ most_weight profile (length block) entries rules
+block_answer profile rules entries block event given =
+    let a = weight_by profile event in
+    let b = event_within block event given in
+    answer_within (length block) rules entries (by_profile profile event) (omega (arith, a, b))

@@ -1,10 +1,17 @@
 -- How much each part of a rule may add to an answer.
 use Rattle.std.specs.Prelude.{ℕ, ◌+◌, ◌*◌, List, length, Option, None}
 use Rattle.std.specs.List.{sum_by}
+use Rattle.text_bytes.specs.declared.profile.Profile.{Profile}
+use Rattle.text_bytes.specs.declared.profile.Profile.TheVariants.{Manual, Udev}
 use Rattle.text_tables.specs.Texts.{Text}
 use Rattle.hwdb_lookup.specs.declared.entry.Entry.{Entry}
 use Rattle.rule_types.specs.Written.{attribute_of_plain, attribute_of_up}
 use Rattle.rule_types.specs.WrittenParts.{attribute_of_change, attribute_of_deed}
+use Rattle.rule_types.specs.declared.roles.Target.{Target}
+use Rattle.rule_types.specs.declared.roles.Target.TheVariants as target
+use Rattle.rule_types.specs.declared.part.Assignment.{Assignment}
+use Rattle.rule_types.specs.declared.part.Change.{Change}
+use Rattle.rule_types.specs.declared.part.Change.TheVariants as change
 use Rattle.rule_types.specs.declared.part.Deed.{Deed}
 use Rattle.rule_types.specs.declared.part.Deed.TheVariants as deed
 use Rattle.rule_types.specs.Rules.{Rule}
@@ -37,19 +44,41 @@ import_allowance len entries (deed.Program t) = 0
 abbrev pub deed_allowance : ℕ → List Entry → Rule → Deed → ℕ
 deed_allowance len entries r d = part_allowance r (attribute_of_deed d) + import_allowance len entries d
 
+-- what udev may add besides where a text is assigned, by the text as it is written, for a block of so many bytes: a label that comes to nothing
+-- is as it is written, and the name of an attribute may come from the block
+abbrev pub udev_allowance : ℕ → Target → Text → ℕ
+udev_allowance len (target.Seclabel name) written = length written
+udev_allowance len (target.Attr name) written = len
+udev_allowance len about written = 0
+
+-- the same by a profile
+abbrev pub text_allowance : Profile → ℕ → Target → Text → ℕ
+text_allowance Manual len about written = 0
+text_allowance Udev len about written = udev_allowance len about written
+
+-- what an assignment may add besides
+abbrev pub change_allowance : Profile → ℕ → Change → ℕ
+change_allowance profile len (change.Option known) = 0
+change_allowance profile len (change.Text about template) = text_allowance profile len about template.written
+change_allowance profile len (change.Run braces template) = 0
+
+-- an assignment
+abbrev pub set_allowance : Profile → ℕ → Rule → Assignment → ℕ
+set_allowance profile len r a = part_allowance r (attribute_of_change a.change) + change_allowance profile len a.change
+
 -- a rule: all of its parts; its label and its jump add nothing
-unfoldable pub rule_allowance : ℕ → List Entry → Rule → ℕ
-rule_allowance len entries r =
+unfoldable pub rule_allowance : Profile → ℕ → List Entry → Rule → ℕ
+rule_allowance profile len entries r =
     sum_by (λ m. part_allowance r (attribute_of_plain m.key)) r.plain
     + sum_by (λ m. part_allowance r (attribute_of_up m.key)) r.up
     + sum_by (λ act. deed_allowance len entries r act.deed) r.acts
     + sum_by (λ comparison. part_allowance r None) r.results
-    + sum_by (λ a. part_allowance r (attribute_of_change a.change)) r.sets
+    + sum_by (set_allowance profile len r) r.sets
 
 -- all rules
-abbrev pub rules_allowance : ℕ → List Entry → List Rule → ℕ
-rules_allowance len entries rules = sum_by (rule_allowance len entries) rules
+abbrev pub rules_allowance : Profile → ℕ → List Entry → List Rule → ℕ
+rules_allowance profile len entries rules = sum_by (rule_allowance profile len entries) rules
 
 -- the most that an answer weighs: what the event brings, and what the rules may add
-abbrev pub most_weight : ℕ → List Entry → List Rule → ℕ
-most_weight len entries rules = 4 * len + 128 + rules_allowance len entries rules
+abbrev pub most_weight : Profile → ℕ → List Entry → List Rule → ℕ
+most_weight profile len entries rules = 4 * len + 128 + rules_allowance profile len entries rules

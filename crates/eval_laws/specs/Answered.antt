@@ -7,8 +7,7 @@ use Rattle.rule_types.specs.declared.roles.MatchOperator.TheVariants.{Equal}
 use Rattle.rule_types.specs.declared.part.Act.{Act}
 use Rattle.rule_types.specs.declared.part.Deed.TheVariants as deed
 use Rattle.eval_state.specs.declared.scene.Scene.{Scene}
-use Rattle.eval_rendering.specs.Rendering.{render}
-use Rattle.eval_rendering.specs.declared.rendered.Mode.TheVariants.{Plain}
+use Rattle.eval_acts.specs.ActTexts.{program_text}
 use Rattle.eval_rendering.specs.declared.rendered.Rendered.TheVariants as outcome
 
 -- `PROGRAM==` with a command
@@ -18,5 +17,5 @@ program template = record { operator = Equal; deed = deed.Program template }
 -- The command is not too long, and the event's block answers it with status 0 and this text.
 pub record IsAnswered (template : Template) (s : Scene) (text : Text) : Type 0 where
   pub command : Text
-  pub rendered : render template s.state Plain ≡ outcome.Text command
+  pub rendered : program_text template s.state ≡ outcome.Text command
   pub answered : value_of s.state.event.programs command ≡ Some (record { status = 0; text = text })

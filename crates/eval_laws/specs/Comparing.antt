@@ -8,7 +8,7 @@ use Rattle.text_core.specs.declared.item.Item.{Item}
 use Rattle.text_core.specs.declared.item.Item.TheVariants as item
 use Rattle.rule_types.specs.declared.roles.MatchOperator.TheVariants.{Equal}
 use Rattle.rule_types.specs.declared.part.Comparison.{Comparison}
-use Rattle.eval_matching.specs.Holding.{Subject, one, attribute, constant, members, never, unread, holds}
+use Rattle.eval_matching.specs.Holding.{Subject, one, attribute, constant, members, never, unread, udev_subsystem, udev_attribute, udev_members, udev_unread, holds}
 
 -- the texts that are there
 abbrev pub texts_of : Subject → List Text
@@ -18,6 +18,10 @@ texts_of (constant value) = option_to_list value
 texts_of (members texts) = texts
 texts_of never = []
 texts_of unread = []
+texts_of (udev_subsystem text) = text ∷ []
+texts_of (udev_attribute value) = option_to_list value
+texts_of (udev_members texts) = texts
+texts_of udev_unread = []
 
 -- a comparison by `==`, however its value was written
 abbrev pub equal_to : Bool → Text → List (List Item) → Comparison

@@ -14,3 +14,4 @@ pub mod Allowances
 pub mod Weights
 pub mod Counts
 pub mod Making
+pub mod Naming

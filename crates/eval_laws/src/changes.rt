@@ -1,9 +1,10 @@
 //! What an assignment changes, whatever the rule is.
 //!
 //! Each function here is empty: its contract is the law.
-ghost use Rattle.std.specs.Prelude.{◌≡◌, ◌≢◌, ◌∷◌, ◌++◌, [], ◌||◌, not, true, false, filter, fold, if◌then◌else◌, List, Option, Some, None};
+ghost use Rattle.std.specs.Prelude.{◌≡◌, ◌≢◌, ◌∷◌, ◌++◌, [], ◌||◌, not, true, false, filter, fold, if◌then◌else◌, is_some, option_map, List, Option, Some, None};
 ghost use Rattle.std.specs.List.{list_any};
 ghost use Rattle.text_bytes.specs.Texts.{is_empty};
+ghost use Rattle.text_bytes.specs.declared.profile.Profile.TheVariants.{Manual, Udev};
 ghost use Rattle.text_tables.specs.Texts.{Text, is_among, without_text};
 ghost use Rattle.rule_templates.specs.Template as templates;
 ghost use Rattle.rule_types.specs.declared.part.Assignment.{Assignment};
@@ -13,16 +14,23 @@ ghost use Rattle.rule_types.specs.declared.roles.AssignOperator.TheVariants.{Ass
 ghost use Rattle.rule_types.specs.declared.roles.Target.TheVariants as target;
 ghost use Rattle.rule_types.specs.declared.types.RunType.{RunType};
 ghost use Rattle.rule_types.specs.Rules.{Rule};
+ghost use Rattle.rule_types.specs.Topics.{mode_of};
+ghost use Rattle.device_core.specs.Values.{NumberValue};
 ghost use Rattle.eval_state.specs.Finals.{is_final};
 ghost use Rattle.eval_state.specs.Runs.{RunValue, runs_after, same_run};
 ghost use Rattle.eval_state.specs.declared.finals.FinalKey.{FinalKey};
 ghost use Rattle.eval_state.specs.declared.finals.FinalKey.TheVariants as key;
 ghost use Rattle.eval_state.specs.declared.scene.Scene.{Scene};
+ghost use Rattle.eval_rendering.specs.Bounds.{within};
 ghost use Rattle.eval_rendering.specs.Rendering.{render};
 ghost use Rattle.eval_rendering.specs.declared.rendered.Mode.TheVariants.{Plain};
 ghost use Rattle.eval_rendering.specs.declared.rendered.Rendered.TheVariants as rendered;
+ghost use Rattle.eval_assignments.specs.Bounds.{most_command_bytes, most_value_bytes};
 ghost use Rattle.eval_assignments.specs.Finality.{final_key};
+ghost use Rattle.eval_assignments.specs.Links.{words};
 ghost use Rattle.eval_assignments.specs.Lists.{changed};
+ghost use Rattle.eval_assignments.specs.Modes.{four_digits};
+ghost use Rattle.eval_assignments.specs.Runs.{made_before};
 ghost use Rattle.eval_assignments.specs.Steps.{set_step};
 ghost use Rattle.eval_laws.specs.AssignmentLaws.{Keeps};
 ghost use Rattle.eval_laws.specs.Making.{is_made};
@@ -48,25 +56,32 @@ pub fn only_the_given_texts_are_removed()
 {}
 
 /// `:=` makes its key final where it is made, so that no later assignment changes the key. No other
-/// operator makes a key final.
+/// operator makes a key final. udev takes an assignment for made whose text is too long, too.
 pub fn a_final_assignment_makes_its_key_final()
-    ensures made { (r : Rule) (a : Assignment) (s : Scene) (k : FinalKey) → a.operator ≡ AssignFinal → final_key a.change ≡ Some k → is_final s.finals k ≡ false → is_final (set_step r s a).finals k ≡ is_made r a.change s }
-    ensures later { (r : Rule) (a : Assignment) (s : Scene) (k : FinalKey) → a.operator ≡ AssignFinal → final_key a.change ≡ Some k → is_made r a.change s ≡ true → (other : Rule) (sets : List Assignment) → Keeps k (set_step r s a) (fold (set_step other) (set_step r s a) sets) }
+    ensures made { (r : Rule) (a : Assignment) (s : Scene) (k : FinalKey) → a.operator ≡ AssignFinal → final_key s.state.event.profile a.change ≡ Some k → is_final s.finals k ≡ false → is_final (set_step r s a).finals k ≡ is_made r a.change s }
+    ensures later { (r : Rule) (a : Assignment) (s : Scene) (k : FinalKey) → a.operator ≡ AssignFinal → final_key s.state.event.profile a.change ≡ Some k → is_made r a.change s ≡ true → (other : Rule) (sets : List Assignment) → Keeps k (set_step r s a) (fold (set_step other) (set_step r s a) sets) }
     ensures others { (r : Rule) (a : Assignment) (s : Scene) → a.operator ≢ AssignFinal → (set_step r s a).finals ≡ s.finals }
 {}
 
-/// An assignment of OWNER, GROUP or MODE that is made leaves its text, and with the empty text none.
+/// An assignment of OWNER, GROUP or MODE that is made leaves its text, and with the empty text none. With
+/// udev the empty text leaves what was there, and so does a mode that is none; a mode is told with four
+/// octal digits.
 pub fn assigned_texts_stand()
-    ensures owner { (r : Rule) (o : AssignOperator) (template : templates.Parts) (s : Scene) (t : Text) → is_final s.finals key.Owner ≡ false → render template s.state Plain ≡ rendered.Text t → (set_step r s (record { operator = o; change = change.Text target.Owner template })).owner ≡ (if is_empty t then None else Some t) }
-    ensures group { (r : Rule) (o : AssignOperator) (template : templates.Parts) (s : Scene) (t : Text) → is_final s.finals key.Group ≡ false → render template s.state Plain ≡ rendered.Text t → (set_step r s (record { operator = o; change = change.Text target.Group template })).group ≡ (if is_empty t then None else Some t) }
-    ensures mode { (r : Rule) (o : AssignOperator) (template : templates.Parts) (s : Scene) (t : Text) → is_final s.finals key.Mode ≡ false → render template s.state Plain ≡ rendered.Text t → (set_step r s (record { operator = o; change = change.Text target.Mode template })).mode ≡ (if is_empty t then None else Some t) }
+    ensures owner { (r : Rule) (o : AssignOperator) (template : templates.Parts) (s : Scene) (t : Text) → s.state.event.profile ≡ Manual → is_final s.finals key.Owner ≡ false → render template s.state Plain ≡ rendered.Text t → (set_step r s (record { operator = o; change = change.Text target.Owner template })).owner ≡ (if is_empty t then None else Some t) }
+    ensures group { (r : Rule) (o : AssignOperator) (template : templates.Parts) (s : Scene) (t : Text) → s.state.event.profile ≡ Manual → is_final s.finals key.Group ≡ false → render template s.state Plain ≡ rendered.Text t → (set_step r s (record { operator = o; change = change.Text target.Group template })).group ≡ (if is_empty t then None else Some t) }
+    ensures mode { (r : Rule) (o : AssignOperator) (template : templates.Parts) (s : Scene) (t : Text) → s.state.event.profile ≡ Manual → is_final s.finals key.Mode ≡ false → render template s.state Plain ≡ rendered.Text t → (set_step r s (record { operator = o; change = change.Text target.Mode template })).mode ≡ (if is_empty t then None else Some t) }
+    ensures udev_owner { (r : Rule) (o : AssignOperator) (template : templates.Parts) (s : Scene) (t : Text) → s.state.event.profile ≡ Udev → (number : NumberValue) → s.state.event.device.number ≡ Some number → is_final s.finals key.Owner ≡ false → within most_value_bytes (render template s.state Plain) ≡ rendered.Text t → (set_step r s (record { operator = o; change = change.Text target.Owner template })).owner ≡ (if is_empty t then s.owner else Some t) }
+    ensures udev_group { (r : Rule) (o : AssignOperator) (template : templates.Parts) (s : Scene) (t : Text) → s.state.event.profile ≡ Udev → (number : NumberValue) → s.state.event.device.number ≡ Some number → is_final s.finals key.Group ≡ false → within most_value_bytes (render template s.state Plain) ≡ rendered.Text t → (set_step r s (record { operator = o; change = change.Text target.Group template })).group ≡ (if is_empty t then s.group else Some t) }
+    ensures udev_mode { (r : Rule) (o : AssignOperator) (template : templates.Parts) (s : Scene) (t : Text) → s.state.event.profile ≡ Udev → (number : NumberValue) → s.state.event.device.number ≡ Some number → is_final s.finals key.Mode ≡ false → within most_value_bytes (render template s.state Plain) ≡ rendered.Text t → (set_step r s (record { operator = o; change = change.Text target.Mode template })).mode ≡ (if is_empty t then s.mode else if is_some (mode_of t) then option_map four_digits (mode_of t) else s.mode) }
 {}
 
 /// A RUN that is not there, and whose written text is not empty, is the last of the runs behind `+=`,
-/// and the only one behind any other operator. One whose written text is empty is not taken in.
+/// and the only one behind any other operator. One whose written text is empty is not taken in. udev takes
+/// in the text that it is rendered to at its rule, if that has a word, behind those that the operator leaves.
 pub fn new_runs_stand_last()
     ensures added { (runs : List RunValue) (run : RunValue) → is_empty run.template.written ≡ false → list_any (same_run run) runs ≡ false → runs_after Add runs run ≡ runs ++ run ∷ [] }
     ensures alone { (o : AssignOperator) (runs : List RunValue) (run : RunValue) → o ≢ Add → is_empty run.template.written ≡ false → runs_after o runs run ≡ run ∷ [] }
     ensures empty { (runs : List RunValue) (run : RunValue) → is_empty run.template.written ≡ true → runs_after Add runs run ≡ runs }
-    ensures kept { (r : Rule) (o : AssignOperator) (braces : Option RunType) (template : templates.Parts) (s : Scene) → is_final s.finals key.Run ≡ false → (set_step r s (record { operator = o; change = change.Run braces template })).runs ≡ runs_after o s.runs (record { rule = r; braces = braces; template = template; selected = s.state.selected }) }
+    ensures kept { (r : Rule) (o : AssignOperator) (braces : Option RunType) (template : templates.Parts) (s : Scene) → s.state.event.profile ≡ Manual → is_final s.finals key.Run ≡ false → (set_step r s (record { operator = o; change = change.Run braces template })).runs ≡ runs_after o s.runs (record { rule = r; braces = braces; template = template; selected = s.state.selected }) }
+    ensures made { (r : Rule) (o : AssignOperator) (braces : Option RunType) (template : templates.Parts) (s : Scene) (text : Text) → s.state.event.profile ≡ Udev → is_final s.finals key.Run ≡ false → within most_command_bytes (render template s.state Plain) ≡ rendered.Text text → is_empty (words text) ≡ false → (set_step r s (record { operator = o; change = change.Run braces template })).made ≡ made_before o s.made ++ record { run = record { rule = r; braces = braces; template = template; selected = s.state.selected }; text = text } ∷ [] }
 {}

@@ -13,7 +13,7 @@ ghost use Rattle.eval_state.specs.Finals.{is_final};
 ghost use Rattle.eval_state.specs.Scenes.{start};
 ghost use Rattle.eval_state.specs.declared.finals.FinalKey.{FinalKey};
 ghost use Rattle.eval_state.specs.declared.scene.Scene.{Scene};
-ghost use Rattle.eval_laws.specs.AssignmentLaws.{Keeps};
+ghost use Rattle.eval_laws.specs.AssignmentLaws.{Keeps, may_be_final};
 ghost use Rattle.eval_rules.specs.Jumps.{run};
 ghost use Rattle.eval_rules.specs.Laws.{IsMetByOneDevice, NamesRise, SameButNotes, SameOutcomeButNotes, plain_hold};
 ghost use Rattle.eval_rules.specs.Outcomes.{outcome, outcome_of};
@@ -42,9 +42,10 @@ pub fn jumps_lead_to_the_next_label()
     ensures { (entries : List Entry) (name : Text) (landing : Rule) (behind : List Rule) → landing.label ≡ Some name → (r : Rule) (between : List Rule) (s : Scene) → r.goto ≡ Some name → (apply entries r s).1 ≡ true → ¬ HasLabel name between → run entries None (r ∷ (between ++ landing ∷ behind)) s ≡ run entries None (landing ∷ behind) (apply entries r s).0 }
 {}
 
-/// A key that is final keeps its value through any further rules, of whatever files, and stays final.
+/// A key that is final keeps its value through any further rules, of whatever files, and stays final. The
+/// priority of links never is final for udev.
 pub fn final_keys_stay_through_all_rules()
-    ensures { (entries : List Entry) (sought : Option Text) (rules : List Rule) (key : FinalKey) (s : Scene) → is_final s.finals key ≡ true → Keeps key s (run entries sought rules s) }
+    ensures { (entries : List Entry) (sought : Option Text) (rules : List Rule) (key : FinalKey) (s : Scene) → may_be_final s.state.event.profile key ≡ true → is_final s.finals key ≡ true → Keeps key s (run entries sought rules s) }
 {}
 
 /// The names of the properties that an event comes to rise, so that none is there twice.

@@ -13,6 +13,7 @@ pub mod events;
 pub mod lengths;
 pub mod lookups;
 pub mod matching;
+pub mod naming;
 pub mod programs;
 pub mod rendering;
 pub mod safe_texts;

@@ -1,6 +1,7 @@
 //! What holds of matches, whatever the rules are. Each function here is empty: its contract is the law.
-ghost use Rattle.std.specs.Prelude.{◌≡◌, ◌↔◌, ℕ, List, Some, None, true, false, not};
+ghost use Rattle.std.specs.Prelude.{◌≡◌, ◌≢◌, ◌↔◌, ℕ, List, Some, None, true, false, not};
 ghost use Rattle.std.specs.List.{list_any};
+ghost use Rattle.text_bytes.specs.declared.profile.Profile.TheVariants.{Manual};
 ghost use Rattle.text_tables.specs.Texts.{Text};
 ghost use Rattle.text_tables.specs.Pairs.{value_of};
 ghost use Rattle.text_core.specs.Choices.{choice_fits};
@@ -35,10 +36,12 @@ pub fn a_list_differs_where_no_member_fits()
 {}
 
 /// `==` of any key but ATTR and ATTRS holds exactly where the choice fits a text that the key looks at,
-/// as that stands.
+/// as that stands. With udev that is so of keys other than SUBSYSTEM, and those of links and tags.
 pub fn texts_are_compared_as_they_stand()
-    ensures event { (key : PlainKey) (state : State) → ((name : Text) → ¬ (key ≡ plain.Attr name)) → ComparesAsItStands (plain_subject key state) }
-    ensures device { (key : UpKey) (state : State) (place : ℕ) → ((name : Text) → ¬ (key ≡ up.Attrs name)) → ComparesAsItStands (up_subject key state place) }
+    ensures event { (key : PlainKey) (state : State) → state.event.profile ≡ Manual → ((name : Text) → ¬ (key ≡ plain.Attr name)) → ComparesAsItStands (plain_subject key state) }
+    ensures device { (key : UpKey) (state : State) (place : ℕ) → state.event.profile ≡ Manual → ((name : Text) → ¬ (key ≡ up.Attrs name)) → ComparesAsItStands (up_subject key state place) }
+    ensures udev_event { (key : PlainKey) (state : State) → ((name : Text) → ¬ (key ≡ plain.Attr name)) → key ≢ plain.Subsystem → key ≢ plain.Symlink → key ≢ plain.Tag → ComparesAsItStands (plain_subject key state) }
+    ensures udev_device { (key : UpKey) (state : State) (place : ℕ) → ((name : Text) → ¬ (key ≡ up.Attrs name)) → key ≢ up.Tags → ComparesAsItStands (up_subject key state place) }
     ensures program { (state : State) → ComparesAsItStands (one state.result) }
 {}
 
@@ -53,6 +56,6 @@ pub fn constants_are_compared_as_they_stand()
 /// choice ends in whitespace, and else exactly where it fits the attribute without the whitespace at its
 /// end.
 pub fn attributes_are_compared_without_their_end()
-    ensures event { (name text : Text) (state : State) → value_of state.event.device.attrs name ≡ Some text → ComparesWithoutItsEnd (plain_subject (plain.Attr name) state) text }
-    ensures device { (name text : Text) (state : State) (place : ℕ) (device : DeviceValue) → device_at state.event place ≡ Some device → value_of device.attrs name ≡ Some text → ComparesWithoutItsEnd (up_subject (up.Attrs name) state place) text }
+    ensures event { (name text : Text) (state : State) → state.event.profile ≡ Manual → value_of state.event.device.attrs name ≡ Some text → ComparesWithoutItsEnd (plain_subject (plain.Attr name) state) text }
+    ensures device { (name text : Text) (state : State) (place : ℕ) (device : DeviceValue) → state.event.profile ≡ Manual → device_at state.event place ≡ Some device → value_of device.attrs name ≡ Some text → ComparesWithoutItsEnd (up_subject (up.Attrs name) state place) text }
 {}

@@ -2,7 +2,8 @@
 //! the database are.
 //!
 //! Each function here is empty: its contract is the law.
-ghost use Rattle.std.specs.Prelude.{◌≡◌, ◌∷◌, ◌++◌, [], true, false, fold, List, None};
+ghost use Rattle.std.specs.Prelude.{◌≡◌, ◌∷◌, ◌++◌, [], true, false, fold, map, List, None};
+ghost use Rattle.text_bytes.specs.declared.profile.Profile.TheVariants.{Manual};
 ghost use Rattle.text_tables.specs.Texts.{Text, AreOnce};
 ghost use Rattle.text_tables.specs.Pairs.{Pair, names, value_of};
 ghost use Rattle.hwdb_lookup.specs.declared.entry.Entry.{Entry};
@@ -14,12 +15,15 @@ ghost use Rattle.eval_rendering.specs.declared.rendered.Mode.TheVariants.{Plain}
 ghost use Rattle.eval_rendering.specs.declared.rendered.Rendered.TheVariants as rendered;
 ghost use Rattle.eval_assignments.specs.Steps.{set_step};
 ghost use Rattle.eval_rules.specs.Jumps.{run};
-ghost use Rattle.eval_rules.specs.Outcomes.{by_name, commands, outcome_of};
+ghost use Rattle.eval_rules.specs.Idle.{is_idle};
+ghost use Rattle.eval_rules.specs.Outcomes.{by_name, commands, made_command, outcome_of};
 ghost use Rattle.eval_rules.specs.Steps.{apply};
 
-/// A rule of assignments alone makes them, one behind another, and its end is reached.
+/// A rule of assignments alone makes them, one behind another, and its end is reached. udev does so
+/// where the rule is not one that it passes over.
 pub fn a_rule_of_assignments_makes_them()
-    ensures { (entries : List Entry) (r : Rule) (s : Scene) → r.plain ≡ [] → r.up ≡ [] → r.acts ≡ [] → r.results ≡ [] → apply entries r s ≡ (fold (set_step r) s r.sets, true) }
+    ensures manual { (entries : List Entry) (r : Rule) (s : Scene) → s.state.event.profile ≡ Manual → r.plain ≡ [] → r.up ≡ [] → r.acts ≡ [] → r.results ≡ [] → apply entries r s ≡ (fold (set_step r) s r.sets, true) }
+    ensures counts { (entries : List Entry) (r : Rule) (s : Scene) → is_idle r s.state.event ≡ false → r.plain ≡ [] → r.up ≡ [] → r.acts ≡ [] → r.results ≡ [] → apply entries r s ≡ (fold (set_step r) s r.sets, true) }
 {}
 
 /// A rule whose end is not reached, and one without a jump, is followed by the next one.
@@ -34,7 +38,9 @@ pub fn sorted_properties_have_their_values()
 {}
 
 /// A RUN that is kept when no rule is left is a command at its place among the others, rendered by what
-/// is then known of the event, with the device that was selected when its rule was reached.
+/// is then known of the event, with the device that was selected when its rule was reached. Those that
+/// udev rendered at their rules stand behind them, in their order.
 pub fn commands_are_rendered_in_the_end()
-    ensures { (s : Scene) (before behind : List RunValue) (kept : RunValue) (text : Text) → s.runs ≡ before ++ kept ∷ behind → render kept.template (record s.state { selected = kept.selected }) Plain ≡ rendered.Text text → (outcome_of s).runs ≡ commands s.state before ++ record { kind = run_kind kept.braces; text = text } ∷ commands s.state behind }
+    ensures kept { (s : Scene) (before behind : List RunValue) (kept : RunValue) (text : Text) → s.runs ≡ before ++ kept ∷ behind → render kept.template (record s.state { selected = kept.selected }) Plain ≡ rendered.Text text → (outcome_of s).runs ≡ commands s.state before ++ record { kind = run_kind kept.braces; text = text } ∷ (commands s.state behind ++ map made_command s.made) }
+    ensures made { (s : Scene) → s.runs ≡ [] → (outcome_of s).runs ≡ map made_command s.made }
 {}

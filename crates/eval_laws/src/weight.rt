@@ -4,11 +4,12 @@
 //! Each function here is empty: its contract is the law.
 ghost use Rattle.std.specs.Prelude.{◌≡◌, ◌≤◌, List, length, Ok};
 ghost use Rattle.std.specs.List.{sum_by};
+ghost use Rattle.text_bytes.specs.declared.profile.Profile.{Profile};
 ghost use Rattle.text_tables.specs.Texts.{Text};
 ghost use Rattle.hwdb_lookup.specs.declared.entry.Entry.{Entry};
 ghost use Rattle.rule_types.specs.Rules.{Rule};
 ghost use Rattle.device_core.specs.Faults.{block_gives};
-ghost use Rattle.device_core.specs.Values.{EventValue};
+ghost use Rattle.device_core.specs.Values.{EventValue, by_profile};
 ghost use Rattle.eval_rules.specs.Outcomes.{outcome};
 ghost use Rattle.eval_laws.specs.Allowances.{most_weight};
 ghost use Rattle.eval_laws.specs.Counts.{part_count};
@@ -17,8 +18,10 @@ ghost use Rattle.eval_laws.specs.Weights.{outcome_weight};
 /// The texts that an event comes to, each with one more, are together at most four times its block and
 /// 128, and for each part of a rule 32,896, the length of its attribute and that of its file's name, and
 /// for each IMPORT besides twice the block and all keys and values of the database, each with one more.
+/// An event of udev's may come to more by the text of each SECLABEL as it is written, and by the block for
+/// each ATTR.
 pub fn an_answer_weighs_no_more_than_is_allowed()
-    ensures { (rules : List Rule) (entries : List Entry) (block : Text) (event : EventValue) → block_gives block ≡ Ok event → outcome_weight (outcome rules entries event) ≤ most_weight (length block) entries rules }
+    ensures { (profile : Profile) (rules : List Rule) (entries : List Entry) (block : Text) (event : EventValue) → block_gives block ≡ Ok event → outcome_weight (outcome rules entries (by_profile profile event)) ≤ most_weight profile (length block) entries rules }
 {}
 
 /// An event comes to no more notes than its rules have parts: each part is met at most once, and leaves

@@ -1,5 +1,5 @@
 -- How a comparison holds, by what it looks at.
-use Rattle.std.specs.Prelude.{◌-◌, Bool, false, not, if◌then◌else◌, List, length, slice_get, Option, Some, None}
+use Rattle.std.specs.Prelude.{Bool, false, not, if◌then◌else◌, List, Option, Some, None}
 use Rattle.std.specs.List.{list_any}
 use Rattle.text_bytes.specs.Names.{is_whitespace}
 use Rattle.text_tables.specs.Texts.{Text}
@@ -10,28 +10,25 @@ use Rattle.rule_types.specs.declared.roles.MatchOperator.{MatchOperator}
 use Rattle.rule_types.specs.declared.roles.MatchOperator.TheVariants.{Equal, NotEqual}
 use Rattle.rule_types.specs.declared.part.Comparison.{Comparison}
 use Rattle.eval_state.specs.Texts.{trimmed}
+use Rattle.eval_matching.specs.Udev.{compared_with, last_is, members_fit, subsystem_fits}
 
 -- what a match looks at: one text; an attribute or a constant, each of which may be absent; texts, of which some member
--- may fit; what no match holds of; what is not read in a dry run
+-- may fit; what no match holds of; what is not read in a dry run; and what udev compares otherwise: a subsystem, an attribute, which may be
+-- absent, texts, and an attribute that is not read in a dry run
 pub data Subject : Type 0 where
   one : Text → Subject
   attribute constant : Option Text → Subject
   members : List Text → Subject
   never unread : Subject
+  udev_subsystem : Text → Subject
+  udev_attribute : Option Text → Subject
+  udev_members : List Text → Subject
+  udev_unread : Subject
 
 -- `!=` turns the answer round
 abbrev pub agrees : MatchOperator → Bool → Bool
 agrees Equal fits = fits
 agrees NotEqual fits = not fits
-
--- whether there is an element, and it passes
-abbrev pub passes : {A : Type 0} → (A → Bool) → Option A → Bool
-passes test None = false
-passes test (Some x) = test x
-
--- whether a list has a last element, and that passes
-abbrev pub last_is : {A : Type 0} → (A → Bool) → List A → Bool
-last_is test xs = passes test (slice_get xs (length xs - 1))
 
 -- whether an item of a pattern is a byte of whitespace
 abbrev pub is_whitespace_item : Item → Bool
@@ -46,7 +43,7 @@ ends_in_whitespace choice = last_is (last_is is_whitespace_item) choice
 abbrev pub as_compared : List (List Item) → Text → Text
 as_compared choice text = if ends_in_whitespace choice then text else trimmed text
 
--- whether a comparison holds; what is absent or not read fails `==` and meets `!=`
+-- whether a comparison holds; what is absent or not read fails `==` and meets `!=`, where udev has an attribute fail both
 unfoldable pub holds : Subject → Comparison → Bool
 holds (one text) wanted = agrees wanted.operator (choice_fits wanted.choice text)
 holds (attribute None) wanted = agrees wanted.operator false
@@ -56,3 +53,8 @@ holds (constant (Some text)) wanted = agrees wanted.operator (choice_fits wanted
 holds (members texts) wanted = agrees wanted.operator (list_any (choice_fits wanted.choice) texts)
 holds never wanted = false
 holds unread wanted = agrees wanted.operator false
+holds (udev_subsystem text) wanted = agrees wanted.operator (subsystem_fits wanted text)
+holds (udev_attribute None) wanted = false
+holds (udev_attribute (Some text)) wanted = agrees wanted.operator (choice_fits wanted.choice (compared_with wanted.written text))
+holds (udev_members texts) wanted = agrees wanted.operator (members_fit wanted texts)
+holds udev_unread wanted = false

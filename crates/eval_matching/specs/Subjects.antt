@@ -2,6 +2,8 @@
 use Rattle.std.specs.Prelude.{ℕ, zero, suc, Bool, ◌||◌, if◌then◌else◌, List, [], length, Option, option_map, unwrap_or, position, codes}
 use Rattle.std.specs.List.{list_all, range_with_len}
 use Rattle.std.specs.Option.{option_and_then}
+use Rattle.text_bytes.specs.declared.profile.Profile.{Profile}
+use Rattle.text_bytes.specs.declared.profile.Profile.TheVariants as profile
 use Rattle.text_tables.specs.Texts.{Text, same_text}
 use Rattle.text_tables.specs.Pairs.{value_of}
 use Rattle.device_core.specs.Values.{chain}
@@ -13,7 +15,8 @@ use Rattle.rule_types.specs.declared.part.UpMatch.{UpMatch}
 use Rattle.eval_state.specs.Chains.{device_at, kernel_of}
 use Rattle.eval_state.specs.declared.state.State.{State}
 use Rattle.eval_state.specs.Texts.{or_empty}
-use Rattle.eval_matching.specs.Holding.{Subject, one, attribute, constant, members, never, unread, holds}
+use Rattle.eval_matching.specs.Attributes.{attribute_by, attribute_of}
+use Rattle.eval_matching.specs.Holding.{Subject, one, constant, members, never, udev_members, udev_subsystem, unread, holds}
 
 -- whether a constant is one that CONST knows
 abbrev pub is_known : Text → Bool
@@ -23,17 +26,27 @@ is_known name = same_text name (codes "arch") || same_text name (codes "virt") |
 abbrev pub named_constant : Text → State → Subject
 named_constant name state = if is_known name then constant (value_of state.event.constants name) else never
 
+-- what a match of SUBSYSTEM looks at
+abbrev pub subsystem_by : Profile → Text → Subject
+subsystem_by profile.Manual text = one text
+subsystem_by profile.Udev text = udev_subsystem text
+
+-- what a match of links or tags looks at
+abbrev pub members_by : Profile → List Text → Subject
+members_by profile.Manual texts = members texts
+members_by profile.Udev texts = udev_members texts
+
 -- what each match of the event looks at
 abbrev pub plain_subject : PlainKey → State → Subject
 plain_subject plain.Action state = one state.event.action
 plain_subject plain.Devpath state = one state.event.device.path
 plain_subject plain.Kernel state = one (kernel_of state.event.device)
-plain_subject plain.Subsystem state = one (or_empty state.event.device.subsystem)
+plain_subject plain.Subsystem state = subsystem_by state.event.profile (or_empty state.event.device.subsystem)
 plain_subject plain.Driver state = one (or_empty state.event.device.driver)
 plain_subject plain.Name state = one (or_empty state.name)
-plain_subject plain.Symlink state = members state.links
-plain_subject plain.Tag state = members state.tags
-plain_subject (plain.Attr name) state = attribute (value_of state.event.device.attrs name)
+plain_subject plain.Symlink state = members_by state.event.profile state.links
+plain_subject plain.Tag state = members_by state.event.profile state.tags
+plain_subject (plain.Attr name) state = attribute_by state.event.profile name state.event (value_of state.event.device.attrs name)
 plain_subject (plain.Sysctl name) state = unread
 plain_subject (plain.Env name) state = one (or_empty (value_of state.env name))
 plain_subject (plain.Const name) state = named_constant name state
@@ -48,8 +61,8 @@ abbrev pub up_subject : UpKey → State → ℕ → Subject
 up_subject up.Kernels state place = one (or_empty (option_map kernel_of (device_at state.event place)))
 up_subject up.Subsystems state place = one (or_empty (option_and_then (λ device. device.subsystem) (device_at state.event place)))
 up_subject up.Drivers state place = one (or_empty (option_and_then (λ device. device.driver) (device_at state.event place)))
-up_subject up.Tags state place = members (tags_at state place)
-up_subject (up.Attrs name) state place = attribute (option_and_then (λ device. value_of device.attrs name) (device_at state.event place))
+up_subject up.Tags state place = members_by state.event.profile (tags_at state place)
+up_subject (up.Attrs name) state place = attribute_by state.event.profile name state.event (attribute_of state.event name place)
 
 -- whether a match of one device holds at a place of the chain
 unfoldable pub holds_at : State → ℕ → UpMatch → Bool

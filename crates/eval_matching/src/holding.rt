@@ -2,7 +2,8 @@
 ghost use Rattle.std.specs.Prelude.{◌≡◌, map, option_map, false};
 ghost use Rattle.std.specs.List.{list_any};
 ghost use Rattle.text_core.specs.Choices.{choice_fits};
-ghost use Rattle.eval_matching.specs.Holding.{agrees, as_compared, attribute, constant, ends_in_whitespace, holds, is_whitespace_item, last_is, members, one, unread};
+ghost use Rattle.eval_matching.specs.Holding.{agrees, as_compared, attribute, constant, ends_in_whitespace, holds, is_whitespace_item, members, one, unread};
+ghost use Rattle.eval_matching.specs.Udev.{last_is};
 
 use eval_state::trimmed;
 use rule_types::{Comparison, MatchOperator};
@@ -94,14 +95,14 @@ pub(crate) fn constant_holds(wanted: &Comparison, value: Option<&[u8]>) -> bool
 }
 
 /// Whether some of the texts that rules left fits.
-fn some_fits(choice: &Choice, texts: &[Vec<u8>]) -> bool
+pub(crate) fn some_fits(choice: &Choice, texts: &[Vec<u8>]) -> bool
     ensures { result ≡ list_any (λ t. choice_fits choice.now t.items) texts.now }
 {
     texts.iter().any(|text| choice.fits(text))
 }
 
 /// Whether some of the texts that the event gave fits.
-fn some_given_fits(choice: &Choice, texts: &[&[u8]]) -> bool
+pub(crate) fn some_given_fits(choice: &Choice, texts: &[&[u8]]) -> bool
     ensures { result ≡ list_any (λ t. choice_fits choice.now t.now) texts.now }
 {
     texts.iter().any(|text| choice.fits(text))

@@ -5,10 +5,20 @@
 //! be met at another. Nothing here takes memory.
 #![tactic(auto)]
 
+mod attributes;
+mod examples;
 mod holding;
+mod laws;
 mod plain;
+mod udev;
 mod upward;
 
+pub use attributes::{Attribute, attribute_at, is_not_read};
+pub use examples::{some_attributes, some_subsystems, some_values};
 pub use holding::agrees;
+pub use laws::{
+    a_named_device_is_looked_at, a_plain_name_looks_at_the_device, all_that_may_be_cut_off_is,
+    an_absent_attribute_fails_both, the_first_part_stands_between_bars,
+};
 pub use plain::{is_known_constant, plain_holds, result_holds};
-pub use upward::{attribute_at, driver_at, found_place, holds_at, subsystem_at};
+pub use upward::{driver_at, found_place, holds_at, subsystem_at};

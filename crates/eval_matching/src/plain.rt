@@ -1,12 +1,15 @@
 //! The matches of the event and its device.
-ghost use Rattle.std.specs.Prelude.{◌≡◌};
+ghost use Rattle.std.specs.Prelude.{◌≡◌, map};
 ghost use Rattle.eval_state.specs.Texts.{or_empty};
 ghost use Rattle.eval_matching.specs.Holding.{holds, one};
-ghost use Rattle.eval_matching.specs.Subjects.{is_known, named_constant, plain_subject};
+ghost use Rattle.eval_matching.specs.Subjects.{is_known, members_by, named_constant, plain_subject, subsystem_by};
 
-use crate::holding::{attribute_holds, constant_holds, members_hold, text_holds, unread_holds};
+use crate::attributes::{attribute_at, lent_holds};
+use crate::holding::{constant_holds, members_hold, text_holds, unread_holds};
+use crate::udev;
 use eval_state::State;
 use rule_types::{Comparison, PlainKey, PlainMatch};
+use text_bytes::Profile;
 
 /// The assigned name, empty where there is none.
 fn name<'s>(state: &'s State<'_>) -> &'s [u8]
@@ -37,10 +40,37 @@ fn named_constant_holds(wanted: &Comparison, name: &[u8], state: &State<'_>) -> 
     }
 }
 
+/// Whether a comparison holds of the subsystem of the event device.
+fn subsystem_match_holds(wanted: &Comparison, state: &State<'_>) -> bool
+    ensures { result ≡ holds (subsystem_by state.now.event.profile (or_empty state.now.event.device.subsystem)) wanted.now }
+{
+    let subsystem = state.event.device().subsystem().unwrap_or(b"");
+    match state.event.event().profile() {
+        Profile::Manual => text_holds(wanted, subsystem),
+        Profile::Udev => udev::subsystem_holds(wanted, subsystem),
+    }
+}
+
+/// Whether a comparison holds of links or tags as rules left them.
+pub(crate) fn kept_hold(wanted: &Comparison, state: &State<'_>, texts: &[Vec<u8>]) -> bool
+    ensures { result ≡ holds (members_by state.now.event.profile (map (λ t. t.items) texts.now)) wanted.now }
+{
+    match state.event.event().profile() {
+        Profile::Manual => members_hold(wanted, texts),
+        Profile::Udev => udev::members_hold(wanted, texts),
+    }
+}
+
 /// Whether a match of the event holds, as udev(7) has it: for each key what it looks at is compared
 /// with the choice. Of SYMLINK and TAG, `!=` holds where no member fits; an absent attribute or constant
 /// fails `==` and meets `!=`; whitespace at the end of an attribute counts only where the choice ends in
 /// whitespace; SYSCTL is not read, and counts as absent.
+///
+/// Of an event of udev's as udev of systemd 257 has it: an attribute that is absent or not read fails `==` and `!=`;
+/// of an attribute that is there at most 511 bytes are compared, without the spaces, tabs, line feeds and carriage
+/// returns at its end, unless the first of the texts between bars that is not empty ends in whitespace, or all are
+/// empty; `subsystem`, `bus` and `class`, each alone in a value of SUBSYSTEM, fit each of the three; `?*` fits SYMLINK
+/// and TAG also where there are none.
 pub fn plain_holds(part: &PlainMatch, state: &State<'_>) -> bool
     ensures { result ≡ holds (plain_subject part.now.key state.now) part.now.wanted }
 {
@@ -50,12 +80,12 @@ pub fn plain_holds(part: &PlainMatch, state: &State<'_>) -> bool
         PlainKey::Action => text_holds(wanted, state.event.event().action()),
         PlainKey::Devpath => text_holds(wanted, device.path()),
         PlainKey::Kernel => text_holds(wanted, state.event.kernel()),
-        PlainKey::Subsystem => text_holds(wanted, device.subsystem().unwrap_or(b"")),
+        PlainKey::Subsystem => subsystem_match_holds(wanted, state),
         PlainKey::Driver => text_holds(wanted, device.driver().unwrap_or(b"")),
         PlainKey::Name => text_holds(wanted, name(state)),
-        PlainKey::Symlink => members_hold(wanted, state.links.as_slice()),
-        PlainKey::Tag => members_hold(wanted, state.tags.as_slice()),
-        PlainKey::Attr(name) => attribute_holds(wanted, device.attrs().get(name.as_slice())),
+        PlainKey::Symlink => kept_hold(wanted, state, state.links.as_slice()),
+        PlainKey::Tag => kept_hold(wanted, state, state.tags.as_slice()),
+        PlainKey::Attr(name) => lent_holds(wanted, &attribute_at(state, 0, name.as_slice())),
         PlainKey::Sysctl(_) => unread_holds(wanted),
         PlainKey::Env(name) => text_holds(wanted, state.property(name.as_slice())),
         PlainKey::Const(name) => named_constant_holds(wanted, name.as_slice(), state),

@@ -1,16 +1,19 @@
 //! The matches of one device, and the search for it along the chain.
-ghost use Rattle.std.specs.Prelude.{◌≡◌, option_map};
+ghost use Rattle.std.specs.Prelude.{◌≡◌, map, option_map};
 ghost use Rattle.std.specs.List.{list_all};
 ghost use Rattle.std.specs.Option.{option_and_then};
-ghost use Rattle.text_tables.specs.Pairs.{value_of};
 ghost use Rattle.eval_state.specs.Texts.{or_empty};
 ghost use Rattle.eval_state.specs.Chains.{device_at};
-ghost use Rattle.eval_matching.specs.Holding.{attribute, holds, members, one};
-ghost use Rattle.eval_matching.specs.Subjects.{found_place, holds_at, tags_at, up_subject};
+ghost use Rattle.eval_matching.specs.Holding.{holds, one};
+ghost use Rattle.eval_matching.specs.Subjects.{found_place, holds_at, members_by, tags_at, up_subject};
 
-use crate::holding::{attribute_holds, given_members_hold, members_hold, text_holds};
+use crate::attributes::{attribute_at, lent_holds};
+use crate::holding::{given_members_hold, text_holds};
+use crate::plain::kept_hold;
+use crate::udev;
 use eval_state::State;
 use rule_types::{Comparison, UpKey, UpMatch};
+use text_bytes::Profile;
 
 /// The subsystem of the device at a place, empty where there is none.
 pub fn subsystem_at<'a>(state: &State<'a>, place: usize) -> &'a [u8]
@@ -32,28 +35,32 @@ pub fn driver_at<'a>(state: &State<'a>, place: usize) -> &'a [u8]
     }
 }
 
-/// An attribute of the device at a place, where there is such a device and the device has it.
-pub fn attribute_at<'a>(state: &State<'a>, place: usize, name: &[u8]) -> Option<&'a [u8]>
-    ensures { option_map (λ value. value.now) result ≡ option_and_then (λ device. value_of device.attrs name.now) (device_at state.now.event place) }
+/// Whether a comparison holds of tags as the event gave them.
+fn given_hold(wanted: &Comparison, state: &State<'_>, texts: &[&[u8]]) -> bool
+    ensures { result ≡ holds (members_by state.now.event.profile (map (λ t. t.now) texts.now)) wanted.now }
 {
-    state.event.device_at(place)?.attrs().get(name)
+    match state.event.event().profile() {
+        Profile::Manual => given_members_hold(wanted, texts),
+        Profile::Udev => udev::given_members_hold(wanted, texts),
+    }
 }
 
 /// Whether a comparison holds of the tags of the device at a place.
 fn tags_hold(wanted: &Comparison, state: &State<'_>, place: usize) -> bool
-    ensures { result ≡ holds (members (tags_at state.now place)) wanted.now }
+    ensures { result ≡ holds (members_by state.now.event.profile (tags_at state.now place)) wanted.now }
 {
     if place == 0 {
-        return members_hold(wanted, state.tags.as_slice());
+        return kept_hold(wanted, state, state.tags.as_slice());
     }
     match state.event.device_at(place) {
-        Some(device) => given_members_hold(wanted, device.tags().as_slice()),
-        None => given_members_hold(wanted, &[]),
+        Some(device) => given_hold(wanted, state, device.tags().as_slice()),
+        None => given_hold(wanted, state, &[]),
     }
 }
 
 /// Whether a match of one device holds at a place of the chain; at a place where no device stands it is compared with an
-/// empty text, no attribute and no tag.
+/// empty text, no attribute and no tag. Of an event of udev's attributes and tags are compared as ATTR and TAG are, and
+/// an attribute that is absent fails `==` and `!=`.
 #[tactic(auto, unfolding(crate::specs::Subjects::holds_at))]
 pub fn holds_at(part: &UpMatch, state: &State<'_>, place: usize) -> bool
     ensures { result ≡ holds_at state.now place part.now }
@@ -64,7 +71,7 @@ pub fn holds_at(part: &UpMatch, state: &State<'_>, place: usize) -> bool
         UpKey::Subsystems => text_holds(wanted, subsystem_at(state, place)),
         UpKey::Drivers => text_holds(wanted, driver_at(state, place)),
         UpKey::Tags => tags_hold(wanted, state, place),
-        UpKey::Attrs(name) => attribute_holds(wanted, attribute_at(state, place, name.as_slice())),
+        UpKey::Attrs(name) => lent_holds(wanted, &attribute_at(state, place, name.as_slice())),
     }
 }
 

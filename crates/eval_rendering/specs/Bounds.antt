@@ -1,6 +1,8 @@
--- Texts that may not grow over 16,384 bytes.
+-- Texts that may not grow over 16,384 bytes, or over fewer.
 use Rattle.std.specs.Prelude.{ℕ, nat_lt, if◌then◌else◌, ◌++◌, length, Option, Some, None}
 use Rattle.text_tables.specs.Texts.{Text}
+use Rattle.eval_rendering.specs.declared.rendered.Rendered.{Rendered}
+use Rattle.eval_rendering.specs.declared.rendered.Rendered.TheVariants as rendered
 
 -- the most bytes of a rendered text
 abbrev pub most_bytes : ℕ
@@ -14,3 +16,8 @@ bounded text = if nat_lt most_bytes (length text) then None else Some text
 abbrev pub joined : Option Text → Text → Option Text
 joined None more = None
 joined (Some text) more = bounded (text ++ more)
+
+-- a rendered text that may have so many bytes at most; one of more is too long
+abbrev pub within : ℕ → Rendered → Rendered
+within most (rendered.Text text) = if nat_lt most (length text) then rendered.TooLong else rendered.Text text
+within most rendered.TooLong = rendered.TooLong

@@ -3,12 +3,13 @@ use Rattle.std.specs.Prelude.{Bool, true, false, not, if◌then◌else◌, flat_
 use Rattle.text_tables.specs.Texts.{Text}
 use Rattle.eval_rendering.specs.Safe.{link_marks, safe}
 use Rattle.eval_rendering.specs.Underscores.{underscored}
+use Rattle.rule_templates.specs.Reading.{left_of}
 use Rattle.rule_templates.specs.Template.{Parts as Template}
 use Rattle.rule_templates.specs.declared.piece.Piece.{Piece}
 use Rattle.rule_templates.specs.declared.piece.Piece.TheVariants as piece
 use Rattle.eval_state.specs.declared.state.State.{State}
 use Rattle.eval_rendering.specs.Bounds.{bounded}
-use Rattle.eval_rendering.specs.Pieces.{piece_text}
+use Rattle.eval_rendering.specs.Pieces.{has_long, piece_text}
 use Rattle.eval_rendering.specs.declared.rendered.Mode.{Mode}
 use Rattle.eval_rendering.specs.declared.rendered.Mode.TheVariants.{Plain, Link}
 use Rattle.eval_rendering.specs.declared.rendered.Rendered.{Rendered}
@@ -43,4 +44,10 @@ answer mode (Some text) = rendered.Text (finished mode text)
 
 -- a template with each substitution made, unless that is too long
 unfoldable pub render : Template → State → Mode → Rendered
-render template state mode = answer mode (bounded (flat_map (text_in mode state) template.pieces))
+render template state mode =
+    if has_long state.event.profile state template.pieces then rendered.TooLong
+    else answer mode (bounded (flat_map (text_in mode state) template.pieces))
+
+-- a text that udev renders only as it evaluates a rule, and of which it takes what reading leaves
+abbrev pub rendered_as_udev : Text → State → Rendered
+rendered_as_udev text state = render (record { written = text; pieces = left_of text }) state Plain

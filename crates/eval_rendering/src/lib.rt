@@ -1,6 +1,7 @@
 //! Texts with substitutions rendered over an event, and what becomes of the bytes of a text in a link or of an attribute.
 #![tactic(auto)]
 
+mod attributes;
 mod bounded_text;
 mod pieces;
 mod rendered;
@@ -10,6 +11,6 @@ mod underscores;
 mod words;
 
 pub use rendered::{Mode, Rendered};
-pub use rendering::render;
+pub use rendering::{render, render_text};
 pub use safe::{attribute_safe, link_safe};
 pub use underscores::underscored;

@@ -2,25 +2,25 @@
 //!
 //! Most of it is lent by the event or its state; what has to be changed is made. The links, which can have any number
 //! of bytes, are put together no further than a rendered text may go.
-ghost use Rattle.std.specs.Prelude.{◌≡◌, OnOk, IfOk, option_copied, option_map, unwrap_or, codes};
+ghost use Rattle.std.specs.Prelude.{◌≡◌, OnOk, IfOk, option_map, unwrap_or, codes};
 ghost use Rattle.std.specs.Option.{option_and_then};
-ghost use Rattle.text_tables.specs.Pairs.{value_of};
 ghost use Rattle.eval_state.specs.Chains.{kernel_of};
 ghost use Rattle.eval_state.specs.Start.{node_path};
 ghost use Rattle.eval_state.specs.Texts.{or_empty};
 ghost use Rattle.eval_rendering.specs.Bounds.{bounded, joined};
-ghost use Rattle.eval_rendering.specs.Pieces.{attribute, parent_node, piece_text, selected_device};
+ghost use Rattle.eval_rendering.specs.Pieces.{own_name, parent_node, piece_text, selected_device};
 ghost use Rattle.eval_rendering.specs.Shown.{shown};
 ghost use Rattle.eval_rendering.specs.Underscores.{underscored};
 
+use crate::attributes::{attribute_as, selected_device};
 use crate::bounded_text::BoundedText;
 use crate::safe::attribute_safe;
 use crate::underscores::{spaced_word, underscored};
-use crate::words::{from_word, last_digits, word_at};
-use device_core::Device;
+use crate::words::{from_word, number_as, word_at};
 use eval_state::{State, node_path, trimmed};
 use rule_templates::Piece;
 use std::alloc::{AllocError, Global};
+use text_bytes::Profile;
 
 /// The text of a piece.
 #[derive(Debug, Drop)]
@@ -57,16 +57,6 @@ impl<'s> PieceText<'s> {
     }
 }
 
-/// The device that is selected.
-fn selected_device<'a>(state: &State<'a>) -> Option<&'a Device<'a>>
-    ensures { option_copied result ≡ selected_device state.now }
-{
-    match state.selected {
-        Some(place) => state.event.device_at(place),
-        None => None,
-    }
-}
-
 /// The kernel's name of the selected device, empty where there is none.
 fn selected_kernel<'s>(state: &'s State<'_>) -> &'s [u8]
     ensures { result.now ≡ or_empty (option_map kernel_of (selected_device state.now)) }
@@ -84,26 +74,6 @@ fn selected_driver<'a>(state: &State<'a>) -> &'a [u8]
     match selected_device(state) {
         Some(device) => device.driver().unwrap_or(b""),
         None => b"",
-    }
-}
-
-/// An attribute of the selected device.
-fn selected_attribute<'a>(state: &State<'a>, name: &[u8]) -> Option<&'a [u8]>
-    ensures { option_map (λ value. value.now) result ≡ option_and_then (λ device. value_of device.attrs name.now) (selected_device state.now) }
-{
-    match selected_device(state) {
-        Some(device) => device.attrs().get(name),
-        None => None,
-    }
-}
-
-/// An attribute, of the event device or else of the selected one.
-fn attribute<'a>(state: &State<'a>, name: &[u8]) -> Option<&'a [u8]>
-    ensures { option_map (λ value. value.now) result ≡ attribute name.now state.now }
-{
-    match state.event.device().attrs().get(name) {
-        Some(value) => Some(value),
-        None => selected_attribute(state, name),
     }
 }
 
@@ -137,13 +107,23 @@ fn parent_node<'a>(state: &State<'a>) -> &'a [u8]
     }
 }
 
-/// The assigned name, else the kernel's.
-fn name<'s>(state: &'s State<'_>) -> &'s [u8]
-    ensures { result.now ≡ unwrap_or state.now.name (kernel_of state.now.event.device) }
+/// The name of the event device where no rule gave one: the kernel's, and for udev the node before that.
+fn own_name<'s>(profile: Profile, state: &'s State<'_>) -> &'s [u8]
+    ensures { result.now ≡ own_name profile state.now.event.device }
+{
+    match profile {
+        Profile::Manual => state.event.kernel(),
+        Profile::Udev => state.event.device().node().unwrap_or(state.event.kernel()),
+    }
+}
+
+/// The assigned name, else the device's own.
+fn name<'s>(profile: Profile, state: &'s State<'_>) -> &'s [u8]
+    ensures { result.now ≡ unwrap_or state.now.name (own_name profile state.now.event.device) }
 {
     match &state.name {
         Some(name) => name.as_slice(),
-        None => state.event.kernel(),
+        None => own_name(profile, state),
     }
 }
 
@@ -165,15 +145,16 @@ pub(crate) fn piece_text<'s>(
 ) -> Result<PieceText<'s>, AllocError>
     ensures { IfOk result (λ text. shown text ≡ piece_text state.now piece.now) }
 {
+    let profile = state.event.event().profile();
     let lent = match piece {
         Piece::Plain(text) => text.as_slice(),
         Piece::Kernel => state.event.kernel(),
-        Piece::Number => last_digits(state.event.kernel()),
+        Piece::Number => number_as(profile, state.event.kernel()),
         Piece::Devpath => state.event.device().path(),
         Piece::Id => selected_kernel(state),
         Piece::Driver => selected_driver(state),
         Piece::Attr(name) => {
-            let value = attribute(state, name.as_slice()).unwrap_or(b"");
+            let value = attribute_as(profile, state, name.as_slice());
             return Ok(PieceText::Made(attribute_safe(alloc, trimmed(value))?));
         }
         Piece::Env(name) => state.property(name.as_slice()),
@@ -183,7 +164,7 @@ pub(crate) fn piece_text<'s>(
         Piece::Word(number) => word_at(number.saturating_sub(1), state.result.as_slice()),
         Piece::From(number) => from_word(number.saturating_sub(1), state.result.as_slice()),
         Piece::Parent => parent_node(state),
-        Piece::Name => name(state),
+        Piece::Name => name(profile, state),
         Piece::Links => return Ok(PieceText::Spaced(state.links.as_slice())),
         Piece::Root => b"/dev",
         Piece::Sys => b"/sys",

@@ -1,4 +1,6 @@
 //! How a template is rendered, and what becomes of it.
+ghost use Rattle.std.specs.Prelude.{◌≡◌};
+ghost use Rattle.eval_rendering.specs.Bounds.{within};
 
 use text_bytes::Bytes;
 
@@ -17,6 +19,24 @@ pub enum Mode {
 pub enum Rendered {
     /// The text, of at most 16,384 bytes.
     Text(Bytes),
-    /// The text would have more bytes.
+    /// The text would have more bytes, or, for udev, a substitution of it has an attribute of over 511.
     TooLong,
+}
+
+impl Rendered {
+    /// The text, unless it has more bytes than these; one that has is too long.
+    pub fn within(self, most: usize) -> Rendered
+        ensures { result ≡ within most self }
+    {
+        match self {
+            Rendered::Text(text) => {
+                if text.as_slice().len() > most {
+                    Rendered::TooLong
+                } else {
+                    Rendered::Text(text)
+                }
+            }
+            Rendered::TooLong => Rendered::TooLong,
+        }
+    }
 }

@@ -1,8 +1,9 @@
 //! A template, rendered.
 ghost use Rattle.std.specs.Prelude.{◌≡◌, IfOk, OnOk, option_map};
 ghost use Rattle.eval_rendering.specs.Bounds.{joined};
-ghost use Rattle.eval_rendering.specs.Rendering.{answer, finished, is_raw, is_word, render, text_in};
+ghost use Rattle.eval_rendering.specs.Rendering.{answer, finished, is_raw, is_word, render, rendered_as_udev, text_in};
 
+use crate::attributes::has_long;
 use crate::bounded_text::BoundedText;
 use crate::pieces::piece_text;
 use crate::rendered::{Mode, Rendered};
@@ -10,7 +11,7 @@ use crate::safe::link_safe;
 use eval_state::State;
 use rule_templates::{Piece, Template};
 use std::alloc::{AllocError, Global};
-use text_bytes::Bytes;
+use text_bytes::{Bytes, Profile};
 
 /// Whether a piece stands in a link as it is.
 fn is_raw(piece: &Piece) -> bool
@@ -77,6 +78,10 @@ fn answer(alloc: Global, text: Option<Vec<u8>>, mode: Mode) -> Result<Rendered, 
 /// A template with each substitution made over what is known of an event, as udev(7) has them. Over
 /// 16,384 bytes it is [`TooLong`](Rendered::TooLong), and no piece behind the first that does not fit is looked at.
 ///
+/// Of an event of udev's `$name`, `$number` and `$attr` stand for what they do in udev (systemd 257), and a text is
+/// [`TooLong`](Rendered::TooLong), too, where a substitution has an attribute of over 511 bytes; an attribute of a device
+/// that is named with it, as `$attr{[SUBSYSTEM/KERNEL]ATTRIBUTE}`, is cut off there instead.
+///
 /// In [`Link`](Mode::Link) each substitution but that of `$result` loses the whitespace at its ends, and
 /// each run of it inside becomes one `_`; the whole is then made safe for a path. The error comes where
 /// memory is refused.
@@ -89,6 +94,9 @@ pub fn render(
 ) -> Result<Rendered, AllocError>
     ensures { IfOk result (λ rendered. rendered ≡ render template.now state.now mode) }
 {
+    if has_long(state, template) {
+        return Ok(Rendered::TooLong);
+    }
     let mut text = BoundedText::new(alloc);
     for piece in template.pieces() {
         push_piece(alloc, &mut text, state, piece, mode)?;
@@ -97,4 +105,15 @@ pub fn render(
         }
     }
     answer(alloc, text.into_text(), mode)
+}
+
+/// A text that udev renders only as it evaluates a rule, such as the name of a parameter: it is read as udev reads
+/// templates, which leaves out all behind a fault, and rendered as any text. The error comes where memory is refused.
+pub fn render_text(alloc: Global, text: &[u8], state: &State<'_>) -> Result<Rendered, AllocError>
+    ensures { IfOk result (λ rendered. rendered ≡ rendered_as_udev text.now state.now) }
+{
+    match Template::read_as(alloc, Profile::Udev, text) {
+        Ok(template) => render(alloc, &template, state, Mode::Plain),
+        Err(_fault) => Err(AllocError),
+    }
 }

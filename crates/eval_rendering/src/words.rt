@@ -5,9 +5,10 @@ ghost use Rattle.text_bytes.specs.Names.{is_whitespace};
 ghost use Rattle.text_bytes.specs.Numbers.{is_digit};
 ghost use Rattle.text_bytes.specs.Texts.{skip_while};
 ghost use Rattle.eval_state.specs.Texts.{longest_end};
+ghost use Rattle.eval_rendering.specs.Pieces.{number_as};
 ghost use Rattle.eval_rendering.specs.Words.{from_word, word_at, word_len};
 
-use text_bytes::{is_digit, is_whitespace};
+use text_bytes::{Profile, is_digit, is_whitespace};
 
 /// How many bytes the word has that a text begins with.
 fn word_len(text: &[u8]) -> usize
@@ -80,4 +81,15 @@ pub(crate) fn last_digits(text: &[u8]) -> &[u8]
     ensures { result.now ≡ longest_end is_digit text.now }
 {
     text.split_at(text.len() - trailing_digits(text)).1
+}
+
+/// The number that a kernel's name ends in; for udev a name of digits alone has none.
+pub(crate) fn number_as(profile: Profile, kernel: &[u8]) -> &[u8]
+    ensures { result.now ≡ number_as profile kernel.now }
+{
+    let digits = last_digits(kernel);
+    match profile {
+        Profile::Manual => digits,
+        Profile::Udev => { if digits == kernel { b"" } else { digits } }
+    }
 }

@@ -1,6 +1,12 @@
 -- What an event says of itself stays, whatever rules do.
-use Rattle.std.proofs.Common.{◌≡◌, Bool, true, false, cond, List, [], ◌∷◌, Option, Some, None, refl, ◌∙◌}
+use Rattle.std.proofs.Common.{◌==◌, ◌||◌, ℕ, Bool, true, false, cond, List, [], ◌∷◌, Option, Some, None, is_some, refl, ◌∙◌}
 use Rattle.std.specs.List.{fold}
+use Rattle.text_bytes.specs.Names.{slash}
+use Rattle.text_bytes.specs.Texts.{begins_with}
+use Rattle.text_bytes.specs.declared.profile.Profile.{Profile}
+use Rattle.text_bytes.specs.declared.profile.Profile.TheVariants.{Manual, Udev}
+use Rattle.text_core.specs.Fnmatch.{fnmatch_items}
+use Rattle.text_core.specs.declared.reading.Reading.TheVariants.{Exact}
 use Rattle.text_tables.specs.Texts.{Text}
 use Rattle.text_tables.specs.Pairs.{value_of}
 use Rattle.hwdb_lookup.specs.declared.entry.Entry.{Entry}
@@ -21,18 +27,25 @@ use Rattle.eval_rendering.specs.declared.rendered.Rendered.{Rendered}
 use Rattle.eval_rendering.specs.declared.rendered.Rendered.TheVariants as rendered
 use Rattle.eval_acts.specs.declared.builtin.Builtin.{Builtin}
 use Rattle.eval_acts.specs.declared.builtin.Builtin.TheVariants as builtin
+use Rattle.eval_matching.specs.Attributes.{is_not_read}
+use Rattle.eval_state.specs.Chains.{device_at}
+use Rattle.eval_state.specs.Named.{NamedValue, named, named_place}
+use Rattle.eval_state.specs.Scenes.{noted}
+use Rattle.eval_state.specs.declared.note_kind.NoteKind.TheVariants.{AttributeNotRead, TestNotMade}
 use Rattle.eval_state.specs.declared.scene.Scene.{Scene}
-use Rattle.eval_acts.specs.Acts.{act_step, imported, on_text, performed}
-use Rattle.eval_acts.specs.Imports.{builtin_run, from_parent, run_builtin}
-use Rattle.eval_acts.specs.Questions.{answered_or_noted, asked, tested, with_result}
+use Rattle.eval_acts.specs.Acts.{act_step, from_parent_by, imported, on_text, parent_imported, performed, unrun}
+use Rattle.eval_acts.specs.ActTexts.{most_command_bytes, most_path_bytes}
+use Rattle.eval_acts.specs.Imports.{builtin_run, from_parent, not_run, run_builtin}
+use Rattle.eval_acts.specs.Questions.{answered_or_noted, asked, result_of, tested, tested_at, tested_by, tested_by_udev, with_result}
 use Rattle.eval_acts.specs.Reaching.{reached}
 use Rattle.eval_assignments.specs.Steps.{set_step}
-use Rattle.eval_rules.specs.Steps.{Went, apply, onward, plain_step, result_step, search, set_all, walk}
+use Rattle.eval_rules.specs.Idle.{change_applies, is_idle, note_step}
+use Rattle.eval_rules.specs.Steps.{Went, apply, only_noted, onward, plain_step, result_step, search, set_all, steps, before_sets, walk}
 use Rattle.eval_assignments.proofs.Staying.{Stays, set_stays}
 
-either : (s t u : Scene) (a b c : Bool) → Stays s t → Stays s u → Stays s (cond {A = Scene × Bool} c (t, a) (u, b)).0
-either s t u a b true h k = h
-either s t u a b false h k = k
+either : (s : Scene) (c : Bool) (x y : Scene × Bool) → Stays s x.0 → Stays s y.0 → Stays s (cond c x y).0
+either s true x y h k = h
+either s false x y h k = k
 
 -- ---- what acts
 
@@ -40,12 +53,24 @@ text_stays : (r : Rule) (d : Deed) (act : Text → Scene → Scene × Bool) → 
 text_stays r d act h (rendered.Text t) s = h t s
 text_stays r d act h rendered.TooLong s = refl
 
+at_stays : (place : Option ℕ) (r : Rule) (name path : Text) (s : Scene) → Stays s (tested_at place r name path s).0
+at_stays None r name path s = refl
+at_stays (Some place) r name path s = refl
+
+named_stays : (n : Option NamedValue) (r : Rule) (path : Text) (s : Scene) → Stays s (tested_by_udev n r path s).0
+named_stays None r path s = refl
+named_stays (Some n) r path s = at_stays (named_place n s.state.event) r n.attribute path s
+
+by_stays : (p : Profile) (r : Rule) (path : Text) (s : Scene) → Stays s (tested_by p r path s).0
+by_stays Manual r path s = refl
+by_stays Udev r path s = named_stays (named path) r path s
+
 tested_stays : (r : Rule) (mask : Option Text) (t : Text) (s : Scene) → Stays s (tested r mask t s).0
-tested_stays r mask t s = either s _ s false _ _ refl refl
+tested_stays r mask t s = either s (is_some mask || begins_with slash t) (noted r TestNotMade t s, false) (tested_by s.state.event.profile r t s) refl (by_stays s.state.event.profile r t s)
 
 answered_stays : (r : Rule) (t : Text) (a : Option AnswerValue) (s : Scene) → Stays s (answered_or_noted r t a s).0
 answered_stays r t None s = refl
-answered_stays r t (Some a) s = either s (with_result a.text s) s true false _ refl refl
+answered_stays r t (Some a) s = either s (a.status == 0) (with_result (result_of s.state.event.profile a.text) s, true) (s, false) refl refl
 
 builtin_stays : (es : List Entry) (r : Rule) (t : Text) (b : Builtin) (s : Scene) → Stays s (builtin_run es r t b s).0
 builtin_stays es r t (builtin.Hwdb h) s = refl
@@ -56,11 +81,19 @@ parent_stays : (names : _) (d : Option DeviceValue) (s : Scene) → Stays s (fro
 parent_stays names None s = refl
 parent_stays names (Some d) s = refl
 
+parents_stay : (p : Profile) (r : Rule) (d : Deed) (names : _) (text : Text) (s : Scene) → Stays s (parent_imported p r d names text s).0
+parents_stay Manual r d names text s = parent_stays names _ s
+parents_stay Udev r d names text s = text_stays r d from_parent_by (λ t u. parent_stays (fnmatch_items Exact t 0 ∷ []) (device_at u.state.event 1) u) _ s
+
+unrun_stays : (p : Profile) (r : Rule) (d : Deed) (i : Import) (most : ℕ) (template : _) (s : Scene) → Stays s (unrun p r d i most template s).0
+unrun_stays Manual r d i most template s = refl
+unrun_stays Udev r d i most template s = text_stays r d (λ text. not_run r i) (λ t u. refl) _ s
+
 imported_stays : (es : List Entry) (r : Rule) (d : Deed) (i : Import) (s : Scene) → Stays s (imported es r d i s).0
 imported_stays es r d (import.Builtin t) s = text_stays r d (run_builtin es r) (λ c u. builtin_stays es r c _ u) _ s
-imported_stays es r d (import.Parent names text) s = parent_stays names _ s
-imported_stays es r d (import.Program t) s = refl
-imported_stays es r d (import.File t) s = refl
+imported_stays es r d (import.Parent names text) s = parents_stay s.state.event.profile r d names text s
+imported_stays es r d (import.Program t) s = unrun_stays s.state.event.profile r d (import.Program t) most_command_bytes t s
+imported_stays es r d (import.File t) s = unrun_stays s.state.event.profile r d (import.File t) most_path_bytes t s
 imported_stays es r d (import.Cmdline name) s = refl
 imported_stays es r d (import.Db name) s = refl
 
@@ -79,6 +112,11 @@ act_stays es r act s = performed_stays es r act.deed s
 -- a match that is reached
 pub reached_stays : (r : Rule) (k : PlainKey) (s : Scene) → Stays s (reached r k s)
 reached_stays r (plain.Sysctl name) s = refl
+reached_stays r (plain.Attr name) s = by (is_not_read name s.state.event)
+  where
+    by : (b : Bool) → Stays s (cond b (noted r AttributeNotRead name s) s)
+    by true = refl
+    by false = refl
 reached_stays r k s = refl
 
 plain_stays : (r : Rule) (part : PlainMatch) (s : Scene) → Stays s (plain_step r part s).0
@@ -99,6 +137,14 @@ sets_stay : (r : Rule) (sets : List Assignment) (s : Scene) → Stays s (fold (s
 sets_stay r [] s = refl
 sets_stay r (a ∷ sets) s = sets_stay r sets (set_step r s a) ∙ set_stays r a s
 
+-- an assignment that is not made
+pub note_stays : (r : Rule) (a : Assignment) (s : Scene) → Stays s (note_step r s a)
+note_stays r a s = by (change_applies a.change s.state.event.device)
+  where
+    by : (b : Bool) → Stays s (cond b s (set_step r s a))
+    by true = refl
+    by false = set_stays r a s
+
 -- ---- steps, and a rule
 
 onward_stays : (f : Scene → Went) → ((s : Scene) → Stays s (f s).0) → (s : Scene) (w : Went) → Stays s w.0 → Stays s (onward f w).0
@@ -113,12 +159,24 @@ unfolding walk
 walk_stays step h [] s = refl
 walk_stays step h (p ∷ ps) s = onward_stays (walk step ps) (walk_stays step h ps) s (step p s) (h p s)
 
--- a rule
-pub event_stays : (es : List Entry) (r : Rule) (s : Scene) → (apply es r s).0.state.event ≡ s.state.event
-unfolding apply
-event_stays es r s =
-    onward_stays (set_all r) (sets_stay r r.sets) s _
-    (onward_stays (walk result_step r.results) (walk_stays result_step result_stays r.results) s _
+-- a rule up to its assignments
+pub tried_stays : (es : List Entry) (r : Rule) (s : Scene) → Stays s (before_sets es r s).0
+tried_stays es r s =
+    onward_stays (walk result_step r.results) (walk_stays result_step result_stays r.results) s _
     (onward_stays (walk (act_step es r) r.acts) (walk_stays (act_step es r) (act_stays es r) r.acts) s _
     (onward_stays (search r.up) (search_stays r.up) s _
-    (walk_stays (plain_step r) (plain_stays r) r.plain s))))
+    (walk_stays (plain_step r) (plain_stays r) r.plain s)))
+
+-- a rule in its steps
+pub steps_stay : (es : List Entry) (r : Rule) (s : Scene) → Stays s (steps es r s).0
+unfolding steps
+steps_stay es r s = onward_stays (set_all r) (sets_stay r r.sets) s (before_sets es r s) (tried_stays es r s)
+
+-- a rule
+pub event_stays : (es : List Entry) (r : Rule) (s : Scene) → Stays s (apply es r s).0
+unfolding apply
+event_stays es r s = by (is_idle r s.state.event)
+  where
+    by : (b : Bool) → Stays s (cond b (only_noted es r s) (steps es r s)).0
+    by true = refl
+    by false = steps_stay es r s

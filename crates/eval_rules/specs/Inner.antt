@@ -5,6 +5,7 @@ use Rattle.text_tables.specs.Texts.{Text}
 use Rattle.text_tables.specs.Pairs.{Pair}
 use Rattle.eval_state.specs.declared.notes.Note.{Note}
 use Rattle.eval_state.specs.declared.scene.Scene.{Scene}
+use Rattle.eval_assignments.specs.Tags.{current_tags}
 use Rattle.rule_types.specs.Rules.{Rule}
 use Rattle.eval_rules.specs.Steps.{with_selected}
 use Rattle.eval_rules.specs.Jumps.{is_passed}
@@ -31,7 +32,7 @@ made_of s env runs = record {
   persist = s.persist;
   labels = s.labels;
   links = s.state.links;
-  tags = s.state.tags;
+  tags = current_tags s;
   env = env;
   attrs = s.attrs;
   sysctls = s.sysctls;

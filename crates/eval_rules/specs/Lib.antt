@@ -1,3 +1,4 @@
+pub mod Idle
 pub mod Inner
 pub mod Jumps
 pub mod Outcomes

@@ -1,5 +1,5 @@
 -- What an event comes to.
-use Rattle.std.specs.Prelude.{List, [], ◌∷◌, ◌++◌, None, option_map, flat_map, fold}
+use Rattle.std.specs.Prelude.{List, [], ◌∷◌, ◌++◌, None, map, option_map, flat_map, fold}
 use Rattle.text_bytes.specs.Insertion.{put_by}
 use Rattle.text_tables.specs.Pairs.{Pair}
 use Rattle.hwdb_lookup.specs.declared.entry.Entry.{Entry}
@@ -16,8 +16,10 @@ use Rattle.eval_state.specs.Notes.{note_about, word_of_key}
 use Rattle.eval_state.specs.Runs.{RunValue, run_kind}
 use Rattle.eval_state.specs.Scenes.{start}
 use Rattle.eval_state.specs.declared.note_kind.NoteKind.TheVariants.{TextTooLong}
+use Rattle.eval_state.specs.declared.made_runs.MadeRun.{MadeRun}
 use Rattle.eval_state.specs.declared.notes.Note.{Note}
 use Rattle.eval_state.specs.declared.scene.Scene.{Scene}
+use Rattle.eval_assignments.specs.Tags.{current_tags}
 use Rattle.eval_rules.specs.Steps.{with_selected}
 use Rattle.eval_rules.specs.Jumps.{run}
 use Rattle.eval_rules.specs.declared.outcome.Command.{Command}
@@ -45,6 +47,10 @@ commands state runs = flat_map (λ kept. command kept (run_text state kept)) run
 abbrev pub late_notes : State → List RunValue → List Note
 late_notes state runs = flat_map (λ kept. late_note kept (run_text state kept)) runs
 
+-- a RUN of udev's as a command: it was rendered at its rule
+abbrev pub made_command : MadeRun → Command
+made_command made = record { kind = run_kind made.run.braces; text = made.text }
+
 -- a property in its place among others that are sorted by name, byte by byte
 abbrev pub put : List Pair → Pair → List Pair
 put pairs pair = put_by (λ p. p.0) (λ earlier later. later) pairs pair
@@ -53,7 +59,8 @@ put pairs pair = put_by (λ p. p.0) (λ earlier later. later) pairs pair
 abbrev pub by_name : List Pair → List Pair
 by_name pairs = fold put [] pairs
 
--- what a scene comes to when no rule is left
+-- what a scene comes to when no rule is left: without the tags that were taken away, and with the commands that were made at their rules
+-- behind those that are rendered now
 unfoldable pub outcome_of : Scene → Outcome
 outcome_of s = record {
   name = s.state.name;
@@ -65,11 +72,11 @@ outcome_of s = record {
   persist = s.persist;
   labels = s.labels;
   links = s.state.links;
-  tags = s.state.tags;
+  tags = current_tags s;
   env = by_name s.state.env;
   attrs = s.attrs;
   sysctls = s.sysctls;
-  runs = commands s.state s.runs;
+  runs = commands s.state s.runs ++ map made_command s.made;
   notes = s.notes ++ late_notes s.state s.runs;
 }
 

@@ -1,5 +1,5 @@
 -- One rule, step by step.
-use Rattle.std.specs.Prelude.{ℕ, Bool, true, if◌then◌else◌, is_some, List, [], ◌∷◌, Option, fold}
+use Rattle.std.specs.Prelude.{ℕ, Bool, true, false, if◌then◌else◌, is_some, List, [], ◌∷◌, Option, fold}
 use Rattle.hwdb_lookup.specs.declared.entry.Entry.{Entry}
 use Rattle.rule_types.specs.declared.part.Comparison.{Comparison}
 use Rattle.rule_types.specs.declared.part.PlainMatch.{PlainMatch}
@@ -12,6 +12,7 @@ use Rattle.eval_state.specs.declared.scene.Scene.{Scene}
 use Rattle.eval_acts.specs.Acts.{act_step}
 use Rattle.eval_acts.specs.Reaching.{reached}
 use Rattle.eval_assignments.specs.Steps.{set_step}
+use Rattle.eval_rules.specs.Idle.{is_idle, note_all}
 
 -- what an event has come to, and whether the rule goes on
 abbrev pub Went : Type 0
@@ -49,12 +50,23 @@ search (part ∷ parts) s =
 abbrev pub set_all : Rule → Scene → Went
 set_all r s = (fold (set_step r) s r.sets, true)
 
--- a rule in its five steps: the matches of the event, the search for one device, what acts, the matches of the result,
--- the assignments; the second part of what it comes to says whether its end was reached
-unfoldable pub apply : List Entry → Rule → Scene → Went
-apply entries r s =
-    onward (set_all r)
-    (onward (walk result_step r.results)
+-- a rule up to its assignments: the matches of the event, the search for one device, what acts, the matches of the result; the second
+-- part of what it comes to says whether all of them let the rule go on
+abbrev pub before_sets : List Entry → Rule → Scene → Went
+before_sets entries r s =
+    onward (walk result_step r.results)
     (onward (walk (act_step entries r) r.acts)
     (onward (search r.up)
-    (walk (plain_step r) r.plain s))))
+    (walk (plain_step r) r.plain s)))
+
+-- a rule in its five steps, the assignments last; the second part of what it comes to says whether its end was reached
+unfoldable pub steps : List Entry → Rule → Scene → Went
+steps entries r s = onward (set_all r) (before_sets entries r s)
+
+-- a rule that is passed over: it leaves its notes and changes nothing else, and its end is not reached
+abbrev pub only_noted : List Entry → Rule → Scene → Went
+only_noted entries r s = (record s { notes = (onward (note_all r) (before_sets entries r s)).0.notes }, false)
+
+-- a rule over a scene: udev passes it over where nothing in it counts for the event
+unfoldable pub apply : List Entry → Rule → Scene → Went
+apply entries r s = if is_idle r s.state.event then only_noted entries r s else steps entries r s

@@ -1,8 +1,9 @@
 //! An event, from its start to its outcome.
-ghost use Rattle.std.specs.Prelude.{◌≡◌, ◌++◌, OnOk, IfOk, option_map};
+ghost use Rattle.std.specs.Prelude.{◌≡◌, ◌++◌, OnOk, IfOk, map, option_map};
 ghost use Rattle.rule_types.specs.Names.{run_name};
 ghost use Rattle.eval_rules.specs.Steps.{with_selected};
-ghost use Rattle.eval_rules.specs.Outcomes.{command, commands, late_note, late_notes, outcome, outcome_of, run_text};
+ghost use Rattle.eval_rules.specs.Outcomes.{command, commands, late_note, late_notes, made_command, outcome, outcome_of, run_text};
+ghost use Rattle.eval_assignments.specs.Lists.{without_texts};
 ghost use Rattle.eval_rules.specs.Inner.{made_of, unselected, with_notes};
 
 use crate::outcome::{Command, Commands, Outcome};
@@ -10,13 +11,14 @@ use crate::rules::run;
 use crate::sorting::by_name;
 use device_core::Event;
 use eval_rendering::{Mode, Rendered, render};
-use eval_state::{Run, Runs, Scene, State};
+use eval_state::{MadeRun, Run, Runs, Scene, State};
 use hwdb_lookup::Lookup;
 use rule_core::RuleSet;
 use rule_types::Key;
 use std::alloc::{AllocError, Global};
 use std::mem;
-use text_tables::OwnedPairs;
+use text_bytes::Bytes;
+use text_tables::{OwnedPairs, OwnedTexts};
 
 /// Renders a RUN with the device that its rule had selected, which is selected from then on. The error comes where
 /// memory is refused.
@@ -76,14 +78,58 @@ fn render_runs(
     Ok(commands)
 }
 
+/// A RUN that was rendered at its rule, as a command. The error comes where memory is refused.
+pub fn made_command(alloc: Global, made: &MadeRun<'_>) -> Result<Command, AllocError>
+    ensures { IfOk result (λ command. command ≡ made_command made.now) }
+{
+    Ok(Command {
+        kind: made.run.kind(),
+        text: Bytes::copy_of(alloc, made.text.as_slice())?,
+    })
+}
+
+/// Adds what was rendered at its rule behind other commands.
+fn add_made(alloc: Global, made: &[MadeRun<'_>], commands: &mut Commands) -> Result<(), AllocError>
+    ensures { OnOk result (commands.new ≡ commands.old ++ map made_command made.now) }
+{
+    for run in made {
+        commands.push(made_command(alloc, run)?)?;
+    }
+    Ok(())
+}
+
+/// All commands: what is to be run, rendered, and behind that what was rendered at its rule.
+fn all_commands(
+    alloc: Global,
+    runs: &[Run<'_>],
+    scene: &mut Scene<'_>,
+) -> Result<Commands, AllocError>
+    ensures commands { IfOk result (λ done. done ≡ commands scene.old.state runs.now ++ map made_command scene.new.made) }
+    ensures scene { OnOk result (unselected scene.new ≡ with_notes (late_notes scene.old.state runs.now) (unselected scene.old)) }
+{
+    let mut commands = render_runs(alloc, runs, scene)?;
+    add_made(alloc, scene.made.as_slice(), &mut commands)?;
+    Ok(commands)
+}
+
 /// What is to be run, rendered, and the properties, sorted, where no rule is left.
 fn rendered(alloc: Global, scene: &mut Scene<'_>) -> Result<(Commands, OwnedPairs), AllocError>
     ensures { IfOk result (λ done. made_of scene.new done.1 done.0 ≡ outcome_of scene.old) }
 {
     let runs = mem::replace(&mut scene.runs, Runs::new(alloc));
-    let commands = render_runs(alloc, runs.as_slice(), scene)?;
+    let commands = all_commands(alloc, runs.as_slice(), scene)?;
     let env = mem::replace(&mut scene.state.env, OwnedPairs::new(alloc));
     Ok((commands, by_name(env)?))
+}
+
+/// Tags without those that were taken away.
+fn present_tags(mut tags: OwnedTexts, gone: &OwnedTexts) -> OwnedTexts
+    ensures { result ≡ without_texts tags gone.now }
+{
+    for text in gone.as_slice() {
+        tags.remove(text);
+    }
+    tags
 }
 
 /// The outcome that is made of a scene, of commands and of properties.
@@ -98,10 +144,12 @@ fn outcome_with(scene: Scene<'_>, commands: Commands, env: OwnedPairs) -> Outcom
         priority,
         watch,
         persist,
+        gone,
         labels,
         attrs,
         sysctls,
         runs: _,
+        made: _,
         notes,
         finals: _,
     } = scene;
@@ -124,7 +172,7 @@ fn outcome_with(scene: Scene<'_>, commands: Commands, env: OwnedPairs) -> Outcom
         persist,
         labels,
         links,
-        tags,
+        tags: present_tags(tags, &gone),
         env,
         attrs,
         sysctls,
@@ -169,7 +217,8 @@ fn evaluate<'a, L: Lookup>(
 /// What an event comes to by the rules as they are read, as udev(7) has it: each rule in turn over what
 /// the rules before it left, jumps followed, the database asked where a rule imports from it; then each
 /// RUN rendered with what is known in the end. Programs, builtins other than `hwdb` and files are not
-/// run or read, and leave notes.
+/// run or read, and leave notes. An event of udev's profile is evaluated as udev of systemd 257 itself
+/// does it.
 ///
 /// The error comes where memory is refused.
 pub fn evaluate_plain<L: Lookup>(

@@ -1,13 +1,15 @@
 //! One rule, step by step.
 //!
 //! Most rules fail at their first match: until one holds that takes memory, nothing is taken.
-ghost use Rattle.std.specs.Prelude.{◌≡◌, OnErr, IfOk};
+ghost use Rattle.std.specs.Prelude.{◌≡◌, true, false, OnErr, OnOk, IfOk};
 ghost use Rattle.std.specs.List.{list_all};
 ghost use Rattle.eval_matching.specs.Holding.{holds, one};
 ghost use Rattle.eval_state.specs.Scenes.{blank};
 ghost use Rattle.eval_acts.specs.Acts.{act_step};
-ghost use Rattle.eval_rules.specs.Steps.{apply, plain_step, result_step, search, walk};
+ghost use Rattle.eval_rules.specs.Idle.{is_idle};
+ghost use Rattle.eval_rules.specs.Steps.{apply, only_noted, plain_step, result_step, search, steps, before_sets, walk};
 
+use crate::idle::{is_idle, note_all};
 use eval_acts::{act_step, reached};
 use eval_assignments::set_all;
 use eval_matching::{found_place, plain_holds, result_holds};
@@ -101,17 +103,16 @@ fn match_results(parts: &[Comparison], scene: &Scene<'_>) -> bool
     results_hold(parts, &scene.state)
 }
 
-/// Goes through a rule's five steps, up to the first that stops it, and answers whether its end was
-/// reached.
-#[tactic(auto, unfolding(crate::specs::Steps::apply))]
-fn take_steps<'a, L: Lookup>(
+/// Goes through a rule up to its assignments, and answers whether it goes on to them: the matches of the
+/// event, the search for one device, what acts, the matches of the result.
+fn try_rule<L: Lookup>(
     alloc: Global,
-    rule: &'a Rule,
+    rule: &Rule,
     lookup: &L,
-    scene: &mut Scene<'a>,
+    scene: &mut Scene<'_>,
 ) -> Result<bool, AllocError>
-    ensures scene { IfOk result (λ on. (scene.new, on) ≡ apply (L.entries lookup.now) rule.now scene.old) }
-    ensures refused { OnErr result (scene.new.state.event ≡ scene.old.state.event) }
+    ensures scene { IfOk result (λ on. (scene.new, on) ≡ before_sets (L.entries lookup.now) rule.now scene.old) }
+    ensures event { scene.new.state.event ≡ scene.old.state.event }
 {
     if !match_event(alloc, rule, rule.plain(), scene)? {
         return Ok(false);
@@ -122,16 +123,71 @@ fn take_steps<'a, L: Lookup>(
     if !act_all(alloc, rule, rule.acts(), lookup, scene)? {
         return Ok(false);
     }
-    if !match_results(rule.results(), scene) {
+    Ok(match_results(rule.results(), scene))
+}
+
+/// Goes through a rule's five steps, up to the first that stops it, and answers whether its end was
+/// reached.
+#[tactic(auto, unfolding(crate::specs::Steps::steps))]
+fn take_steps<'a, L: Lookup>(
+    alloc: Global,
+    rule: &'a Rule,
+    lookup: &L,
+    scene: &mut Scene<'a>,
+) -> Result<bool, AllocError>
+    ensures scene { IfOk result (λ on. (scene.new, on) ≡ steps (L.entries lookup.now) rule.now scene.old) }
+    ensures refused { OnErr result (scene.new.state.event ≡ scene.old.state.event) }
+{
+    if !try_rule(alloc, rule, lookup, scene)? {
         return Ok(false);
     }
     set_all(alloc, rule, scene)?;
     Ok(true)
 }
 
+/// Passes over a rule in which nothing counts for the event: it leaves its notes; the device that was
+/// selected before is selected again, and no other key is final than before.
+fn pass_over<'a, L: Lookup>(
+    alloc: Global,
+    rule: &'a Rule,
+    lookup: &L,
+    scene: &mut Scene<'a>,
+) -> Result<(), AllocError>
+    requires { is_idle rule.now scene.old.state.event ≡ true }
+    ensures scene { OnOk result ((scene.new, false) ≡ only_noted (L.entries lookup.now) rule.now scene.old) }
+    ensures refused { OnErr result (scene.new.state.event ≡ scene.old.state.event) }
+{
+    let selected = scene.state.selected;
+    let finals = scene.finals;
+    let goes_on = try_rule(alloc, rule, lookup, scene)?;
+    note_all(alloc, rule, goes_on, scene)?;
+    scene.state.selected = selected;
+    scene.finals = finals;
+    Ok(())
+}
+
+/// Evaluates a rule, or passes it over, and answers whether its end was reached.
+#[tactic(auto, unfolding(crate::specs::Steps::apply))]
+fn evaluate<'a, L: Lookup>(
+    alloc: Global,
+    rule: &'a Rule,
+    lookup: &L,
+    scene: &mut Scene<'a>,
+) -> Result<bool, AllocError>
+    ensures scene { IfOk result (λ on. (scene.new, on) ≡ apply (L.entries lookup.now) rule.now scene.old) }
+    ensures refused { OnErr result (scene.new.state.event ≡ scene.old.state.event) }
+{
+    if is_idle(rule, scene.state.event.event()) {
+        pass_over(alloc, rule, lookup, scene)?;
+        return Ok(false);
+    }
+    take_steps(alloc, rule, lookup, scene)
+}
+
 /// Evaluates a rule, and answers whether its end was reached: the matches of the event, the search for
 /// one device, what acts, the matches of the result, the assignments. Where one of them stops the rule,
-/// what was changed until then stays.
+/// what was changed until then stays. Over an event of udev's, a rule in which nothing counts for the
+/// event is passed over: it leaves its notes and changes nothing else, and its end is not reached.
 ///
 /// The error comes where memory is refused; nothing is then left of the scene but its event.
 pub fn apply<'a, L: Lookup>(
@@ -143,7 +199,7 @@ pub fn apply<'a, L: Lookup>(
     ensures scene { IfOk result (λ on. (scene.new, on) ≡ apply (L.entries lookup.now) rule.now scene.old) }
     ensures refused { OnErr result (scene.new ≡ blank scene.old.state.event) }
 {
-    let went = take_steps(alloc, rule, lookup, scene);
+    let went = evaluate(alloc, rule, lookup, scene);
     if went.is_err() {
         scene.clear(alloc);
     }

@@ -1,5 +1,5 @@
 -- A rule that can have changed no item leaves all of them.
-use Rattle.std.proofs.Common.{◌≡◌, ℕ, Bool, true, false, not, ◌||◌, ◌&&◌, List, [], ◌∷◌, None, fold, cond, refl, ap, sym, ◌∙◌}
+use Rattle.std.proofs.Common.{◌≡◌, Bool, true, false, not, ◌||◌, ◌&&◌, List, [], ◌∷◌, None, fold, cond, refl, ap, sym, ◌∙◌}
 use Rattle.text_bytes.specs.Texts.{is_empty}
 use Rattle.hwdb_lookup.specs.declared.entry.Entry.{Entry}
 use Rattle.rule_types.specs.declared.roles.PlainKey.{PlainKey}
@@ -10,11 +10,15 @@ use Rattle.rule_types.specs.declared.part.Comparison.{Comparison}
 use Rattle.rule_types.specs.declared.part.PlainMatch.{PlainMatch}
 use Rattle.rule_types.specs.declared.part.UpMatch.{UpMatch}
 use Rattle.rule_types.specs.Rules.{Rule}
+use Rattle.eval_matching.specs.Attributes.{is_not_read}
+use Rattle.eval_state.specs.Scenes.{noted}
+use Rattle.eval_state.specs.declared.note_kind.NoteKind.TheVariants.{AttributeNotRead}
 use Rattle.eval_state.specs.declared.scene.Scene.{Scene}
 use Rattle.eval_acts.specs.Acts.{act_step}
 use Rattle.eval_acts.specs.Reaching.{reached}
 use Rattle.eval_assignments.specs.Steps.{set_step}
-use Rattle.eval_rules.specs.Steps.{Went, apply, onward, plain_step, result_step, search, set_all, walk, with_selected}
+use Rattle.eval_rules.specs.Idle.{is_idle}
+use Rattle.eval_rules.specs.Steps.{Went, apply, only_noted, onward, plain_step, result_step, search, set_all, steps, before_sets, walk, with_selected}
 use Rattle.eval_sources.specs.Inner.{can_change}
 use Rattle.eval_effects.specs.Items.{items, node_items}
 
@@ -28,6 +32,11 @@ items_quiet s = refl
 
 reached_quiet : (r : Rule) (k : PlainKey) (s : Scene) → quiet (reached r k s) ≡ quiet s
 reached_quiet r (plain.Sysctl name) s = refl
+reached_quiet r (plain.Attr name) s = by (is_not_read name s.state.event)
+  where
+    by : (b : Bool) → quiet (cond b (noted r AttributeNotRead name s) s) ≡ quiet s
+    by true = refl
+    by false = refl
 reached_quiet r k s = refl
 
 plain_quiet : (r : Rule) (part : PlainMatch) (s : Scene) → quiet (plain_step r part s).0 ≡ quiet s
@@ -74,14 +83,29 @@ neither : (a b : Bool) → (a || b) ≡ false → (a ≡ false) × (b ≡ false)
 neither true b h = cc
 neither false b h = (refl, h)
 
--- such a rule leaves all items
-pub items_stay : (entries : List Entry) (r : Rule) (s t : Scene) (on : Bool) → (t, on) ≡ apply entries r s → can_change on r ≡ false → items t ≡ items s
-unfolding apply
-items_stay entries r s t on e h =
-    let none = neither (not (is_empty r.acts)) ((apply entries r s).1 && not (is_empty r.sets)) (ap (λ (w : Went). can_change w.1 r) (sym e) ∙ h) in
+abbrev Quietly : Rule → Scene → Went → Type 0
+Quietly r s w = can_change w.1 r ≡ false → quiet w.0 ≡ quiet s
+
+steps_quiet : (entries : List Entry) (r : Rule) (s : Scene) → Quietly r s (steps entries r s)
+unfolding steps
+steps_quiet entries r s h =
+    let none = neither (not (is_empty r.acts)) ((steps entries r s).1 && not (is_empty r.sets)) h in
     let plains = walk_quiet (plain_step r) (plain_quiet r) r.plain s in
     let ups = onward_quiet (search r.up) (search_quiet r.up) s _ plains in
     let acted = onward_quiet (walk (act_step entries r) r.acts) (λ u. acts_quiet entries r r.acts u none.0) s _ ups in
     let results = onward_quiet (walk result_step r.results) (walk_quiet result_step result_quiet r.results) s _ acted in
-    let all = end_quiet r s _ results none.1 in
+    end_quiet r s (before_sets entries r s) results none.1
+
+apply_quiet : (entries : List Entry) (r : Rule) (s : Scene) → Quietly r s (apply entries r s)
+unfolding apply
+apply_quiet entries r s = by (is_idle r s.state.event)
+  where
+    by : (b : Bool) → Quietly r s (cond b (only_noted entries r s) (steps entries r s))
+    by true h = refl
+    by false h = steps_quiet entries r s h
+
+-- such a rule leaves all items
+pub items_stay : (entries : List Entry) (r : Rule) (s t : Scene) (on : Bool) → (t, on) ≡ apply entries r s → can_change on r ≡ false → items t ≡ items s
+items_stay entries r s t on e h =
+    let all = apply_quiet entries r s (ap (λ (w : Went). can_change w.1 r) (sym e) ∙ h) in
     ap (λ (w : Went). items w.0) e ∙ sym (items_quiet (apply entries r s).0) ∙ ap items all ∙ items_quiet s

@@ -1,15 +1,16 @@
 -- What comes of an event, and where it comes from.
-use Rattle.std.specs.Prelude.{if◌then◌else◌, List, [], ◌∷◌, Option, Some, None, map, flat_map}
+use Rattle.std.specs.Prelude.{if◌then◌else◌, List, [], ◌∷◌, ◌++◌, Option, Some, None, map, flat_map}
 use Rattle.text_tables.specs.Texts.{Text}
 use Rattle.hwdb_lookup.specs.declared.entry.Entry.{Entry}
 use Rattle.rule_types.specs.Rules.{Rule}
 use Rattle.device_core.specs.Values.{EventValue}
 use Rattle.eval_state.specs.Runs.{RunValue}
 use Rattle.eval_state.specs.Scenes.{start}
+use Rattle.eval_state.specs.declared.made_runs.MadeRun.{MadeRun}
 use Rattle.eval_state.specs.declared.scene.Scene.{Scene}
 use Rattle.eval_state.specs.declared.state.State.{State}
 use Rattle.eval_rules.specs.Jumps.{is_passed, run, sought_after}
-use Rattle.eval_rules.specs.Outcomes.{command, run_text}
+use Rattle.eval_rules.specs.Outcomes.{command, made_command, run_text}
 use Rattle.eval_rules.specs.Steps.{apply}
 use Rattle.eval_rules.specs.declared.outcome.Command.{Command}
 use Rattle.eval_effects.specs.Items.{items}
@@ -34,9 +35,14 @@ stages rules entries event = stages_over entries rules (start event)
 abbrev pub sourced_commands : State → List RunValue → List (Command × Rule)
 sourced_commands state runs = flat_map (λ kept. map (λ done. (done, kept.rule)) (command kept (run_text state kept))) runs
 
+-- a command that was made at its rule, with that rule
+abbrev pub sourced_made : MadeRun → Command × Rule
+sourced_made made = (made_command made, made.run.rule)
+
 -- the commands when no rule is left, from a scene on, each with the rule that added it
 abbrev pub commands_over : List Entry → List Rule → Scene → List (Command × Rule)
-commands_over entries rules s = let end = run entries None rules s in sourced_commands end.state end.runs
+commands_over entries rules s =
+    let end = run entries None rules s in sourced_commands end.state end.runs ++ map sourced_made end.made
 
 -- the commands of an event, each with the rule that added it
 abbrev pub event_commands : List Rule → List Entry → EventValue → List (Command × Rule)

@@ -2,11 +2,11 @@
 ghost use Rattle.std.specs.Prelude.{◌≡◌, ◌++◌, None, IfOk, OnOk, map};
 ghost use Rattle.eval_rules.specs.Outcomes.{command};
 ghost use Rattle.eval_rules.specs.Steps.{with_selected};
-ghost use Rattle.eval_sources.specs.Told.{sourced_commands};
+ghost use Rattle.eval_sources.specs.Told.{sourced_commands, sourced_made};
 
 use eval_rendering::Rendered;
-use eval_rules::{Command, run_text};
-use eval_state::{Run, State};
+use eval_rules::{Command, made_command, run_text};
+use eval_state::{MadeRun, Run, State};
 use rule_types::Rule;
 use std::alloc::{AllocError, Global};
 use std::marker::Model;
@@ -81,4 +81,21 @@ pub(crate) fn sourced_commands<'a>(
         take_run(kept, rendered, &mut done)?;
     }
     Ok(done)
+}
+
+/// Adds what was rendered at its rule behind other commands, each with that rule. The error comes where memory is refused.
+pub(crate) fn add_made<'a>(
+    alloc: Global,
+    made: &[MadeRun<'a>],
+    done: &mut Vec<SourcedCommand<'a>>,
+) -> Result<(), AllocError>
+    ensures { OnOk result (done.new.items ≡ done.old.items ++ map sourced_made made.now) }
+{
+    for each in made {
+        done.push(SourcedCommand {
+            command: made_command(alloc, each)?,
+            rule: each.run.rule(),
+        })?;
+    }
+    Ok(())
 }

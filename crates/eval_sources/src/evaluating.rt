@@ -6,7 +6,7 @@ ghost use Rattle.eval_rules.specs.Outcomes.{outcome};
 ghost use Rattle.eval_sources.specs.Sources.{Tells};
 ghost use Rattle.eval_sources.specs.Told.{commands_over, event_commands, stages, stages_over};
 
-use crate::commands::{SourcedCommand, sourced_commands};
+use crate::commands::{SourcedCommand, add_made, sourced_commands};
 use crate::sources::Sources;
 use crate::telling::{begin, run};
 use device_core::Event;
@@ -42,7 +42,8 @@ fn run_sourced<'a, L: Lookup>(
 {
     let mut sources = begin(alloc, scene)?;
     run(alloc, rules, lookup, scene, &mut sources)?;
-    let commands = sourced_commands(alloc, scene.runs.as_slice(), &mut scene.state)?;
+    let mut commands = sourced_commands(alloc, scene.runs.as_slice(), &mut scene.state)?;
+    add_made(alloc, scene.made.as_slice(), &mut commands)?;
     Ok((sources, commands))
 }
 

@@ -1,8 +1,11 @@
 pub mod Chains
 pub mod Texts
+pub mod Named
 pub mod Start
 pub mod Notes
 pub mod Runs
 pub mod Finals
 pub mod Scenes
 pub mod Sameness
+pub mod Files
+pub mod Properties

@@ -1,12 +1,13 @@
 -- What an event has come to: where nothing is left, before any rule has run, with a note more, and with other properties.
-use Rattle.std.specs.Prelude.{false, List, [], ◌∷◌, ◌++◌, None}
+use Rattle.std.specs.Prelude.{false, List, [], ◌∷◌, ◌++◌, Option, None}
 use Rattle.text_tables.specs.Texts.{Text}
 use Rattle.text_tables.specs.Pairs.{Pair}
 use Rattle.device_core.specs.Values.{EventValue}
 use Rattle.rule_types.specs.Rules.{Rule}
 use Rattle.eval_state.specs.Start as states
 use Rattle.eval_state.specs.Finals.{no_finals}
-use Rattle.eval_state.specs.Notes.{note_about}
+use Rattle.rule_types.specs.declared.keys.Key.{Key}
+use Rattle.eval_state.specs.Notes.{note_about, word_of_key}
 use Rattle.eval_state.specs.declared.note_kind.NoteKind.{NoteKind}
 use Rattle.eval_state.specs.declared.scene.Scene.{Scene}
 
@@ -20,10 +21,12 @@ blank event = record {
   priority = None;
   watch = None;
   persist = false;
+  gone = [];
   labels = [];
   attrs = [];
   sysctls = [];
   runs = [];
+  made = [];
   notes = [];
   finals = no_finals;
 }
@@ -35,6 +38,10 @@ start event = record (blank event) { state = states.start event }
 -- one note more: that something of a rule was not done, told with a text
 abbrev pub noted : Rule → NoteKind → Text → Scene → Scene
 noted r kind text s = record s { notes = s.notes ++ note_about r kind text ∷ [] }
+
+-- one note more, told with a key
+abbrev pub noted_key : Rule → NoteKind → Key → Option Text → Scene → Scene
+noted_key r kind key attribute s = noted r kind (word_of_key key attribute) s
 
 -- a scene with other properties
 abbrev pub with_env : List Pair → Scene → Scene

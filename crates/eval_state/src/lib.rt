@@ -2,9 +2,14 @@
 #![tactic(auto)]
 
 mod chain;
+mod files;
 mod finals;
+mod laws;
+mod made_runs;
+mod named;
 mod note_kind;
 mod notes;
+mod properties;
 mod runs;
 mod scene;
 mod start;
@@ -12,9 +17,14 @@ mod state;
 mod texts;
 
 pub use chain::Chain;
+pub use files::{has_file, starred};
 pub use finals::{FinalKey, Finals};
+pub use laws::starred_names_are_there;
+pub use made_runs::{MadeRun, MadeRuns};
+pub use named::Named;
 pub use note_kind::NoteKind;
 pub use notes::{Note, Notes};
+pub use properties::set_property;
 pub use runs::{Run, Runs};
 pub use scene::Scene;
 pub use start::node_path;

@@ -21,6 +21,24 @@ pub enum NoteKind {
     TextTooLong,
     /// NAME of a device that is no network device; the word is the name.
     NameIgnored,
+    /// Of udev alone: a link, an owner, a group, a mode or a label of a device without a number; the word is the key,
+    /// with its attribute in braces.
+    NoDeviceNumber,
+    /// Of udev alone: an owner, a group, a mode, a tag or a command without a byte that counts; the word is the key, with
+    /// its attribute in braces.
+    NoValue,
+    /// Of udev alone: a link that would not lie below `/dev`; the word is the link as it was given.
+    LinkIgnored,
+    /// Of udev alone: a mode that is no octal number of at most 7777; the word is the text.
+    ModeIgnored,
+    /// Of udev alone: a tag with other bytes than letters, digits, `-` and `_`, or with over 255; the word is the tag.
+    TagIgnored,
+    /// Of udev alone: a match of an attribute of a device that is named, and that the block does not have; the word is
+    /// the attribute's name with the device.
+    AttributeNotRead,
+    /// Of udev alone: an assignment to an attribute whose name has a `*/` that fits no name of the block; the word is the
+    /// attribute's name.
+    AttributeNotFound,
 }
 
 impl NoteKind {
@@ -37,6 +55,13 @@ impl NoteKind {
             NoteKind::SysctlNotRead => b"sysctl not read",
             NoteKind::TextTooLong => b"text too long",
             NoteKind::NameIgnored => b"name ignored",
+            NoteKind::NoDeviceNumber => b"no device number",
+            NoteKind::NoValue => b"no value",
+            NoteKind::LinkIgnored => b"link ignored",
+            NoteKind::ModeIgnored => b"mode ignored",
+            NoteKind::TagIgnored => b"tag ignored",
+            NoteKind::AttributeNotRead => b"attribute not read",
+            NoteKind::AttributeNotFound => b"attribute not found",
         }
     }
 }

@@ -1,10 +1,11 @@
 //! All that is collected while rules run.
 ghost use Rattle.std.specs.Prelude.{◌≡◌, OnOk, OnErr, IfOk, option_map};
 ghost use Rattle.eval_state.specs.Notes.{word_of_key};
-ghost use Rattle.eval_state.specs.Scenes.{blank, noted, start};
+ghost use Rattle.eval_state.specs.Scenes.{blank, noted, noted_key, start};
 ghost use Rattle.eval_state.specs.declared.note_kind.NoteKind.TheVariants.{TextTooLong};
 
 use crate::finals::Finals;
+use crate::made_runs::MadeRuns;
 use crate::note_kind::NoteKind;
 use crate::notes::{Note, Notes, word_of_key};
 use crate::runs::Runs;
@@ -13,7 +14,7 @@ use device_core::Event;
 use rule_types::{Key, Rule};
 use std::alloc::{AllocError, Global};
 use text_bytes::Bytes;
-use text_tables::OwnedPairs;
+use text_tables::{OwnedPairs, OwnedTexts};
 
 /// What an event has come to so far.
 #[derive(Drop)]
@@ -32,14 +33,18 @@ pub struct Scene<'a> {
     pub watch: Option<bool>,
     /// Whether what is known of the device stays in udev's database (`db_persist`).
     pub persist: bool,
+    /// Of udev alone: the tags that were taken away, which matches of tags go on to meet.
+    pub gone: OwnedTexts,
     /// Labels of security modules.
     pub labels: OwnedPairs,
     /// Attributes that are to be written.
     pub attrs: OwnedPairs,
     /// Kernel parameters that are to be written.
     pub sysctls: OwnedPairs,
-    /// What is to be run.
+    /// What is to be run, as it was written.
     pub runs: Runs<'a>,
+    /// Of udev alone: what is to be run, rendered at its rule.
+    pub made: MadeRuns<'a>,
     /// What was not done.
     pub notes: Notes,
     /// The keys that no longer change.
@@ -60,10 +65,12 @@ impl<'a> Scene<'a> {
             priority: None,
             watch: None,
             persist: false,
+            gone: OwnedTexts::new(alloc),
             labels: OwnedPairs::new(alloc),
             attrs: OwnedPairs::new(alloc),
             sysctls: OwnedPairs::new(alloc),
             runs: Runs::new(alloc),
+            made: MadeRuns::new(alloc),
             notes: Notes::new(alloc),
             finals: Finals::none(),
         })
@@ -81,10 +88,12 @@ impl<'a> Scene<'a> {
         self.priority = None;
         self.watch = None;
         self.persist = false;
+        self.gone.clear();
         self.labels.clear();
         self.attrs.clear();
         self.sysctls.clear();
         self.runs.clear();
+        self.made.clear();
         self.notes = Notes::new(alloc);
         self.finals = Finals::none();
     }
@@ -104,6 +113,23 @@ impl<'a> Scene<'a> {
         self.notes.add(Note::about(alloc, rule, kind, text)?)
     }
 
+    /// Leaves a note that names a key, with its attribute if it has one. The error comes where memory is refused; the
+    /// scene then stays as it is.
+    pub fn note_key(
+        &mut self,
+        alloc: Global,
+        rule: &Rule,
+        kind: NoteKind,
+        key: Key,
+        attribute: Option<&[u8]>,
+    ) -> Result<(), AllocError>
+        ensures scene { OnOk result (self.new ≡ noted_key rule.now kind key (option_map (λ text. text.now) attribute.entry) self.old) }
+        ensures refused { OnErr result (self.new ≡ self.old) }
+    {
+        let word = word_of_key(alloc, key, attribute)?;
+        self.note(alloc, rule, kind, &word)
+    }
+
     /// Leaves a note that a text of a key was too long; the note names the key, with its attribute if
     /// it has one. The error comes where memory is refused; the scene then stays as it is.
     pub fn note_too_long(
@@ -116,7 +142,6 @@ impl<'a> Scene<'a> {
         ensures scene { OnOk result (self.new ≡ noted rule.now TextTooLong (word_of_key key (option_map (λ text. text.now) attribute.entry)) self.old) }
         ensures refused { OnErr result (self.new ≡ self.old) }
     {
-        let word = word_of_key(alloc, key, attribute)?;
-        self.note(alloc, rule, NoteKind::TextTooLong, &word)
+        self.note_key(alloc, rule, NoteKind::TextTooLong, key, attribute)
     }
 }

@@ -1,11 +1,14 @@
--- Adding parts to what was found.
-use Rattle.std.proofs.Common.{◌≡◌, ℕ, ◌+◌, List, ◌∷◌, [], ◌++◌, length, map, Result, Ok, Err, refl, sym, ◌∙◌, ap, subst, arith, append_assoc, append-nil, add_assoc, add-zero, zero-add, length-append}
+-- Adding parts to what was found, and to what is held.
+use Rattle.std.proofs.Common.{◌≡◌, ℕ, ◌+◌, List, ◌∷◌, [], ◌++◌, length, map, Option, Some, None, Result, Ok, Err, refl, sym, ◌∙◌, ap, subst, arith, append_assoc, append-nil, add_assoc, add-zero, zero-add, length-append}
 use Rattle.std.specs.List.{flat_map, sum_by}
 use Rattle.std.proofs.lemmas.List.Sums.{sum_by-append, sum_by-cons}
+use Rattle.std.proofs.lemmas.List.Elements.{filter-append}
 use Rattle.text_bytes.specs.declared.Message.{Message}
+use Rattle.text_core.specs.Fits.{fits}
+use Rattle.hwdb_lookup.specs.declared.Entry.{Entry}
 use Rattle.hwdb_core.specs.Properties.{Property}
-use Rattle.hwdb_core.specs.Sources.{text_len}
-use Rattle.hwdb_core.specs.Found.{Adds, FailsAt, Found, IsKept, found_in, join, nothing, only_messages}
+use Rattle.hwdb_core.specs.Sources.{entries_from, entry_at, text_len}
+use Rattle.hwdb_core.specs.Found.{Adds, FailsAt, Found, Held, IsKept, counting, found_in, join, nothing, only_messages, onto}
 use Rattle.hwdb_core.specs.declared.fault.HwdbFault.{HwdbFault}
 use Rattle.hwdb_core.specs.declared.fault.HwdbFault.TheVariants.{TooMany, Memory}
 
@@ -35,63 +38,110 @@ nothing_join a =
     same_found a.properties a.properties a.messages a.messages (0 + a.match_bytes) a.match_bytes
     refl refl (zero-add a.match_bytes)
 
--- what may be kept with more may be kept without it
-pub kept_before : (a b : Found) → IsKept (join a b) → IsKept a
-unfolding join
-kept_before a b k =
+-- ---- what is held
+
+abbrev pub held_as : Option (List ℕ) → List Entry → ℕ → ℕ → ℕ → List Message → Held
+held_as w es c m t ms = record { wanted = w; entries = es; count = c; match_bytes = m; text_bytes = t; messages = ms }
+
+pub same_held : (w : Option (List ℕ)) (es fs : List Entry) (c d m n t u : ℕ) (ms ns : List Message) → es ≡ fs → c ≡ d → m ≡ n → t ≡ u → ms ≡ ns → held_as w es c m t ms ≡ held_as w fs d n u ns
+same_held w es fs c d m n t u ms ns e f g h k =
+    ap (λ (x : List Entry). held_as w x c m t ms) e ∙ ap (λ (x : ℕ). held_as w fs x m t ms) f ∙ ap (λ (x : ℕ). held_as w fs d x t ms) g
+    ∙ ap (λ (x : ℕ). held_as w fs d n x ms) h ∙ ap (λ (x : List Message). held_as w fs d n u x) k
+
+pub counting_append : (w : Option (List ℕ)) (es fs : List Entry) → counting w (es ++ fs) ≡ counting w es ++ counting w fs
+counting_append None es fs = refl
+counting_append (Some modalias) es fs = filter-append (λ (e : Entry). fits e.pattern modalias) es fs
+
+pub counting_nil : (w : Option (List ℕ)) → counting w [] ≡ []
+counting_nil None = refl
+counting_nil (Some modalias) = refl
+
+pub entries_append : (n : ℕ) (ps qs : List Property) → entries_from n (ps ++ qs) ≡ entries_from n ps ++ entries_from (n + length ps) qs
+entries_append n [] qs = ap (λ (k : ℕ). entries_from k qs) (sym (add-zero n))
+entries_append n (p ∷ ps) qs =
+    let at : n + 1 + length ps ≡ n + length (p ∷ ps) = omega arith in
+    ap (λ (es : List Entry). entry_at n p ∷ es) (entries_append (n + 1) ps qs ∙ ap (λ (k : ℕ). entries_from (n + 1) ps ++ entries_from k qs) at)
+
+pub onto_join : (h : Held) (a b : Found) → onto (onto h a) b ≡ onto h (join a b)
+unfolding onto join
+onto_join h a b =
+    let n : ℕ = h.count in
+    let entries : (h.entries ++ counting h.wanted (entries_from n a.properties)) ++ counting h.wanted (entries_from (n + length a.properties) b.properties) ≡ h.entries ++ counting h.wanted (entries_from n (a.properties ++ b.properties)) =
+    append_assoc h.entries (counting h.wanted (entries_from n a.properties)) (counting h.wanted (entries_from (n + length a.properties) b.properties))
+    ∙ ap (λ (es : List Entry). h.entries ++ es) (sym (counting_append h.wanted (entries_from n a.properties) (entries_from (n + length a.properties) b.properties)) ∙ ap (counting h.wanted) (sym (entries_append n a.properties b.properties))) in
     let len : length (a.properties ++ b.properties) ≡ length a.properties + length b.properties = length-append a.properties b.properties in
     let texts : sum_by text_len (a.properties ++ b.properties) ≡ sum_by text_len a.properties + sum_by text_len b.properties = sum_by-append text_len a.properties b.properties in
-    record { entries = omega (arith, len, k.entries); match_bytes = omega (arith, k.match_bytes); text_bytes = omega (arith, texts, k.text_bytes) }
+    same_held h.wanted _ _ (n + length a.properties + length b.properties) (n + length (a.properties ++ b.properties))
+    (h.match_bytes + a.match_bytes + b.match_bytes) (h.match_bytes + (a.match_bytes + b.match_bytes))
+    (h.text_bytes + sum_by text_len a.properties + sum_by text_len b.properties) (h.text_bytes + sum_by text_len (a.properties ++ b.properties))
+    ((h.messages ++ a.messages) ++ b.messages) (h.messages ++ (a.messages ++ b.messages))
+    entries (omega (arith, len)) (add_assoc h.match_bytes a.match_bytes b.match_bytes) (omega (arith, texts)) (append_assoc h.messages a.messages b.messages)
+
+pub onto_nothing : (h : Held) → onto h nothing ≡ h
+unfolding onto
+onto_nothing h =
+    same_held h.wanted (h.entries ++ counting h.wanted []) h.entries (h.count + 0) h.count (h.match_bytes + 0) h.match_bytes (h.text_bytes + 0) h.text_bytes (h.messages ++ []) h.messages
+    (ap (λ (es : List Entry). h.entries ++ es) (counting_nil h.wanted) ∙ append-nil h.entries) (add-zero h.count) (add-zero h.match_bytes) (add-zero h.text_bytes) (append-nil h.messages)
+
+-- what is asked for stays
+pub onto_wanted : (h : Held) (a : Found) → (onto h a).wanted ≡ h.wanted
+unfolding onto
+onto_wanted h a = refl
+
+-- what may be held with more may be held without it
+pub kept_before : (h : Held) (b : Found) → IsKept (onto h b) → IsKept h
+unfolding onto
+kept_before h b k = record { entries = omega (arith, k.entries); match_bytes = omega (arith, k.match_bytes); text_bytes = omega (arith, k.text_bytes) }
 
 -- the first of two parts was not added
-pub first_failed : (a p q : Found) (e : HwdbFault) → FailsAt a p e → FailsAt a (join p q) e
-first_failed a p q TooMany h = λ k. h (kept_before (join a p) q (subst IsKept (sym (join_assoc a p q)) k))
+pub first_failed : (a : Held) (p q : Found) (e : HwdbFault) → FailsAt a p e → FailsAt a (join p q) e
+first_failed a p q TooMany h = λ k. h (kept_before (onto a p) q (subst IsKept (sym (onto_join a p q)) k))
 first_failed a p q Memory h = tt
 
 -- the first of two parts was added, and the second was not
-pub second_failed : (a b p q : Found) (e : HwdbFault) → b ≡ join a p → FailsAt b q e → FailsAt a (join p q) e
-second_failed a b p q TooMany e h = λ k. h (subst IsKept (sym (join_assoc a p q) ∙ ap (λ (y : Found). join y q) (sym e)) k)
+pub second_failed : (a b : Held) (p q : Found) (e : HwdbFault) → b ≡ onto a p → FailsAt b q e → FailsAt a (join p q) e
+second_failed a b p q TooMany e h = λ k. h (subst IsKept (sym (onto_join a p q) ∙ ap (λ (y : Held). onto y q) (sym e)) k)
 second_failed a b p q Memory e h = tt
 
 -- both parts were added
-pub both_added : (a b c p q : Found) → b ≡ join a p → c ≡ join b q → c ≡ join a (join p q)
-both_added a b c p q e h = h ∙ ap (λ (y : Found). join y q) e ∙ join_assoc a p q
+pub both_added : (a b c : Held) (p q : Found) → b ≡ onto a p → c ≡ onto b q → c ≡ onto a (join p q)
+both_added a b c p q e h = h ∙ ap (λ (y : Held). onto y q) e ∙ onto_join a p q
 
 -- the first of two parts was added, and then the second or it was not
-pub second_part : {T : Type 0} (a b c p q : Found) (r : Result T HwdbFault) → b ≡ join a p → Adds b c q r → Adds a c (join p q) r
+pub second_part : {T : Type 0} (a b c : Held) (p q : Found) (r : Result T HwdbFault) → b ≡ onto a p → Adds b c q r → Adds a c (join p q) r
 second_part a b c p q (Ok x) e h = both_added a b c p q e h
 second_part a b c p q (Err f) e h = second_failed a b p q f e h
 
 -- a part by another name
-pub same_part : {T : Type 0} (a b p q : Found) (r : Result T HwdbFault) → p ≡ q → Adds a b p r → Adds a b q r
+pub same_part : {T : Type 0} (a b : Held) (p q : Found) (r : Result T HwdbFault) → p ≡ q → Adds a b p r → Adds a b q r
 same_part {T} a b p q r e h = subst (λ (x : Found). Adds {T = T} a b x r) e h
 
-pub same_failed : (a p q : Found) (e : HwdbFault) → p ≡ q → FailsAt a p e → FailsAt a q e
+pub same_failed : (a : Held) (p q : Found) (e : HwdbFault) → p ≡ q → FailsAt a p e → FailsAt a q e
 same_failed a p q e f h = subst (λ (x : Found). FailsAt a x e) f h
 
 -- a fault is handed on
-pub returned : {T : Type 0} (a b p : Found) (r : Result T HwdbFault) (y e : HwdbFault) → r ≡ Err y → y ≡ e → FailsAt a p e → Adds a b p r
+pub returned : {T : Type 0} (a b : Held) (p : Found) (r : Result T HwdbFault) (y e : HwdbFault) → r ≡ Err y → y ≡ e → FailsAt a p e → Adds a b p r
 returned {T} a b p r y e f g h = subst (λ (x : Result T HwdbFault). Adds {T = T} a b p x) (sym (f ∙ ap Err g)) h
 
 module _ {X : Type 0} (f : X → Found) where
   -- how far a loop over a list has come
-  abbrev pub GoesOn : Found → Found → List X → List X → Type 0
-  GoesOn start now xs left = join now (found_in f left) ≡ join start (found_in f xs)
+  abbrev pub GoesOn : Held → Held → List X → List X → Type 0
+  GoesOn start now xs left = onto now (found_in f left) ≡ onto start (found_in f xs)
 
-  pub goes_on : (start now next : Found) (xs left : List X) (x : X) (more : List X) → GoesOn start now xs left → left ≡ x ∷ more → next ≡ join now (f x) → GoesOn start next xs more
+  pub goes_on : (start now next : Held) (xs left : List X) (x : X) (more : List X) → GoesOn start now xs left → left ≡ x ∷ more → next ≡ onto now (f x) → GoesOn start next xs more
   unfolding found_in
   goes_on start now next xs left x more h e a =
-      ap (λ (y : Found). join y (found_in f more)) a ∙ join_assoc now (f x) (found_in f more) ∙ ap (λ (ys : List X). join now (found_in f ys)) (sym e) ∙ h
+      ap (λ (y : Held). onto y (found_in f more)) a ∙ onto_join now (f x) (found_in f more) ∙ ap (λ (ys : List X). onto now (found_in f ys)) (sym e) ∙ h
 
-  pub fails : (start now : Found) (xs left : List X) (x : X) (more : List X) (e : HwdbFault) → GoesOn start now xs left → left ≡ x ∷ more → FailsAt now (f x) e → FailsAt start (found_in f xs) e
+  pub fails : (start now : Held) (xs left : List X) (x : X) (more : List X) (e : HwdbFault) → GoesOn start now xs left → left ≡ x ∷ more → FailsAt now (f x) e → FailsAt start (found_in f xs) e
   unfolding found_in
   fails start now xs left x more TooMany h e a =
-      λ k. a (kept_before (join now (f x)) (found_in f more) (subst IsKept (sym (join_assoc now (f x) (found_in f more) ∙ ap (λ (ys : List X). join now (found_in f ys)) (sym e) ∙ h)) k))
+      λ k. a (kept_before (onto now (f x)) (found_in f more) (subst IsKept (sym (onto_join now (f x) (found_in f more) ∙ ap (λ (ys : List X). onto now (found_in f ys)) (sym e) ∙ h)) k))
   fails start now xs left x more Memory h e a = tt
 
-  pub ends : (start now : Found) (xs left : List X) → GoesOn start now xs left → length left ≡ 0 → now ≡ join start (found_in f xs)
+  pub ends : (start now : Held) (xs left : List X) → GoesOn start now xs left → length left ≡ 0 → now ≡ onto start (found_in f xs)
   unfolding found_in
-  ends start now xs [] h e = sym (join_nothing now) ∙ h
+  ends start now xs [] h e = sym (onto_nothing now) ∙ h
   ends start now xs (x ∷ more) h e = absurd (omega arith)
 
   -- what is found in a list up to its last, and in that

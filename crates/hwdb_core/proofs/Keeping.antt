@@ -1,107 +1,91 @@
--- What is gathered, one thing more.
-use Rattle.std.proofs.Common.{◌≡◌, ℕ, ◌+◌, ◌-◌, ◌<◌, ◌≤◌, List, ◌∷◌, [], ◌++◌, length, map, refl, sym, ◌∙◌, ap, subst, arith, append-nil, add-zero, length-append}
+-- What is held, one thing more.
+use Rattle.std.proofs.Common.{◌≡◌, ℕ, ◌+◌, ◌-◌, ◌<◌, ◌≤◌, ◌⊎◌, inl, inr, true, false, List, ◌∷◌, [], ◌++◌, Option, Some, None, Result, Ok, Err, refl, sym, ◌∙◌, ap, arith, append-nil, add-zero}
 use Rattle.std.specs.List.{sum_by}
-use Rattle.std.proofs.lemmas.List.Sums.{sum_by_push}
 use Rattle.text_bytes.specs.declared.Message.{Message}
-use Rattle.text_core.specs.declared.item.Item.{Item}
 use Rattle.hwdb_lookup.specs.declared.Entry.{Entry}
 use Rattle.hwdb_lookup.specs.Bounds.{max_entries, max_match_bytes, max_text_bytes}
 use Rattle.hwdb_core.specs.Properties.{Property}
-use Rattle.hwdb_core.specs.Sources.{entries_from, entry_at, text_len}
-use Rattle.hwdb_core.specs.Found.{Found, IsKept, join, only_messages}
-use Rattle.hwdb_core.specs.Keeping.{IsCounted, found_of, property_of}
-use Rattle.hwdb_core.proofs.Joining.{found_as, same_found}
+use Rattle.hwdb_core.specs.Sources.{entry_at, text_len}
+use Rattle.hwdb_core.specs.declared.fault.HwdbFault.{HwdbFault}
+use Rattle.hwdb_core.specs.declared.fault.HwdbFault.TheVariants.{TooMany, Memory}
+use Rattle.std.specs.Prelude.{OnOk, OnErr}
+use Rattle.hwdb_core.specs.Found.{Adds, FailsAt, Held, IsKept, counting, counts, one_more, only_messages, onto, with_entry}
+use Rattle.hwdb_core.proofs.Joining.{counting_nil, found_as, same_held}
 
 -- a message more
-pub told : (es : List Entry) (ms : List Message) (n : ℕ) (m : Message) → found_of es (ms ++ m ∷ []) n ≡ join (found_of es ms n) (only_messages (m ∷ []))
-unfolding join
-told es ms n m = same_found (map property_of es) (map property_of es ++ []) (ms ++ m ∷ []) (ms ++ m ∷ []) n (n + 0) (sym (append-nil (map property_of es))) refl (sym (add-zero n))
+pub told : (h : Held) (m : Message) → record h { messages = h.messages ++ m ∷ [] } ≡ onto h (only_messages (m ∷ []))
+unfolding onto
+told h m =
+    same_held h.wanted h.entries (h.entries ++ counting h.wanted []) h.count (h.count + 0) h.match_bytes (h.match_bytes + 0) h.text_bytes (h.text_bytes + 0) (h.messages ++ m ∷ []) (h.messages ++ m ∷ [])
+    (sym (append-nil h.entries) ∙ ap (λ (es : List Entry). h.entries ++ es) (sym (counting_nil h.wanted))) (sym (add-zero h.count)) (sym (add-zero h.match_bytes)) (sym (add-zero h.text_bytes)) refl
 
 -- a match more
-pub match_counted : (es : List Entry) (ms : List Message) (n len : ℕ) → found_of es ms (n + len) ≡ join (found_of es ms n) (found_as [] [] len)
-unfolding join
-match_counted es ms n len = same_found (map property_of es) (map property_of es ++ []) ms (ms ++ []) (n + len) (n + len) (sym (append-nil (map property_of es))) (sym (append-nil ms)) refl
+pub match_counted : (h : Held) (len : ℕ) → record h { match_bytes = h.match_bytes + len } ≡ onto h (found_as [] [] len)
+unfolding onto
+match_counted h len =
+    same_held h.wanted h.entries (h.entries ++ counting h.wanted []) h.count (h.count + 0) (h.match_bytes + len) (h.match_bytes + len) h.text_bytes (h.text_bytes + 0) h.messages (h.messages ++ [])
+    (sym (append-nil h.entries) ∙ ap (λ (es : List Entry). h.entries ++ es) (sym (counting_nil h.wanted))) (sym (add-zero h.count)) refl (sym (add-zero h.text_bytes)) (sym (append-nil h.messages))
 
-pub too_many_match_bytes : (es : List Entry) (ms : List Message) (n len : ℕ) → n ≤ max_match_bytes → max_match_bytes - n < len → IsKept (join (found_of es ms n) (found_as [] [] len)) → ⊥
-unfolding join
-too_many_match_bytes es ms n len h over k = omega (arith, k.match_bytes)
+pub too_many_match_bytes : (h : Held) (len : ℕ) → h.match_bytes ≤ max_match_bytes → max_match_bytes - h.match_bytes < len → IsKept (onto h (found_as [] [] len)) → ⊥
+unfolding onto
+too_many_match_bytes h len fits over k = omega (arith, k.match_bytes)
 
--- an entry more
-pub entry_added : (es : List Entry) (ms : List Message) (n : ℕ) (e : Entry) → found_of (es ++ e ∷ []) ms n ≡ join (found_of es ms n) (found_as (property_of e ∷ []) [] 0)
-unfolding join
-entry_added es ms n e = same_found (map property_of (es ++ e ∷ [])) (map property_of es ++ property_of e ∷ []) ms (ms ++ []) n (n + 0) (map_push es) (sym (append-nil ms)) (sym (add-zero n)) where
-  map_push : (es : List Entry) → map property_of (es ++ e ∷ []) ≡ map property_of es ++ property_of e ∷ []
-  map_push [] = refl
-  map_push (x ∷ xs) = ap (λ (ps : List Property). property_of x ∷ ps) (map_push xs)
+-- an entry more, where it counts and where it does not
+counted_alone : (w : Option (List ℕ)) (n : ℕ) (p : Property) → counts w p.pattern ≡ true → counting w (entry_at n p ∷ []) ≡ entry_at n p ∷ []
+counted_alone None n p e = refl
+counted_alone (Some modalias) n p e = rw e refl
 
-len_map : (es : List Entry) → length (map property_of es) ≡ length es
-len_map [] = refl
-len_map (e ∷ es) = let h : length (map property_of es) ≡ length es = len_map es in omega arith
+passed_over : (w : Option (List ℕ)) (n : ℕ) (p : Property) → counts w p.pattern ≡ false → counting w (entry_at n p ∷ []) ≡ []
+passed_over None n p e = cc
+passed_over (Some modalias) n p e = rw e refl
 
-pub too_many_entries : (es : List Entry) (ms : List Message) (n : ℕ) (p : Property) → max_entries ≤ length es → IsKept (join (found_of es ms n) (found_as (p ∷ []) [] 0)) → ⊥
-unfolding join
-too_many_entries es ms n p h k =
-    let len : length (map property_of es ++ p ∷ []) ≡ length (map property_of es) + 1 = length-append (map property_of es) (p ∷ []) in
-    omega (arith, k.entries, len, len_map es)
+sum_alone : (p : Property) → sum_by text_len (p ∷ []) ≡ text_len p
+sum_alone p = omega arith
 
-pub too_many_text_bytes : (es : List Entry) (ms : List Message) (n : ℕ) (p : Property) (t : ℕ) → t ≡ sum_by text_len (map property_of es) → t ≤ max_text_bytes → max_text_bytes - t < text_len p → IsKept (join (found_of es ms n) (found_as (p ∷ []) [] 0)) → ⊥
-unfolding join
-too_many_text_bytes es ms n p t e h over k =
-    let sum : sum_by text_len (map property_of es ++ p ∷ []) ≡ sum_by text_len (map property_of es) + text_len p = sum_by_push text_len (map property_of es) p in
-    omega (arith, k.text_bytes, sum)
+pub entry_added : (h : Held) (p : Property) → counts h.wanted p.pattern ≡ true → with_entry (entry_at h.count p) (one_more (text_len p) h) ≡ onto h (found_as (p ∷ []) [] 0)
+unfolding onto
+entry_added h p e =
+    same_held h.wanted (h.entries ++ entry_at h.count p ∷ []) (h.entries ++ counting h.wanted (entry_at h.count p ∷ [])) (h.count + 1) (h.count + 1) h.match_bytes (h.match_bytes + 0)
+    (h.text_bytes + text_len p) (h.text_bytes + sum_by text_len (p ∷ [])) h.messages (h.messages ++ [])
+    (ap (λ (es : List Entry). h.entries ++ es) (sym (counted_alone h.wanted h.count p e))) refl (sym (add-zero h.match_bytes)) (ap (λ (n : ℕ). h.text_bytes + n) (sym (sum_alone p))) (sym (append-nil h.messages))
 
-entries_from-push : (n : ℕ) (ps : List Property) (p : Property) → entries_from n (ps ++ p ∷ []) ≡ entries_from n ps ++ entry_at (n + length ps) p ∷ []
-entries_from-push n [] p = ap (λ (k : ℕ). entry_at k p ∷ []) (sym (add-zero n))
-entries_from-push n (q ∷ ps) p =
-    let at : n + 1 + length ps ≡ n + length (q ∷ ps) = omega arith in
-    ap (λ (es : List Entry). entry_at n q ∷ es) (entries_from-push (n + 1) ps p ∙ ap (λ (k : ℕ). entries_from (n + 1) ps ++ entry_at k p ∷ []) at)
+pub entry_passed_over : (h : Held) (p : Property) → counts h.wanted p.pattern ≡ false → one_more (text_len p) h ≡ onto h (found_as (p ∷ []) [] 0)
+unfolding onto
+entry_passed_over h p e =
+    same_held h.wanted h.entries (h.entries ++ counting h.wanted (entry_at h.count p ∷ [])) (h.count + 1) (h.count + 1) h.match_bytes (h.match_bytes + 0)
+    (h.text_bytes + text_len p) (h.text_bytes + sum_by text_len (p ∷ [])) h.messages (h.messages ++ [])
+    (sym (append-nil h.entries) ∙ ap (λ (es : List Entry). h.entries ++ es) (sym (passed_over h.wanted h.count p e))) refl (sym (add-zero h.match_bytes)) (ap (λ (n : ℕ). h.text_bytes + n) (sym (sum_alone p))) (sym (append-nil h.messages))
 
-pub counted_entry : (es : List Entry) (n t : ℕ) (e : Entry) → IsCounted es n t → e.order ≡ length es → length es < max_entries → t + text_len (property_of e) ≤ max_text_bytes → IsCounted (es ++ e ∷ []) n (t + text_len (property_of e))
-counted_entry es n t e c order room fits =
-    let place : 0 + length (map property_of es) ≡ e.order = omega (arith, len_map es, order) in
-    let push : map property_of (es ++ e ∷ []) ≡ map property_of es ++ property_of e ∷ [] = map_push es in
-    let in_order : es ++ e ∷ [] ≡ entries_from 0 (map property_of (es ++ e ∷ [])) =
-    ap (λ (xs : List Entry). xs ++ e ∷ []) c.in_order
-    ∙ ap (λ (k : ℕ). entries_from 0 (map property_of es) ++ entry_at k (property_of e) ∷ []) (sym place)
-    ∙ sym (entries_from-push 0 (map property_of es) (property_of e))
-    ∙ ap (entries_from 0) (sym push) in
-    let counted : t + text_len (property_of e) ≡ sum_by text_len (map property_of (es ++ e ∷ [])) =
-    ap (λ (k : ℕ). k + text_len (property_of e)) c.counted ∙ sym (sum_by_push text_len (map property_of es) (property_of e)) ∙ ap (sum_by text_len) (sym push) in
-    let more : length (es ++ e ∷ []) ≡ length es + 1 = length-append es (e ∷ []) in
-    record { in_order = in_order; counted = counted; entries = omega arith; matches = c.matches; texts = fits } where
-      map_push : (es : List Entry) → map property_of (es ++ e ∷ []) ≡ map property_of es ++ property_of e ∷ []
-      map_push [] = refl
-      map_push (x ∷ xs) = ap (λ (ps : List Property). property_of x ∷ ps) (map_push xs)
+pub too_many : (h : Held) (p : Property) (len : ℕ) → len ≡ text_len p → (max_entries ≤ h.count) ⊎ (max_text_bytes < h.text_bytes + len) → IsKept (onto h (found_as (p ∷ []) [] 0)) → ⊥
+unfolding onto
+too_many h p len e (inl full) k = omega (arith, k.entries)
+too_many h p len e (inr over) k = omega (arith, k.text_bytes, sum_alone p)
 
-pub told_as : (es : List Entry) (ms now : List Message) (n : ℕ) (start : Found) (made m : Message) → made ≡ m → now ≡ ms ++ made ∷ [] → found_of es ms n ≡ start
-    → found_of es now n ≡ join start (only_messages (m ∷ []))
-told_as es ms now n start made m e h s =
-    ap (λ (xs : List Message). found_of es xs n) h
-    ∙ told es ms n made
-    ∙ ap (λ (x : Found). join x (only_messages (made ∷ []))) s
-    ∙ ap (λ (x : Message). join start (only_messages (x ∷ []))) e
+pub too_many_at : (h : Held) (p : Property) (len : ℕ) (e : HwdbFault) → len ≡ text_len p → (max_entries ≤ h.count) ⊎ (max_text_bytes < h.text_bytes + len) → FailsAt h (found_as (p ∷ []) [] 0) e
+too_many_at h p len TooMany e o = too_many h p len e o
+too_many_at h p len Memory e o = tt
 
-pub counted_as : (es now : List Entry) (n t : ℕ) (pattern : List Item) (key value : List ℕ) (order : ℕ) (file : List ℕ) (line : ℕ) (k v : List ℕ)
-    → key ≡ k → value ≡ v → order ≡ length es
-    → now ≡ es ++ record { pattern = pattern; key = key; value = value; order = order; file = file; line = line } ∷ []
-    → IsCounted es n t → length es < max_entries → t + (length k + length v) ≤ max_text_bytes → IsCounted now n (t + (length k + length v))
-counted_as es now n t pattern key value order file line k v e f o h c room fits =
-    let len : length key + length value ≡ length k + length v = ap (λ (x : List ℕ). length x + length value) e ∙ ap (λ (x : List ℕ). length k + length x) f in
-    subst (λ (m : ℕ). IsCounted now n (t + m)) len
-    (subst (λ (xs : List Entry). IsCounted xs n (t + (length key + length value))) (sym h)
-    (counted_entry es n t (record { pattern = pattern; key = key; value = value; order = order; file = file; line = line }) c o room (omega (arith, len))))
+-- ---- the same, where what was held before has another name
 
-pub added_as : (es now : List Entry) (ms : List Message) (n : ℕ) (start : Found) (pattern : List Item) (key value : List ℕ) (order : ℕ) (file : List ℕ) (line : ℕ)
-    (p : List Item) (k v f : List ℕ) (l : ℕ) → pattern ≡ p → key ≡ k → value ≡ v → file ≡ f → line ≡ l
-    → now ≡ es ++ record { pattern = pattern; key = key; value = value; order = order; file = file; line = line } ∷ []
-    → found_of es ms n ≡ start
-    → found_of now ms n ≡ join start (found_as (record { pattern = p; key = k; value = v; file = f; line = l } ∷ []) [] 0)
-added_as es now ms n start pattern key value order file line p k v f l ep ek ev ef el h s =
-    ap (λ (xs : List Entry). found_of xs ms n) h
-    ∙ entry_added es ms n (record { pattern = pattern; key = key; value = value; order = order; file = file; line = line })
-    ∙ ap (λ (x : Found). join x (found_as (record { pattern = pattern; key = key; value = value; file = file; line = line } ∷ []) [] 0)) s
-    ∙ ap (λ (x : List Item). join start (found_as (record { pattern = x; key = key; value = value; file = file; line = line } ∷ []) [] 0)) ep
-    ∙ ap (λ (x : List ℕ). join start (found_as (record { pattern = p; key = x; value = value; file = file; line = line } ∷ []) [] 0)) ek
-    ∙ ap (λ (x : List ℕ). join start (found_as (record { pattern = p; key = k; value = x; file = file; line = line } ∷ []) [] 0)) ev
-    ∙ ap (λ (x : List ℕ). join start (found_as (record { pattern = p; key = k; value = v; file = x; line = line } ∷ []) [] 0)) ef
-    ∙ ap (λ (x : ℕ). join start (found_as (record { pattern = p; key = k; value = v; file = f; line = x } ∷ []) [] 0)) el
+pub told_as : (h start : Held) (now : List Message) (made m : Message) → made ≡ m → now ≡ h.messages ++ made ∷ [] → h ≡ start → record h { messages = now } ≡ onto start (only_messages (m ∷ []))
+told_as h start now made m e n s =
+    ap (λ (ms : List Message). record h { messages = ms }) (n ∙ ap (λ (x : Message). h.messages ++ x ∷ []) e) ∙ told h m ∙ ap (λ (x : Held). onto x (only_messages (m ∷ []))) s
+
+pub match_counted_as : (h start : Held) (len : ℕ) → h ≡ start → record h { match_bytes = h.match_bytes + len } ≡ onto start (found_as [] [] len)
+match_counted_as h start len s = match_counted h len ∙ ap (λ (x : Held). onto x (found_as [] [] len)) s
+
+pub entry_passed_over_as : (h mid : Held) (p : Property) (len : ℕ) → len ≡ text_len p → mid ≡ one_more len h → false ≡ counts mid.wanted p.pattern → mid ≡ onto h (found_as (p ∷ []) [] 0)
+entry_passed_over_as h mid p len l m e =
+    m ∙ ap (λ (n : ℕ). one_more n h) l ∙ entry_passed_over h p (sym (e ∙ ap (λ (x : Held). counts x.wanted p.pattern) m))
+
+pub entry_added_as : (h mid now : Held) (p : Property) (len : ℕ) (e : Entry) → len ≡ text_len p → mid ≡ one_more len h → true ≡ counts mid.wanted p.pattern
+    → e ≡ entry_at h.count p → now ≡ with_entry e mid → now ≡ onto h (found_as (p ∷ []) [] 0)
+entry_added_as h mid now p len e l m k i n =
+    n ∙ ap (λ (x : Entry). with_entry x mid) i ∙ ap (λ (x : Held). with_entry (entry_at h.count p) x) (m ∙ ap (λ (c : ℕ). one_more c h) l)
+    ∙ entry_added h p (sym (k ∙ ap (λ (x : Held). counts x.wanted p.pattern) m))
+
+-- an entry that is counted alone, or was not
+pub counted_adds : {T : Type 0} (h now : Held) (p : Property) (len : ℕ) (r : Result T HwdbFault) → len ≡ text_len p → counts h.wanted p.pattern ≡ false
+    → OnOk r (now ≡ one_more len h) → OnErr r ((max_entries ≤ h.count) ⊎ (max_text_bytes < h.text_bytes + len)) → Adds h now (found_as (p ∷ []) [] 0) r
+counted_adds h now p len (Ok x) l u counted many = counted ∙ ap (λ (n : ℕ). one_more n h) l ∙ entry_passed_over h p u
+counted_adds h now p len (Err e) l u counted many = too_many_at h p len e l many

@@ -5,3 +5,4 @@ pub mod Joining
 pub mod Showing
 pub mod Orders
 pub mod Totals
+pub mod RuledOut

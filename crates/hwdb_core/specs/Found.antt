@@ -1,9 +1,13 @@
--- Serves inner proofs only: what was found so far, and how a part adds to it.
-use Rattle.std.specs.Prelude.{◌≡◌, ℕ, ◌+◌, ◌≤◌, List, [], ◌∷◌, ◌++◌, length, sum_by, Result, Ok, Err}
+-- Serves inner proofs only: what is found in the parts of files, and what is held of it.
+use Rattle.std.specs.Prelude.{◌≡◌, ℕ, ◌+◌, ◌≤◌, List, [], ◌∷◌, ◌++◌, Bool, true, length, sum_by, Option, Some, None, Result, Ok, Err}
 use Rattle.text_bytes.specs.declared.Message.{Message}
+use Rattle.text_core.specs.Fits.{fits}
+use Rattle.text_core.specs.declared.item.Item.{Item}
+use Rattle.hwdb_lookup.specs.declared.Entry.{Entry}
+use Rattle.hwdb_lookup.specs.Query.{fitting}
 use Rattle.hwdb_lookup.specs.Bounds.{max_entries, max_match_bytes, max_text_bytes}
 use Rattle.hwdb_core.specs.Properties.{Property}
-use Rattle.hwdb_core.specs.Sources.{text_len}
+use Rattle.hwdb_core.specs.Sources.{entries_from, text_len}
 use Rattle.hwdb_core.specs.declared.fault.HwdbFault.{HwdbFault}
 use Rattle.hwdb_core.specs.declared.fault.HwdbFault.TheVariants.{TooMany, Memory}
 
@@ -30,18 +34,61 @@ unfoldable pub found_in : {X : Type 0} → (X → Found) → List X → Found
 found_in f [] = nothing
 found_in f (x ∷ xs) = join (f x) (found_in f xs)
 
--- what may be kept
-pub record IsKept (a : Found) : Type 0 where
-  pub entries : length a.properties ≤ max_entries
-  pub match_bytes : a.match_bytes ≤ max_match_bytes
-  pub text_bytes : sum_by text_len a.properties ≤ max_text_bytes
+-- What is held while files are read: the modalias that is asked for, if just one is; of the entries that were found those that it fits, or all; how
+-- many were found; how many bytes the matches have that give an entry, and the keys and values; the messages.
+pub record Held : Type 0 where
+  pub wanted : Option (List ℕ)
+  pub entries : List Entry
+  pub count : ℕ
+  pub match_bytes : ℕ
+  pub text_bytes : ℕ
+  pub messages : List Message
+
+-- before anything was read
+abbrev pub begun : Option (List ℕ) → Held
+begun wanted = record { wanted = wanted; entries = []; count = 0; match_bytes = 0; text_bytes = 0; messages = [] }
+
+-- whether entries of a pattern count
+abbrev pub counts : Option (List ℕ) → List Item → Bool
+counts None pattern = true
+counts (Some modalias) pattern = fits pattern modalias
+
+-- the entries that count: where one modalias is asked for, those whose pattern it fits
+abbrev pub counting : Option (List ℕ) → List Entry → List Entry
+counting None entries = entries
+counting (Some modalias) entries = fitting entries modalias
+
+-- what is held, and behind it what was found in a part
+unfoldable pub onto : Held → Found → Held
+onto h a = record {
+  wanted = h.wanted;
+  entries = h.entries ++ counting h.wanted (entries_from h.count a.properties);
+  count = h.count + length a.properties;
+  match_bytes = h.match_bytes + a.match_bytes;
+  text_bytes = h.text_bytes + sum_by text_len a.properties;
+  messages = h.messages ++ a.messages;
+}
+
+-- what is held, with one entry more that is counted
+abbrev pub one_more : ℕ → Held → Held
+one_more len h = record h { count = h.count + 1; text_bytes = h.text_bytes + len }
+
+-- what is held, with one entry more that is kept
+abbrev pub with_entry : Entry → Held → Held
+with_entry e h = record h { entries = h.entries ++ e ∷ [] }
+
+-- what may be held
+pub record IsKept (h : Held) : Type 0 where
+  pub entries : h.count ≤ max_entries
+  pub match_bytes : h.match_bytes ≤ max_match_bytes
+  pub text_bytes : h.text_bytes ≤ max_text_bytes
 
 -- why a part was not added: with it there were too many
-abbrev pub FailsAt : Found → Found → HwdbFault → Type 0
-FailsAt before part TooMany = IsKept (join before part) → ⊥
+abbrev pub FailsAt : Held → Found → HwdbFault → Type 0
+FailsAt before part TooMany = IsKept (onto before part) → ⊥
 FailsAt before part Memory = Unit {0}
 
--- a part was added to what was found before, or was not for a reason
-abbrev pub Adds : {T : Type 0} → Found → Found → Found → Result T HwdbFault → Type 0
-Adds before now part (Ok _) = now ≡ join before part
+-- a part was added to what was held before, or was not for a reason
+abbrev pub Adds : {T : Type 0} → Held → Held → Found → Result T HwdbFault → Type 0
+Adds before now part (Ok _) = now ≡ onto before part
 Adds before now part (Err e) = FailsAt before part e

@@ -1,5 +1,5 @@
 pub mod Found
-pub mod Keeping
+pub mod Ruling
 pub mod Paragraphs
 pub mod Parts
 pub mod Sources

@@ -3,8 +3,9 @@
 ghost use Rattle.std.specs.Prelude.{◌≡◌, ◌≤◌, ◌↔◌, IsTrue, IfOk, IfErr, sum_by, length};
 ghost use Rattle.hwdb_lookup.specs.Bounds.{max_name_bytes};
 ghost use Rattle.hwdb_lookup.specs.Orders.{Rising};
+ghost use Rattle.hwdb_lookup.specs.Query.{fitting};
 ghost use Rattle.hwdb_core.specs.Sources.{entries_of, messages_of, WithinBounds};
-ghost use Rattle.hwdb_core.specs.Found.{Adds, found_in};
+ghost use Rattle.hwdb_core.specs.Found.{Adds, counting, found_in};
 ghost use Rattle.hwdb_core.specs.Parts.{file_found};
 ghost use Rattle.hwdb_core.specs.declared.fault.HwdbFault.TheVariants.{TooMany};
 
@@ -13,7 +14,7 @@ use crate::gathered::Gathered;
 use crate::reading::read_file;
 use hwdb_lookup::{Entry, MAX_NAME_BYTES};
 use std::alloc::Global;
-use text_bytes::{Message, SourceFile};
+use text_bytes::{Bytes, Message, SourceFile};
 
 /// What database files hold, and what is wrong with them.
 #[derive(Debug, Drop)]
@@ -36,10 +37,42 @@ pub fn read_sources(alloc: Global, files: &[SourceFile]) -> Result<Database, Hwd
     ensures within { IfOk result (λ d. WithinBounds files.now) }
     ensures too_many { IfErr result (λ e. e ≡ TooMany → WithinBounds files.now → ⊥) }
 {
+    read_counting(alloc, files, None)
+}
+
+/// Reads files as `read_sources` does, with the same messages and the same faults, and keeps of their entries just those
+/// whose pattern a modalias fits: what a query for it needs. Each keeps its order among all, and all others take no
+/// memory.
+pub fn read_fitting(
+    alloc: Global,
+    files: &[SourceFile],
+    modalias: &[u8],
+) -> Result<Database, HwdbFault>
+    ensures entries { IfOk result (λ d. d.entries.items ≡ fitting (entries_of files.now) modalias.now) }
+    ensures rising { IfOk result (λ d. Rising d.entries.items) }
+    ensures messages { IfOk result (λ d. d.messages.items ≡ messages_of files.now) }
+    ensures within { IfOk result (λ d. WithinBounds files.now) }
+    ensures too_many { IfErr result (λ e. e ≡ TooMany → WithinBounds files.now → ⊥) }
+{
+    read_counting(alloc, files, Some(Bytes::copy_of(alloc, modalias)?))
+}
+
+/// Reads files, and keeps of their entries those that a modalias fits, or all.
+fn read_counting(
+    alloc: Global,
+    files: &[SourceFile],
+    wanted: Option<Bytes>,
+) -> Result<Database, HwdbFault>
+    ensures entries { IfOk result (λ d. d.entries.items ≡ counting wanted (entries_of files.now)) }
+    ensures rising { IfOk result (λ d. Rising d.entries.items) }
+    ensures messages { IfOk result (λ d. d.messages.items ≡ messages_of files.now) }
+    ensures within { IfOk result (λ d. WithinBounds files.now) }
+    ensures too_many { IfErr result (λ e. e ≡ TooMany → WithinBounds files.now → ⊥) }
+{
     if !names_fit(files) {
         return Err(HwdbFault::TooMany);
     }
-    let mut found = Gathered::new(alloc);
+    let mut found = Gathered::new(alloc, wanted);
     read_files(alloc, &mut found, files)?;
     let (entries, messages) = found.into_lists();
     Ok(Database { entries, messages })

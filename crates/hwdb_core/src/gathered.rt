@@ -1,16 +1,19 @@
 //! What was read so far: entries and messages, and how much of them there is.
 //!
-//! Nothing is kept that passes a bound, so that the bounds hold of each value here.
+//! Nothing is kept that passes a bound, so that the bounds hold of each value here. Where just one modalias is asked
+//! for, entries that it does not fit are counted and not kept.
 
-ghost use Rattle.std.specs.Prelude.{◌≡◌, ◌∷◌, []};
+ghost use Rattle.std.specs.Prelude.{◌≡◌, ◌≤◌, ◌<◌, ◌+◌, ◌⊎◌, ◌∷◌, [], OnOk, OnErr};
+ghost use Rattle.hwdb_lookup.specs.Bounds.{max_entries, max_text_bytes};
 ghost use Rattle.text_bytes.specs.Messages.{capped, message};
-ghost use Rattle.hwdb_core.specs.Sources.{entries_from};
-ghost use Rattle.hwdb_core.specs.Found.{Adds, IsKept, nothing, only_messages};
+ghost use Rattle.hwdb_core.specs.Ruling.{passes_over};
+ghost use Rattle.hwdb_core.specs.Found.{Adds, IsKept, begun, counts, one_more, only_messages, with_entry};
 
 use crate::fault::HwdbFault;
 use crate::paragraph::Pair;
+use crate::ruling::is_ruled_out;
 use hwdb_lookup::{Entry, MAX_ENTRIES, MAX_MATCH_BYTES, MAX_TEXT_BYTES};
-use std::alloc::Global;
+use std::alloc::{AllocError, Global};
 use std::marker::Model;
 use text_bytes::{Bytes, Message, MessageKind, capped};
 use text_core::Pattern;
@@ -18,33 +21,65 @@ use text_core::Pattern;
 /// Entries and messages, in order.
 #[derive(Debug, Drop)]
 pub struct Gathered {
+    wanted: Option<Bytes>,
     entries: Vec<Entry>,
-    messages: Vec<Message>,
+    count: usize,
     match_bytes: usize,
     text_bytes: usize,
+    messages: Vec<Message>,
 }
 
 impl Model for Gathered {
-    ghost use Rattle.hwdb_core.specs.Found.{Found};
-    ghost use Rattle.hwdb_core.specs.Keeping.{found_of, IsCounted};
+    ghost use Rattle.std.specs.Prelude.{◌≤◌};
+    ghost use Rattle.hwdb_lookup.specs.Bounds.{max_entries, max_match_bytes, max_text_bytes};
+    ghost use Rattle.hwdb_core.specs.Found.{Held};
 
-    ghost Value = { Found };
+    ghost Value = { Held };
 
-    ghost view = { λ g. found_of g.entries.items g.messages.items g.match_bytes };
+    ghost view = { λ g. record {
+      wanted = g.wanted;
+      entries = g.entries.items;
+      count = g.count;
+      match_bytes = g.match_bytes;
+      text_bytes = g.text_bytes;
+      messages = g.messages.items;
+    } };
 
-    ghost invariant = { λ g. IsCounted g.entries.items g.match_bytes g.text_bytes };
+    ghost invariant = { λ g. (g.count ≤ max_entries) × (g.match_bytes ≤ max_match_bytes) × (g.text_bytes ≤ max_text_bytes) };
 }
 
 impl Gathered {
-    /// Nothing so far.
-    pub fn new(alloc: Global) -> Gathered
-        ensures { result ≡ nothing }
+    /// Nothing so far; the entries that count are those that a modalias fits, or all.
+    pub fn new(alloc: Global, wanted: Option<Bytes>) -> Gathered
+        ensures { result ≡ begun wanted }
     {
         Gathered {
+            wanted,
             entries: Vec::new(alloc),
-            messages: Vec::new(alloc),
+            count: 0,
             match_bytes: 0,
             text_bytes: 0,
+            messages: Vec::new(alloc),
+        }
+    }
+
+    /// Whether entries of a pattern count.
+    fn counts(&self, pattern: &Pattern) -> bool
+        ensures { result ≡ counts self.now.wanted pattern.now }
+    {
+        match &self.wanted {
+            Some(modalias) => pattern.fits(modalias.as_slice()),
+            None => true,
+        }
+    }
+
+    /// Whether a match is seen to be a pattern, and its entries not to count, before it is read.
+    pub fn passes_over(&self, text: &[u8]) -> bool
+        ensures { result ≡ passes_over self.now.wanted text.now }
+    {
+        match &self.wanted {
+            Some(modalias) => is_ruled_out(modalias.as_slice(), text),
+            None => false,
         }
     }
 
@@ -75,7 +110,31 @@ impl Gathered {
         Ok(())
     }
 
-    /// Adds an entry, which takes the pattern.
+    /// Counts an entry, whose key and value have so many bytes.
+    pub fn count_entry(&mut self, len: usize) -> Result<(), HwdbFault>
+        ensures counted { OnOk result (self.new ≡ one_more len self.old) }
+        ensures too_many { OnErr result ((max_entries ≤ self.old.count) ⊎ (max_text_bytes < self.old.text_bytes + len)) }
+    {
+        if self.count >= MAX_ENTRIES {
+            return Err(HwdbFault::TooMany);
+        }
+        if len > MAX_TEXT_BYTES - self.text_bytes {
+            return Err(HwdbFault::TooMany);
+        }
+        self.count += 1;
+        self.text_bytes += len;
+        Ok(())
+    }
+
+    /// Puts an entry behind those that are kept.
+    fn keep(&mut self, entry: Entry) -> Result<(), AllocError>
+        ensures { OnOk result (self.new ≡ with_entry entry self.old) }
+    {
+        self.entries.push(entry)?;
+        Ok(())
+    }
+
+    /// Adds an entry, which takes the pattern, unless it does not count.
     pub fn add_entry(
         &mut self,
         alloc: Global,
@@ -86,37 +145,36 @@ impl Gathered {
     ) -> Result<(), HwdbFault>
         ensures { Adds self.old self.new (record { properties = record { pattern = pattern; key = pair.now.key.now; value = pair.now.value.now; file = file.now; line = capped number } ∷ []; messages = []; match_bytes = 0 }) result }
     {
-        let len = pair.key.len() + pair.value.len();
-        if self.entries.len() >= MAX_ENTRIES {
-            return Err(HwdbFault::TooMany);
-        }
-        if len > MAX_TEXT_BYTES - self.text_bytes {
-            return Err(HwdbFault::TooMany);
+        let order = self.count;
+        self.count_entry(pair.key.len() + pair.value.len())?;
+        if !self.counts(&pattern) {
+            return Ok(());
         }
         let entry = Entry {
             pattern,
             key: Bytes::copy_of(alloc, pair.key)?,
             value: Bytes::copy_of(alloc, pair.value)?,
-            order: self.entries.len() as u32,
+            order: order as u32,
             file: Bytes::copy_of(alloc, file)?,
             line: capped(number),
         };
-        self.entries.push(entry)?;
-        self.text_bytes += len;
+        self.keep(entry)?;
         Ok(())
     }
 
     /// The entries and the messages.
     pub fn into_lists(self) -> (Vec<Entry>, Vec<Message>)
-        ensures entries { result.0.items ≡ entries_from 0 self.properties }
+        ensures entries { result.0.items ≡ self.entries }
         ensures messages { result.1.items ≡ self.messages }
         ensures kept { IsKept self }
     {
         let Gathered {
+            wanted: _,
             entries,
-            messages,
+            count: _,
             match_bytes: _,
             text_bytes: _,
+            messages,
         } = self;
         (entries, messages)
     }

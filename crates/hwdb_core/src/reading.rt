@@ -3,11 +3,13 @@
 //! A paragraph's lines are collected until it ends, and then each of its four parts is read by a
 //! function of its own.
 
-ghost use Rattle.std.specs.Prelude.{◌≡◌, if◌then◌else◌, is_ok, length};
+ghost use Rattle.std.specs.Prelude.{◌≡◌, ℕ, List, OnOk, false, if◌then◌else◌, is_ok, length};
+ghost use Rattle.text_core.specs.declared.item.Item.{Item};
+ghost use Rattle.hwdb_core.specs.Ruling.{IsPassed};
 ghost use Rattle.std.specs.List.{list_any};
 ghost use Rattle.hwdb_core.specs.Paragraphs.{cut};
 ghost use Rattle.hwdb_core.specs.Properties.{pair_of};
-ghost use Rattle.hwdb_core.specs.Found.{Adds, found_in};
+ghost use Rattle.hwdb_core.specs.Found.{Adds, counts, found_in};
 ghost use Rattle.hwdb_core.specs.Parts.{bare_found, cut_found, early_found, file_found, match_found, pair_found, property_found, rest_found};
 
 use crate::fault::HwdbFault;
@@ -117,6 +119,9 @@ fn read_match(
 ) -> Result<(), HwdbFault>
     ensures { Adds found.old found.new (match_found file.now properties.now line.now) result }
 {
+    if found.passes_over(line.text()) {
+        return pass_over(found, line, properties);
+    }
     match Pattern::read(alloc, line.text()) {
         Ok(pattern) => {
             found.count_match(used_len(line, properties))?;
@@ -127,6 +132,39 @@ fn read_match(
             let kind = MessageKind::PatternNotSupported;
             found.tell(alloc, file, line.number(), kind, line.text())
         }
+    }
+}
+
+/// Counts a match whose entries do not count, and these.
+fn pass_over(
+    found: &mut Gathered,
+    line: &Line<'_>,
+    properties: &[Line<'_>],
+) -> Result<(), HwdbFault>
+    ensures { (file : List ℕ) → IsPassed found.old.wanted line.now.text → Adds found.old found.new (match_found file properties.now line.now) result }
+{
+    found.count_match(used_len(line, properties))?;
+    count_pairs(found, properties)
+}
+
+/// Counts the entries that properties give a pattern whose entries do not count.
+fn count_pairs(found: &mut Gathered, properties: &[Line<'_>]) -> Result<(), HwdbFault>
+    ensures { (file : List ℕ) (pattern : List Item) → counts found.old.wanted pattern ≡ false → Adds found.old found.new (found_in (pair_found file pattern) properties.now) result }
+{
+    for line in properties {
+        count_pair(found, line)?;
+    }
+    Ok(())
+}
+
+/// Counts the entry that a property gives a pattern whose entries do not count, where nothing is wrong with the property.
+fn count_pair(found: &mut Gathered, line: &Line<'_>) -> Result<(), HwdbFault>
+    ensures added { (file : List ℕ) (pattern : List Item) → counts found.old.wanted pattern ≡ false → Adds found.old found.new (pair_found file pattern line.now) result }
+    ensures wanted { OnOk result (found.new.wanted ≡ found.old.wanted) }
+{
+    match pair_of(line) {
+        Ok(pair) => found.count_entry(pair.key.len() + pair.value.len()),
+        Err(_) => Ok(()),
     }
 }
 

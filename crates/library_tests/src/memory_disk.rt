@@ -70,6 +70,8 @@ fn read(alloc: Global, root: &str) -> Result<Vec<SourceFile>, ReadFault> {
         all: false,
         ignored: Vec::new(alloc),
         profile: Profile::Manual,
+        users: None,
+        groups: None,
     };
     let wanted = wanted(alloc, &line)?;
     read_all(alloc, &DISK, &wanted)

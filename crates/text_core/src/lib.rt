@@ -15,6 +15,7 @@ mod fnmatch;
 mod glob;
 mod glob_fault;
 mod item;
+mod one_pattern;
 mod pattern;
 mod reading;
 mod sets;

@@ -236,13 +236,13 @@ def summary(files):
     return f"{len(files)} files checked, {len(files) - bad} good, {bad} bad\n"
 
 
-def in_formats(name, *lines, file=b"r.rules", formats=FORMATS, words=()):
-    """A run of `verify` over a file of these marked lines for each format."""
+def in_formats(name, *lines, file=b"r.rules", formats=FORMATS, words=(), beside=None):
+    """A run of `verify` over a file of these marked lines for each format, with these words, beside other files."""
     text, found = read_marks(lines)
     file = as_bytes(file)
     files = [(file, file, found)]
     return [
-        Row(f"{name}, {form}", ["verify", f"--format={form}", *words, file], {file: text}, output=summary(files),
+        Row(f"{name}, {form}", ["verify", f"--format={form}", *words, file], {file: text, **(beside or {})}, output=summary(files),
             messages=messages(form, files), status=1 if found else 0)
         for form in formats
     ]

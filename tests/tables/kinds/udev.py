@@ -26,15 +26,15 @@ def wanted_codes(codes):
     return sorted((int(line), code) for line, code in pairs)
 
 
-def as_udev(cases):
-    """A run over the file of each case."""
+def as_udev(cases, options=(), files=None):
+    """A run over the file of each case, with these options and beside these files."""
     rows = []
     for name, text, verdict, _, codes in cases:
         good = verdict == "good"
         rows.append(Row(
             name,
-            "verify --udev r.rules",
-            {"r.rules": text.encode("latin-1")},
+            ["verify", "--udev", *options, "r.rules"],
+            {"r.rules": text.encode("latin-1"), **(files or {})},
             output=f"1 files checked, {good:d} good, {not good:d} bad\n",
             messages=Read(codes_in, wanted_codes(codes)),
             status=0 if good else 1,

@@ -1,4 +1,4 @@
-use Rattle.std.proofs.Common.{◌≡◌, ◌&&◌, Bool, true, inl, rules, subst, sym}
+use Rattle.std.proofs.Common.{◌≡◌, ◌&&◌, true, inl, rules, subst, sym}
 use Rattle.devdry.specs.Runs.{DoesBehind, takes_blocks}
 use Rattle.devdry.proofs.running.run_request.Goals as goal
 

@@ -12,4 +12,5 @@ returns c =
     let second = one_more _ _ _ _ _ first c.sources_flag.ensures c.in_ok-arg-2.ensures in
     let third = one_more _ _ _ _ _ second c.why_option.ensures c.in_ok-arg-3.ensures in
     let fourth = one_more _ _ _ _ _ third c.index_option.ensures c.in_ok-arg-4.ensures in
-    IfOk-weaker c.arg-5.result _ _ (λ m h. one_more _ _ _ _ _ fourth c.files_argument.ensures h) c.arg-5.ensures
+    let fifth = one_more _ _ _ _ _ fourth c.udev_flag.ensures c.in_ok-arg-5.ensures in
+    IfOk-weaker c.arg-6.result _ _ (λ m h. one_more _ _ _ _ _ fifth c.files_argument.ensures h) c.arg-6.ensures

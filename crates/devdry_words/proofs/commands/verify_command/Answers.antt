@@ -1,13 +1,16 @@
-use Rattle.std.proofs.Common.{rules, codes}
+use Rattle.std.proofs.Common.{◌∙◌, ap, codes}
 use Rattle.std.proofs.lemmas.Result.{IfOk-weaker}
-use Rattle.clap.specs.Simple.{new_shape}
+use Rattle.clap.specs.Simple.{App, new_shape, shape_of_fields}
 use Rattle.devdry_words.specs.Commands.{IsCommand}
 use Rattle.devdry_words.proofs.Chains.{one_more}
 use Rattle.devdry_words.proofs.commands.verify_command.Goals as goal
 
 pub returns : goal.returns
 returns c =
-    let start : IsCommand (new_shape (codes "verify")) c.about.result = search rules in
+    let start : IsCommand (new_shape (codes "verify")) c.about.result = record {
+      shape_is = ap shape_of_fields c.about.ensures ∙ ap (λ (x : App). x.top) c.new.ensures.app;
+      is_local = ap (λ f. f.has_globals) c.about.ensures ∙ c.new.ensures.local;
+    } in
     let first = one_more _ _ _ _ _ start c.root_option.ensures c.in_ok-arg.ensures in
     let second = one_more _ _ _ _ _ first c.all_flag.ensures c.in_ok-arg-2.ensures in
     let third = one_more _ _ _ _ _ second c.format_option.ensures c.in_ok-arg-3.ensures in
@@ -16,4 +19,6 @@ returns c =
     let sixth = one_more _ _ _ _ _ fifth c.no_style_flag.ensures c.in_ok-arg-6.ensures in
     let seventh = one_more _ _ _ _ _ sixth c.lint_flag.ensures c.in_ok-arg-7.ensures in
     let eighth = one_more _ _ _ _ _ seventh c.udev_flag.ensures c.in_ok-arg-8.ensures in
-    IfOk-weaker c.arg-9.result _ _ (λ m h. one_more _ _ _ _ _ eighth c.files_argument.ensures h) c.arg-9.ensures
+    let ninth = one_more _ _ _ _ _ eighth c.users_option.ensures c.in_ok-arg-9.ensures in
+    let tenth = one_more _ _ _ _ _ ninth c.groups_option.ensures c.in_ok-arg-10.ensures in
+    IfOk-weaker c.arg-11.result _ _ (λ m h. one_more _ _ _ _ _ tenth c.files_argument.ensures h) c.arg-11.ensures

@@ -15,6 +15,6 @@ returns-clause-said c =
     ∙ ap (checks_said c.args.line.now c.args.files.now)
     (ap (map shown) c.deref-2.ensures.value
     ∙ c.in_ok-told.ensures
-    ∙ ap (flat_map (rules_told_by c.in_ok-asked.asked.profile c.in_ok-asked.asked.lint c.in_ok-asked.asked.style c.in_ok-asked.asked.ignored)) (c.deref.ensures.value ∙ c.in_ok-reads.ensures)
-    ∙ files_by c.args.line.now c.in_ok-asked.asked.profile c.in_ok-asked.asked.lint c.in_ok-asked.asked.style c.has_comments.result c.in_ok-asked.asked.ignored c.in_ok-asked.ensures.profile c.in_ok-asked.ensures.lint c.in_ok-asked.ensures.style c.in_ok-asked.ensures.ignored c.has_comments.ensures c.args.files.now))
+    ∙ ap (flat_map (rules_told_by c.in_ok-asked.asked.profile c.in_ok-asked.asked.accounts c.in_ok-asked.asked.lint c.in_ok-asked.asked.style c.in_ok-asked.asked.ignored)) (c.deref.ensures.value ∙ c.in_ok-reads.ensures)
+    ∙ files_by c.args.line.now c.in_ok-asked.asked.profile c.in_ok-asked.asked.lint c.in_ok-asked.asked.style c.has_comments.result c.in_ok-asked.asked.ignored c.in_ok-asked.ensures.profile c.in_ok-asked.ensures.lint c.in_ok-asked.ensures.style c.in_ok-asked.ensures.ignored c.has_comments.ensures c.in_ok-asked.asked.accounts c.in_ok-asked.ensures.accounts c.args.files.now))
     c.report_on_told.ensures.said

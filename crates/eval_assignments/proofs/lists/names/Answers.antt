@@ -1,15 +1,17 @@
-use Rattle.std.proofs.Common.{sym, ◌∙◌, map}
-use Rattle.eval_assignments.proofs.Names.{names_more, names_last}
+use Rattle.std.proofs.Common.{not, sym, ◌∙◌, map}
+use Rattle.text_bytes.specs.Names.{space}
+use Rattle.text_bytes.specs.Texts.{is_empty}
+use Rattle.eval_assignments.proofs.Cutting.{parts_more, parts_last}
 use Rattle.eval_assignments.proofs.lists.names.Goals as goal
 
 pub loop-front-preserved : goal.loop-front-preserved
 loop-front-preserved c =
     rw c.in_ok-push_name.ensures
-    (names_more (map (λ t. t.now) c.loop-front.names.items) c.loop-front.rest.now c.in-Some.front.now c.in-Some.behind.now (sym c.in-Some.ensures.value)
+    (parts_more (λ t. not (is_empty t)) space (map (λ t. t.now) c.loop-front.names.items) c.loop-front.rest.now c.in-Some.front.now c.in-Some.behind.now (sym c.in-Some.ensures.value)
     ∙ c.loop-front.invariant)
 
 pub returns : goal.returns
 returns c =
     rw c.in_ok-push_name-2.ensures
-    (names_last (map (λ t. t.now) c.loop-front.names.items) c.loop-front.rest.now (sym c.in_default.ensures.value)
+    (parts_last (λ t. not (is_empty t)) space (map (λ t. t.now) c.loop-front.names.items) c.loop-front.rest.now (sym c.in_default.ensures.value)
     ∙ c.loop-front.invariant)

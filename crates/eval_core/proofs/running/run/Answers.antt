@@ -16,14 +16,15 @@ loop-place-init g c = record {
   event = refl;
   seen = c.in_ok-seen.ensures;
   found = c.marks-found.ensures ∙ ap marks c.event.ensures;
+  profile = c.profile-profile.ensures ∙ ap (λ (v : EventValue). v.profile) c.event-2.ensures;
 }
 
 pub step-requires : goal.step-requires
 step-requires g c =
     foretold_so (g.L.Lookup.entries c.args.lookup.now) c.args.layout.names.now c.args.scene.now.state.event c.args.layout.rules.now c.args.layout.courses.now
-    c.deref.result.now c.marks-found.result c.loop-place.place c.index-layout-place.result _ c.loop-place.scene c.foretold-fate.result
+    c.deref.result.now c.marks-found.result c.profile-profile.result c.loop-place.place c.index-layout-place.result _ c.loop-place.scene c.foretold_by-fate.result
     c.loop-place-test.true c.loop-place.invariant.event c.requires.known (c.deref.ensures.value ∙ c.in_ok-seen.ensures)
-    (c.marks-found.ensures ∙ ap marks c.event.ensures) c.foretold-fate.ensures
+    (c.marks-found.ensures ∙ ap marks c.event.ensures) (c.profile-profile.ensures ∙ ap (λ (v : EventValue). v.profile) c.event-2.ensures) c.foretold_by-fate.ensures
 
 pub loop-place-preserved : goal.loop-place-preserved
 loop-place-preserved g c =
@@ -45,6 +46,7 @@ loop-place-preserved g c =
       event = same;
       seen = c.in_ok-seen.ensures;
       found = c.marks-found.ensures ∙ ap marks c.event.ensures;
+      profile = c.profile-profile.ensures ∙ ap (λ (v : EventValue). v.profile) c.event-2.ensures;
     }
 
 pub returns : goal.returns

@@ -10,6 +10,7 @@ invariant-loop-place g l = record {
   event : l.scene.state.event ≡ l.fn.scene.state.event;
   seen : l.seen.items ≡ seen l.layout.names.now l.fn.scene.state.event;
   found : l.found ≡ marks l.fn.scene.state.event;
+  profile : l.profile ≡ l.fn.scene.state.event.profile;
 }
 
 abbrev pub decreases-loop-place : goal.decreases-loop-place

@@ -1,4 +1,4 @@
-use Rattle.eval_laws.proofs.Making.{group_stands, mode_stands, owner_stands}
+use Rattle.eval_laws.proofs.Making.{group_stands, mode_stands, owner_stands, udev_group, udev_mode, udev_owner}
 use Rattle.eval_laws.proofs.changes.assigned_texts_stand.Goals as goal
 
 pub returns-clause-owner : goal.returns-clause-owner
@@ -9,3 +9,12 @@ returns-clause-group c = group_stands
 
 pub returns-clause-mode : goal.returns-clause-mode
 returns-clause-mode c = mode_stands
+
+pub returns-clause-udev_owner : goal.returns-clause-udev_owner
+returns-clause-udev_owner c = udev_owner
+
+pub returns-clause-udev_group : goal.returns-clause-udev_group
+returns-clause-udev_group c = udev_group
+
+pub returns-clause-udev_mode : goal.returns-clause-udev_mode
+returns-clause-udev_mode c = udev_mode

@@ -1,4 +1,4 @@
-use Rattle.eval_laws.proofs.Making.{run_added, run_alone, run_empty, run_taken}
+use Rattle.eval_laws.proofs.Making.{run_added, run_alone, run_empty, run_rendered_last, run_taken}
 use Rattle.eval_laws.proofs.changes.new_runs_stand_last.Goals as goal
 
 pub returns-clause-added : goal.returns-clause-added
@@ -12,3 +12,6 @@ returns-clause-empty c = run_empty
 
 pub returns-clause-kept : goal.returns-clause-kept
 returns-clause-kept c = run_taken
+
+pub returns-clause-made : goal.returns-clause-made
+returns-clause-made c = run_rendered_last

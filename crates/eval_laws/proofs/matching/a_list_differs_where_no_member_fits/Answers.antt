@@ -1,4 +1,4 @@
-use Rattle.std.proofs.Common.{ap, not}
+use Rattle.std.proofs.Common.{ap}
 use Rattle.std.specs.List.{list_any}
 use Rattle.text_core.specs.Choices.{choice_fits}
 use Rattle.eval_matching.specs.Holding.{agrees, holds}

@@ -1,4 +1,4 @@
-use Rattle.std.proofs.Common.{◌≡◌, ◌∙◌, ap}
+use Rattle.std.proofs.Common.{◌∙◌, ap}
 use Rattle.eval_acts.specs.Acts.{act_step}
 use Rattle.eval_rules.specs.Steps.{Went}
 use Rattle.eval_rules.proofs.Staying.{act_stays}

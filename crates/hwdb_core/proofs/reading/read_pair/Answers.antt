@@ -1,6 +1,6 @@
 use Rattle.std.proofs.Common.{◌∙◌, sym, ap}
-use Rattle.hwdb_core.specs.Found.{join}
-use Rattle.hwdb_core.proofs.Joining.{join_nothing, same_part}
+use Rattle.hwdb_core.specs.Found.{onto}
+use Rattle.hwdb_core.proofs.Joining.{onto_nothing, same_part}
 use Rattle.hwdb_core.proofs.Showing.{pair_given, pair_missing}
 use Rattle.hwdb_core.proofs.reading.read_pair.Goals as goal
 
@@ -12,4 +12,4 @@ returns-in-Ok c =
 
 pub returns-in-Err : goal.returns-in-Err
 returns-in-Err c =
-    sym (join_nothing c.args.found.now) ∙ ap (join c.args.found.now) (sym (pair_missing c.args.file.now c.args.pattern c.args.line.now c.in-Err.field-0 c.in-Err.ensures))
+    sym (onto_nothing c.args.found.now) ∙ ap (onto c.args.found.now) (sym (pair_missing c.args.file.now c.args.pattern c.args.line.now c.in-Err.field-0 c.in-Err.ensures))

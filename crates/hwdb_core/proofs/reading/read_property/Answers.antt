@@ -1,12 +1,12 @@
 use Rattle.std.proofs.Common.{◌∙◌, sym, ap}
-use Rattle.hwdb_core.specs.Found.{join}
-use Rattle.hwdb_core.proofs.Joining.{join_nothing, same_part}
+use Rattle.hwdb_core.specs.Found.{onto}
+use Rattle.hwdb_core.proofs.Joining.{onto_nothing, same_part}
 use Rattle.hwdb_core.proofs.Showing.{property_good, property_told}
 use Rattle.hwdb_core.proofs.reading.read_property.Goals as goal
 
 pub returns-in-Ok : goal.returns-in-Ok
 returns-in-Ok c =
-    sym (join_nothing c.args.found.now) ∙ ap (join c.args.found.now) (sym (property_good c.args.file.now c.args.line.now (record { key = c.in-Ok.field-0.key.now; value = c.in-Ok.field-0.value.now }) c.in-Ok.ensures))
+    sym (onto_nothing c.args.found.now) ∙ ap (onto c.args.found.now) (sym (property_good c.args.file.now c.args.line.now (record { key = c.in-Ok.field-0.key.now; value = c.in-Ok.field-0.value.now }) c.in-Ok.ensures))
 
 pub returns-in-Err : goal.returns-in-Err
 returns-in-Err c =

@@ -20,8 +20,8 @@ invariant_of-self-in-Ok-answer_to g c = λ _.
 pub returns-in-Err-answer_to-clause-err : goal.returns-in-Err-answer_to-clause-err
 returns-in-Err-answer_to-clause-err g c =
     let number : c.saturating_add-number.result ≡ number_behind c.args.self.now.answered = search rules in
-    let found : complete_runs (c.args.self.now.pending ++ take c.in-Ok.taken.used c.args.piece.now) ≡ c.block.result.now ∷ [] = search rules in
-    block_refused c.in-Err-answer_to.fault _ _ c.args.piece.now c.block.result.now c.in-Ok.taken.used found (rw number at c.in-Err-answer_to.ensures.err) (search rules) (search rules)
+    let found : complete_runs (c.args.self.now.pending ++ take c.in-Ok.taken.used c.args.piece.now) ≡ c.block-block.result.now ∷ [] = search rules in
+    block_refused c.in-Err-answer_to.fault _ _ c.args.piece.now c.block-block.result.now c.in-Ok.taken.used found (rw number at c.in-Err-answer_to.ensures.err) (search rules) (search rules)
 
 pub returns-in-Err-clause-err : goal.returns-in-Err-clause-err
 returns-in-Err-clause-err g c =

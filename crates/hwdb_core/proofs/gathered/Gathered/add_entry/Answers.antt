@@ -1,34 +1,32 @@
-use Rattle.std.proofs.Common.{◌∷◌, [], subst, arith}
-use Rattle.std.specs.Rc.{rc_slice_items}
+use Rattle.std.proofs.Common.{ap, refl}
+use Rattle.std.proofs.lemmas.Result.{err_from_is_err_and}
 use Rattle.text_bytes.specs.Messages.{capped}
-use Rattle.hwdb_core.specs.Found.{Found, IsKept, join}
-use Rattle.hwdb_core.proofs.Joining.{found_as}
-use Rattle.hwdb_core.proofs.Keeping.{added_as, counted_as, too_many_entries, too_many_text_bytes}
+use Rattle.hwdb_core.specs.Found.{Held}
+use Rattle.hwdb_core.proofs.Joining.{returned}
+use Rattle.hwdb_core.proofs.Keeping.{entry_added_as, entry_passed_over_as, too_many_at}
 use Rattle.hwdb_core.proofs.gathered.Gathered.add_entry.Goals as goal
 
-pub returns-then-len-ge-MAX_ENTRIES : goal.returns-then-len-ge-MAX_ENTRIES
-returns-then-len-ge-MAX_ENTRIES c =
-    subst (λ (x : Found). IsKept (join x (found_as (record { pattern = c.args.pattern; key = c.args.pair.now.key.now; value = c.args.pair.now.value.now; file = c.args.file.now; line = capped c.args.number } ∷ []) [] 0)) → ⊥) c.self.view_is
-    (too_many_entries c.self.inside.entries.items c.self.inside.messages.items c.self.inside.match_bytes (record { pattern = c.args.pattern; key = c.args.pair.now.key.now; value = c.args.pair.now.value.now; file = c.args.file.now; line = capped c.args.number })
-    (omega (arith, c.len.ensures, c.if-len-ge-MAX_ENTRIES.true)))
+pub returns-in_err-count_entry : goal.returns-in_err-count_entry
+returns-in_err-count_entry c =
+    let p = err_from_is_err_and c.from_residual.result c.from_residual.ensures.1 in
+    returned c.args.self.now c.count_entry.new.self _ c.from_residual.result p.0 c.in_err-count_entry.field-0.0 p.1 p.2
+    (too_many_at c.args.self.now (record { pattern = c.args.pattern; key = c.args.pair.now.key.now; value = c.args.pair.now.value.now; file = c.args.file.now; line = capped c.args.number }) _ c.in_err-count_entry.field-0.0
+    refl c.in_err-count_entry.ensures.too_many)
 
-pub returns-then-len-self : goal.returns-then-len-self
-returns-then-len-self c =
-    subst (λ (x : Found). IsKept (join x (found_as (record { pattern = c.args.pattern; key = c.args.pair.now.key.now; value = c.args.pair.now.value.now; file = c.args.file.now; line = capped c.args.number } ∷ []) [] 0)) → ⊥) c.self.view_is
-    (too_many_text_bytes c.self.inside.entries.items c.self.inside.messages.items c.self.inside.match_bytes (record { pattern = c.args.pattern; key = c.args.pair.now.key.now; value = c.args.pair.now.value.now; file = c.args.file.now; line = capped c.args.number }) c.self.inside.text_bytes
-    c.self.invariant.counted c.self.invariant.texts c.if-len-self.true)
-
-pub invariant_of-self-2 : goal.invariant_of-self-2
-invariant_of-self-2 c =
-    counted_as c.self.inside.entries.items c.push.new.self.items c.self.inside.match_bytes c.self.inside.text_bytes
-    (rc_slice_items c.pattern.inside.items) c.in_ok-copy_of.field-0 c.in_ok-copy_of-2.field-0 c.len-2.result c.in_ok-copy_of-3.field-0 c.capped.result
-    c.args.pair.now.key.now c.args.pair.now.value.now c.in_ok-copy_of.ensures c.in_ok-copy_of-2.ensures (omega (arith, c.len-2.ensures))
-    c.in_ok-push.ensures.items c.self.invariant (omega (arith, c.len.ensures, c.if-len-ge-MAX_ENTRIES.false)) (omega (arith, c.if-len-self.false, c.self.invariant.texts))
+pub returns-then-not-counts : goal.returns-then-not-counts
+returns-then-not-counts c =
+    entry_passed_over_as c.args.self.now c.count_entry.new.self (record { pattern = c.args.pattern; key = c.args.pair.now.key.now; value = c.args.pair.now.value.now; file = c.args.file.now; line = capped c.args.number }) _
+    refl c.in_ok-count_entry.ensures.counted c.if-not-counts.ensures
 
 pub returns : goal.returns
 returns c =
-    added_as c.self.inside.entries.items c.push.new.self.items c.self.inside.messages.items c.self.inside.match_bytes c.args.self.now
-    (rc_slice_items c.pattern.inside.items) c.in_ok-copy_of.field-0 c.in_ok-copy_of-2.field-0 c.len-2.result c.in_ok-copy_of-3.field-0 c.capped.result
-    c.args.pattern c.args.pair.now.key.now c.args.pair.now.value.now c.args.file.now (capped c.args.number)
-    c.pattern.view_is c.in_ok-copy_of.ensures c.in_ok-copy_of-2.ensures c.in_ok-copy_of-3.ensures c.capped.ensures
-    c.in_ok-push.ensures.items c.self.view_is
+    entry_added_as c.args.self.now c.count_entry.new.self c.keep.new.self (record { pattern = c.args.pattern; key = c.args.pair.now.key.now; value = c.args.pair.now.value.now; file = c.args.file.now; line = capped c.args.number }) _ _
+    refl c.in_ok-count_entry.ensures.counted c.if-not-counts.ensures
+    (λ i. record {
+      pattern = c.pattern.view_is i;
+      key = c.in_ok-copy_of.ensures i;
+      value = c.in_ok-copy_of-2.ensures i;
+      order = ap (λ (h : Held). h.count) c.self.view_is i;
+      file = c.in_ok-copy_of-3.ensures i;
+      line = c.capped.ensures i;
+    }) c.in_ok-keep.ensures

@@ -1,0 +1,243 @@
+"""Asks the real `udevadm test` of systemd 257 what an event comes to, over a folder for sysfs that is made of a block.
+
+With SYSTEMD_DEVICE_VERIFY_SYSFS=0 any folder is taken for sysfs. In test mode udevadm runs no program but those whose
+command begins with one of six names; one of them, `ata_id`, is replaced by a helper of our own, so that PROGRAM is seen.
+"""
+import os
+import re
+import shutil
+import subprocess
+import tempfile
+from pathlib import Path
+
+# Prints its words, `=XX` in them as a byte. First words: `exit N` sets the status, `write FILE TEXT` writes a file.
+HELPER = r'''
+#include <stdio.h>
+#include <stdlib.h>
+#include <string.h>
+static void put(FILE *out, const char *s) {
+  for (; *s; s++)
+    if (*s == '=' && s[1] && s[2]) { char hex[3] = {s[1], s[2], 0}; fputc(strtol(hex, 0, 16), out); s += 2; }
+    else fputc(*s, out);
+}
+int main(int count, char **words) {
+  int at = 1, status = 0;
+  if (count > 2 && !strcmp(words[1], "exit")) { status = atoi(words[2]); at = 3; }
+  if (count > at + 2 && !strcmp(words[at], "write")) {
+    FILE *out = fopen(words[at + 1], "w");
+    if (!out) return 9;
+    put(out, words[at + 2]);
+    return fclose(out) ? 9 : status;
+  }
+  for (int i = at; i < count; i++) { if (i > at) putchar(' '); put(stdout, words[i]); }
+  return status;
+}
+'''
+
+PASSWD = "root:x:0:0:root:/root:/bin/sh\ndaemon:x:1:1:daemon:/:/bin/sh\n"
+GROUP = "root:x:0:\ndaemon:x:1:\ndisk:x:6:\naudio:x:29:\n"
+BUSES = {"usb", "pci", "scsi", "hid", "platform"}
+# Properties that udev adds by itself at the end of an event, or beside links and tags.
+OWN = {"DEVLINKS", "TAGS", "CURRENT_TAGS", "USEC_INITIALIZED", "ID_PROCESSING"}
+
+
+def devices_of(block):
+    """The action of a block and its devices, nearest first: each a dictionary from a letter to its texts."""
+    action, devices = None, []
+    for line in filter(None, block.split("\n")):
+        letter, text = line[0], line[3:]
+        if letter == "C":
+            action = text
+        elif letter == "P":
+            devices.append({"P": [text]})
+        elif letter not in "QRK":
+            devices[-1].setdefault(letter, []).append(text)
+    return action, devices
+
+
+def make_root(source, folder, database):
+    """A copy of a root by hard links, with accounts, a database and a helper of our own."""
+    root = Path(folder) / "root"
+    subprocess.run(["cp", "-al", str(source), str(root)], check=True)
+    for below in ("usr/lib/udev/rules.d", "etc/udev/rules.d", "sys", "usr/lib/udev/hwdb.d", "run/udev", "proc"):
+        shutil.rmtree(root / below, ignore_errors=True)
+    for below in ("etc/udev/rules.d", "etc/udev/hwdb.d", "run/udev/data", "proc/sys/test"):
+        (root / below).mkdir(parents=True, exist_ok=True)
+    for name, text in (("passwd", PASSWD), ("group", GROUP)):
+        (root / "etc" / name).unlink(missing_ok=True)
+        (root / "etc" / name).write_text(text)
+    (root / "etc/udev/hwdb.d/10.hwdb").write_text(database)
+    (root / "dev/null").touch()
+    (root / "proc/cmdline").write_text("quiet test.given=5\n")
+    (root / "proc/sys/test/value").write_text("7 \n")
+    subprocess.run(["chroot", str(root), "/usr/bin/systemd-hwdb", "update"], check=True)
+    helper = Path(folder) / "helper.c"
+    helper.write_text(HELPER)
+    (root / "usr/lib/udev/ata_id").unlink()
+    subprocess.run(["gcc", "-static", "-O1", "-o", str(root / "usr/lib/udev/ata_id"), str(helper)], check=True)
+    return root
+
+
+def kernel_name(path):
+    return path.rsplit("/", 1)[1]
+
+
+def uevent_of(device, is_event):
+    """The text of a device's file `uevent`."""
+    lines = list(device.get("E", []))
+    if is_event and "U" in device:
+        # (an event of the kernel tells its subsystem, the file does not)
+        lines.append(f'SUBSYSTEM={device["U"][0]}')
+    if "D" in device:
+        major, minor = device["D"][0].split(":")
+        lines += [f"MAJOR={major}", f"MINOR={minor}"]
+    if "N" in device:
+        lines.append(f'DEVNAME={device["N"][0]}')
+    return "".join(line + "\n" for line in lines)
+
+
+def make_links(sys, folder, device):
+    """Links a device to its subsystem and to its driver."""
+    subsystem = device.get("U", ["usb"])[0]
+    kind = "bus" if subsystem in BUSES else "class"
+    if "U" in device:
+        target = sys / kind / subsystem
+        members = target / "devices" if kind == "bus" else target
+        members.mkdir(parents=True, exist_ok=True)
+        os.symlink(os.path.relpath(target, folder), folder / "subsystem")
+        os.symlink(os.path.relpath(folder, members), members / folder.name)
+    if "V" in device:
+        target = sys / "bus" / subsystem / "drivers" / device["V"][0]
+        target.mkdir(parents=True, exist_ok=True)
+        os.symlink(os.path.relpath(target, folder), folder / "driver")
+
+
+def identity_of(device):
+    """The name of a device in udev's database."""
+    if "D" in device:
+        return ("b" if device.get("U") == ["block"] else "c") + device["D"][0]
+    return f'+{device.get("U", [""])[0]}:{kernel_name(device["P"][0])}'
+
+
+def make_device(root, device, is_event):
+    """Makes the folder of a device below sys, and for a parent with tags its entry in udev's database."""
+    folder = Path(f'{root}/sys{device["P"][0]}')
+    folder.mkdir(parents=True, exist_ok=True)
+    if "D" in device:
+        (folder / "dev").write_text(device["D"][0] + "\n")
+    (folder / "uevent").write_bytes(os.fsencode(uevent_of(device, is_event)))
+    make_links(root / "sys", folder, device)
+    for text in device.get("A", []):
+        name, value = text.split("=", 1)
+        (folder / name).parent.mkdir(parents=True, exist_ok=True)
+        (folder / name).write_bytes(os.fsencode(value) + b"\n")
+    if "G" in device and not is_event:
+        tags = "".join(f"G:{tag}\nQ:{tag}\n" for tag in device["G"])
+        (root / "run/udev/data" / identity_of(device)).write_text(tags + "V:1\n")
+
+
+def sections_of(out):
+    """What udevadm prints, by its headings: the indented lines below each."""
+    found, heading = {}, None
+    for line in out.split("\n"):
+        if line.startswith("  ") and heading:
+            found[heading].append(line[2:])
+        elif ":" in line and not line.startswith(" "):
+            heading = line.split(":", 1)[0]
+            found[heading] = []
+            if "(priority=" in line:
+                found["priority"] = [line.rsplit("=", 1)[1].rstrip(")")]
+    return found
+
+
+def plain(link):
+    """A link as udev keeps it, below the folder of nodes."""
+    path = "/" + link.lstrip("/") if link.startswith("/") else "/dev/" + link
+    return os.path.normpath(path).removeprefix("/dev/")
+
+
+def links_told(told, err):
+    """The links that are left, in the order in which they were added: udev keeps them without an order."""
+    added = [plain(link) for link in re.findall(r"Added SYMLINK '(.*)'$", err, re.M)]
+    places = {link: place for place, link in enumerate(added)}
+    return ["link " + link for link in sorted(map(plain, told.get("Device node symlinks", [])), key=lambda link: places.get(link, 0))]
+
+
+def written(path, devices):
+    """The name of an attribute that is written, by its path: as a rule names it."""
+    for device in devices:
+        begin = "/sys" + device["P"][0] + "/"
+        if path.startswith(begin):
+            rest = path[len(begin):]
+            return rest if device is devices[0] else f'[{device["U"][0]}/{kernel_name(device["P"][0])}]{rest}'
+    return path
+
+
+def node_told(told):
+    """The lines on the node of a device."""
+    lines = ["name " + name for name in told.get("Network interface name", [])]
+    for key, heading in (("owner", "Device node owner"), ("group", "Device node group")):
+        lines += [f"{key} " + (name if name[:4] != "n/a " else name.split("=")[1].rstrip(")")).split(" (")[0]
+                  for name in told.get(heading, [])]
+    lines += ["mode " + mode for mode in told.get("Device node permission", [])]
+    lines += ["priority " + number for number in told.get("priority", []) if number != "0"]
+    lines += ["watch" for state in told.get("Inotify watch", []) if state == "enabled"]
+    return lines + ["label " + "=".join(label.split(" : ", 1)) for label in told.get("Device node security label", [])]
+
+
+def properties_told(told):
+    """The lines of tags and properties."""
+    properties = dict(text.split("=", 1) for text in told.get("Properties", []) if "=" in text)
+    tags = ["tag " + tag for tag in properties.get("CURRENT_TAGS", "").split(":") if tag and "Tags" in told]
+    return tags + [f"env {name}={properties[name]}" for name in sorted(properties, key=os.fsencode)
+                   if name not in OWN and not name.startswith(".")]
+
+
+def written_told(err, devices):
+    """The lines of what is written: of several texts for one name the last, as an answer has it."""
+    lines = []
+    for key in ("ATTR", "SYSCTL"):
+        values = {}
+        for path, value in re.findall(r"skipping writing " + key + r'\{(.*?)\}="(.*)"\.$', err, re.M):
+            values[written(path, devices) if key == "ATTR" else path] = value
+        lines += [f"{key.lower()} {name}={value}" for name, value in values.items()]
+    return lines
+
+
+def commands_told(told):
+    """The lines of commands. One without a word is queued, and refused when it is to be run."""
+    commands = [command.split(" : ", 1) for command in told.get("Queued commands", [])]
+    return [f"run {kind[4:-1]} {text}" for kind, text in commands if text.strip(" \t\n\r")]
+
+
+def ask(root, rules, block):
+    """What udevadm test tells of a block by rules: the lines of an answer without notes."""
+    action, devices = devices_of(block)
+    for below in ("sys", "run/udev/data", "etc/udev/rules.d"):
+        shutil.rmtree(root / below, ignore_errors=True)
+        (root / below).mkdir(parents=True)
+    (root / "sys/class").mkdir()
+    (root / "sys/bus").mkdir()
+    (root / "etc/udev/rules.d/r.rules").write_bytes(rules)
+    for device in reversed(devices):
+        make_device(root, device, device is devices[0])
+    environment = {"SYSTEMD_DEVICE_VERIFY_SYSFS": "0", "PATH": os.environ["PATH"], "SYSTEMD_COLORS": "0"}
+    done = subprocess.run(["chroot", str(root), "/usr/bin/udevadm", "test", f"--action={action}", "/sys" + devices[0]["P"][0]],
+                          env=environment, stdin=subprocess.DEVNULL, capture_output=True, check=False)
+    err, told = os.fsdecode(done.stderr), sections_of(os.fsdecode(done.stdout))
+    first = [f'event {action} {devices[0]["P"][0]}']
+    return first + node_told(told) + links_told(told, err) + properties_told(told) + written_told(err, devices) + commands_told(told)
+
+
+class Asking:
+    """A root to ask in, for a while."""
+
+    def __init__(self, source, database):
+        self.source, self.database = Path(source).absolute(), database
+
+    def __enter__(self):
+        self.folder = tempfile.TemporaryDirectory(prefix="udev-events-", dir=os.environ.get("TMPDIR") or self.source.parent)
+        return make_root(self.source, self.folder.name, self.database)
+
+    def __exit__(self, *fault):
+        self.folder.cleanup()

@@ -1,0 +1,42 @@
+//! Reads the files of users and groups that a line names.
+ghost use Rattle.std.specs.Prelude.{IfErr, IfOk};
+ghost use Rattle.devdry_files.specs.AccountFiles.{AreAccountsRead, IsAccountRead, IsFaultyAccounts, IsUnreadAt};
+ghost use Rattle.devdry_files.specs.Faults.{HasPath};
+
+use crate::disk::Disk;
+use crate::fault::ReadFault;
+use crate::reading::bytes_at;
+use engine_ends::{AccountFile, Line};
+use std::alloc::Global;
+
+/// Reads the files of users and groups that a line names, that of users first: all their bytes.
+///
+/// `ReadFault::Path` comes where a file can't be read, or where there is none, with the path as it is
+/// named; `ReadFault::Memory` where an allocation was refused. What the bytes list is not looked at.
+pub fn read_account_files<D: Disk>(
+    alloc: Global,
+    disk: &D,
+    line: &mut Line<'_>,
+) -> Result<(), ReadFault>
+    ensures files { IfOk result (λ _. AreAccountsRead (D.may_answer disk.now) line.old line.new) }
+    ensures fault { IfErr result (HasPath (IsFaultyAccounts (D.may_answer disk.now) line.old)) }
+{
+    read_account_file(alloc, disk, &mut line.users)?;
+    read_account_file(alloc, disk, &mut line.groups)
+}
+
+/// Reads a file of users or groups, if one is named.
+fn read_account_file<D: Disk>(
+    alloc: Global,
+    disk: &D,
+    file: &mut Option<AccountFile<'_>>,
+) -> Result<(), ReadFault>
+    ensures file { IfOk result (λ _. IsAccountRead (D.may_answer disk.now) file.old file.new) }
+    ensures fault { IfErr result (HasPath (IsUnreadAt (D.may_answer disk.now) file.old)) }
+{
+    if let Some(file) = file {
+        let path = String::from_str(alloc, file.path)?;
+        file.bytes = bytes_at(alloc, disk, path)?;
+    }
+    Ok(())
+}

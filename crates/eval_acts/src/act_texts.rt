@@ -1,0 +1,132 @@
+//! The texts of acts, rendered.
+ghost use Rattle.std.specs.Prelude.{◌≡◌, [], IfOk};
+ghost use Rattle.eval_rendering.specs.Rendering.{render};
+ghost use Rattle.eval_rendering.specs.declared.rendered.Mode.TheVariants.{Plain};
+ghost use Rattle.eval_acts.specs.ActTexts.{has_room, import_text, names_text, path_by, program_text, test_text, with_room, within_by};
+
+use device_core::Device;
+use eval_rendering::{Mode, Rendered, render, render_text};
+use eval_state::State;
+use rule_templates::Template;
+use std::alloc::{AllocError, Global};
+use std::mem::replace;
+use text_bytes::{Bytes, Profile, begins_with};
+
+/// The most bytes that udev gives room to in a path, and in the value of IMPORT{parent}.
+pub const MOST_PATH_BYTES: usize = 1023;
+
+/// The most bytes that udev gives room to in a command.
+pub const MOST_COMMAND_BYTES: usize = 16383;
+
+/// A rendered text, which udev takes up to so many bytes.
+fn within_by(profile: Profile, most: usize, text: Rendered) -> Rendered
+    ensures { result ≡ within_by profile most text }
+{
+    match profile {
+        Profile::Manual => text,
+        Profile::Udev => text.within(most),
+    }
+}
+
+/// Whether udev has room for a path with `/sys`, the path of a device and a slash before it; an absolute one is looked at as it is.
+fn has_room(device: &Device<'_>, path: &[u8]) -> bool
+    ensures { result ≡ has_room device.now path.now }
+{
+    let room = MOST_PATH_BYTES - b"/sys/".len();
+    begins_with(b'/', path) || (path.len() <= room && device.path().len() <= room - path.len())
+}
+
+/// A path of TEST, for which there has to be room with the device's folder before it, too.
+fn with_room(device: &Device<'_>, text: Rendered) -> Rendered
+    ensures { result ≡ with_room device.now text }
+{
+    match text {
+        Rendered::Text(path) => {
+            if has_room(device, path.as_slice()) {
+                Rendered::Text(path)
+            } else {
+                Rendered::TooLong
+            }
+        }
+        Rendered::TooLong => Rendered::TooLong,
+    }
+}
+
+/// The path of TEST, by the event device.
+fn path_by(profile: Profile, device: &Device<'_>, text: Rendered) -> Rendered
+    ensures { result ≡ path_by profile device.now text }
+{
+    match profile {
+        Profile::Manual => text,
+        Profile::Udev => with_room(device, text.within(MOST_PATH_BYTES)),
+    }
+}
+
+/// The path of TEST. In an event of udev's it may have 1,023 bytes, and so may a relative one with `/sys`, the path of
+/// the event device and a slash before it. The error comes where memory is refused.
+pub fn test_text(
+    alloc: Global,
+    template: &Template,
+    state: &State<'_>,
+) -> Result<Rendered, AllocError>
+    ensures { IfOk result (λ text. text ≡ test_text template.now state.now) }
+{
+    let text = render(alloc, template, state, Mode::Plain)?;
+    let event = state.event.event();
+    Ok(path_by(event.profile(), event.device(), text))
+}
+
+/// A template, rendered with an empty result.
+fn render_without_result(
+    alloc: Global,
+    template: &Template,
+    state: &mut State<'_>,
+) -> Result<Rendered, AllocError>
+    ensures text { IfOk result (λ text. text ≡ render template.now (record state.old { result = [] }) Plain) }
+    ensures kept { state.new ≡ state.old }
+{
+    let kept = replace(&mut state.result, Bytes::new(Vec::new(alloc)));
+    let text = render(alloc, template, state, Mode::Plain);
+    state.result = kept;
+    text
+}
+
+/// The command of PROGRAM. In an event of udev's it may have 16,383 bytes, and the earlier result is empty in it. The state
+/// is the same before and behind; the error comes where memory is refused.
+pub fn program_text(
+    alloc: Global,
+    template: &Template,
+    state: &mut State<'_>,
+) -> Result<Rendered, AllocError>
+    ensures text { IfOk result (λ text. text ≡ program_text template.now state.old) }
+    ensures kept { state.new ≡ state.old }
+{
+    match state.event.event().profile() {
+        Profile::Manual => render(alloc, template, state, Mode::Plain),
+        Profile::Udev => {
+            let text = render_without_result(alloc, template, state)?;
+            Ok(text.within(MOST_COMMAND_BYTES))
+        }
+    }
+}
+
+/// The value of an IMPORT, rendered, which in an event of udev's may have so many bytes. The error comes where memory is
+/// refused.
+pub fn import_text(
+    alloc: Global,
+    most: usize,
+    template: &Template,
+    state: &State<'_>,
+) -> Result<Rendered, AllocError>
+    ensures { IfOk result (λ text. text ≡ import_text most template.now state.now) }
+{
+    let text = render(alloc, template, state, Mode::Plain)?;
+    Ok(within_by(state.event.event().profile(), most, text))
+}
+
+/// The value of IMPORT{parent} as udev renders it, of at most 1,023 bytes. The error comes where memory is refused.
+pub fn names_text(alloc: Global, text: &[u8], state: &State<'_>) -> Result<Rendered, AllocError>
+    ensures { IfOk result (λ rendered. rendered ≡ names_text text.now state.now) }
+{
+    Ok(render_text(alloc, text, state)?.within(MOST_PATH_BYTES))
+}

@@ -1,0 +1,98 @@
+//! The attribute that an assignment of udev's writes, found by its name.
+ghost use Rattle.std.specs.Prelude.{◌≡◌, ◌++◌, ◌∷◌, nat_lt, codes, length, OnOk, OnErr};
+ghost use Rattle.text_bytes.specs.Names.{slash};
+ghost use Rattle.eval_state.specs.Named.{named_place};
+ghost use Rattle.eval_assignments.specs.Attributes.{attribute_put, attribute_set, attribute_set_at, own_attribute_set};
+ghost use Rattle.eval_assignments.specs.Bounds.{most_name_bytes};
+
+use crate::bounds::MOST_NAME_BYTES;
+use eval_state::{Named, NoteKind, Scene, starred};
+use rule_types::{Key, Rule};
+use std::alloc::{AllocError, Global};
+use text_bytes::Bytes;
+
+/// Assigns a value to an attribute that was found by its name; where it was not, a note is left.
+fn put_attribute(
+    alloc: Global,
+    rule: &Rule,
+    name: &[u8],
+    found: Option<Bytes>,
+    value: Bytes,
+    scene: &mut Scene<'_>,
+) -> Result<(), AllocError>
+    ensures scene { OnOk result (scene.new ≡ attribute_put rule.now name.now found value scene.old) }
+    ensures refused { OnErr result (scene.new.state.event ≡ scene.old.state.event) }
+{
+    match found {
+        Some(found) => scene.attrs.put(alloc, found.as_slice(), value),
+        None => scene.note(alloc, rule, NoteKind::AttributeNotFound, name),
+    }
+}
+
+/// Whether the path of an attribute of a device is longer than udev has room for.
+fn is_path_long(path: &[u8], name: &[u8]) -> bool
+    ensures { result ≡ nat_lt most_name_bytes (length (codes "/sys" ++ path.now ++ slash ∷ name.now)) }
+{
+    let most = MOST_NAME_BYTES - b"/sys/".len();
+    path.len() > most || name.len() > most - path.len()
+}
+
+/// Assigns a value to an attribute of the event device, unless its path is too long.
+fn set_own_attribute(
+    alloc: Global,
+    rule: &Rule,
+    name: &[u8],
+    value: Bytes,
+    scene: &mut Scene<'_>,
+) -> Result<(), AllocError>
+    ensures scene { OnOk result (scene.new ≡ own_attribute_set rule.now name.now value scene.old) }
+    ensures refused { OnErr result (scene.new.state.event ≡ scene.old.state.event) }
+{
+    let device = scene.state.event.device();
+    if is_path_long(device.path(), name) {
+        return scene.note_key(alloc, rule, NoteKind::TextTooLong, Key::Attr, Some(name));
+    }
+    let found = starred(alloc, device, name)?;
+    put_attribute(alloc, rule, name, found, value, scene)
+}
+
+/// Assigns a value to an attribute that is named with its device, where the chain has that at a place.
+fn set_named_attribute(
+    alloc: Global,
+    rule: &Rule,
+    named: &Named<'_>,
+    name: &[u8],
+    value: Bytes,
+    scene: &mut Scene<'_>,
+) -> Result<(), AllocError>
+    ensures scene { OnOk result (scene.new ≡ attribute_set_at (named_place named.now scene.old.state.event) named.now rule.now name.now value scene.old) }
+    ensures refused { OnErr result (scene.new.state.event ≡ scene.old.state.event) }
+{
+    match scene.state.event.named_place(named) {
+        None => set_own_attribute(alloc, rule, name, value, scene),
+        Some(0) => {
+            let found = starred(alloc, scene.state.event.device(), named.attribute)?;
+            put_attribute(alloc, rule, name, found, value, scene)
+        }
+        Some(_) => scene.attrs.put(alloc, name, value),
+    }
+}
+
+/// Assigns a value to an attribute as udev finds it (systemd 257): `[SUBSYSTEM/KERNEL]ATTRIBUTE` is one of the device of the
+/// chain that is named so, where that is there, and a component `*` with others behind it stands for the first folder that
+/// fits. A name that fits nothing leaves a note, and so does a path of over 1,023 bytes.
+pub(crate) fn set_attribute(
+    alloc: Global,
+    rule: &Rule,
+    name: &[u8],
+    value: Bytes,
+    scene: &mut Scene<'_>,
+) -> Result<(), AllocError>
+    ensures scene { OnOk result (scene.new ≡ attribute_set rule.now name.now value scene.old) }
+    ensures refused { OnErr result (scene.new.state.event ≡ scene.old.state.event) }
+{
+    match Named::read(name) {
+        Some(named) => set_named_attribute(alloc, rule, &named, name, value, scene),
+        None => set_own_attribute(alloc, rule, name, value, scene),
+    }
+}

@@ -1,0 +1,113 @@
+//! The names of kernel parameters, as udev takes them.
+ghost use Rattle.std.specs.Prelude.{◌≡◌, ◌≤◌, not, length, IfOk, OnOk, OnErr};
+ghost use Rattle.std.specs.List.{prefix_len};
+ghost use Rattle.text_bytes.specs.Names.{dot};
+ghost use Rattle.text_bytes.specs.Texts.{begins_with, skip_while};
+ghost use Rattle.eval_assignments.specs.Parameters.{exchanged, is_separator, parameter_name, parameter_put, parameter_set, with_slashes};
+
+use crate::bounds::MOST_NAME_BYTES;
+use crate::links::{components, joined};
+use eval_rendering::{Rendered, render_text};
+use eval_state::{NoteKind, Scene};
+use rule_types::{Key, Rule};
+use std::alloc::{AllocError, Global};
+use text_bytes::{Bytes, begins_with};
+
+/// Whether a byte separates the components of a parameter's name.
+fn is_separator(byte: u8) -> bool
+    ensures { result ≡ is_separator byte }
+{
+    byte == b'.' || byte == b'/'
+}
+
+/// A dot for a slash, and a slash for a dot.
+fn exchanged(byte: u8) -> u8
+    ensures { result ≡ exchanged byte }
+{
+    match byte {
+        b'.' => b'/',
+        b'/' => b'.',
+        other => other,
+    }
+}
+
+/// How many bytes stand before the first separator.
+fn first_len(name: &[u8]) -> usize
+    ensures value { result ≡ prefix_len (λ b. not (is_separator b)) name.now }
+    ensures within { result ≤ length name.now }
+{
+    name.iter().take_while(|byte| !is_separator(**byte)).count()
+}
+
+/// Whether the first separator of a parameter's name is a dot.
+fn has_dots(name: &[u8]) -> bool
+    ensures { result ≡ begins_with dot (skip_while (λ b. not (is_separator b)) name.now) }
+{
+    begins_with(b'.', name.split_at(first_len(name)).1)
+}
+
+/// The name of a parameter with slashes: where a dot is its first separator, dots and slashes change places.
+fn with_slashes(alloc: Global, name: &[u8]) -> Result<Vec<u8>, AllocError>
+    ensures { IfOk result (λ made. made.items ≡ with_slashes name.now) }
+{
+    if has_dots(name) {
+        name.iter().map(|byte| exchanged(*byte)).collect(alloc)
+    } else {
+        Vec::from_slice(alloc, name)
+    }
+}
+
+/// The name of a parameter as udev tells it (systemd 257): its path below `/proc/sys`, without slashes that repeat or stand at
+/// an end, and without `.`.
+fn parameter_name(alloc: Global, name: &[u8]) -> Result<Bytes, AllocError>
+    ensures { IfOk result (λ made. made ≡ parameter_name name.now) }
+{
+    let path = with_slashes(alloc, name)?;
+    let parts = components(alloc, &path)?;
+    joined(alloc, &parts)
+}
+
+/// Assigns a value to a parameter by its name once that is rendered; one that is too long leaves a note.
+fn put_parameter(
+    alloc: Global,
+    rule: &Rule,
+    written: &[u8],
+    name: Rendered,
+    value: Bytes,
+    scene: &mut Scene<'_>,
+) -> Result<(), AllocError>
+    ensures scene { OnOk result (scene.new ≡ parameter_put rule.now written.now name value scene.old) }
+    ensures refused { OnErr result (scene.new.state.event ≡ scene.old.state.event) }
+{
+    match name {
+        Rendered::Text(name) => {
+            let path = parameter_name(alloc, name.as_slice())?;
+            scene.sysctls.put(alloc, path.as_slice(), value)
+        }
+        Rendered::TooLong => {
+            scene.note_key(
+                alloc,
+                rule,
+                NoteKind::TextTooLong,
+                Key::Sysctl,
+                Some(written),
+            )
+        }
+    }
+}
+
+/// Assigns a value to a kernel parameter as udev does (systemd 257): its name is rendered and told with slashes. A name of over
+/// 1,023 bytes leaves a note.
+pub(crate) fn set_parameter(
+    alloc: Global,
+    rule: &Rule,
+    written: &[u8],
+    value: Bytes,
+    scene: &mut Scene<'_>,
+) -> Result<(), AllocError>
+    ensures scene { OnOk result (scene.new ≡ parameter_set rule.now written.now value scene.old) }
+    ensures refused { OnErr result (scene.new.state.event ≡ scene.old.state.event) }
+{
+    let name = render_text(alloc, written, &scene.state)?.within(MOST_NAME_BYTES);
+    put_parameter(alloc, rule, written, name, value, scene)
+}

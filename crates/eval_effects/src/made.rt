@@ -1,0 +1,76 @@
+//! RUNs that udev made at their rules: those that came, and those that are no longer there.
+ghost use Rattle.std.specs.Prelude.{◌≡◌, ◌≤◌, ◌++◌, length, map, OnOk};
+ghost use Rattle.eval_effects.specs.Changes.{made_changes, made_run, removed_made, same_made, stayed};
+
+use crate::runs::run_told;
+use eval_state::MadeRun;
+use std::alloc::{AllocError, Global};
+use text_bytes::Bytes;
+
+/// Whether two RUNs are the same: of one type, as written and as rendered.
+fn same_made(one: &MadeRun<'_>, other: &MadeRun<'_>) -> bool
+    ensures { result ≡ same_made one.now other.now }
+{
+    one.run == other.run && one.text.as_slice() == other.text.as_slice()
+}
+
+/// How many RUNs stayed: as many as both lists begin with.
+fn stayed(was: &[MadeRun<'_>], now: &[MadeRun<'_>]) -> usize
+    ensures value { result ≡ stayed was.now now.now }
+    ensures was { result ≤ length was.now }
+    ensures now { result ≤ length now.now }
+{
+    was.iter()
+        .zip(now)
+        .take_while(|pair| same_made(pair.0, pair.1))
+        .count()
+}
+
+/// Tells RUNs and what became of them, behind other texts.
+fn push_each(
+    alloc: Global,
+    told: &mut Vec<Bytes>,
+    became: &[u8],
+    runs: &[MadeRun<'_>],
+) -> Result<(), AllocError>
+    ensures { OnOk result (told.new.items ≡ told.old.items ++ map (made_run became.now) runs.now) }
+{
+    for made in runs {
+        told.push(run_told(alloc, &made.run, became)?)?;
+    }
+    Ok(())
+}
+
+/// Tells the RUNs that are no longer there, behind other texts: one by one, unless none stayed.
+fn push_removed(
+    alloc: Global,
+    told: &mut Vec<Bytes>,
+    stayed: usize,
+    was: &[MadeRun<'_>],
+) -> Result<(), AllocError>
+    requires { stayed ≤ length was.now }
+    ensures { OnOk result (told.new.items ≡ told.old.items ++ removed_made stayed was.now) }
+{
+    if was.is_empty() {
+        return Ok(());
+    }
+    if stayed == 0 {
+        told.push(Bytes::copy_of(alloc, b"all runs removed")?)?;
+        return Ok(());
+    }
+    push_each(alloc, told, b" removed", was.split_at(stayed).1)
+}
+
+/// Tells what changed of RUNs that udev made, behind other texts.
+pub(crate) fn push_made_changes(
+    alloc: Global,
+    told: &mut Vec<Bytes>,
+    was: &[MadeRun<'_>],
+    now: &[MadeRun<'_>],
+) -> Result<(), AllocError>
+    ensures { OnOk result (told.new.items ≡ told.old.items ++ made_changes was.now now.now) }
+{
+    let count = stayed(was, now);
+    push_each(alloc, told, b" added", now.split_at(count).1)?;
+    push_removed(alloc, told, count, was)
+}

@@ -1,0 +1,122 @@
+-- How much an act of a rule adds to what is counted.
+use Rattle.std.proofs.Common.{ℕ, ◌+◌, ◌≤◌, Bool, true, false, ◌==◌, List, [], ◌∷◌, Option, Some, None, is_some, ◌||◌, if◌then◌else◌, arith}
+use Rattle.text_bytes.specs.Names.{slash}
+use Rattle.text_bytes.specs.Texts.{begins_with}
+use Rattle.text_bytes.specs.declared.profile.Profile.{Profile}
+use Rattle.text_bytes.specs.declared.profile.Profile.TheVariants.{Manual, Udev}
+use Rattle.text_tables.specs.Texts.{Text}
+use Rattle.text_tables.specs.Pairs.{value_of}
+use Rattle.text_core.specs.Fnmatch.{fnmatch_items}
+use Rattle.text_core.specs.declared.item.Item.{Item}
+use Rattle.text_core.specs.declared.reading.Reading.TheVariants.{Exact}
+use Rattle.hwdb_lookup.specs.declared.entry.Entry.{Entry}
+use Rattle.rule_types.specs.Names.{import_name}
+use Rattle.rule_templates.specs.Template.{Parts as Template}
+use Rattle.rule_types.specs.WrittenParts.{attribute_of_deed, key_of_deed, type_of}
+use Rattle.rule_types.specs.declared.part.Act.{Act}
+use Rattle.rule_types.specs.declared.part.Deed.{Deed}
+use Rattle.rule_types.specs.declared.part.Deed.TheVariants as deed
+use Rattle.rule_types.specs.declared.part.Import.{Import}
+use Rattle.rule_types.specs.declared.part.Import.TheVariants as import
+use Rattle.rule_types.specs.Rules.{Rule}
+use Rattle.device_core.specs.Values.{AnswerValue, DeviceValue}
+use Rattle.eval_state.specs.Chains.{device_at}
+use Rattle.eval_rendering.specs.declared.rendered.Rendered.{Rendered}
+use Rattle.eval_rendering.specs.declared.rendered.Rendered.TheVariants as rendered
+use Rattle.eval_state.specs.Named.{NamedValue, named, named_place}
+use Rattle.eval_state.specs.Notes.{note_about, word_of_key}
+use Rattle.eval_state.specs.Runs.{RunValue}
+use Rattle.eval_state.specs.Scenes.{noted}
+use Rattle.eval_state.specs.declared.notes.Note.{Note}
+use Rattle.eval_state.specs.declared.note_kind.NoteKind.{NoteKind}
+use Rattle.eval_state.specs.declared.note_kind.NoteKind.TheVariants.{BadHwdbArguments, BuiltinNotRun, ImportNotRun, NoAnswer, TestNotMade, TextTooLong}
+use Rattle.eval_state.specs.declared.scene.Scene.{Scene}
+use Rattle.eval_acts.specs.Builtins.{builtin}
+use Rattle.eval_acts.specs.declared.builtin.Builtin.{Builtin}
+use Rattle.eval_acts.specs.declared.builtin.Builtin.TheVariants as asked_for
+use Rattle.eval_acts.specs.ActTexts as act_texts
+use Rattle.eval_acts.specs.ActTexts.{import_text, names_text, program_text, test_text}
+use Rattle.eval_acts.specs.Acts.{act_step, from_parent_by, imported, on_text, parent_imported, performed, unrun}
+use Rattle.eval_acts.specs.Imports.{builtin_run, from_parent, not_run, run_builtin}
+use Rattle.eval_acts.specs.Questions.{answered_or_noted, asked, result_of, tested, tested_at, tested_by, tested_by_udev, with_result}
+use Rattle.eval_laws.proofs.Measured.{measured, noted_more}
+
+module _ (w : Note → ℕ) (v : RunValue → ℕ) (c : Rule → ℕ) (light : (r : Rule) (kind : NoteKind) (text : Text) → w (note_about r kind text) ≤ c r) where
+  abbrev counted : Scene → ℕ
+  counted s = measured w v s
+
+  module _ (r : Rule) (s : Scene) where
+    notes : (kind : NoteKind) (text : Text) → counted (noted r kind text s) ≤ counted s + c r
+    notes kind text = noted_more w v c light r s kind text
+
+    on_text_counts : (d : Deed) (act : Text → Scene → Scene × Bool) (given : Rendered) → ((text : Text) → counted (act text s).0 ≤ counted s + c r) → counted (on_text r d act given s).0 ≤ counted s + c r
+    on_text_counts d act (rendered.Text text) each = each text
+    on_text_counts d act rendered.TooLong each = notes TextTooLong (word_of_key (key_of_deed d) (attribute_of_deed d))
+
+    test_at_counts : (place : Option ℕ) (name path : Text) → counted (tested_at place r name path s).0 ≤ counted s + c r
+    test_at_counts None name path = notes TestNotMade path
+    test_at_counts (Some place) name path = omega arith
+
+    test_udev_counts : (is : Option NamedValue) (path : Text) → counted (tested_by_udev is r path s).0 ≤ counted s + c r
+    test_udev_counts None path = omega arith
+    test_udev_counts (Some is) path = test_at_counts (named_place is s.state.event) is.attribute path
+
+    test_by_counts : (profile : Profile) (path : Text) → counted (tested_by profile r path s).0 ≤ counted s + c r
+    test_by_counts Manual path = omega arith
+    test_by_counts Udev path = test_udev_counts (named path) path
+
+    tested_counts : (mask : Option Text) (path : Text) → counted (tested r mask path s).0 ≤ counted s + c r
+    tested_counts mask path = by (is_some mask || begins_with slash path)
+      where
+        by : (b : Bool) → counted (if◌then◌else◌ {A = Scene × Bool} b (noted r TestNotMade path s, false) (tested_by s.state.event.profile r path s)).0 ≤ counted s + c r
+        by true = notes TestNotMade path
+        by false = test_by_counts s.state.event.profile path
+
+    answered_counts : (command : Text) (answer : Option AnswerValue) → counted (answered_or_noted r command answer s).0 ≤ counted s + c r
+    answered_counts command None = notes NoAnswer command
+    answered_counts command (Some answer) = by (answer.status == 0)
+      where
+        by : (b : Bool) → counted (if◌then◌else◌ {A = Scene × Bool} b (with_result (result_of s.state.event.profile answer.text) s, true) (s, false)).0 ≤ counted s + c r
+        by true = omega arith
+        by false = omega arith
+
+    builtin_counts : (entries : List Entry) (command : Text) (wanted : Builtin) → counted (builtin_run entries r command wanted s).0 ≤ counted s + c r
+    builtin_counts entries command (asked_for.Hwdb hwdb) = omega arith
+    builtin_counts entries command (asked_for.Other name) = notes BuiltinNotRun name
+    builtin_counts entries command asked_for.BadArguments = notes BadHwdbArguments command
+
+    parent_counts : (names : List (List Item)) (parent : Option DeviceValue) → counted (from_parent names parent s).0 ≤ counted s + c r
+    parent_counts names None = omega arith
+    parent_counts names (Some parent) = omega arith
+
+    not_run_counts : (from : Import) → counted (not_run r from s).0 ≤ counted s + c r
+    not_run_counts from = notes ImportNotRun (import_name (type_of from))
+
+    parent_by_counts : (profile : Profile) (d : Deed) (names : List (List Item)) (text : Text) → counted (parent_imported profile r d names text s).0 ≤ counted s + c r
+    parent_by_counts Manual d names text = parent_counts names (device_at s.state.event 1)
+    parent_by_counts Udev d names text = on_text_counts d from_parent_by (names_text text s.state) (λ found. parent_counts (fnmatch_items Exact found 0 ∷ []) (device_at s.state.event 1))
+
+    unrun_counts : (profile : Profile) (d : Deed) (from : Import) (bytes : ℕ) (template : Template) → counted (unrun profile r d from bytes template s).0 ≤ counted s + c r
+    unrun_counts Manual d from bytes template = not_run_counts from
+    unrun_counts Udev d from bytes template = on_text_counts d (λ text. not_run r from) (import_text bytes template s.state) (λ text. not_run_counts from)
+
+    import_counts : (entries : List Entry) (d : Deed) (from : Import) → counted (imported entries r d from s).0 ≤ counted s + c r
+    import_counts entries d (import.Builtin template) =
+        on_text_counts d (run_builtin entries r) (import_text act_texts.most_command_bytes template s.state) (λ command. builtin_counts entries command (builtin s.state.event.profile command))
+    import_counts entries d (import.Parent names text) = parent_by_counts s.state.event.profile d names text
+    import_counts entries d (import.Program template) = unrun_counts s.state.event.profile d (import.Program template) act_texts.most_command_bytes template
+    import_counts entries d (import.File template) = unrun_counts s.state.event.profile d (import.File template) act_texts.most_path_bytes template
+    import_counts entries d (import.Cmdline name) = not_run_counts (import.Cmdline name)
+    import_counts entries d (import.Db name) = not_run_counts (import.Db name)
+
+  deed_counts : (entries : List Entry) (r : Rule) (s : Scene) (d : Deed) → counted (performed entries r d s).0 ≤ counted s + c r
+  deed_counts entries r s (deed.Test mask template) = on_text_counts r s (deed.Test mask template) (tested r mask) (test_text template s.state) (tested_counts r s mask)
+  deed_counts entries r s (deed.Program template) =
+      on_text_counts r (with_result [] s) (deed.Program template) (asked r) (program_text template s.state)
+      (λ command. answered_counts r (with_result [] s) command (value_of s.state.event.programs command))
+  deed_counts entries r s (deed.Import from) = import_counts r s entries (deed.Import from) from
+
+  -- an act of a rule
+  pub act_counts : (entries : List Entry) (r : Rule) (act : Act) (s : Scene) → counted (act_step entries r act s).0 ≤ counted s + c r
+  unfolding act_step
+  act_counts entries r act s = deed_counts entries r s act.deed

@@ -1,0 +1,65 @@
+-- Which attribute a match of ATTR or ATTRS looks at.
+use Rattle.std.specs.Prelude.{ℕ, Bool, false, not, ◌&&◌, ◌||◌, ◌==◌, if◌then◌else◌, is_none, Option, Some, None, option_map}
+use Rattle.std.specs.List.{list_any}
+use Rattle.std.specs.Option.{option_and_then}
+use Rattle.text_bytes.specs.Names.{dollar, open_bracket, percent}
+use Rattle.text_bytes.specs.Texts.{begins_with, is_empty}
+use Rattle.text_bytes.specs.declared.profile.Profile.{Profile}
+use Rattle.text_bytes.specs.declared.profile.Profile.TheVariants as profile
+use Rattle.text_tables.specs.Texts.{Text}
+use Rattle.text_tables.specs.Pairs.{value_of}
+use Rattle.device_core.specs.Values.{EventValue}
+use Rattle.eval_state.specs.Chains.{device_at}
+use Rattle.eval_state.specs.Named.{NamedValue, named, named_place}
+use Rattle.eval_state.specs.Texts.{or_empty}
+use Rattle.eval_matching.specs.Holding.{Subject, attribute, udev_attribute, udev_unread}
+use Rattle.eval_matching.specs.Udev.{capped}
+
+-- an attribute of the device at a place of the chain
+abbrev pub attribute_of : EventValue → Text → ℕ → Option Text
+attribute_of event name place = option_and_then (λ device. value_of device.attrs name) (device_at event place)
+
+-- whether a name has a byte that begins a substitution
+abbrev pub has_sign : Text → Bool
+has_sign name = list_any (λ b. b == dollar || b == percent) name
+
+-- whether a name is that of an attribute of a device that does not stand in the chain
+abbrev pub is_elsewhere : EventValue → Option NamedValue → Bool
+is_elsewhere event None = false
+is_elsewhere event (Some n) = not (is_empty n.attribute) && is_none (named_place n event)
+
+-- whether udev would read an attribute of this name where a dry run does not: one of a device that the block does not have, or one whose name
+-- has substitutions
+abbrev pub is_unknown : Text → EventValue → Bool
+is_unknown name event = if begins_with open_bracket name then is_elsewhere event (named name) else has_sign name
+
+-- whether an attribute that a match asks for is not read; the manual knows no such names
+abbrev pub is_not_read_by : Profile → Text → EventValue → Bool
+is_not_read_by profile.Manual name event = false
+is_not_read_by profile.Udev name event = is_unknown name event
+
+-- whether an attribute that a match asks for is not read
+unfoldable pub is_not_read : Text → EventValue → Bool
+is_not_read name event = is_not_read_by event.profile name event
+
+-- an attribute of the device that stands at a place, if a place was found: empty where the device has none, and cut
+abbrev pub found_value : EventValue → Text → Option ℕ → Option Text
+found_value event name found = option_map (λ place. capped (or_empty (attribute_of event name place))) found
+
+-- an attribute of a named device; without a name of its own there is none
+abbrev pub named_value : EventValue → Option NamedValue → Option Text
+named_value event None = None
+named_value event (Some n) = if is_empty n.attribute then None else found_value event n.attribute (named_place n event)
+
+-- the attribute of a name as udev has it: of the device that the name names, or else the device's own
+abbrev pub sought : Text → EventValue → Option Text → Option Text
+sought name event own = if begins_with open_bracket name then named_value event (named name) else own
+
+-- what udev compares of an attribute
+unfoldable pub udev_subject : Text → EventValue → Option Text → Subject
+udev_subject name event own = if is_unknown name event then udev_unread else udev_attribute (sought name event own)
+
+-- what a match of an attribute looks at, by the attribute of this name that the device itself has
+abbrev pub attribute_by : Profile → Text → EventValue → Option Text → Subject
+attribute_by profile.Manual name event own = attribute own
+attribute_by profile.Udev name event own = udev_subject name event own

@@ -1,0 +1,152 @@
+//! Which attribute a match of ATTR or ATTRS looks at.
+ghost use Rattle.std.specs.Prelude.{◌≡◌, option_map};
+ghost use Rattle.eval_state.specs.Named.{named, named_place};
+ghost use Rattle.eval_state.specs.Texts.{or_empty};
+ghost use Rattle.eval_matching.specs.Attributes.{attribute_by, attribute_of, found_value, has_sign, is_elsewhere, is_not_read, is_unknown, named_value, sought, udev_subject};
+ghost use Rattle.eval_matching.specs.Holding.{holds};
+ghost use Rattle.eval_matching.specs.Lent.{lent_subject};
+ghost use Rattle.eval_matching.specs.Udev.{capped};
+ghost use Rattle.eval_state.specs.Chains.{device_at};
+
+use crate::holding::attribute_holds;
+use crate::udev;
+use eval_state::{Chain, Named, State};
+use rule_types::Comparison;
+use text_bytes::{Profile, begins_with};
+
+/// What a match of ATTR or ATTRS looks at.
+#[derive(Debug, Drop)]
+pub enum Attribute<'a> {
+    /// An attribute by the manual, which may be absent.
+    Manual(Option<&'a [u8]>),
+    /// An attribute as udev has it, which may be absent.
+    Udev(Option<&'a [u8]>),
+    /// An attribute that udev would read, and a dry run does not.
+    NotRead,
+}
+
+/// An attribute of the device at a place of the chain, where there is such a device and the device has it.
+fn attribute_of<'a>(chain: &Chain<'a>, name: &[u8], place: usize) -> Option<&'a [u8]>
+    ensures { option_map (λ value. value.now) result ≡ attribute_of chain.now name.now place }
+{
+    chain.device_at(place)?.attrs().get(name)
+}
+
+/// Whether a name has a byte that begins a substitution.
+fn has_sign(name: &[u8]) -> bool
+    ensures { result ≡ has_sign name.now }
+{
+    name.iter().any(|byte| *byte == b'$' || *byte == b'%')
+}
+
+/// Whether a name is that of an attribute of a device that does not stand in the chain.
+fn is_elsewhere(chain: &Chain<'_>, named: Option<Named<'_>>) -> bool
+    ensures { result ≡ is_elsewhere chain.now named.entry }
+{
+    match named {
+        Some(named) => !named.attribute.is_empty() && chain.named_place(&named).is_none(),
+        None => false,
+    }
+}
+
+/// Whether udev would read an attribute of this name where a dry run does not.
+fn is_unknown(name: &[u8], chain: &Chain<'_>) -> bool
+    ensures { result ≡ is_unknown name.now chain.now }
+{
+    if begins_with(b'[', name) {
+        is_elsewhere(chain, Named::read(name))
+    } else {
+        has_sign(name)
+    }
+}
+
+/// Whether a match of ATTR or ATTRS asks for an attribute that udev of systemd 257 would read, and that is not read
+/// here: one of a device that does not stand in the chain, named `[SUBSYSTEM/KERNEL]ATTRIBUTE`, or one whose name has a
+/// `$` or a `%`. Never by the manual, which knows no such names.
+#[tactic(auto, unfolding(crate::specs::Attributes::is_not_read))]
+pub fn is_not_read(name: &[u8], chain: &Chain<'_>) -> bool
+    ensures { result ≡ is_not_read name.now chain.now }
+{
+    match chain.event().profile() {
+        Profile::Manual => false,
+        Profile::Udev => is_unknown(name, chain),
+    }
+}
+
+/// An attribute of the device at a place, empty where the device has none, and cut.
+fn value_at<'a>(chain: &Chain<'a>, name: &[u8], place: usize) -> &'a [u8]
+    ensures { result.now ≡ capped (or_empty (attribute_of chain.now name.now place)) }
+{
+    match attribute_of(chain, name, place) {
+        Some(value) => udev::capped(value),
+        None => b"",
+    }
+}
+
+/// An attribute of the device that stands at a place, if a place was found.
+fn found_value<'a>(chain: &Chain<'a>, name: &[u8], found: Option<usize>) -> Option<&'a [u8]>
+    ensures { option_map (λ value. value.now) result ≡ found_value chain.now name.now found }
+{
+    match found {
+        Some(place) => Some(value_at(chain, name, place)),
+        None => None,
+    }
+}
+
+/// An attribute of a named device.
+fn named_value<'a>(chain: &Chain<'a>, named: Option<Named<'_>>) -> Option<&'a [u8]>
+    ensures { option_map (λ value. value.now) result ≡ named_value chain.now named.entry }
+{
+    let named = named?;
+    if named.attribute.is_empty() {
+        return None;
+    }
+    found_value(chain, named.attribute, chain.named_place(&named))
+}
+
+/// The attribute of a name as udev has it, by the one of the device at a place.
+fn sought<'a>(chain: &Chain<'a>, place: usize, name: &[u8]) -> Option<&'a [u8]>
+    ensures { option_map (λ value. value.now) result ≡ sought name.now chain.now (attribute_of chain.now name.now place) }
+{
+    if begins_with(b'[', name) {
+        named_value(chain, Named::read(name))
+    } else {
+        attribute_of(chain, name, place)
+    }
+}
+
+/// What udev compares of an attribute.
+#[tactic(auto, unfolding(crate::specs::Attributes::udev_subject))]
+fn udev_attribute<'a>(chain: &Chain<'a>, place: usize, name: &[u8]) -> Attribute<'a>
+    ensures { lent_subject result ≡ udev_subject name.now chain.now (attribute_of chain.now name.now place) }
+{
+    if is_unknown(name, chain) {
+        Attribute::NotRead
+    } else {
+        Attribute::Udev(sought(chain, place, name))
+    }
+}
+
+/// What a match of ATTR or ATTRS looks at, at a place of the chain: by the manual the attribute of the device there; as
+/// udev of systemd 257 has it, that of a device of the chain where the name is `[SUBSYSTEM/KERNEL]ATTRIBUTE`, which is
+/// empty where that device has none, and its first 511 bytes.
+pub fn attribute_at<'a>(state: &State<'a>, place: usize, name: &[u8]) -> Attribute<'a>
+    ensures { lent_subject result ≡ attribute_by state.now.event.profile name.now state.now.event (attribute_of state.now.event name.now place) }
+{
+    match state.event.event().profile() {
+        Profile::Manual => Attribute::Manual(attribute_of(&state.event, name, place)),
+        Profile::Udev => udev_attribute(&state.event, place, name),
+    }
+}
+
+/// Whether a comparison holds of what a match of ATTR or ATTRS looks at.
+#[tactic(auto, unfolding(crate::specs::Holding::holds))]
+pub(crate) fn lent_holds(wanted: &Comparison, attribute: &Attribute<'_>) -> bool
+    ensures { result ≡ holds (lent_subject attribute.now) wanted.now }
+{
+    match attribute {
+        Attribute::Manual(value) => attribute_holds(wanted, *value),
+        Attribute::Udev(value) => udev::attribute_holds(wanted, *value),
+        Attribute::NotRead => false,
+    }
+}

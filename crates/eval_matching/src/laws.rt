@@ -1,0 +1,53 @@
+//! Laws of what udev compares, each the contract of a function that does nothing.
+ghost use Rattle.std.specs.Prelude.{◌≡◌, ◌&&◌, ◌++◌, ◌∷◌, ℕ, [], Option, Some, None, not, true, false};
+ghost use Rattle.std.specs.List.{list_all, list_any};
+ghost use Rattle.text_bytes.specs.Names.{bar, open_bracket};
+ghost use Rattle.text_bytes.specs.Texts.{begins_with, is_empty};
+ghost use Rattle.text_bytes.specs.declared.profile.Profile.TheVariants as profile;
+ghost use Rattle.text_core.specs.Choices.{is_bar};
+ghost use Rattle.text_tables.specs.Texts.{Text, same_text};
+ghost use Rattle.text_tables.specs.Pairs.{value_of};
+ghost use Rattle.device_core.specs.Values.{DeviceValue, EventValue};
+ghost use Rattle.rule_types.specs.declared.part.Comparison.{Comparison};
+ghost use Rattle.rule_types.specs.declared.roles.PlainKey.TheVariants as plain;
+ghost use Rattle.eval_state.specs.Chains.{device_at};
+ghost use Rattle.eval_state.specs.Named.{NamedValue, named, named_place};
+ghost use Rattle.eval_state.specs.Texts.{or_empty};
+ghost use Rattle.eval_state.specs.declared.state.State.{State};
+ghost use Rattle.eval_matching.specs.Attributes.{has_sign, is_unknown, udev_subject};
+ghost use Rattle.eval_matching.specs.Holding.{holds, udev_attribute, udev_unread};
+ghost use Rattle.eval_matching.specs.Subjects.{plain_subject};
+ghost use Rattle.eval_matching.specs.Udev.{capped, first_part, is_cut, last_is, without_end};
+
+/// As udev has it ATTR of an attribute that the device does not have fails, with `==` and with `!=`.
+pub fn an_absent_attribute_fails_both()
+    ensures { (name : Text) (state : State) (wanted : Comparison) → state.event.profile ≡ profile.Udev → begins_with open_bracket name ≡ false → value_of state.event.device.attrs name ≡ None → holds (plain_subject (plain.Attr name) state) wanted ≡ false }
+{}
+
+/// A name that names a device of the chain, and an attribute, looks at that attribute of that device, and the device's
+/// own attribute does not matter; it is empty where the device has none. Of a device that does not stand in the chain it is
+/// not read.
+pub fn a_named_device_is_looked_at()
+    ensures there { (text : Text) (event : EventValue) (own : Option Text) (n : NamedValue) (place : ℕ) (device : DeviceValue) → named (open_bracket ∷ text) ≡ Some n → is_empty n.attribute ≡ false → named_place n event ≡ Some place → device_at event place ≡ Some device → udev_subject (open_bracket ∷ text) event own ≡ udev_attribute (Some (capped (or_empty (value_of device.attrs n.attribute)))) }
+    ensures elsewhere { (text : Text) (event : EventValue) (own : Option Text) (n : NamedValue) → named (open_bracket ∷ text) ≡ Some n → is_empty n.attribute ≡ false → named_place n event ≡ None → udev_subject (open_bracket ∷ text) event own ≡ udev_unread }
+    ensures nameless { (text : Text) (event : EventValue) (own : Option Text) (n : NamedValue) → named (open_bracket ∷ text) ≡ Some n → is_empty n.attribute ≡ true → udev_subject (open_bracket ∷ text) event own ≡ udev_attribute None }
+    ensures unnamed { (text : Text) (event : EventValue) (own : Option Text) → named (open_bracket ∷ text) ≡ None → udev_subject (open_bracket ∷ text) event own ≡ udev_attribute None }
+{}
+
+/// A name that names no device looks at the device's own attribute, unless it has a byte that begins a substitution: then
+/// it is not read.
+pub fn a_plain_name_looks_at_the_device()
+    ensures plain { (name : Text) (event : EventValue) (own : Option Text) → begins_with open_bracket name ≡ false → has_sign name ≡ false → udev_subject name event own ≡ udev_attribute own }
+    ensures substituted { (name : Text) (event : EventValue) (own : Option Text) → begins_with open_bracket name ≡ false → has_sign name ≡ true → udev_subject name event own ≡ udev_unread }
+{}
+
+/// The first part of a value stands behind its first bars, and before the next one or its end.
+pub fn the_first_part_stands_between_bars()
+    ensures last { (bars part : Text) → list_all is_bar bars ≡ true → list_any is_bar part ≡ false → first_part (bars ++ part) ≡ part }
+    ensures others { (bars part rest : Text) → list_all is_bar bars ≡ true → list_any is_bar part ≡ false → is_empty part ≡ false → first_part (bars ++ (part ++ bar ∷ rest)) ≡ part }
+{}
+
+/// What is cut off at the end of an attribute is all of its bytes there that may be cut off, and no other.
+pub fn all_that_may_be_cut_off_is()
+    ensures { (text end : Text) → list_all is_cut end ≡ true → last_is is_cut text ≡ false → without_end (text ++ end) ≡ text }
+{}

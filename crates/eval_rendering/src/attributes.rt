@@ -1,0 +1,128 @@
+//! The attributes that stand in texts.
+ghost use Rattle.std.specs.Prelude.{◌≡◌, option_copied, option_map, take};
+ghost use Rattle.std.specs.List.{list_any};
+ghost use Rattle.std.specs.Option.{option_and_then};
+ghost use Rattle.text_tables.specs.Pairs.{value_of};
+ghost use Rattle.eval_state.specs.Texts.{or_empty};
+ghost use Rattle.eval_rendering.specs.Pieces.{attribute, attribute_as, attribute_named, attribute_of, has_long, is_long, most_attribute_bytes, named_attribute, selected_device};
+
+use device_core::Device;
+use eval_state::{Named, State};
+use rule_templates::{Piece, Template};
+use text_bytes::Profile;
+
+/// The most bytes of an attribute that udev puts in.
+const MOST_ATTRIBUTE_BYTES: usize = 511;
+
+/// The device that is selected.
+pub(crate) fn selected_device<'a>(state: &State<'a>) -> Option<&'a Device<'a>>
+    ensures { option_copied result ≡ selected_device state.now }
+{
+    match state.selected {
+        Some(place) => state.event.device_at(place),
+        None => None,
+    }
+}
+
+/// An attribute of the selected device.
+fn selected_attribute<'a>(state: &State<'a>, name: &[u8]) -> Option<&'a [u8]>
+    ensures { option_map (λ value. value.now) result ≡ option_and_then (λ device. value_of device.attrs name.now) (selected_device state.now) }
+{
+    match selected_device(state) {
+        Some(device) => device.attrs().get(name),
+        None => None,
+    }
+}
+
+/// An attribute, of the event device or else of the selected one.
+fn attribute<'a>(state: &State<'a>, name: &[u8]) -> Option<&'a [u8]>
+    ensures { option_map (λ value. value.now) result ≡ attribute name.now state.now }
+{
+    match state.event.device().attrs().get(name) {
+        Some(value) => Some(value),
+        None => selected_attribute(state, name),
+    }
+}
+
+/// An attribute of a device, empty where the device has none of this name.
+fn attribute_of<'a>(device: &'a Device<'a>, name: &[u8]) -> &'a [u8]
+    ensures { result.now ≡ attribute_of name.now device.now }
+{
+    device.attrs().get(name).unwrap_or(b"")
+}
+
+/// The attribute of a device of the chain that is named with its device, where the device is there.
+fn attribute_named<'a>(state: &State<'a>, named: &Named<'_>) -> Option<&'a [u8]>
+    ensures { option_map (λ value. value.now) result ≡ attribute_named state.now.event named.now }
+{
+    if named.attribute.is_empty() {
+        return None;
+    }
+    let place = state.event.named_place(named)?;
+    let device = state.event.device_at(place)?;
+    Some(attribute_of(device, named.attribute))
+}
+
+/// The same by the whole name, where it has the form `[SUBSYSTEM/KERNEL]ATTRIBUTE`.
+fn named_attribute<'a>(state: &State<'a>, name: &[u8]) -> Option<&'a [u8]>
+    ensures { option_map (λ value. value.now) result ≡ named_attribute name.now state.now.event }
+{
+    let named = Named::read(name)?;
+    attribute_named(state, &named)
+}
+
+/// As much of an attribute as udev puts in.
+#[tactic(auto, using(std::proofs::lemmas::List::take_min))]
+fn cut_off(value: &[u8]) -> &[u8]
+    ensures { result.now ≡ take most_attribute_bytes value.now }
+{
+    value.split_at(MOST_ATTRIBUTE_BYTES.min(value.len())).0
+}
+
+/// The attribute that udev puts in, as the device has it: that of a device of the chain which the name
+/// names, too, cut off behind its first 511 bytes, or else that of the event device or the selected one.
+fn udev_attribute<'a>(state: &State<'a>, name: &[u8]) -> &'a [u8]
+    ensures { result.now ≡ attribute_as Profile.Udev name.now state.now }
+{
+    match named_attribute(state, name) {
+        Some(value) => cut_off(value),
+        None => attribute(state, name).unwrap_or(b""),
+    }
+}
+
+/// The attribute that stands in a text, as the device has it; empty where there is none.
+pub(crate) fn attribute_as<'a>(profile: Profile, state: &State<'a>, name: &[u8]) -> &'a [u8]
+    ensures { result.now ≡ attribute_as profile name.now state.now }
+{
+    match profile {
+        Profile::Manual => attribute(state, name).unwrap_or(b""),
+        Profile::Udev => udev_attribute(state, name),
+    }
+}
+
+/// Whether a piece is an attribute of more bytes than udev puts in.
+fn is_long(state: &State<'_>, piece: &Piece) -> bool
+    ensures { result ≡ is_long state.now piece.now }
+{
+    match piece {
+        Piece::Attr(name) => udev_attribute(state, name.as_slice()).len() > MOST_ATTRIBUTE_BYTES,
+        _ => false,
+    }
+}
+
+/// Whether one of these pieces is an attribute of more bytes than udev puts in.
+fn any_is_long(state: &State<'_>, pieces: &[Piece]) -> bool
+    ensures { result ≡ list_any (is_long state.now) pieces.now }
+{
+    pieces.iter().any(|piece| is_long(state, piece))
+}
+
+/// Whether a template is too long whatever the length of its text is: for udev where one of its attributes is.
+pub(crate) fn has_long(state: &State<'_>, template: &Template) -> bool
+    ensures { result ≡ has_long state.now.event.profile state.now template.now.pieces }
+{
+    match state.event.event().profile() {
+        Profile::Manual => false,
+        Profile::Udev => any_is_long(state, template.pieces()),
+    }
+}

@@ -1,0 +1,166 @@
+//! Rules that udev passes over, since nothing in them counts for the event.
+ghost use Rattle.std.specs.Prelude.{◌≡◌, OnOk, OnErr, fold};
+ghost use Rattle.std.specs.List.{list_any};
+ghost use Rattle.eval_rules.specs.Idle.{applies, change_applies, change_counts, deed_counts, is_idle, is_idle_by, is_of_device, is_removal, note_all, note_step, something_counts, text_counts};
+ghost use Rattle.eval_rules.specs.Steps.{onward};
+
+use device_core::{Device, Event};
+use eval_assignments::{is_interface, set_one};
+use eval_state::Scene;
+use rule_types::{Act, Assignment, Change, Deed, Rule, RuleOption, Target};
+use std::alloc::{AllocError, Global};
+use text_bytes::Profile;
+
+/// Whether the event's device goes.
+fn is_removal(event: &Event<'_>) -> bool
+    ensures { result ≡ is_removal event.now }
+{
+    event.action() == b"remove".as_slice()
+}
+
+/// Whether a key is one of the device's node or its name.
+fn is_of_device(target: &Target) -> bool
+    ensures { result ≡ is_of_device target.now }
+{
+    match target {
+        Target::Owner | Target::Group | Target::Mode | Target::Symlink | Target::Name => true,
+        _ => false,
+    }
+}
+
+/// Whether a key applies to a device: those of its node where it has a number, its name where it is an
+/// interface, any other to all.
+fn applies(target: &Target, device: &Device<'_>) -> bool
+    ensures { result ≡ applies target.now device.now }
+{
+    match target {
+        Target::Owner | Target::Group | Target::Mode | Target::Symlink => {
+            device.number().is_some()
+        }
+        Target::Name => is_interface(device),
+        _ => true,
+    }
+}
+
+/// Whether an assignment of a text counts for an event: its key applies to the device, which does not
+/// go where it is one of the node or the name.
+fn text_counts(target: &Target, event: &Event<'_>) -> bool
+    ensures { result ≡ text_counts target.now event.now }
+{
+    applies(target, event.device()) && !(is_of_device(target) && is_removal(event))
+}
+
+/// Whether an assignment counts for an event: an option that changes nothing does not.
+fn change_counts(change: &Change, event: &Event<'_>) -> bool
+    ensures { result ≡ change_counts change.now event.now }
+{
+    match change {
+        Change::Option(RuleOption::Ignored) => false,
+        Change::Option(_) => true,
+        Change::Text(target, _) => text_counts(target, event),
+        Change::Run(_, _) => true,
+    }
+}
+
+/// Whether an act counts: TEST only asks.
+fn deed_counts(deed: &Deed) -> bool
+    ensures { result ≡ deed_counts deed.now }
+{
+    match deed {
+        Deed::Test(_, _) => false,
+        _ => true,
+    }
+}
+
+/// Whether one of these acts counts.
+fn acts_count(acts: &[Act]) -> bool
+    ensures { result ≡ list_any (λ act. deed_counts act.deed) acts.now }
+{
+    acts.iter().any(|act| deed_counts(&act.deed))
+}
+
+/// Whether one of these assignments counts for an event.
+fn sets_count(sets: &[Assignment], event: &Event<'_>) -> bool
+    ensures { result ≡ list_any (λ a. change_counts a.change event.now) sets.now }
+{
+    sets.iter().any(|set| change_counts(&set.change, event))
+}
+
+/// Whether something in a rule counts for an event: its GOTO, what acts, or an assignment.
+fn something_counts(rule: &Rule, event: &Event<'_>) -> bool
+    ensures { result ≡ something_counts rule.now event.now }
+{
+    rule.goto().is_some() || acts_count(rule.acts()) || sets_count(rule.sets(), event)
+}
+
+/// Whether a rule is passed over before its matches are looked at: by udev (systemd 257) one that
+/// neither jumps, nor runs a program, nor imports, nor assigns anything that counts for the event.
+/// OWNER, GROUP, MODE and SYMLINK count for a device with a number, NAME for a network interface, and
+/// none of them on `remove`; `static_node` counts for no event. By the manual no rule is passed over.
+#[tactic(auto, unfolding(crate::specs::Idle::is_idle_by))]
+pub fn is_idle(rule: &Rule, event: &Event<'_>) -> bool
+    ensures { result ≡ is_idle rule.now event.now }
+{
+    match event.profile() {
+        Profile::Manual => false,
+        Profile::Udev => !something_counts(rule, event),
+    }
+}
+
+/// Whether an assignment is one whose key applies to a device.
+fn change_applies(change: &Change, device: &Device<'_>) -> bool
+    ensures { result ≡ change_applies change.now device.now }
+{
+    match change {
+        Change::Text(target, _) => applies(target, device),
+        _ => true,
+    }
+}
+
+/// Leaves the note of an assignment whose key does not apply to the device; nothing comes of any other.
+fn note_step<'a>(
+    alloc: Global,
+    rule: &'a Rule,
+    assignment: &'a Assignment,
+    scene: &mut Scene<'a>,
+) -> Result<(), AllocError>
+    ensures scene { OnOk result (scene.new ≡ note_step rule.now scene.old assignment.now) }
+    ensures refused { OnErr result (scene.new.state.event ≡ scene.old.state.event) }
+{
+    if change_applies(&assignment.change, scene.state.event.device()) {
+        return Ok(());
+    }
+    set_one(alloc, rule, assignment, scene)
+}
+
+/// Leaves the notes of those assignments of a rule whose keys do not apply to the device, in place of
+/// making any.
+fn note_each<'a>(alloc: Global, rule: &'a Rule, scene: &mut Scene<'a>) -> Result<(), AllocError>
+    ensures scene { OnOk result (scene.new ≡ fold (note_step rule.now) scene.old rule.now.sets) }
+    ensures refused { OnErr result (scene.new.state.event ≡ scene.old.state.event) }
+{
+    for assignment in rule.sets() {
+        note_step(alloc, rule, assignment, scene)?;
+    }
+    Ok(())
+}
+
+/// The end of a rule that is passed over: where its keys let it go on to its assignments, those that do
+/// not apply to the device leave their notes, and none is made.
+///
+/// The error comes where memory is refused; the event then stays.
+pub fn note_all<'a>(
+    alloc: Global,
+    rule: &'a Rule,
+    goes_on: bool,
+    scene: &mut Scene<'a>,
+) -> Result<(), AllocError>
+    ensures scene { OnOk result (scene.new ≡ (onward (note_all rule.now) (scene.old, goes_on)).0) }
+    ensures refused { OnErr result (scene.new.state.event ≡ scene.old.state.event) }
+{
+    if goes_on {
+        note_each(alloc, rule, scene)
+    } else {
+        Ok(())
+    }
+}

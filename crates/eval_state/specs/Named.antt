@@ -1,0 +1,48 @@
+-- Names of attributes that name a device, too, as udev has them: `[SUBSYSTEM/KERNEL]ATTRIBUTE`.
+use Rattle.std.specs.Prelude.{ℕ, Bool, false, ◌&&◌, if◌then◌else◌, [], ◌∷◌, length, drop, Option, Some, None, position}
+use Rattle.std.specs.List.{range_with_len}
+use Rattle.text_bytes.specs.Names.{close_bracket, open_bracket, slash}
+use Rattle.text_bytes.specs.Texts.{begins_with, split_once}
+use Rattle.text_tables.specs.Texts.{Text, same_text}
+use Rattle.device_core.specs.Values.{DeviceValue, EventValue, chain}
+use Rattle.eval_state.specs.Chains.{device_at, kernel_of}
+
+-- a device that is named by its subsystem and its kernel's name, and an attribute of it
+pub record NamedValue : Type 0 where
+  pub subsystem : Text
+  pub kernel : Text
+  pub attribute : Text
+
+-- a text without the slash that it begins with, if it begins with one
+abbrev pub behind_slash : Text → Text
+behind_slash text = if begins_with slash text then drop 1 text else text
+
+-- a subsystem, and a text that is cut at the first `]`
+abbrev pub named_by : Text → Option (Text × Text) → Option NamedValue
+named_by subsystem None = None
+named_by subsystem (Some cut) = Some (record { subsystem = subsystem; kernel = cut.0; attribute = behind_slash cut.1 })
+
+-- what stands behind `[`, cut at its first slash
+abbrev pub named_behind : Option (Text × Text) → Option NamedValue
+named_behind None = None
+named_behind (Some cut) = named_by cut.0 (split_once close_bracket cut.1)
+
+-- what a name of an attribute names, where it names a device: the subsystem stands before the first slash, the kernel's name before the
+-- first `]` behind that, and one slash behind it is no part of the attribute
+unfoldable pub named : Text → Option NamedValue
+named [] = None
+named (b ∷ text) = if begins_with open_bracket (b ∷ text) then named_behind (split_once slash text) else None
+
+-- whether a subsystem is there, and is this one
+abbrev pub is_subsystem : Text → Option Text → Bool
+is_subsystem name None = false
+is_subsystem name (Some subsystem) = same_text subsystem name
+
+-- whether a device is there, and is the one that is named
+abbrev pub is_named : NamedValue → Option DeviceValue → Bool
+is_named n None = false
+is_named n (Some device) = is_subsystem n.subsystem device.subsystem && same_text (kernel_of device) n.kernel
+
+-- the place in the chain of the nearest device that is named so
+unfoldable pub named_place : NamedValue → EventValue → Option ℕ
+named_place n event = position (λ place. is_named n (device_at event place)) (range_with_len 0 (length (chain event)))

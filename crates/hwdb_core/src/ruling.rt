@@ -1,0 +1,53 @@
+//! Which matches are seen not to fit a modalias before they are read as patterns: most of a database, for any one
+//! device.
+ghost use Rattle.std.specs.Prelude.{◌≡◌};
+ghost use Rattle.hwdb_core.specs.Ruling.{differs_at_front, is_faultless, is_ruled_out, is_special};
+
+use text_bytes::find;
+
+/// The most bytes of a pattern, as `text_core` reads them.
+const MAX_LEN: usize = 16384;
+
+/// Whether a byte of a pattern means something else than itself.
+fn is_special(byte: u8) -> bool
+    ensures { result ≡ is_special byte }
+{
+    byte == b'*' || byte == b'?' || byte == b'['
+}
+
+/// Whether a match and a modalias differ before the first byte of the match that means something else than itself.
+fn differs_at_front(text: &[u8], modalias: &[u8]) -> bool
+    ensures { result ≡ differs_at_front text.now modalias.now }
+{
+    let mut rest = modalias;
+    for byte in text {
+        if is_special(*byte) {
+            return false;
+        }
+        match rest.split_first() {
+            Some((first, behind)) => {
+                if *byte != *first {
+                    return true;
+                }
+                rest = behind;
+            }
+            None => return true,
+        }
+    }
+    !rest.is_empty()
+}
+
+/// Whether a match can have no fault.
+fn is_faultless(text: &[u8]) -> bool
+    ensures { result ≡ is_faultless text.now }
+{
+    text.len() <= MAX_LEN && find(b'[', text).is_none()
+}
+
+/// Whether a match is seen not to fit a modalias, and to be a pattern.
+#[tactic(auto, unfolding(crate::specs::Ruling::is_ruled_out))]
+pub(crate) fn is_ruled_out(modalias: &[u8], text: &[u8]) -> bool
+    ensures { result ≡ is_ruled_out modalias.now text.now }
+{
+    differs_at_front(text, modalias) && is_faultless(text)
+}

@@ -1,0 +1,182 @@
+"""The devices and the database of the rows of `events --udev`, and how an answer is written down in short.
+
+Bytes that are no UTF-8 stand as Python's surrogate escapes (`os.fsencode`).
+"""
+import os
+
+from tables.kinds.answered import escaped, place
+
+DISK = '''C: add
+P: /devices/pci0/usb1/block/sda
+U: block
+N: sda
+D: 8:0
+A: model=Disk
+A: size=2048
+P: /devices/pci0/usb1
+U: usb
+V: hub
+A: serial=7
+E: ID_BUS=usb
+G: ptag
+P: /devices/pci0
+U: pci
+A: vendor=0x8086
+'''
+
+# A partition of a disk whose node has another name than the kernel's.
+PART = '''C: add
+P: /devices/virtual/block/vda/vda1
+U: block
+N: disks/vda1
+D: 8:1
+P: /devices/virtual/block/vda
+U: block
+N: disks/vda
+D: 8:0
+'''
+
+# A device without a number.
+THING = '''C: add
+P: /devices/pci0/usb1/thing
+U: misc
+E: ID_SOME=1
+P: /devices/pci0/usb1
+U: usb
+V: hub
+A: serial=7
+E: ID_BUS=usb
+E: ID_BOTH=x
+E: DEVTYPE=usb_device
+G: ptag
+P: /devices/pci0
+U: pci
+E: ID_FAR=1
+'''
+
+# A device alone, without a parent, with attributes in folders and with blanks.
+STAR = '''C: add
+P: /devices/star
+U: misc
+A: model=m
+A: q/a/x=1
+A: q/b/y=6
+A: r/x=1
+A: b511=''' + 'x' * 511 + '''
+A: big=''' + 'x' * 600 + '''
+A: blank=  ''' + '''
+A: control=a\tb\x01c;d'e/f$g%h?i,j k\udcff\u00e9
+A: spaces=  a  b  ''' + '''
+A: tab=a\v
+'''
+
+NET = '''C: add
+P: /devices/pci0/net/eth0
+U: net
+E: IFINDEX=2
+E: INTERFACE=eth0
+A: mtu=1500
+P: /devices/pci0
+U: pci
+'''
+
+# A device of the subsystem net that is no interface.
+PHY = '''C: add
+P: /devices/pci0/net/phy0
+U: net
+P: /devices/pci0
+U: pci
+'''
+
+# A device with a number and with an interface.
+BOTH = '''C: add
+P: /devices/both7
+U: misc
+N: both7
+D: 10:7
+E: IFINDEX=7
+'''
+
+BANG = '''C: add
+P: /devices/12/block/cciss!c0d0
+U: block
+N: cciss/c0d0
+D: 104:0
+P: /devices/12
+U: pci
+E: X=1
+'''
+
+DIGITS = '''C: add
+P: /devices/12
+U: misc
+N: some/12
+D: 1:1
+'''
+
+CLASS = 'C: add\nP: /devices/foo\nU: class\n'
+SUBSYSTEM = 'C: add\nP: /devices/foo\nU: subsystem\n'
+
+# A USB device that has no modalias of its own.
+CAMERA = '''C: add
+P: /devices/pci0/usb1/thing
+U: misc
+P: /devices/pci0/usb1
+U: usb
+E: DEVTYPE=usb_device
+A: idVendor=0001
+A: idProduct=abcd
+A: product=Cam
+'''
+
+BLOCKS = [DISK, PART, THING, STAR, NET, PHY, BOTH, BANG, DIGITS, CLASS, SUBSYSTEM, CAMERA]
+
+DATABASE = '''usb:v1*
+ ID_X=1
+ ID_Y=
+
+usb:v0001pABCD:Cam*
+ ID_Z=1
+
+usb:v2*
+ ID_Y=
+'''
+
+
+def answering(block, *answers):
+    """A block in which the event answers commands of PROGRAM: each a command, its status and its text."""
+    return block + ''.join(f'Q: {command}\nR: {status} {text}\n' for command, status, text in answers)
+
+
+def removed(block):
+    """The block of a device that goes."""
+    return block.replace('C: add', 'C: remove', 1)
+
+
+def begun(block):
+    """The lines that an answer has of the block alone: the event's, and its properties."""
+    properties, device = {}, 0
+    for line in filter(None, block.split('\n')):
+        letter, text = line[0], line[3:]
+        if letter == 'C':
+            action = properties['ACTION'] = text
+        device += letter == 'P'
+        if device == 1 and letter == 'P':
+            path = properties['DEVPATH'] = text
+        elif device == 1 and letter == 'U':
+            properties['SUBSYSTEM'] = text
+        elif device == 1 and letter == 'N':
+            properties['DEVNAME'] = '/dev/' + text
+        elif device == 1 and letter == 'D':
+            properties['MAJOR'], properties['MINOR'] = text.split(':')
+        elif device == 1 and letter == 'E':
+            name, value = text.split('=', 1)
+            properties[name] = value
+    return [f'event {action} {path}'] + [f'env {name}={value}' for name, value in properties.items()]
+
+
+def answer_lines(block, lines):
+    """The lines of an answer: what the block alone tells, with these in place of those of the same property."""
+    again = {line.split('=')[0] for line in lines if line.startswith('env ')}
+    told = [line for line in begun(block) if line.split('=')[0] not in again] + lines
+    return sorted((escaped(os.fsencode(line)) for line in told), key=place)

@@ -1,0 +1,155 @@
+"""`events --udev` where devdry does not do as udevadm 257: what udevadm answers, and what devdry does. docs/differences.md says why."""
+from tables.kinds.udev_blocks import BOTH, CAMERA, DISK, NET, STAR, THING, answering
+from tables.kinds.udev_events import answered_otherwise
+
+CASES = [
+    ('a label twice',
+     ('SECLABEL{smack}+="x"\n' +
+      'SECLABEL{smack}+="y"\n' +
+      'SECLABEL{smack}+="y"\n'),
+     DISK,
+     ['label smack=x', 'label smack=y', 'label smack=y'],
+     ['label smack=y']),
+    ('a name of an attribute is rendered',
+     ('ATTR{$kernel}=="x", ENV{A}="1"\n' +
+      'ATTR{x%ny}=="1", ENV{B}="1"\n' +
+      'ATTRS{%k}=="x", ENV{C}="$id"\n'),
+     BOTH+"A: both7=x\nA: x7y=1\n",
+     ['env A=1', 'env B=1', 'env C=both7'],
+     ['note r.rules:1: attribute not read: $kernel', 'note r.rules:2: attribute not read: x%ny']),
+    ('a fault in a name of an attribute',
+     ('ATTR{%}=="1", ENV{A}="1"\n' +
+      'ATTR{$disk}=="2", ENV{B}="1"\n' +
+      'ATTR{a$attr}=="3", ENV{C}="1"\n'),
+     STAR+"A: %=1\nA: $disk=2\nA: a=3\n",
+     ['env A=1', 'env B=1', 'env C=1'],
+     ['note r.rules:1: attribute not read: %', 'note r.rules:2: attribute not read: $disk',
+      'note r.rules:3: attribute not read: a$attr']),
+    ('a number that is no character in a link',
+     'SYMLINK+=e"c\\ufffe"\n',
+     DISK,
+     ['link c___'],
+     ['link c\ufffe']),
+    ('tags and links as properties',
+     ('SYMLINK+="l", TAG+="t"\n' +
+      'ENV{A}="$env{TAGS}|$env{CURRENT_TAGS}|$env{DEVLINKS}|"\n' +
+      'ENV{TAGS}=="*:t:*", ENV{B}="1"\n'),
+     DISK,
+     ['link l', 'tag t', 'env A=:t:|:t:|/dev/l|', 'env B=1'],
+     ['link l', 'tag t', 'env A=|||']),
+    ('the tags of a property and those taken away',
+     ('TAG+="t"\n' +
+      'TAG+="u"\n' +
+      'TAG-="t"\n' +
+      'ENV{D}="$env{CURRENT_TAGS}"\n' +
+      'ENV{TAGS}=="*:t:*", ENV{E}="1"\n'),
+     DISK,
+     ['tag u', 'env D=:u:', 'env E=1'],
+     ['tag u']),
+    ('a vertical tab at the end of an attribute',
+     ('ATTR{tab}=="a", ENV{K}="1"\n' +
+      'ATTR{tab}==e"a\\v", ENV{L}="1"\n' +
+      'ENV{M}="[$attr{tab}]"\n'),
+     STAR,
+     ['env L=1', 'env M=[a ]'],
+     ['env L=1', 'env M=[a]']),
+    ('the links of a device as attributes',
+     ('ATTR{subsystem}=="block", ENV{A}="1"\n' +
+      'SUBSYSTEMS=="usb", ENV{B}="$attr{driver}"\n'),
+     DISK,
+     ['env A=1', 'env B=hub'],
+     []),
+    ('IMPORT{parent} with ?*',
+     ('IMPORT{parent}=="ID_?*", ENV{A}="1"\n' +
+      'IMPORT{parent}!="?*", ENV{E}="1"\n'),
+     THING,
+     ['env A=1', 'env DEVPATH=/devices/pci0/usb1', 'env DEVTYPE=usb_device', 'env E=1', 'env ID_BOTH=x',
+      'env ID_BUS=usb', 'env SUBSYSTEM=usb'],
+     ['env A=1', 'env DEVTYPE=usb_device', 'env ID_BOTH=x', 'env ID_BUS=usb']),
+    ('words of hwdb',
+     ('IMPORT{builtin}="hwdb --nosuch usb:v1", ENV{B}="1"\n' +
+      'IMPORT{builtin}="hwdb -p usb: v1", ENV{C}="1"\n' +
+      'IMPORT{builtin}="hwdb --lookup-prefix usb: v1", ENV{D}="1"\n' +
+      'IMPORT{builtin}="hwdb \'usb:v1", ENV{E}="1"\n' +
+      'IMPORT{builtin}="hwdb usb:v1 other", ENV{F}="1"\n' +
+      'IMPORT{builtin}="hwdb --lookup=usb: v1", ENV{G}="1"\n'),
+     THING,
+     ['env B=1', 'env C=1', 'env D=1', 'env E=1', 'env F=1', 'env G=1', 'env ID_X=1'],
+     ['note r.rules:1: bad hwdb arguments: hwdb --nosuch usb:v1', 'note r.rules:2: bad hwdb arguments: hwdb -p usb: v1',
+      'note r.rules:3: bad hwdb arguments: hwdb --lookup-prefix usb: v1', "note r.rules:4: bad hwdb arguments: hwdb 'usb:v1",
+      'note r.rules:5: bad hwdb arguments: hwdb usb:v1 other', 'note r.rules:6: bad hwdb arguments: hwdb --lookup=usb: v1']),
+    ('a USB device without a modalias',
+     'IMPORT{builtin}="hwdb --subsystem=usb", ENV{A}="1"\n',
+     CAMERA,
+     ['env A=1', 'env ID_Z=1'],
+     []),
+    ('a dot as a link is the folder of nodes',
+     'SYMLINK+="."\n',
+     DISK,
+     ['link /dev'],
+     ['note r.rules:1: link ignored: .']),
+    ('an unknown owner takes the one before away',
+     ('OWNER="daemon", MODE="0600"\n' +
+      'OWNER="nosuch"\n'),
+     DISK,
+     ['mode 0600'],
+     ['owner nosuch', 'mode 0600']),
+    ('a file where a folder was looked for ends all rules',
+     ('ENV{A}="1"\n' +
+      'TEST=="model/*/x", ENV{B}="1"\n' +
+      'ENV{C}="1"\n'),
+     STAR,
+     ['env A=1'],
+     ['env A=1', 'env C=1']),
+    ('a path to an attribute',
+     ('ATTR{../../serial}=="7", ENV{A}="1"\n' +
+      'ATTR{./model}=="Disk", ENV{C}="1"\n' +
+      'ENV{D}="$attr{../../serial}"\n'),
+     DISK,
+     ['env A=1', 'env C=1', 'env D=7'],
+     []),
+    ("the parent's own names",
+     ('IMPORT{parent}="DEVPATH"\n' +
+      'IMPORT{parent}="SUBSYS*"\n'),
+     THING,
+     ['env DEVPATH=/devices/pci0/usb1', 'env SUBSYSTEM=usb'],
+     []),
+    ('a name that comes to nothing',
+     ('NAME="lan0"\n' +
+      'NAME="$env{NONE}"\n' +
+      'ENV{D}="[$name]"\n'),
+     NET,
+     ['env D=[]'],
+     ['env D=[eth0]']),
+    ('a vertical tab before a property in a link',
+     ('ENV{X}=e"\\va"\n' +
+      'SYMLINK+="p-$env{X}"\n'),
+     DISK,
+     ['link p-_a', 'env X=\x0ba'],
+     ['link p-a', 'env X=\x0ba']),
+    ('blanks that are left out of a link count for its length',
+     ('ENV{X}=e"' + ' ' * 400 + 'b"\n' +
+      'SYMLINK+="' + 'a' * 200 + '/' + 'a' * 200 + '/' + 'a' * 200 + '/' + 'a' * 200 + '$env{X}"\n'),
+     DISK,
+     ['env X=' + ' ' * 400 + 'b'],
+     ['link ' + '/'.join(['a' * 200] * 4) + 'b', 'env X=' + ' ' * 400 + 'b']),
+    ('a part that is no number, without a result',
+     'ENV{A}="x$result{a}z", ENV{B}="x%c{1}z"\n',
+     DISK,
+     ['env A=xz', 'env B=xz'],
+     ['env A=x', 'env B=xz']),
+    ('a program with ?*',
+     ('PROGRAM=="?*", ENV{A}="1"\n' +
+      'PROGRAM!="?*", ENV{B}="1"\n'),
+     answering(DISK, ("?*", 0, "")),
+     ['env B=1'],
+     ['env A=1']),
+    ('TEST with ?*',
+     ('TEST=="?*", ENV{R}="1"\n' +
+      'TEST!="?*", ENV{S}="1"\n'),
+     STAR,
+     ['env R=1'],
+     ['env S=1']),
+]
+
+ROWS = answered_otherwise(CASES)

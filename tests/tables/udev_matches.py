@@ -1,0 +1,183 @@
+"""`events --udev`: matches, as udevadm 257 answers it."""
+from tables.kinds.udev_blocks import BANG, CLASS, DISK, STAR, SUBSYSTEM
+from tables.kinds.udev_events import answered_as_udev
+
+CASES = [
+    ('an absent attribute fails with either operator',
+     ('ATTR{none}!="1", ENV{A}="1"\n' +
+      'ATTR{none}=="", ENV{B}="1"\n' +
+      'ATTR{none}!="", ENV{C}="1"\n'),
+     DISK,
+     []),
+    ('an attribute that is there',
+     'ATTR{model}!="1", ENV{A}="1"\n',
+     DISK,
+     ['env A=1']),
+    ('an absent attribute along the chain',
+     ('ATTRS{vendor}!="1", ENV{D}="$id"\n' +
+      'ATTRS{serial}!="7", ENV{E}="$id"\n' +
+      'ATTRS{none}!="7", ENV{F}="$id"\n'),
+     DISK,
+     ['env D=pci0']),
+    ('a folder is no attribute',
+     'ATTR{q}!="x", ENV{H}="1"\n',
+     STAR,
+     []),
+    ('SUBSYSTEM of class',
+     ('SUBSYSTEM=="subsystem", ENV{A}="1"\n' +
+      'SUBSYSTEM=="bus", ENV{B}="1"\n' +
+      'SUBSYSTEM!="bus", ENV{C}="1"\n' +
+      'SUBSYSTEM=="bus|x", ENV{D}="1"\n' +
+      'SUBSYSTEMS=="subsystem", ENV{E}="1"\n'),
+     CLASS,
+     ['env A=1', 'env B=1']),
+    ('SUBSYSTEM of class where case does not count',
+     ('SUBSYSTEM==i"Class", ENV{G}="1"\n' +
+      'SUBSYSTEM==i"sub*", ENV{H}="1"\n'),
+     CLASS,
+     ['env G=1']),
+    ('SUBSYSTEM of subsystem',
+     ('SUBSYSTEM=="bus", ENV{A}="1"\n' +
+      'SUBSYSTEM=="class", ENV{B}="1"\n' +
+      'SUBSYSTEM=="c*", ENV{C}="1"\n'),
+     SUBSYSTEM,
+     ['env A=1', 'env B=1']),
+    ('SUBSYSTEM of another device',
+     ('SUBSYSTEM=="subsystem", ENV{A}="1"\n' +
+      'SUBSYSTEM!="class", ENV{B}="1"\n'),
+     DISK,
+     ['env B=1']),
+    ('an attribute of a device of the chain',
+     ('ATTR{[usb/usb1]serial}=="7", ENV{D}="1"\n' +
+      'ATTR{[usb/usb1]/serial}=="7", ENV{E}="1"\n' +
+      'ATTR{[block/sda]size}=="2048", ENV{K}="1"\n'),
+     DISK,
+     ['env D=1', 'env E=1', 'env K=1']),
+    ('an absent attribute of a device of the chain is empty',
+     ('ATTR{[usb/usb1]none}=="", ENV{E}="1"\n' +
+      'ATTR{[usb/usb1]none}!="x", ENV{F}="1"\n' +
+      'ATTR{[usb/usb1]none}=="x", ENV{G}="1"\n'),
+     DISK,
+     ['env E=1', 'env F=1']),
+    ('an attribute of a device that is not there',
+     ('ATTR{[usb/none]serial}!="7", ENV{G}="1"\n' +
+      'ATTR{[usb/usb1]}!="x", ENV{H}="1"\n' +
+      'ATTR{[usb]x}!="x", ENV{I}="1"\n'),
+     DISK,
+     ['note r.rules:1: attribute not read: [usb/none]serial']),
+    ('the kernel name in brackets has its slashes',
+     ('ATTR{[block/cciss/c0d0]x}=="", ENV{A}="1"\n' +
+      'ATTR{[pci/12]x}=="", ENV{D}="1"\n'),
+     BANG,
+     ['env A=1', 'env D=1']),
+    ('an attribute of a device along the chain',
+     'ATTRS{[usb/usb1]serial}=="7", ENV{I}="$id"\n',
+     DISK,
+     ['env I=sda']),
+    ('$attr of a device of the chain',
+     'ENV{H}="$attr{[usb/usb1]serial}|$attr{[usb/usb1]none}|$attr{[usb/none]serial}|$attr{[usb]x}|"\n',
+     DISK,
+     ['env H=7||||']),
+    ('no substitutions behind a bracket',
+     'ATTR{[block/$kernel]size}!="1", ENV{J}="1"\n',
+     DISK,
+     ['note r.rules:1: attribute not read: [block/$kernel]size']),
+    ('an attribute is cut to 511 bytes',
+     ('ATTR{big}=="' + 'x' * 511 + '", ENV{A}="1"\n' +
+      'ATTR{big}=="' + 'x' * 600 + '", ENV{B}="1"\n' +
+      'ATTR{[misc/star]big}=="' + 'x' * 511 + '", ENV{F}="1"\n'),
+     STAR,
+     ['env A=1', 'env F=1']),
+    ('$attr over 511 bytes is too long',
+     ('ENV{C}="$attr{big}"\n' +
+      'RUN+="/bin/a $attr{big}"\n' +
+      'RUN+="/bin/b $attr{b511}"\n'),
+     STAR,
+     ['run program /bin/b ' + 'x' * 511, 'note r.rules:1: text too long: ENV{C}',
+      'note r.rules:2: text too long: RUN']),
+    ('$attr of a device of the chain is cut',
+     'ENV{G}="$attr{[misc/star]big}"\n',
+     STAR,
+     ['env G=' + 'x' * 511]),
+    ('an attribute of blanks',
+     ('ATTR{blank}=="", ENV{H}="1"\n' +
+      'ATTR{blank}!="", ENV{I}="1"\n' +
+      'ATTR{blank}=="|x", ENV{S}="1"\n' +
+      'ATTR{blank}==" | ", ENV{T}="1"\n'),
+     STAR,
+     ['env I=1', 'env S=1']),
+    ('blanks at the end of an attribute',
+     ('ATTR{spaces}=="  a  b", ENV{O}="1"\n' +
+      'ATTR{spaces}=="*b ", ENV{P}="1"\n' +
+      'ATTR{spaces}=="*b  ", ENV{Q}="1"\n' +
+      'ENV{N}="[$attr{spaces}]"\n'),
+     STAR,
+     ['env N=[  a  b]', 'env O=1', 'env Q=1']),
+    ('bytes of $attr',
+     'ENV{R}="$attr{control}"\n',
+     STAR,
+     ['env R=a b_c_d_e/f$g%h?i,j k_é']),
+    ('no tag and no link: ?* and the empty text',
+     ('TAG=="?*", ENV{A}="1"\n' +
+      'TAG!="", ENV{B}="1"\n' +
+      'TAG=="", ENV{C}="1"\n' +
+      'TAG!="?*", ENV{D}="1"\n' +
+      'SYMLINK=="?*", ENV{E}="1"\n' +
+      'SYMLINK!="?*", ENV{F}="1"\n' +
+      'TAGS=="?*", ENV{G}="$id"\n'),
+     DISK,
+     ['env A=1', 'env B=1', 'env E=1', 'env G=sda']),
+    ('a tag: ?* and the empty text',
+     ('TAG+="t"\n' +
+      'TAG=="?*", ENV{O}="1"\n' +
+      'TAG!="?*", ENV{P}="1"\n' +
+      'TAG!="*", ENV{Q}="1"\n'),
+     DISK,
+     ['tag t', 'env O=1']),
+    ('an absent property: ?* and the empty text',
+     ('ENV{NONE}=="?*", ENV{H}="1"\n' +
+      'ENV{NONE}=="*", ENV{I}="1"\n' +
+      'ENV{NONE}=="|x", ENV{J}="1"\n' +
+      'ENV{NONE}!="?*", ENV{K}="1"\n'),
+     DISK,
+     ['env I=1', 'env J=1', 'env K=1']),
+    ('patterns',
+     ('KERNEL=="s[[:alpha:]]a", ENV{A}="1"\n' +
+      'KERNEL=="s\\da|z*", ENV{B}="1"\n' +
+      'KERNEL=="s\\da", ENV{C}="1"\n' +
+      'KERNEL=="sd[a", ENV{D}="1"\n' +
+      'KERNEL==i"S[D]A", ENV{E}="1"\n' +
+      'DEVPATH=="/devices/*/sda", ENV{G}="1"\n'),
+     DISK,
+     ['env A=1', 'env B=1', 'env E=1', 'env G=1']),
+    ('a kernel name with an exclamation mark',
+     ('KERNEL=="cciss/c0d0", ENV{B}="1"\n' +
+      'SYMLINK+="by/$kernel"\n'),
+     BANG,
+     ['link by/cciss/c0d0', 'env B=1']),
+    ('no result',
+     ('RESULT=="", ENV{A}="1"\n' +
+      'RESULT!="x", ENV{B}="1"\n' +
+      'RESULT=="?*", ENV{C}="1"\n'),
+     DISK,
+     ['env A=1', 'env B=1']),
+    ('an attribute that was read stays as it was',
+     ('ATTR{model}=="Disk", ATTR{model}="New"\n' +
+      'ATTR{model}=="Disk", ENV{A}="1"\n' +
+      'ENV{B}="$attr{model}"\n'),
+     DISK,
+     ['env A=1', 'env B=Disk', 'attr model=New']),
+    ('an attribute of blanks and ?*',
+     ('ATTR{blank}=="?*", ENV{J}="1"\n' +
+      'ATTR{blank}!="", ENV{I}="1"\n'),
+     STAR,
+     ['env I=1']),
+    ('SUBSYSTEM of class in other letters',
+     ('SUBSYSTEM==i"SUBSYSTEM", ENV{F}="1"\n' +
+      'SUBSYSTEM==i"Class", ENV{G}="1"\n' +
+      'SUBSYSTEM==i"bus", ENV{H}="1"\n'),
+     CLASS,
+     ['env G=1', 'env H=1']),
+]
+
+ROWS = answered_as_udev(CASES)

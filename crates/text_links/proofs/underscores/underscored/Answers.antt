@@ -1,9 +1,9 @@
 use Rattle.std.proofs.Common.{◌++◌, [], ◌∙◌, true, false, ap, sym}
 use Rattle.std.proofs.lemmas.List.{append-nil}
 use Rattle.text_bytes.specs.Texts.{is_empty}
-use Rattle.eval_rendering.specs.Steps.{added}
-use Rattle.eval_rendering.proofs.JoinedWords.{added_first, all_added}
-use Rattle.eval_rendering.proofs.underscores.underscored.Goals as goal
+use Rattle.text_links.specs.Steps.{added}
+use Rattle.text_links.proofs.JoinedWords.{added_first, all_added}
+use Rattle.text_links.proofs.underscores.underscored.Goals as goal
 
 pub returns : goal.returns
 returns c =

@@ -2,7 +2,7 @@
 use Rattle.std.proofs.Common.{◌≡◌, ℕ, ◌+◌, ◌<◌, List, ◌∷◌, [], ◌++◌, length, map, slice_index, zero-add}
 use Rattle.std.specs.List.{range_with_len}
 use Rattle.std.proofs.lemmas.List.FromFn.{get_or-map-range_with_len, length-map-range_with_len, map-range_with_len_more}
-use Rattle.eval_rendering.specs.Safe.{safe, safe_byte}
+use Rattle.text_links.specs.Safe.{safe, safe_byte}
 
 pub made_more : (marks text : List ℕ) (n : ℕ) → map (safe_byte marks text) (range_with_len 0 (n + 1)) ≡ map (safe_byte marks text) (range_with_len 0 n) ++ safe_byte marks text n ∷ []
 made_more marks text n = map-range_with_len_more (safe_byte marks text) 0 n n (zero-add n)

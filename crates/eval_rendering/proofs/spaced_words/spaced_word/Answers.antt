@@ -1,10 +1,10 @@
 use Rattle.std.proofs.Common.{◌++◌, ◌∷◌, ◌∙◌, true, false, flat_map, map, ap}
 use Rattle.text_bytes.specs.Names.{space}
 use Rattle.text_bytes.specs.Texts.{is_empty}
-use Rattle.eval_rendering.specs.Steps.{added}
+use Rattle.text_links.specs.Steps.{added}
 use Rattle.eval_rendering.proofs.Joining.{others_seen}
-use Rattle.eval_rendering.proofs.JoinedWords.{spaced_first}
-use Rattle.eval_rendering.proofs.underscores.spaced_word.Goals as goal
+use Rattle.eval_rendering.proofs.SpacedWords.{spaced_first}
+use Rattle.eval_rendering.proofs.spaced_words.spaced_word.Goals as goal
 
 pub loop-text-init : goal.loop-text-init
 loop-text-init c =

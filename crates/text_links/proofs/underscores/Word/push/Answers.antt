@@ -3,9 +3,9 @@ use Rattle.std.proofs.lemmas.List.{at_drop_more}
 use Rattle.std.proofs.Math.ListN.{drop_of_length-le}
 use Rattle.text_bytes.specs.Names.{is_whitespace}
 use Rattle.text_bytes.specs.Texts.{is_empty}
-use Rattle.eval_rendering.specs.Steps.{added, grown}
-use Rattle.eval_rendering.proofs.JoinedWords.{byte_goes_over}
-use Rattle.eval_rendering.proofs.underscores.Word.push.Goals as goal
+use Rattle.text_links.specs.Steps.{added, grown}
+use Rattle.text_links.proofs.JoinedWords.{byte_goes_over}
+use Rattle.text_links.proofs.underscores.Word.push.Goals as goal
 
 pub loop-byte-preserved : goal.loop-byte-preserved
 loop-byte-preserved c = λ left.

@@ -2,8 +2,8 @@
 use Rattle.std.specs.Prelude.{ℕ, Bool, true, false, if◌then◌else◌, List, [], ◌∷◌, ◌++◌, flat_map, not, ◌&&◌}
 use Rattle.text_bytes.specs.Names.{underscore, is_whitespace}
 use Rattle.text_bytes.specs.Texts.{is_empty}
-use Rattle.eval_rendering.specs.Underscores.{words}
-use Rattle.eval_rendering.specs.declared.underscores.Word.{Word}
+use Rattle.text_links.specs.Underscores.{words}
+use Rattle.text_links.specs.declared.underscores.Word.{Word}
 
 -- words behind others, each with `_` before it
 abbrev pub further : List (List ℕ) → List ℕ

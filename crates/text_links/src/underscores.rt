@@ -1,24 +1,21 @@
 //! A text as one word.
-ghost use Rattle.std.specs.Prelude.{◌≡◌, ◌++◌, [], List, ℕ, false, map, IfOk, OnOk};
-ghost use Rattle.eval_rendering.specs.Bounds.{bounded};
-ghost use Rattle.eval_rendering.specs.Steps.{grown, with_byte};
-ghost use Rattle.eval_rendering.specs.Underscores.{underscored};
-ghost use Rattle.eval_rendering.specs.Words.{spaced};
+ghost use Rattle.std.specs.Prelude.{◌≡◌, ◌++◌, [], List, ℕ, false, length, IfOk, OnOk};
+ghost use Rattle.text_links.specs.Steps.{grown, with_byte};
+ghost use Rattle.text_links.specs.Underscores.{underscored};
 
-use crate::bounded_text::MOST_BYTES;
 use std::alloc::{AllocError, Global};
 use text_bytes::is_whitespace;
 
 /// The word that a text becomes which is put in part by part.
 #[derive(Drop)]
-struct Word {
-    bytes: Vec<u8>,
-    gap: bool,
+pub struct Word {
+    pub(crate) bytes: Vec<u8>,
+    pub(crate) gap: bool,
 }
 
 impl Word {
     /// The word of no text.
-    fn new(alloc: Global) -> Word
+    pub fn new(alloc: Global) -> Word
         ensures bytes { result.bytes.items ≡ [] }
         ensures gap { result.gap ≡ false }
     {
@@ -28,8 +25,15 @@ impl Word {
         }
     }
 
-    /// Puts more of the text behind.
-    fn push(&mut self, more: &[u8]) -> Result<(), AllocError>
+    /// How many bytes the word has so far.
+    pub fn len(&self) -> usize
+        ensures { result ≡ length self.now.bytes.items }
+    {
+        self.bytes.len()
+    }
+
+    /// Puts more of the text behind. The error comes where memory is refused.
+    pub fn push(&mut self, more: &[u8]) -> Result<(), AllocError>
         ensures { OnOk result ((left : List ℕ) → grown self.new left ≡ grown self.old (more.now ++ left)) }
     {
         for byte in more {
@@ -40,7 +44,7 @@ impl Word {
     }
 
     /// Gives the bytes up.
-    fn into_bytes(self) -> Vec<u8>
+    pub fn into_bytes(self) -> Vec<u8>
         ensures { result.items ≡ self.bytes.items }
     {
         let Word { bytes, gap: _gap } = self;
@@ -57,21 +61,6 @@ pub fn underscored(alloc: Global, text: &[u8]) -> Result<Vec<u8>, AllocError>
 {
     let mut word = Word::new(alloc);
     word.push(text)?;
-    Ok(word.into_bytes())
-}
-
-/// Texts with a space between each two, as one word; of one that is too long only so much that it is too long, too.
-pub(crate) fn spaced_word(alloc: Global, texts: &[Vec<u8>]) -> Result<Vec<u8>, AllocError>
-    ensures { IfOk result (λ word. bounded word.items ≡ bounded (underscored (spaced (map (λ t. t.items) texts.now)))) }
-{
-    let mut word = Word::new(alloc);
-    for text in texts {
-        if word.bytes.len() > MOST_BYTES {
-            return Ok(word.into_bytes());
-        }
-        word.push(b" ")?;
-        word.push(text)?;
-    }
     Ok(word.into_bytes())
 }
 

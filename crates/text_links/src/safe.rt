@@ -1,6 +1,6 @@
 //! A text made safe, byte by byte.
 ghost use Rattle.std.specs.Prelude.{◌≡◌, ◌<◌, IfOk, length};
-ghost use Rattle.eval_rendering.specs.Safe.{attribute_marks, is_hex_escape, is_in_sequence, is_plain, is_reached, link_marks, safe, safe_byte, sequence_len, stays};
+ghost use Rattle.text_links.specs.Safe.{attribute_marks, is_hex_escape, is_in_sequence, is_plain, is_reached, link_marks, safe, safe_byte, sequence_len, stays, value_marks};
 
 use bstr::decode_utf8;
 use std::alloc::{AllocError, Global};
@@ -12,8 +12,11 @@ const LINK_MARKS: &[u8] = b"#+-.:=@_/";
 /// The bytes other than letters and digits that stay in the value of an attribute.
 const ATTRIBUTE_MARKS: &[u8] = b"#+-.:=@_/$%?,";
 
+/// The bytes other than letters and digits that stay in a name that is made the value of a property.
+pub(crate) const VALUE_MARKS: &[u8] = b"#+-.:=@_";
+
 /// Whether a byte stays wherever it stands.
-fn is_plain(marks: &[u8], byte: u8) -> bool
+pub(crate) fn is_plain(marks: &[u8], byte: u8) -> bool
     ensures { result ≡ is_plain marks.now byte }
 {
     byte.is_ascii_alphanumeric() || marks.contains(&byte)
@@ -38,7 +41,7 @@ fn is_reached(text: &[u8], place: usize, back: usize) -> bool
 }
 
 /// Whether a place is part of a UTF-8 sequence of several bytes.
-fn is_in_sequence(text: &[u8], place: usize) -> bool
+pub(crate) fn is_in_sequence(text: &[u8], place: usize) -> bool
     requires { place < length text.now }
     ensures { result ≡ is_in_sequence text.now place }
 {
@@ -112,4 +115,14 @@ pub fn attribute_safe(alloc: Global, text: &[u8]) -> Result<Vec<u8>, AllocError>
     ensures { IfOk result (λ made. made.items ≡ safe attribute_marks text.now) }
 {
     safe(alloc, ATTRIBUTE_MARKS, text)
+}
+
+/// A text that a device says of itself as the value of a property, as [`link_safe`] has it, but a slash
+/// does not stay.
+///
+/// The error comes where memory is refused. So udev of systemd 257 has vendors, models and serial numbers.
+pub fn value_safe(alloc: Global, text: &[u8]) -> Result<Vec<u8>, AllocError>
+    ensures { IfOk result (λ made. made.items ≡ safe value_marks text.now) }
+{
+    safe(alloc, VALUE_MARKS, text)
 }

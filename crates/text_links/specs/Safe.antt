@@ -13,6 +13,10 @@ link_marks = codes "#+-.:=@_/"
 abbrev pub attribute_marks : List ℕ
 attribute_marks = codes "#+-.:=@_/$%?,"
 
+-- the other bytes that stay in a name that is made the value of a property: those of a link but the slash
+abbrev pub value_marks : List ℕ
+value_marks = codes "#+-.:=@_"
+
 -- whether a byte stays wherever it stands
 abbrev pub is_plain : List ℕ → ℕ → Bool
 is_plain marks b = is_ascii_alphanumeric b || list_any (λ mark. mark == b) marks

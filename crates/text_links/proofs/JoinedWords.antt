@@ -2,11 +2,10 @@
 use Rattle.std.proofs.Common.{◌≡◌, ℕ, Bool, true, false, not, ◌&&◌, cond, if◌then◌else◌, List, [], ◌∷◌, ◌++◌, filter, flat_map, refl, sym, ap, ◌∙◌, append_assoc}
 use Rattle.std.proofs.lemmas.List.{append-nil}
 use Rattle.std.specs.List.{join_with_byte, onto_first, slice_split}
-use Rattle.text_bytes.specs.Names.{space, underscore, is_whitespace}
+use Rattle.text_bytes.specs.Names.{underscore, is_whitespace}
 use Rattle.text_bytes.specs.Texts.{is_empty}
-use Rattle.eval_rendering.specs.Steps.{added, further, with_byte, within}
-use Rattle.eval_rendering.specs.Underscores.{underscored, words}
-use Rattle.eval_rendering.specs.Words.{spaced}
+use Rattle.text_links.specs.Steps.{added, further, with_byte, within}
+use Rattle.text_links.specs.Underscores.{underscored, words}
 
 -- words joined: the first, and each further one behind `_`
 joined_further : (word : List ℕ) (ws : List (List ℕ)) → join_with_byte underscore (word ∷ ws) ≡ word ++ further ws
@@ -98,8 +97,3 @@ nothing_added false false = refl
 -- a word is whole where nothing is left
 pub all_added : (word : List ℕ) (gap : Bool) → word ++ added (is_empty word) gap [] ≡ word
 all_added word gap = ap (λ more. word ++ more) (nothing_added (is_empty word) gap) ∙ append-nil word
-
--- texts with a space before each are the same word as with one between each two
-pub spaced_first : (texts : List (List ℕ)) → added true false (flat_map (λ text. space ∷ text) texts) ≡ underscored (spaced texts)
-spaced_first [] = added_first false []
-spaced_first (text ∷ texts) = added_first false (spaced (text ∷ texts))

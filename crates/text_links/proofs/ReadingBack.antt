@@ -1,0 +1,1 @@
+-- An encoded text is read back.

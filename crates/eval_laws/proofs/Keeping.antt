@@ -107,6 +107,13 @@ answered_same : (r : Rule) (t : Text) (a : Option AnswerValue) (s : Scene) → S
 answered_same r t None s = refl
 answered_same r t (Some a) s = chosen s (with_result (result_of s.state.event.profile a.text) s) s true false _ refl refl
 
+needs_same : (r : Rule) (name : Text) (needs : List Text) (s : Scene) → Same s (needs_noted r name needs s)
+needs_same r name [] s = refl
+needs_same r name (need ∷ needs) s = needs_same r name needs (noted r BuiltinNeeds (need_word name need) s)
+
+outcome_same : (r : Rule) (name : Text) (o : OutcomeValue) (s : Scene) → Same s (outcome_taken r name o s).0
+outcome_same r name o s = needs_same r name (take most_needs o.needs) (with_env (properties_set s.state.env o.properties) s)
+
 builtin_same : (es : List Entry) (r : Rule) (t : Text) (b : Builtin) (s : Scene) → Same s (builtin_run es r t b s).0
 builtin_same es r t (builtin.Hwdb h) s = refl
 builtin_same es r t (builtin.Other name) s = refl

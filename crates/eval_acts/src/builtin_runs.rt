@@ -160,7 +160,8 @@ pub(crate) fn run_net_id<L: Lookup>(
     ensures scene { IfOk result (λ done. (scene.new, done) ≡ net_id_run (L.entries database.now) rule.now scene.old) }
     ensures refused { OnErr result (scene.new.state.event ≡ scene.old.state.event) }
 {
-    let (outcome, text) = net_id(alloc, scene.state.event.event(), &scene.state.env)?;
-    take_found(alloc, database, text.as_ref().map(Bytes::as_slice), scene)?;
-    take_outcome(alloc, rule, Builtin::NetId, &outcome, scene)
+    let names = net_id(alloc, scene.state.event.event(), &scene.state.env)?;
+    let text = names.lookup.as_ref().map(Bytes::as_slice);
+    take_found(alloc, database, text, scene)?;
+    take_outcome(alloc, rule, Builtin::NetId, &names.outcome, scene)
 }

@@ -1,6 +1,6 @@
-"""Cases of usb_id. The form of a row is told in builtin_cases.py."""
-
-from builtin_blocks import (FACE, HUB, MOUSE, NVME_DISK, OWN_HOST, PORT, SERIAL_ADAPTER, STICK_TEXTS, TOUCHPAD, USB_DISK, descriptors, device, disk, event, face, hub,
+"""`events --udev`: what usb_id makes of a block, as `udevadm test-builtin` of 257 answers it."""
+from tables.kinds.builtin_rows import answered_by
+from tables.kinds.builtin_blocks import (FACE, HUB, MOUSE, NVME_DISK, OWN_HOST, PORT, SERIAL_ADAPTER, STICK_TEXTS, TOUCHPAD, USB_DISK, descriptors, device, disk, event, face, hub,
                             stick, unit)
 
 LONE = device(f'{FACE}/thing', 'misc')
@@ -24,13 +24,6 @@ def texts(*lines, descriptor=None):
 def told(common, *rest):
     """an answer in which each of these stands twice, as ID_ and as ID_USB_"""
     return ['done', 'ID_BUS=usb', *['ID_' + line for line in common], *['ID_USB_' + line for line in common], *rest]
-
-
-def shortened(lines):
-    """the other way round: what stands twice, and the rest; None where it is no such answer"""
-    common = [line[7:] for line in lines if line.startswith('ID_USB_') and 'ID_' + line[7:] in lines]
-    rest = lines[2 + 2 * len(common):]
-    return (common, rest) if told(common, *rest) == lines else None
 
 
 CASES = [
@@ -224,3 +217,5 @@ CASES = [
     ('the configuration of another kind', texts(*STICK_TEXTS, descriptor=descriptors() + '0902ffffffffffffff' + '0b04010000ffffff000000'),
      told(['MODEL=Ultra_Fit', 'MODEL_ENC=Ultra\\x20Fit', 'MODEL_ID=5583', 'SERIAL=SanDisk_Ultra_Fit_4C530001234567890123', 'SERIAL_SHORT=4C530001234567890123', 'VENDOR=SanDisk', 'VENDOR_ENC=SanDisk', 'VENDOR_ID=0781', 'REVISION=0100'], 'ID_USB_INTERFACES=:ffffff:')),
 ]
+
+ROWS = answered_by("usb_id", CASES)

@@ -1,6 +1,6 @@
-"""Cases of path_id. The form of a row is told in builtin_cases.py."""
-
-from builtin_blocks import (ABOVE_NVME, CARD, DOMAIN, FACE, HUB, MOUSE, NVME_CARD, NVME_DISK, OWN_HOST, PCI_CARD, PORT, ROOT, SERIAL_ADAPTER, TOUCHPAD, USB_DISK, card, device, disk,
+"""`events --udev`: what path_id makes of a block, as `udevadm test-builtin` of 257 answers it."""
+from tables.kinds.builtin_rows import answered_by
+from tables.kinds.builtin_blocks import (ABOVE_NVME, CARD, DOMAIN, FACE, HUB, MOUSE, NVME_CARD, NVME_DISK, OWN_HOST, PCI_CARD, PORT, ROOT, SERIAL_ADAPTER, TOUCHPAD, USB_DISK, card, device, disk,
                             event, face, hub, interface, outside, stick, unit)
 
 SATA = f'{ROOT}/0000:00:17.0'
@@ -350,3 +350,5 @@ CASES = [
                                        device('/devices/x/nvme0', 'nvme')).replace('E: DEVTYPE=disk', 'A: nsid=4\nE: DEVTYPE=disk'),
      ['done', 'ID_PATH=nvme-4-ata-1.0', 'ID_PATH_TAG=nvme-4-ata-1_0', 'ID_PATH_ATA_COMPAT=nvme-4-ata-1']),
 ]
+
+ROWS = answered_by("path_id", CASES)

@@ -1,6 +1,6 @@
-"""Cases of net_id. The form of a row is told in builtin_cases.py."""
-
-from builtin_blocks import (BRIDGE, CARD, DOMAIN, MULTIPLE, PCI_CARD, ROOT, SLOTS, USB_DISK, card, device, event, interface, outside, slots)
+"""`events --udev`: what net_id makes of a block, as `udevadm test-builtin` of 257 answers it."""
+from tables.kinds.builtin_rows import answered_by
+from tables.kinds.builtin_blocks import (BRIDGE, CARD, DOMAIN, MULTIPLE, PCI_CARD, ROOT, SLOTS, USB_DISK, card, device, event, interface, outside, slots)
 
 
 def at(*lines, net=(), config=None, bridge=(), beside=SLOTS, path=CARD, **attributes):
@@ -428,3 +428,5 @@ CASES = [
     ('a configuration of 15 bytes', at(config='8680d315060410000300000210' + '0080'),
      ['done', 'ID_NET_NAMING_SCHEME=v257', 'ID_NET_NAME_MAC=enx54e1ad9c4d18', 'ID_NET_NAME_PATH=enp3s0f0', 'hwdb OUI:54E1AD9C4D18']),
 ]
+
+ROWS = answered_by("net_id", CASES)

@@ -1,6 +1,6 @@
-"""Cases of input_id. The form of a row is told in builtin_cases.py."""
-
-from builtin_blocks import MOUSE, NVME_DISK, PCI_CARD, TOUCHPAD, USB_DISK, capabilities, device, event, pad
+"""`events --udev`: what input_id makes of a block, as `udevadm test-builtin` of 257 answers it."""
+from tables.kinds.builtin_rows import answered_by
+from tables.kinds.builtin_blocks import MOUSE, NVME_DISK, PCI_CARD, TOUCHPAD, USB_DISK, capabilities, device, event, pad
 
 EV_KEYS, EV_REL, EV_ABS = 1 << 1, 1 << 2, 1 << 3
 
@@ -306,3 +306,5 @@ CASES = [
     ('a mouse with absolute axes at I2C', can(keys=[LEFT], axes=[X, Y], bus='0018'),
      ['done', 'ID_INPUT=1', 'ID_INPUT_MOUSE=1']),
 ]
+
+ROWS = answered_by("input_id", CASES)

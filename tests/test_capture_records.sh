@@ -106,7 +106,8 @@ A: ifalias=
 A: driver=usb
 E: DEVNAME=/dev/bus/usb/001/002
 E: SUBSYSTEM=usb
-S: usb/keyboard" "$("$capture" --from "$work/mock" $keyboard/1-1:1.0/input/input7/event3)"
+S: usb/keyboard
+K: $keyboard/descriptors=1201" "$("$capture" --from "$work/mock" $keyboard/1-1:1.0/input/input7/event3)"
 
 same "the keys of one of its devices" "# $keyboard
 KERNEL==\"1-1\"

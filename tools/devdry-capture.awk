@@ -99,6 +99,17 @@ function link(text) {
     if (name ~ /^(driver|subsystem|module)$/) add("A", name, name "=" value, 0)
 }
 
+# Of a record: the folder of a host is told to the device in whose folder it lies.
+function host(    parent, name) {
+    parent = name = path
+    sub(/\/[^\/]*$/, "", parent)
+    sub(/.*\//, "", name)
+    if (name !~ /^host[0-9]+$/) return
+    key = parent SUBSEP "A" SUBSEP name "/uevent"
+    if (!(key in lines)) keys[parent, ++count[parent]] = key
+    lines[key] = kernels[key] = "A: " name "/uevent=DEVTYPE=scsi_host"
+}
+
 # Whether it is a path as blocks have it.
 function is_path(text) { return text ~ /^\/./ && text !~ /\/\// && text !~ /\/$/ }
 
@@ -118,6 +129,7 @@ letter == "P:" {
     if (!(path in seen) && all) order[++orders] = path
     seen[path] = 1
     set("P", path)
+    if (recorded) host()
     next
 }
 path == "" || $0 == "" { next }
@@ -127,6 +139,11 @@ letter == "S:" { add("S", text, text, 1) }
 letter == "E:" { property(text, is_added(substr(text, 1, index(text, "=") - 1))) }
 letter == "e:" { property(text, 0) }
 letter == "a:" { add("A", substr(text, 1, index(text, "=") - 1), text, 0) }
+letter == "k:" { add("K", substr(text, 1, index(text, "=") - 1), text, 0) }
+letter == "H:" && text ~ /^(descriptors|config)=/ {
+    cut(text)
+    add("K", path "/" name, path "/" name "=" tolower(value), 0)
+}
 letter == "A:" { attribute(text) }
 letter == "L:" && text ~ /=/ { link(text) }
 
@@ -177,7 +194,7 @@ function device(path, first,    of, i, line, letter) {
         letter = substr(line, 1, 1)
         of[letter] = of[letter] (walk ? as_key(line, first ? "" : "S") : line == "" ? "" : line "\n")
     }
-    return of["P"] of["U"] of["V"] of["N"] of["D"] of["A"] of["E"] of["G"] of["S"]
+    return of["P"] of["U"] of["V"] of["N"] of["D"] of["A"] of["E"] of["G"] of["S"] of["K"]
 }
 
 # Prints a device with its parents, those that have a record, as a block or as keys.

@@ -47,7 +47,7 @@ fn push_encoded(made: &mut Vec<u8>, text: &[u8], place: usize) -> Result<(), All
 /// too, is `\x` and two small hexadecimal digits.
 ///
 /// The error comes where memory is refused.
-#[tactic(auto, unfolding(crate::specs::Encoded::encoded))]
+#[tactic(auto, using(crate::proofs::ReadingBack::encoded_more), unfolding(crate::specs::Encoded::encoded))]
 pub fn encoded(alloc: Global, text: &[u8]) -> Result<Vec<u8>, AllocError>
     ensures { IfOk result (λ made. made.items ≡ encoded text.now) }
 {

@@ -19,8 +19,8 @@ onto-append : (x : ℕ) (p : ℕ → Bool) (xs : List ℕ) (more : List (List �
 onto-append x p [] more = refl
 onto-append x p (y ∷ ys) more =
     elim (p y) as (λ cut. onto_first x (cond cut ([] ∷ slice_split p ys) (onto_first y (slice_split p ys)) ++ more) ≡ onto_first x (cond cut ([] ∷ slice_split p ys) (onto_first y (slice_split p ys))) ++ more) [
-      true ↦ refl
-    | false ↦ elim (slice_split p ys) as (λ parts. onto_first x (onto_first y parts ++ more) ≡ onto_first x (onto_first y parts) ++ more) [ [] ↦ refl | part ∷ parts ↦ refl ]
+      | true ↦ refl
+      | false ↦ elim (slice_split p ys) as (λ parts. onto_first x (onto_first y parts ++ more) ≡ onto_first x (onto_first y parts) ++ more) [ [] ↦ refl | part ∷ parts ↦ refl ]
     ]
 
 -- the parts of a list that is cut at an element are those before it and those behind it
@@ -29,8 +29,8 @@ split-append p [] y ys h = rw h refl
 split-append p (x ∷ xs) y ys h =
     rw (split-append p xs y ys h)
     (elim (p x) as (λ cut. cond cut ([] ∷ (slice_split p xs ++ slice_split p ys)) (onto_first x (slice_split p xs ++ slice_split p ys)) ≡ cond cut ([] ∷ slice_split p xs) (onto_first x (slice_split p xs)) ++ slice_split p ys) [
-      true ↦ refl
-    | false ↦ onto-append x p xs (slice_split p ys)
+      | true ↦ refl
+      | false ↦ onto-append x p xs (slice_split p ys)
     ])
 
 pub one_word : (most : ℕ) (last : Text) → list_any is_space last ≡ false → bitmap (suc most) last ≡ word last ∷ []

@@ -4,7 +4,7 @@ use Rattle.std.specs.List.{ends_with, find, flat_map, list_any, starts_with}
 use Rattle.text_bytes.specs.Numbers.{is_digit}
 use Rattle.text_bytes.specs.Texts.{is_empty}
 use Rattle.text_tables.specs.Texts.{Text}
-use Rattle.text_tables.specs.Pairs.{Pair, named}
+use Rattle.text_tables.specs.Pairs.{Pair, value_of}
 use Rattle.device_core.specs.Values.{DeviceValue, EventValue, chain}
 use Rattle.text_links.specs.Kernels.{longest_end}
 use Rattle.builtin_devices.specs.Devices.{is_text, kernel_of}
@@ -15,7 +15,7 @@ use Rattle.builtin_input.specs.Kinds.{kinds, property_of}
 
 -- whether a device tells of itself as input devices do
 abbrev pub tells : DeviceValue → Bool
-tells device = named device.attrs (codes "capabilities/ev")
+tells device = is_some (value_of device.attrs (codes "capabilities/ev"))
 
 -- whether a device is of the subsystem of input devices
 abbrev pub is_input : DeviceValue → Bool
@@ -37,13 +37,21 @@ properties c = set (codes "ID_INPUT") ∷ map (λ kind. set (property_of kind)) 
 abbrev pub expected : List Text
 expected = codes "id/bustype" ∷ codes "capabilities/abs" ∷ codes "capabilities/rel" ∷ codes "capabilities/key" ∷ codes "properties" ∷ []
 
--- whether the size of a device is asked of the node, which a block does not tell: of a node of events with axes for a place
+-- whether the size of a device is asked of its node, which a block does not tell: of a node of events with axes for a place
 abbrev pub asks_size : EventValue → CapabilitiesValue → Bool
 asks_size event c = starts_with nat_eq (kernel_of event.device) (codes "event") && has_place c
 
--- what a device would have to tell, with the size that its node would
+-- the size, where it is asked
+abbrev pub size_needs : EventValue → CapabilitiesValue → List Text
+size_needs event c = if asks_size event c then codes "absolute axes" ∷ [] else []
+
+-- the attributes that a device would have to tell
+abbrev pub attribute_needs : DeviceValue → List Text → List Text
+attribute_needs device names = flat_map (λ name. lacking device name name) names
+
+-- what would have to be told of a device and of its node
 unfoldable pub device_needs : EventValue → DeviceValue → List Text
-device_needs event device = flat_map (λ name. lacking device name name) expected ++ (if asks_size event (capabilities device) then codes "absolute axes" ∷ [] else [])
+device_needs event device = attribute_needs device expected ++ size_needs event (capabilities device)
 
 -- whether a path is that of an input device, `inputN`
 abbrev pub is_input_path : Text → Bool
@@ -51,9 +59,13 @@ is_input_path path =
     let digits = longest_end is_digit path in
     not (is_empty digits) && ends_with nat_eq (take (length path - length digits) path) (codes "/input")
 
+-- whether a device is one of input, by its subsystem and its path
+abbrev pub is_input_device : DeviceValue → Bool
+is_input_device device = is_input device && is_input_path device.path
+
 -- what is needed where no device tells of itself: of an input device its events
 unfoldable pub chain_needs : EventValue → List Text
-chain_needs event = if list_any (λ device. is_input device && is_input_path device.path) (chain event) then codes "capabilities/ev" ∷ [] else []
+chain_needs event = if list_any is_input_device (chain event) then codes "capabilities/ev" ∷ [] else []
 
 -- what comes of a device, if there is one
 abbrev pub outcome_of : EventValue → Option DeviceValue → OutcomeValue

@@ -1,5 +1,6 @@
 //! What an input device tells of itself.
-ghost use Rattle.std.specs.Prelude.{◌≡◌, IfOk};
+ghost use Rattle.std.specs.Prelude.{◌≡◌, ◌≤◌, IfOk};
+ghost use Rattle.builtin_input.specs.Bitmaps.{bitmap, most_words};
 ghost use Rattle.builtin_input.specs.Capabilities.{bus, capabilities, text_of};
 
 use crate::bitmaps::{Bitmap, MOST_WORDS};
@@ -37,6 +38,19 @@ fn text_of<'a>(device: &Device<'a>, name: &[u8]) -> &'a [u8]
     }
 }
 
+/// The bitmap of an attribute, of which so many words count.
+fn bitmap_of(
+    alloc: Global,
+    device: &Device<'_>,
+    name: &[u8],
+    most: usize,
+) -> Result<Bitmap, AllocError>
+    requires { most ≤ most_words }
+    ensures { IfOk result (λ b. b ≡ bitmap most (text_of device.now name.now)) }
+{
+    Bitmap::read(alloc, text_of(device, name), most)
+}
+
 /// The number of a bus.
 #[tactic(auto, unfolding(crate::specs::Capabilities::bus))]
 fn bus(text: &[u8]) -> u64
@@ -51,11 +65,11 @@ impl Capabilities {
     pub(crate) fn read(alloc: Global, device: &Device<'_>) -> Result<Capabilities, AllocError>
         ensures { IfOk result (λ c. c ≡ capabilities device.now) }
     {
-        let events = Bitmap::read(alloc, text_of(device, b"capabilities/ev"), 1)?;
-        let buttons = Bitmap::read(alloc, text_of(device, b"capabilities/key"), MOST_WORDS)?;
-        let absolute = Bitmap::read(alloc, text_of(device, b"capabilities/abs"), 1)?;
-        let relative = Bitmap::read(alloc, text_of(device, b"capabilities/rel"), 1)?;
-        let traits = Bitmap::read(alloc, text_of(device, b"properties"), 1)?;
+        let events = bitmap_of(alloc, device, b"capabilities/ev", 1)?;
+        let buttons = bitmap_of(alloc, device, b"capabilities/key", MOST_WORDS)?;
+        let absolute = bitmap_of(alloc, device, b"capabilities/abs", 1)?;
+        let relative = bitmap_of(alloc, device, b"capabilities/rel", 1)?;
+        let traits = bitmap_of(alloc, device, b"properties", 1)?;
         Ok(Capabilities {
             events,
             buttons,

@@ -1,14 +1,15 @@
 //! What input_id makes of an event.
-ghost use Rattle.std.specs.Prelude.{◌≡◌, ◌&&◌, ◌++◌, IfOk, OnOk, filter, length, map, option_copied, Some};
-ghost use Rattle.std.specs.List.{find, flat_map, list_any};
+ghost use Rattle.std.specs.Prelude.{◌≡◌, ◌&&◌, ◌++◌, IfOk, OnOk, map, option_copied, Some};
+ghost use Rattle.std.specs.List.{find, list_any};
 ghost use Rattle.text_tables.specs.Texts.{with_texts};
-ghost use Rattle.builtin_devices.specs.Outcomes.{lacking, needs_of};
-ghost use Rattle.builtin_input.specs.Kinds.{is_of, property_of};
-ghost use Rattle.builtin_input.specs.Input.{asks_size, chain_needs, device_needs, input_device, input_id, is_input, is_input_path, outcome_of, properties, set, tells};
+ghost use Rattle.device_core.specs.Values.{chain};
+ghost use Rattle.builtin_devices.specs.Outcomes.{needs_of};
+ghost use Rattle.builtin_input.specs.Input.{attribute_needs, chain_needs, device_needs, input_device, input_id, is_input, is_input_device, is_input_path, outcome_of, properties, set, size_needs, tells};
+ghost use Rattle.builtin_input.specs.Kinds.{property_of};
 ghost use Rattle.builtin_input.specs.Capabilities.{capabilities};
 
 use crate::capabilities::Capabilities;
-use crate::kinds::{KINDS, Kind};
+use crate::kinds::Kind;
 use builtin_devices::{Outcome, add_property, is_text, need_attribute};
 use device_core::{Device, Event};
 use std::alloc::{AllocError, Global};
@@ -59,50 +60,56 @@ fn input_device<'d, 'a>(event: &'d Event<'a>) -> Option<&'d Device<'a>>
     }
 }
 
-/// Adds the properties of those of these kinds of which a device is.
+/// Adds the properties that tell these kinds.
 fn add_kinds(
     alloc: Global,
-    device: &Capabilities,
     kinds: &[Kind],
     properties: &mut Vec<(Bytes, Bytes)>,
 ) -> Result<(), AllocError>
-    ensures { OnOk result (properties.new.items ≡ properties.old.items ++ map (λ kind. set (property_of kind)) (filter (λ kind. is_of kind device.now) kinds.now)) }
+    ensures { OnOk result (properties.new.items ≡ properties.old.items ++ map (λ kind. set (property_of kind)) kinds.now) }
 {
     for kind in kinds {
-        if kind.is_of(device) {
-            add_property(alloc, kind.property(), b"1", properties)?;
-        }
+        add_property(alloc, kind.property(), b"1", properties)?;
     }
     Ok(())
 }
 
 /// The properties of a device of which this is known.
-#[tactic(auto, unfolding(crate::specs::Input::properties, crate::specs::Kinds::kinds))]
+#[tactic(auto, unfolding(crate::specs::Input::properties))]
 fn properties(alloc: Global, device: &Capabilities) -> Result<Vec<(Bytes, Bytes)>, AllocError>
     ensures { IfOk result (λ p. p.items ≡ properties device.now) }
 {
+    let kinds = device.kinds(alloc)?;
     let mut properties = Vec::new(alloc);
     add_property(alloc, b"ID_INPUT", b"1", &mut properties)?;
-    add_kinds(alloc, device, &KINDS, &mut properties)?;
+    add_kinds(alloc, &kinds, &mut properties)?;
     Ok(properties)
 }
 
-/// Whether the size of a device is asked of the node.
-fn asks_size(alloc: Global, event: &Event<'_>, device: &Capabilities) -> Result<bool, AllocError>
-    ensures { IfOk result (λ asks. asks ≡ asks_size event.now device.now) }
+/// Adds the size of a device to what is needed, where it is asked of the node.
+fn add_size(
+    alloc: Global,
+    event: &Event<'_>,
+    told: &Capabilities,
+    needs: &mut OwnedTexts,
+) -> Result<(), AllocError>
+    ensures { OnOk result (needs.new ≡ with_texts needs.old (size_needs event.now told.now)) }
 {
     let kernel = kernel_name(alloc, event.device().path())?;
-    Ok(kernel.as_slice().starts_with(b"event") && device.has_place())
+    if kernel.as_slice().starts_with(b"event") && told.has_place() {
+        needs.add(alloc, b"absolute axes")?;
+    }
+    Ok(())
 }
 
-/// Adds those of these attributes that a device lacks.
+/// Adds those of these attributes to what is needed that a device lacks.
 fn add_lacking(
     alloc: Global,
     device: &Device<'_>,
     names: &[&[u8]],
     needs: &mut OwnedTexts,
 ) -> Result<(), AllocError>
-    ensures { OnOk result (needs.new ≡ with_texts needs.old (flat_map (λ name. lacking device.now name.now name.now) names.now)) }
+    ensures { OnOk result (needs.new ≡ with_texts needs.old (attribute_needs device.now (map (λ name. name.now) names.now))) }
 {
     for name in names {
         need_attribute(alloc, device, name, name, needs)?;
@@ -110,8 +117,8 @@ fn add_lacking(
     Ok(())
 }
 
-/// What a device would have to tell.
-#[tactic(auto, unfolding(crate::specs::Input::device_needs))]
+/// What would have to be told of a device and of its node.
+#[tactic(auto, using(crate::proofs::Needs::in_two), unfolding(crate::specs::Input::device_needs))]
 fn device_needs(
     alloc: Global,
     event: &Event<'_>,
@@ -123,9 +130,7 @@ fn device_needs(
 {
     let mut needs = OwnedTexts::new(alloc);
     add_lacking(alloc, device, &EXPECTED, &mut needs)?;
-    if asks_size(alloc, event, told)? {
-        needs.add(alloc, b"absolute axes")?;
-    }
+    add_size(alloc, event, told, &mut needs)?;
     Ok(needs)
 }
 
@@ -138,11 +143,25 @@ fn is_input_path(path: &[u8]) -> bool
     !digits.is_empty() && before.ends_with(b"/input")
 }
 
-/// Whether a device is an input device by its path.
+/// Whether a device is one of input, by its subsystem and its path.
 fn is_input_device(device: &Device<'_>) -> bool
-    ensures { result ≡ (is_input device.now && is_input_path device.now.path) }
+    ensures { result ≡ is_input_device device.now }
 {
     is_input(device) && is_input_path(device.path())
+}
+
+/// Whether one of these devices is one of input.
+fn some_input_device(devices: &[Device<'_>]) -> bool
+    ensures { result ≡ list_any is_input_device devices.now }
+{
+    devices.iter().any(|device| is_input_device(device))
+}
+
+/// Whether a device of the chain is one of input.
+fn has_input_device(event: &Event<'_>) -> bool
+    ensures { result ≡ list_any is_input_device (chain event.now) }
+{
+    is_input_device(event.device()) || some_input_device(event.parents())
 }
 
 /// What is needed where no device tells of itself.
@@ -151,9 +170,7 @@ fn chain_needs(alloc: Global, event: &Event<'_>) -> Result<OwnedTexts, AllocErro
     ensures { IfOk result (λ needs. needs ≡ needs_of (chain_needs event.now)) }
 {
     let mut needs = OwnedTexts::new(alloc);
-    if is_input_device(event.device())
-        || event.parents().iter().any(|device| is_input_device(device))
-    {
+    if has_input_device(event) {
         needs.add(alloc, b"capabilities/ev")?;
     }
     Ok(needs)

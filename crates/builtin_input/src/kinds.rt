@@ -1,10 +1,11 @@
 //! The kinds of input devices.
-ghost use Rattle.std.specs.Prelude.{◌≡◌};
+ghost use Rattle.std.specs.Prelude.{◌≡◌, IfOk};
 ghost use Rattle.builtin_input.specs.Kinds.{has_keys, is_accelerometer, is_joystick, is_keyboard, is_mouse, is_of, is_plain_mouse, is_pointer, is_pointing_stick, is_tablet, is_tablet_pad, is_touchpad, is_touchscreen, kinds, may_be_joystick, property_of};
 
 use crate::capabilities::Capabilities;
 use crate::groups::Group;
 use crate::signs::{KEY_EVENT, SWITCH_EVENT, Z};
+use std::alloc::{AllocError, Global};
 
 /// A kind of input device.
 #[derive(Clone, Copy)]
@@ -23,7 +24,7 @@ pub(crate) enum Kind {
 }
 
 /// The kinds in the order in which they are told.
-pub(crate) const KINDS: [Kind; 11] = [
+const KINDS: [Kind; 11] = [
     Kind::Accelerometer,
     Kind::PointingStick,
     Kind::Mouse,
@@ -173,12 +174,24 @@ impl Capabilities {
     {
         self.events.has(KEY_EVENT) && self.buttons.count(Group::FirstKey) == 31
     }
+
+    /// The kinds of a device, in the order in which they are told.
+    #[tactic(auto, unfolding(crate::specs::Kinds::kinds))]
+    pub(crate) fn kinds(&self, alloc: Global) -> Result<Vec<Kind>, AllocError>
+        ensures { IfOk result (λ k. k.items ≡ kinds self.now) }
+    {
+        KINDS
+            .iter()
+            .copied()
+            .filter(|kind| kind.is_of(self))
+            .collect(alloc)
+    }
 }
 
 impl Kind {
     /// Whether a device is of the kind.
     #[tactic(auto, unfolding(crate::specs::Kinds::is_of))]
-    pub(crate) fn is_of(self, device: &Capabilities) -> bool
+    fn is_of(self, device: &Capabilities) -> bool
         ensures { result ≡ is_of self device.now }
     {
         match self {

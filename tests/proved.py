@@ -1,13 +1,13 @@
 #!/usr/bin/env python3
-"""Reads docs/proved.md, and tells of what it names that the source does not have.
+"""Reads docs/proved.md and docs/architecture.md, and tells of what they name that the source does not have.
 
 usage: tests/proved.py
 
-- Each `crate::function` or `crate::Type::function` in it is a function of that crate, of that type or trait, and has a
+- Each `crate::function` or `crate::Type::function` in them is a function of that crate, of that type or trait, and has a
   contract. Names in brackets behind it, (`one`, `two`), are clauses of that contract.
-- Each law is named: each public function of an empty body and without parameters in the crates of crates.txt, but for
+- docs/proved.md names each law: each public function of an empty body and without parameters in the crates of crates.txt, but for
   examples, which begin with `some_`.
-- Each block of code behind ```text PATH is a part of the file PATH as it stands there.
+- Each block of code in it behind ```text PATH is a part of the file PATH as it stands there.
 
 For each of these a line `ok CASE`, or `not ok CASE` with what is missing.
 """
@@ -73,8 +73,10 @@ def main():
     for line in (TOP / "crates.txt").read_text(encoding="utf-8").splitlines():
         if not line.startswith("#"):
             crates[line.split(":")[0]] = functions(line.split(":")[0])
+    wrong, names = named_functions((TOP / "docs/architecture.md").read_text(encoding="utf-8"), crates)
+    well = tell("docs/architecture.md names functions that have a contract", wrong or ([] if names else ["it names none"]))
     wrong, names = named_functions(page, crates)
-    well = tell("docs/proved.md names functions that have a contract", wrong or ([] if names else ["it names none"]))
+    well &= tell("docs/proved.md names functions that have a contract", wrong or ([] if names else ["it names none"]))
     told = {f"{crate}::{name}" for crate, name, _ in names}
     well &= tell("docs/proved.md names each law", [it for it in laws(crates) if it not in told])
     quoted = re.findall(r"^```text (\S+)\n(.*?)^```$", page, re.M | re.S)

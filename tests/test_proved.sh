@@ -1,5 +1,5 @@
 #!/usr/bin/env bash
-# What docs/proved.md names and quotes is in the source: functions with their contracts, each law, the headline's clauses.
+# What docs/proved.md and docs/architecture.md name and quote is in the source: functions with their contracts, each law, clauses.
 set -uo pipefail
 # shellcheck source=lib.sh
 . "$(dirname "$0")/lib.sh"

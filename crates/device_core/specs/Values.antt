@@ -1,5 +1,5 @@
 -- An event, without where its texts lie in memory.
-use Rattle.std.specs.Prelude.{ℕ, List, ◌∷◌, Option}
+use Rattle.std.specs.Prelude.{ℕ, List, [], ◌∷◌, Option, Some, None}
 use Rattle.text_tables.specs.Texts.{Text}
 use Rattle.text_tables.specs.Pairs.{Pair}
 use Rattle.text_bytes.specs.declared.profile.Profile.{Profile}
@@ -20,6 +20,20 @@ pub record DeviceValue : Type 0 where
   pub env : List Pair
   pub tags : List Text
   pub links : List Text
+
+-- a device that is told of by its path, its subsystem and its attributes alone
+abbrev pub told : (path subsystem : Text) → List Pair → DeviceValue
+told path subsystem attrs = record {
+  path = path;
+  subsystem = Some subsystem;
+  driver = None;
+  node = None;
+  number = None;
+  attrs = attrs;
+  env = [];
+  tags = [];
+  links = [];
+}
 
 -- what a program answered
 pub record AnswerValue : Type 0 where

@@ -1,6 +1,8 @@
 //! What is known of a device.
 ghost use Rattle.std.specs.Prelude.{◌≡◌, option_copied, option_map};
+ghost use Rattle.device_core.specs.Values.{told};
 
+use std::alloc::Global;
 use std::marker::Model;
 use text_tables::{Pairs, Texts};
 
@@ -59,6 +61,23 @@ impl<'a> Model for Device<'a> {
 }
 
 impl<'a> Device<'a> {
+    /// A device that is told of by its path, its subsystem and its attributes alone.
+    pub fn told(alloc: Global, path: &'a [u8], subsystem: &'a [u8], attrs: Pairs<'a>) -> Device<'a>
+        ensures { result ≡ told path.now subsystem.now attrs.entry }
+    {
+        Device {
+            path,
+            subsystem: Some(subsystem),
+            driver: None,
+            node: None,
+            number: None,
+            attrs,
+            env: Pairs::new(alloc),
+            tags: Texts::new(alloc),
+            links: Texts::new(alloc),
+        }
+    }
+
     /// `P:`, its path below `/sys`.
     pub fn path(&self) -> &'a [u8]
         ensures { result.now ≡ self.now.path }

@@ -37,6 +37,10 @@ hwdb_of_words (Some (name ∷ words)) = hwdb_asked (hwdb_of words)
 abbrev pub builtin_meant : Option known.Builtin → Text → Builtin
 builtin_meant None text = asked.Other text
 builtin_meant (Some known_as.Hwdb) text = hwdb_of_words (command_words text)
+builtin_meant (Some known_as.InputId) text = asked.InputId
+builtin_meant (Some known_as.NetId) text = asked.NetId
+builtin_meant (Some known_as.PathId) text = asked.PathId
+builtin_meant (Some known_as.UsbId) text = asked.UsbId
 builtin_meant (Some other) text = asked.Other (udev.builtin_name other)
 
 -- what a command asks for, by its text: for the manual the first word is the builtin's name, and for udev its beginning

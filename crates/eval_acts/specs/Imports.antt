@@ -13,6 +13,7 @@ use Rattle.rule_types.specs.WrittenParts.{type_of}
 use Rattle.rule_types.specs.declared.part.Import.{Import}
 use Rattle.rule_types.specs.Rules.{Rule}
 use Rattle.eval_acts.specs.Builtins.{builtin}
+use Rattle.eval_acts.specs.BuiltinRuns.{input_id_run, net_id_run, path_id_run, usb_id_run}
 use Rattle.eval_acts.specs.LookUps.{found}
 use Rattle.eval_acts.specs.declared.builtin.Builtin.{Builtin}
 use Rattle.eval_acts.specs.declared.builtin.Builtin.TheVariants as asked
@@ -30,9 +31,13 @@ with_found Udev env properties = properties_set env properties
 abbrev pub taken : List Pair → Scene → Scene × Bool
 taken properties s = (with_env (with_found s.state.event.profile s.state.env properties) s, not (length properties == 0))
 
--- what a command asks for: `hwdb` takes what it finds, other builtins are not run
+-- what a command asks for: `hwdb` takes what it finds, four builtins of udev look at the devices, and others are not run
 abbrev pub builtin_run : List Entry → Rule → Text → Builtin → Scene → Scene × Bool
 builtin_run entries r command (asked.Hwdb hwdb) s = taken (found entries hwdb s.state) s
+builtin_run entries r command asked.InputId s = input_id_run r s
+builtin_run entries r command asked.NetId s = net_id_run entries r s
+builtin_run entries r command asked.PathId s = path_id_run s.ran.path_id r s
+builtin_run entries r command asked.UsbId s = usb_id_run s.ran.usb_id r s
 builtin_run entries r command (asked.Other name) s = (noted r BuiltinNotRun name s, false)
 builtin_run entries r command asked.BadArguments s = (noted r BadHwdbArguments command s, false)
 

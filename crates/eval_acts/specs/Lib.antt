@@ -2,6 +2,7 @@ pub mod LookUps
 pub mod Builtins
 pub mod Words
 pub mod Hwdb
+pub mod BuiltinRuns
 pub mod Imports
 pub mod Reaching
 pub mod Acts

@@ -8,7 +8,7 @@ use Rattle.text_tables.specs.Texts.{Text}
 use Rattle.text_tables.specs.Pairs.{value_of}
 use Rattle.device_core.specs.Values.{AnswerValue, DeviceValue}
 use Rattle.rule_types.specs.Rules.{Rule}
-use Rattle.eval_rendering.specs.Safe.{attribute_marks, safe}
+use Rattle.text_links.specs.Safe.{attribute_marks, safe}
 use Rattle.eval_state.specs.Chains.{device_at}
 use Rattle.eval_state.specs.Files.{has_file}
 use Rattle.eval_state.specs.Named.{NamedValue, named, named_place}

@@ -16,6 +16,14 @@ use text_bytes::{Bytes, Profile};
 pub enum Builtin {
     /// The hardware database is looked up.
     Hwdb(Hwdb),
+    /// Of udev alone: `input_id`.
+    InputId,
+    /// Of udev alone: `net_id`.
+    NetId,
+    /// Of udev alone: `path_id`.
+    PathId,
+    /// Of udev alone: `usb_id`.
+    UsbId,
     /// Another builtin, which is not run: the first word of the command, empty where it has none; for udev
     /// the whole name of the builtin, and where the command means none the command.
     Other(Bytes),
@@ -75,6 +83,10 @@ fn read_as_udev(alloc: Global, command: &[u8]) -> Result<Builtin, AllocError>
 {
     match builtin_of(command) {
         Some(rule_parts::Builtin::Hwdb) => read_hwdb(alloc, command),
+        Some(rule_parts::Builtin::InputId) => Ok(Builtin::InputId),
+        Some(rule_parts::Builtin::NetId) => Ok(Builtin::NetId),
+        Some(rule_parts::Builtin::PathId) => Ok(Builtin::PathId),
+        Some(rule_parts::Builtin::UsbId) => Ok(Builtin::UsbId),
         Some(other) => Ok(Builtin::Other(Bytes::copy_of(alloc, other.name())?)),
         None => Ok(Builtin::Other(Bytes::copy_of(alloc, command)?)),
     }

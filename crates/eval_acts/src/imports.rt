@@ -9,6 +9,7 @@ ghost use Rattle.eval_acts.specs.Acts.{from_parent_by};
 ghost use Rattle.eval_acts.specs.Imports.{from_parent, names_fitting, not_run, run_builtin, taken, with_found};
 
 use crate::builtin::Builtin;
+use crate::builtin_runs::{run_input_id, run_net_id, run_path_id, run_usb_id};
 use crate::lookups::look_up;
 use eval_state::{NoteKind, Scene, set_property};
 use hwdb_lookup::Lookup;
@@ -29,7 +30,7 @@ fn set_each(alloc: Global, env: &mut OwnedPairs, found: &[(&[u8], &[u8])]) -> Re
 }
 
 /// Sets each of these properties as udev does: an empty value takes its property away.
-fn set_as_udev(
+pub(crate) fn set_as_udev(
     alloc: Global,
     env: &mut OwnedPairs,
     found: &[(&[u8], &[u8])],
@@ -67,7 +68,7 @@ fn take(alloc: Global, found: &[(&[u8], &[u8])], scene: &mut Scene<'_>) -> Resul
     Ok(!found.is_empty())
 }
 
-/// Runs the builtin of a command, if it is `hwdb`.
+/// Runs the builtin of a command, if it is one that is run.
 pub(crate) fn run_builtin<L: Lookup>(
     alloc: Global,
     rule: &Rule,
@@ -83,6 +84,10 @@ pub(crate) fn run_builtin<L: Lookup>(
             let found = look_up(alloc, &hwdb, &scene.state, database)?;
             take(alloc, &found, scene)
         }
+        Builtin::InputId => run_input_id(alloc, rule, scene),
+        Builtin::NetId => run_net_id(alloc, rule, database, scene),
+        Builtin::PathId => run_path_id(alloc, rule, scene),
+        Builtin::UsbId => run_usb_id(alloc, rule, scene),
         Builtin::Other(name) => {
             scene.note(alloc, rule, NoteKind::BuiltinNotRun, name.as_slice())?;
             Ok(false)

@@ -4,6 +4,7 @@
 mod act_texts;
 mod acting;
 mod builtin;
+mod builtin_runs;
 mod came;
 mod candidates;
 mod hwdb;

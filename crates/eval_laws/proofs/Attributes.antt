@@ -19,7 +19,7 @@ use Rattle.eval_state.specs.declared.state.State.{State}
 use Rattle.eval_rendering.specs.Bounds.{bounded}
 use Rattle.eval_rendering.specs.Pieces.{attribute, attribute_as, attribute_named, attribute_of, has_long, is_long, most_attribute_bytes, named_attribute, piece_text}
 use Rattle.eval_rendering.specs.Rendering.{answer, render, text_in}
-use Rattle.eval_rendering.specs.Safe.{attribute_marks, safe}
+use Rattle.text_links.specs.Safe.{attribute_marks, safe}
 use Rattle.eval_rendering.specs.declared.rendered.Mode.{Mode}
 use Rattle.eval_rendering.specs.declared.rendered.Rendered.TheVariants as rendered
 

@@ -1,11 +1,12 @@
 -- Keys that are final stay, through any further rules.
-use Rattle.std.proofs.Common.{◌≡◌, ℕ, Bool, true, false, cond, ◌||◌, is_some, List, [], ◌∷◌, Option, Some, None, refl, ap, ◌∙◌}
+use Rattle.std.proofs.Common.{◌≡◌, ℕ, Bool, true, false, cond, ◌||◌, is_some, List, [], ◌∷◌, Option, Some, None, refl, ap, ◌∙◌, codes, nat_le}
 use Rattle.std.specs.List.{fold}
 use Rattle.text_bytes.specs.Names.{slash}
 use Rattle.text_bytes.specs.Texts.{begins_with}
 use Rattle.text_bytes.specs.declared.profile.Profile.{Profile}
 use Rattle.text_bytes.specs.declared.profile.Profile.TheVariants.{Manual, Udev}
 use Rattle.text_tables.specs.Texts.{Text}
+use Rattle.text_tables.specs.Pairs as pairs
 use Rattle.text_tables.specs.Pairs.{value_of}
 use Rattle.text_core.specs.Fnmatch.{fnmatch_items}
 use Rattle.text_core.specs.declared.item.Item.{Item}
@@ -26,10 +27,18 @@ use Rattle.rule_types.specs.declared.part.UpMatch.{UpMatch}
 use Rattle.rule_types.specs.Rules.{Rule}
 use Rattle.eval_state.specs.Chains.{device_at}
 use Rattle.eval_state.specs.Named.{NamedValue, named, named_place}
-use Rattle.eval_state.specs.Scenes.{noted}
-use Rattle.eval_state.specs.declared.note_kind.NoteKind.TheVariants.{AttributeNotRead, TestNotMade}
+use Rattle.eval_state.specs.Properties.{properties_set}
+use Rattle.eval_state.specs.Scenes.{noted, with_env}
+use Rattle.eval_state.specs.declared.note_kind.NoteKind.TheVariants.{AttributeNotRead, BuiltinNeeds, TestNotMade, TextTooLong}
 use Rattle.eval_rendering.specs.declared.rendered.Rendered.{Rendered}
 use Rattle.eval_rendering.specs.declared.rendered.Rendered.TheVariants as rendered
+use Rattle.rule_parts.specs.Builtins.{builtin_name}
+use Rattle.rule_parts.specs.declared.builtins.Builtin.TheVariants.{InputId, NetId, PathId, UsbId}
+use Rattle.builtin_devices.specs.Outcomes.{OutcomeValue}
+use Rattle.builtin_input.specs.Input.{input_id}
+use Rattle.builtin_net.specs.NetId.{lookup, net_id}
+use Rattle.builtin_path.specs.Path.{path_id}
+use Rattle.builtin_usb.specs.UsbId.{usb_id}
 use Rattle.eval_acts.specs.declared.builtin.Builtin.{Builtin}
 use Rattle.eval_acts.specs.declared.builtin.Builtin.TheVariants as builtin
 use Rattle.eval_state.specs.Finals.{is_final}
@@ -39,6 +48,7 @@ use Rattle.eval_state.specs.declared.scene.Scene.{Scene}
 use Rattle.eval_matching.specs.Attributes.{is_not_read}
 use Rattle.eval_acts.specs.ActTexts.{import_text, names_text, program_text}
 use Rattle.eval_acts.specs.Acts.{act_step, from_parent_by, imported, on_text, parent_imported, performed, unrun}
+use Rattle.eval_acts.specs.BuiltinRuns.{looked_up, most_set, need_noted, need_word, outcome_taken, path_id_run, properties_size, usb_id_run}
 use Rattle.eval_acts.specs.Imports.{builtin_run, from_parent, not_run, run_builtin}
 use Rattle.eval_acts.specs.Questions.{answered_or_noted, asked, result_of, tested, tested_at, tested_by, tested_by_udev, with_result}
 use Rattle.eval_acts.specs.Reaching.{reached}
@@ -53,10 +63,10 @@ use Rattle.eval_rules.specs.Jumps.{is_passed, run, sought_after}
 
 -- nothing that a key may make final differs: neither what is collected nor which keys are final
 abbrev pub Same : Scene → Scene → Type 0
-Same s t = t ≡ record s { state = record s.state { selected = t.state.selected; result = t.state.result; env = t.state.env }; notes = t.notes }
+Same s t = t ≡ record s { state = record s.state { selected = t.state.selected; result = t.state.result; env = t.state.env }; notes = t.notes; ran = t.ran }
 
 through : (s t u : Scene) → Same s t → Same t u → Same s u
-through s t u h k = k ∙ ap (λ (x : Scene). record x { state = record x.state { selected = u.state.selected; result = u.state.result; env = u.state.env }; notes = u.notes }) h
+through s t u h k = k ∙ ap (λ (x : Scene). record x { state = record x.state { selected = u.state.selected; result = u.state.result; env = u.state.env }; notes = u.notes; ran = u.ran }) h
 
 same_at : (k : FinalKey) (s t : Scene) → Same s t → SameAt k s t
 same_at key.Owner s t h = ap (λ (x : Scene). x.owner) h
@@ -107,8 +117,40 @@ answered_same : (r : Rule) (t : Text) (a : Option AnswerValue) (s : Scene) → S
 answered_same r t None s = refl
 answered_same r t (Some a) s = chosen s (with_result (result_of s.state.event.profile a.text) s) s true false _ refl refl
 
+need_same : (r : Rule) (name : Text) (needs : List Text) (s : Scene) → Same s (need_noted r name needs s)
+need_same r name [] s = refl
+need_same r name (need ∷ needs) s = refl
+
+outcome_same : (r : Rule) (name : Text) (o : OutcomeValue) (s : Scene) → Same s (outcome_taken r name o s).0
+outcome_same r name o s = by (nat_le (properties_size o.properties) most_set)
+  where
+    set : Scene
+    set = with_env (properties_set s.state.env o.properties) s
+
+    by : (b : Bool) → Same s (cond {A = Scene × Bool} b (need_noted r name o.needs set, o.is_done) (noted r TextTooLong name s, false)).0
+    by true = need_same r name o.needs set
+    by false = refl
+
+usb_same : (ran : Option Bool) (r : Rule) (s : Scene) → Same s (usb_id_run ran r s).0
+usb_same None r s = through s _ _ (outcome_same r (builtin_name UsbId) (usb_id s.state.event (pairs.named s.state.env (codes "ID_BUS"))) s) refl
+usb_same (Some done) r s = refl
+
+path_same : (ran : Option Bool) (r : Rule) (s : Scene) → Same s (path_id_run ran r s).0
+path_same None r s = through s _ _ (outcome_same r (builtin_name PathId) (path_id s.state.event) s) refl
+path_same (Some done) r s = refl
+
+looked_up_same : (es : List Entry) (text : Option Text) (s : Scene) → Same s (looked_up es text s)
+looked_up_same es None s = refl
+looked_up_same es (Some text) s = refl
+
 builtin_same : (es : List Entry) (r : Rule) (t : Text) (b : Builtin) (s : Scene) → Same s (builtin_run es r t b s).0
 builtin_same es r t (builtin.Hwdb h) s = refl
+builtin_same es r t builtin.InputId s = outcome_same r (builtin_name InputId) (input_id s.state.event) s
+builtin_same es r t builtin.NetId s =
+    let found : Scene = looked_up es (lookup s.state.event s.state.env) s in
+    through s found _ (looked_up_same es (lookup s.state.event s.state.env) s) (outcome_same r (builtin_name NetId) (net_id s.state.event s.state.env) found)
+builtin_same es r t builtin.PathId s = path_same s.ran.path_id r s
+builtin_same es r t builtin.UsbId s = usb_same s.ran.usb_id r s
 builtin_same es r t (builtin.Other name) s = refl
 builtin_same es r t builtin.BadArguments s = refl
 

@@ -12,7 +12,7 @@ ghost use Rattle.eval_state.specs.Named.{NamedValue, named, named_place};
 ghost use Rattle.eval_state.specs.Texts.{or_empty, trimmed};
 ghost use Rattle.eval_rendering.specs.Bounds.{bounded};
 ghost use Rattle.eval_rendering.specs.Pieces.{attribute, named_attribute, piece_text};
-ghost use Rattle.eval_rendering.specs.Safe.{attribute_marks, link_marks, safe};
+ghost use Rattle.text_links.specs.Safe.{attribute_marks, link_marks, safe};
 ghost use Rattle.rule_templates.specs.Template as templates;
 ghost use Rattle.eval_state.specs.declared.state.State as states;
 ghost use Rattle.eval_rendering.specs.Rendering.{answer, render, text_in};

@@ -1,6 +1,6 @@
 //! What making a text safe comes to, said of bytes. Each function here is empty: its contract is the law.
 ghost use Rattle.std.specs.Prelude.{◌≡◌, ◌↔◌, ◌<◌, List, ℕ, length};
-ghost use Rattle.eval_rendering.specs.Safe.{attribute_marks, link_marks, safe};
+ghost use Rattle.text_links.specs.Safe.{attribute_marks, link_marks, safe};
 ghost use Rattle.eval_laws.specs.SafeTexts.{IsMadeSafe, IsSafe};
 
 /// A text that was made safe has only ASCII letters and digits, marks, spaces, backslashes with an `x`

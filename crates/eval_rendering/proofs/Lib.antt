@@ -1,4 +1,3 @@
-pub mod JoinedWords
-pub mod Places
+pub mod SpacedWords
 pub mod Joining
 pub mod Passing

@@ -1,6 +1,3 @@
-pub mod Safe
-pub mod Underscores
-pub mod Steps
 pub mod Pieces
 pub mod Rendering
 pub mod Words

@@ -6,11 +6,9 @@ mod bounded_text;
 mod pieces;
 mod rendered;
 mod rendering;
-mod safe;
-mod underscores;
+mod spaced_words;
 mod words;
 
 pub use rendered::{Mode, Rendered};
 pub use rendering::{render, render_text};
-pub use safe::{attribute_safe, link_safe};
-pub use underscores::underscored;
+pub use text_links::{attribute_safe, link_safe, underscored};

@@ -7,11 +7,11 @@ use crate::attributes::has_long;
 use crate::bounded_text::BoundedText;
 use crate::pieces::piece_text;
 use crate::rendered::{Mode, Rendered};
-use crate::safe::link_safe;
 use eval_state::State;
 use rule_templates::{Piece, Template};
 use std::alloc::{AllocError, Global};
 use text_bytes::{Bytes, Profile};
+use text_links::link_safe;
 
 /// Whether a piece stands in a link as it is.
 fn is_raw(piece: &Piece) -> bool

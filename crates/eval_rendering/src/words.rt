@@ -1,14 +1,13 @@
 //! Parts of texts that substitutions ask for.
 ghost use Rattle.std.specs.Prelude.{◌≡◌, ◌≤◌, not, length, drop};
-ghost use Rattle.std.specs.List.{prefix_len, suffix_len};
+ghost use Rattle.std.specs.List.{prefix_len};
 ghost use Rattle.text_bytes.specs.Names.{is_whitespace};
-ghost use Rattle.text_bytes.specs.Numbers.{is_digit};
 ghost use Rattle.text_bytes.specs.Texts.{skip_while};
-ghost use Rattle.eval_state.specs.Texts.{longest_end};
 ghost use Rattle.eval_rendering.specs.Pieces.{number_as};
 ghost use Rattle.eval_rendering.specs.Words.{from_word, word_at, word_len};
 
-use text_bytes::{Profile, is_digit, is_whitespace};
+use text_bytes::{Profile, is_whitespace};
+use text_links::last_digits;
 
 /// How many bytes the word has that a text begins with.
 fn word_len(text: &[u8]) -> usize
@@ -63,24 +62,6 @@ pub(crate) fn word_at(number: u16, text: &[u8]) -> &[u8]
 {
     let rest = from_word(number, text);
     rest.split_at(word_len(rest)).0
-}
-
-/// How many digits a text ends in.
-fn trailing_digits(text: &[u8]) -> usize
-    ensures value { result ≡ suffix_len is_digit text.now }
-    ensures within { result ≤ length text.now }
-{
-    text.iter()
-        .rev()
-        .take_while(|byte| is_digit(**byte))
-        .count()
-}
-
-/// The digits that a text ends in.
-pub(crate) fn last_digits(text: &[u8]) -> &[u8]
-    ensures { result.now ≡ longest_end is_digit text.now }
-{
-    text.split_at(text.len() - trailing_digits(text)).1
 }
 
 /// The number that a kernel's name ends in; for udev a name of digits alone has none.

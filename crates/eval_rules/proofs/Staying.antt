@@ -1,5 +1,5 @@
 -- What an event says of itself stays, whatever rules do.
-use Rattle.std.proofs.Common.{◌==◌, ◌||◌, ℕ, Bool, true, false, cond, List, [], ◌∷◌, Option, Some, None, is_some, refl, ◌∙◌}
+use Rattle.std.proofs.Common.{◌==◌, ◌||◌, ℕ, Bool, true, false, cond, List, [], ◌∷◌, Option, Some, None, is_some, refl, nat_le, ◌∙◌}
 use Rattle.std.specs.List.{fold}
 use Rattle.text_bytes.specs.Names.{slash}
 use Rattle.text_bytes.specs.Texts.{begins_with}
@@ -25,16 +25,20 @@ use Rattle.rule_types.specs.declared.part.UpMatch.{UpMatch}
 use Rattle.rule_types.specs.Rules.{Rule}
 use Rattle.eval_rendering.specs.declared.rendered.Rendered.{Rendered}
 use Rattle.eval_rendering.specs.declared.rendered.Rendered.TheVariants as rendered
+use Rattle.builtin_devices.specs.Outcomes.{OutcomeValue}
+use Rattle.builtin_net.specs.NetId.{lookup}
 use Rattle.eval_acts.specs.declared.builtin.Builtin.{Builtin}
 use Rattle.eval_acts.specs.declared.builtin.Builtin.TheVariants as builtin
 use Rattle.eval_matching.specs.Attributes.{is_not_read}
 use Rattle.eval_state.specs.Chains.{device_at}
 use Rattle.eval_state.specs.Named.{NamedValue, named, named_place}
-use Rattle.eval_state.specs.Scenes.{noted}
-use Rattle.eval_state.specs.declared.note_kind.NoteKind.TheVariants.{AttributeNotRead, TestNotMade}
+use Rattle.eval_state.specs.Properties.{properties_set}
+use Rattle.eval_state.specs.Scenes.{noted, with_env}
+use Rattle.eval_state.specs.declared.note_kind.NoteKind.TheVariants.{AttributeNotRead, BuiltinNeeds, TestNotMade, TextTooLong}
 use Rattle.eval_state.specs.declared.scene.Scene.{Scene}
 use Rattle.eval_acts.specs.Acts.{act_step, from_parent_by, imported, on_text, parent_imported, performed, unrun}
 use Rattle.eval_acts.specs.ActTexts.{most_command_bytes, most_path_bytes}
+use Rattle.eval_acts.specs.BuiltinRuns.{looked_up, most_set, need_noted, need_word, outcome_taken, path_id_run, properties_size, usb_id_run}
 use Rattle.eval_acts.specs.Imports.{builtin_run, from_parent, not_run, run_builtin}
 use Rattle.eval_acts.specs.Questions.{answered_or_noted, asked, result_of, tested, tested_at, tested_by, tested_by_udev, with_result}
 use Rattle.eval_acts.specs.Reaching.{reached}
@@ -72,8 +76,33 @@ answered_stays : (r : Rule) (t : Text) (a : Option AnswerValue) (s : Scene) → 
 answered_stays r t None s = refl
 answered_stays r t (Some a) s = either s (a.status == 0) (with_result (result_of s.state.event.profile a.text) s, true) (s, false) refl refl
 
+need_stays : (r : Rule) (name : Text) (needs : List Text) (s : Scene) → Stays s (need_noted r name needs s)
+need_stays r name [] s = refl
+need_stays r name (need ∷ needs) s = refl
+
+outcome_stays : (r : Rule) (name : Text) (o : OutcomeValue) (s : Scene) → Stays s (outcome_taken r name o s).0
+outcome_stays r name o s =
+    let set : Scene = with_env (properties_set s.state.env o.properties) s in
+    either s (nat_le (properties_size o.properties) most_set) (need_noted r name o.needs set, o.is_done) (noted r TextTooLong name s, false) (need_stays r name o.needs set) refl
+
+usb_stays : (ran : Option Bool) (r : Rule) (s : Scene) → Stays s (usb_id_run ran r s).0
+usb_stays None r s = outcome_stays r _ _ s
+usb_stays (Some done) r s = refl
+
+path_stays : (ran : Option Bool) (r : Rule) (s : Scene) → Stays s (path_id_run ran r s).0
+path_stays None r s = outcome_stays r _ _ s
+path_stays (Some done) r s = refl
+
+looked_up_stays : (es : List Entry) (text : Option Text) (s : Scene) → Stays s (looked_up es text s)
+looked_up_stays es None s = refl
+looked_up_stays es (Some text) s = refl
+
 builtin_stays : (es : List Entry) (r : Rule) (t : Text) (b : Builtin) (s : Scene) → Stays s (builtin_run es r t b s).0
 builtin_stays es r t (builtin.Hwdb h) s = refl
+builtin_stays es r t builtin.InputId s = outcome_stays r _ _ s
+builtin_stays es r t builtin.NetId s = looked_up_stays es (lookup s.state.event s.state.env) s ∙ outcome_stays r _ _ (looked_up es (lookup s.state.event s.state.env) s)
+builtin_stays es r t builtin.PathId s = path_stays s.ran.path_id r s
+builtin_stays es r t builtin.UsbId s = usb_stays s.ran.usb_id r s
 builtin_stays es r t (builtin.Other name) s = refl
 builtin_stays es r t builtin.BadArguments s = refl
 

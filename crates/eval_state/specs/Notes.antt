@@ -7,7 +7,7 @@ use Rattle.rule_types.specs.Names.{key_name}
 use Rattle.rule_types.specs.declared.keys.Key.{Key}
 use Rattle.rule_types.specs.Rules.{Rule}
 use Rattle.eval_state.specs.declared.note_kind.NoteKind.{NoteKind}
-use Rattle.eval_state.specs.declared.note_kind.NoteKind.TheVariants.{ImportNotRun, BuiltinNotRun, BadHwdbArguments, NoAnswer, TestNotMade, SysctlNotRead, TextTooLong, NameIgnored, NoDeviceNumber, NoValue, LinkIgnored, ModeIgnored, TagIgnored, AttributeNotRead, AttributeNotFound}
+use Rattle.eval_state.specs.declared.note_kind.NoteKind.TheVariants.{ImportNotRun, BuiltinNotRun, BadHwdbArguments, NoAnswer, TestNotMade, SysctlNotRead, TextTooLong, NameIgnored, NoDeviceNumber, NoValue, LinkIgnored, ModeIgnored, TagIgnored, AttributeNotRead, AttributeNotFound, BuiltinNeeds}
 use Rattle.eval_state.specs.declared.notes.Note.{Note}
 
 -- the text of each kind of note
@@ -27,6 +27,7 @@ text_of ModeIgnored = codes "mode ignored"
 text_of TagIgnored = codes "tag ignored"
 text_of AttributeNotRead = codes "attribute not read"
 text_of AttributeNotFound = codes "attribute not found"
+text_of BuiltinNeeds = codes "builtin needs"
 
 -- the note that something of a rule was not done: where the rule stands, and the first 32 bytes of a text
 abbrev pub note_about : Rule → NoteKind → Text → Note

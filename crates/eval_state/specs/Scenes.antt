@@ -6,6 +6,7 @@ use Rattle.device_core.specs.Values.{EventValue}
 use Rattle.rule_types.specs.Rules.{Rule}
 use Rattle.eval_state.specs.Start as states
 use Rattle.eval_state.specs.Finals.{no_finals}
+use Rattle.eval_state.specs.Ran.{none_ran}
 use Rattle.rule_types.specs.declared.keys.Key.{Key}
 use Rattle.eval_state.specs.Notes.{note_about, word_of_key}
 use Rattle.eval_state.specs.declared.note_kind.NoteKind.{NoteKind}
@@ -29,6 +30,7 @@ blank event = record {
   made = [];
   notes = [];
   finals = no_finals;
+  ran = none_ran;
 }
 
 -- what an event has come to before any rule has run: its state as it begins, and nothing collected

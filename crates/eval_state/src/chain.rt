@@ -1,13 +1,12 @@
 //! The devices of an event, with the names that the kernel gives them.
-ghost use Rattle.std.specs.Prelude.{◌≡◌, ◌≤◌, ◌-◌, ◌==◌, not, IfOk, option_copied, option_map, map, length, slice_get};
-ghost use Rattle.std.specs.List.{suffix_len};
-ghost use Rattle.text_bytes.specs.Names.{slash};
-ghost use Rattle.eval_state.specs.Chains.{device_at, kernel_byte, kernel_name, kernel_of, last_component};
+ghost use Rattle.std.specs.Prelude.{◌≡◌, IfOk, option_copied, option_map, map, slice_get};
+ghost use Rattle.eval_state.specs.Chains.{device_at, kernel_of};
 
 use device_core::{Device, Event};
 use std::alloc::{AllocError, Global};
 use std::marker::Model;
 use text_bytes::Bytes;
+use text_links::kernel_name;
 
 /// An event that is borrowed, with the kernel's names of its devices made ready.
 #[derive(Drop)]
@@ -27,42 +26,6 @@ impl<'a> Model for Chain<'a> {
     ghost view = { λ c. c.event.now };
 
     ghost invariant = { λ c. (c.kernel ≡ kernel_of c.event.now.device) × (c.parent_kernels.items ≡ map kernel_of c.event.now.parents) };
-}
-
-/// How many bytes stand behind the last slash of a path.
-fn last_component_len(path: &[u8]) -> usize
-    ensures value { result ≡ suffix_len (λ b. not (b == slash)) path.now }
-    ensures within { result ≤ length path.now }
-{
-    path.iter().rev().take_while(|byte| **byte != b'/').count()
-}
-
-/// What stands behind the last slash of a path.
-fn last_component(path: &[u8]) -> &[u8]
-    ensures { result.now ≡ last_component path.now }
-{
-    let (_, component) = path.split_at(path.len() - last_component_len(path));
-    component
-}
-
-/// A byte of a component as it is meant.
-fn kernel_byte(byte: u8) -> u8
-    ensures { result ≡ kernel_byte byte }
-{
-    if byte == b'!' { b'/' } else { byte }
-}
-
-/// The kernel's name of the device with a path.
-#[tactic(auto, unfolding(crate::specs::Chains::kernel_name))]
-fn kernel_name(alloc: Global, path: &[u8]) -> Result<Bytes, AllocError>
-    ensures { IfOk result (λ name. name ≡ kernel_name path.now) }
-{
-    let component = last_component(path);
-    let bytes = component
-        .iter()
-        .map(|byte| kernel_byte(*byte))
-        .collect(alloc)?;
-    Ok(Bytes::new(bytes))
 }
 
 /// The kernel's names of devices.

@@ -7,7 +7,8 @@ ghost use Rattle.eval_state.specs.Notes.{text_of};
 pub enum NoteKind {
     /// IMPORT of a type that is never run; the word is the type.
     ImportNotRun,
-    /// IMPORT of a builtin other than `hwdb`, or of none; the word is the command's first one.
+    /// IMPORT of a builtin that is not run, or of none; the word is the command's first one, for udev the name of the
+    /// builtin.
     BuiltinNotRun,
     /// The words behind `hwdb` are none that it takes; the word is the command.
     BadHwdbArguments,
@@ -39,6 +40,9 @@ pub enum NoteKind {
     /// Of udev alone: an assignment to an attribute whose name has a `*/` that fits no name of the block; the word is the
     /// attribute's name.
     AttributeNotFound,
+    /// Of udev alone: a builtin asked for what the kernel tells of each such device, and the block does not have it; the
+    /// word is the builtin's name, a colon, a space and what it asked for.
+    BuiltinNeeds,
 }
 
 impl NoteKind {
@@ -62,6 +66,7 @@ impl NoteKind {
             NoteKind::TagIgnored => b"tag ignored",
             NoteKind::AttributeNotRead => b"attribute not read",
             NoteKind::AttributeNotFound => b"attribute not found",
+            NoteKind::BuiltinNeeds => b"builtin needs",
         }
     }
 }

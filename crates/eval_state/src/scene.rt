@@ -8,6 +8,7 @@ use crate::finals::Finals;
 use crate::made_runs::MadeRuns;
 use crate::note_kind::NoteKind;
 use crate::notes::{Note, Notes, word_of_key};
+use crate::ran::Ran;
 use crate::runs::Runs;
 use crate::state::State;
 use device_core::Event;
@@ -49,6 +50,8 @@ pub struct Scene<'a> {
     pub notes: Notes,
     /// The keys that no longer change.
     pub finals: Finals,
+    /// Of udev alone: the builtins that run once for an event, with whether each succeeded.
+    pub ran: Ran,
 }
 
 impl<'a> Scene<'a> {
@@ -73,6 +76,7 @@ impl<'a> Scene<'a> {
             made: MadeRuns::new(alloc),
             notes: Notes::new(alloc),
             finals: Finals::none(),
+            ran: Ran::none(),
         })
     }
 
@@ -96,6 +100,7 @@ impl<'a> Scene<'a> {
         self.made.clear();
         self.notes = Notes::new(alloc);
         self.finals = Finals::none();
+        self.ran = Ran::none();
     }
 
     /// Leaves a note that something of a rule was not done, told with a text. The error comes where

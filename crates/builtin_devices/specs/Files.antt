@@ -1,0 +1,36 @@
+-- Files that a block tells of by constants: the name is a path below /sys, and the value what the file says.
+use Rattle.std.specs.Prelude.{Bool, List, [], ◌∷◌, ◌++◌, Option, Some, None, filter_map, option_map, length, take, drop, nat_eq, if◌then◌else◌, codes}
+use Rattle.std.specs.List.{ends_with, find, starts_with}
+use Rattle.std.specs.Prelude.{◌-◌}
+use Rattle.text_bytes.specs.Names.{slash}
+use Rattle.text_tables.specs.Texts.{Text, same_text}
+use Rattle.text_tables.specs.Pairs.{Pair, value_of, with_values}
+use Rattle.device_core.specs.Values.{DeviceValue, EventValue, told}
+
+-- what the file with a path says; of a link, the path to which it leads
+abbrev pub file_at : EventValue → (path : Text) → Option Text
+file_at event path = value_of event.constants path
+
+-- a file below a folder, by what stands behind the folder's path
+abbrev pub file_below : (folder : Text) → Pair → Option Pair
+file_below folder file = if starts_with nat_eq file.0 (folder ++ slash ∷ []) then Some (drop (length folder + 1) file.0, file.1) else None
+
+-- the files below a folder, by what stands behind its path, in the order of the block
+abbrev pub files_below : EventValue → (folder : Text) → List Pair
+files_below event folder = filter_map (file_below folder) event.constants
+
+-- what stands behind the path of a device in the name of the file that tells of its subsystem
+abbrev pub subsystem_file : Text
+subsystem_file = codes "/subsystem"
+
+-- the device with a path and a subsystem, with the files in its folder as attributes
+abbrev pub told_at : EventValue → (path subsystem : Text) → DeviceValue
+told_at event path subsystem = told path subsystem (with_values [] (files_below event path))
+
+-- the device of whose subsystem a constant tells
+abbrev pub told_by : EventValue → Pair → Option DeviceValue
+told_by event file = if ends_with nat_eq file.0 subsystem_file then Some (told_at event (take (length file.0 - length subsystem_file) file.0) file.1) else None
+
+-- the devices that the block tells of by paths, in its order
+unfoldable pub told_devices : EventValue → List DeviceValue
+told_devices event = filter_map (told_by event) event.constants

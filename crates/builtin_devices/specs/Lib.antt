@@ -1,0 +1,4 @@
+pub mod Outcomes
+pub mod Files
+pub mod Devices
+pub mod Numbers

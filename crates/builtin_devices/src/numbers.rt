@@ -1,0 +1,181 @@
+//! Numbers as udev reads them in what the kernel tells.
+ghost use Rattle.std.specs.Prelude.{◌≡◌, ◌≤◌, ◌<◌, ◌^◌, IfOk, IfSome, length, option_map};
+ghost use Rattle.std.specs.List.{prefix_len};
+ghost use Rattle.text_bytes.specs.Names.{minus, is_whitespace};
+ghost use Rattle.text_bytes.specs.Texts.{begins_with, skip_while};
+ghost use Rattle.builtin_devices.specs.Numbers.{bytes_of, digit_value, digits_in, is_below_zero, is_marked, name_number, number_in, size_in, unsigned, written};
+
+use std::alloc::{AllocError, Global};
+use text_bytes::{begins_with, is_whitespace};
+use text_links::last_digits;
+
+/// In which base a number stands.
+#[derive(Clone, Copy)]
+pub enum Base {
+    /// As the number says itself: `0x` for 16, `0b` for 2, `0o` or a zero for 8, else 10.
+    AsWritten,
+    /// Ten.
+    Decimal,
+    /// Sixteen; `0x` may stand before the digits.
+    Hexadecimal,
+}
+
+/// The number that a digit writes, and 16 for a byte that is none.
+fn digit_value(byte: u8) -> u8
+    ensures value { result ≡ digit_value byte }
+    ensures few { result ≤ 16 }
+{
+    match byte {
+        b'0'..=b'9' => byte - b'0',
+        b'a'..=b'f' => byte - b'a' + 10,
+        b'A'..=b'F' => byte - b'A' + 10,
+        _ => 16,
+    }
+}
+
+/// The number that one digit of a base or more write, where it is not above `most`.
+#[tactic(auto, unfolding(crate::specs::Numbers::digits_in))]
+pub fn digits_in(base: u8, most: u64, text: &[u8]) -> Option<u64>
+    requires some { 1 ≤ base }
+    requires few { base ≤ 16 }
+    ensures value { result ≡ digits_in base most text.now }
+    ensures below { IfSome result (λ number. number ≤ most) }
+{
+    if text.is_empty() {
+        return None;
+    }
+    let mut number = 0u64;
+    for byte in text {
+        let digit = digit_value(*byte);
+        if digit >= base {
+            return None;
+        }
+        number = number
+            .checked_mul(u64::from(base))?
+            .checked_add(u64::from(digit))?;
+        if number > most {
+            return None;
+        }
+    }
+    Some(number)
+}
+
+/// Whether a text begins with `0` and one of two bytes.
+fn is_marked(small: u8, large: u8, text: &[u8]) -> bool
+    ensures { result ≡ is_marked small large text.now }
+{
+    match text {
+        [b'0', mark, ..] => *mark == small || *mark == large,
+        _ => false,
+    }
+}
+
+/// The base of a number, and its digits.
+#[tactic(auto, unfolding(crate::specs::Numbers::written))]
+fn written(base: Base, text: &[u8]) -> (u8, &[u8])
+    ensures base { result.0 ≡ (written base text.now).base }
+    ensures digits { result.1.now ≡ (written base text.now).digits }
+{
+    match base {
+        Base::AsWritten if is_marked(b'x', b'X', text) => (16, &text[2..]),
+        Base::AsWritten if is_marked(b'b', b'B', text) => (2, &text[2..]),
+        Base::AsWritten if is_marked(b'o', b'O', text) => (8, &text[2..]),
+        Base::AsWritten if begins_with(b'0', text) => (8, text),
+        Base::Hexadecimal if is_marked(b'x', b'X', text) => (16, &text[2..]),
+        Base::Hexadecimal => (16, text),
+        Base::AsWritten | Base::Decimal => (10, text),
+    }
+}
+
+/// How many blanks a text begins with.
+fn leading_blanks(text: &[u8]) -> usize
+    ensures value { result ≡ prefix_len is_whitespace text.now }
+    ensures within { result ≤ length text.now }
+{
+    text.iter().take_while(|byte| is_whitespace(**byte)).count()
+}
+
+/// A text without the blanks at its start.
+fn bare(text: &[u8]) -> &[u8]
+    ensures { result.now ≡ skip_while is_whitespace text.now }
+{
+    text.split_at(leading_blanks(text)).1
+}
+
+/// A text without the sign that it begins with, if it does.
+fn unsigned(text: &[u8]) -> &[u8]
+    ensures { result.now ≡ unsigned text.now }
+{
+    match text {
+        [b'-' | b'+', digits @ ..] => digits,
+        _ => text,
+    }
+}
+
+/// The size of the number that a text is without blanks before it.
+fn size_in(base: Base, most: u64, text: &[u8]) -> Option<u64>
+    ensures { result ≡ size_in base most text.now }
+{
+    let (base, digits) = written(base, unsigned(text));
+    digits_in(base, most, digits)
+}
+
+/// The number that a text is, where it is not below zero and not above `most`. Blanks may stand before it, and a sign;
+/// behind its digits nothing may. So udev of systemd 257 reads numbers of sysfs.
+#[tactic(auto, unfolding(crate::specs::Numbers::number_in))]
+pub fn number_in(base: Base, most: u64, text: &[u8]) -> Option<u64>
+    ensures { result ≡ number_in base most text.now }
+{
+    let text = bare(text);
+    let size = size_in(base, most, text)?;
+    if begins_with(b'-', text) && size != 0 {
+        return None;
+    }
+    Some(size)
+}
+
+/// Whether a text is a number below zero, and not below `-most`.
+#[tactic(auto, unfolding(crate::specs::Numbers::is_below_zero))]
+pub fn is_below_zero(base: Base, most: u64, text: &[u8]) -> bool
+    ensures { result ≡ is_below_zero base most text.now }
+{
+    let text = bare(text);
+    match size_in(base, most, text) {
+        Some(size) => begins_with(b'-', text) && size > 0,
+        None => false,
+    }
+}
+
+/// The digits that a kernel's name ends in; a name of digits alone has none.
+#[tactic(auto, unfolding(crate::specs::Numbers::name_number))]
+pub fn name_number(kernel: &[u8]) -> Option<&[u8]>
+    ensures { option_map (λ t. t.now) result ≡ name_number kernel.now }
+{
+    let digits = last_digits(kernel);
+    if digits.is_empty() || digits == kernel {
+        return None;
+    }
+    Some(digits)
+}
+
+/// The bytes that hexadecimal digits write, two for each; `None` where another byte stands among them, or a digit is
+/// alone. The error comes where memory is refused.
+pub fn bytes_of(alloc: Global, text: &[u8]) -> Result<Option<Vec<u8>>, AllocError>
+    ensures { IfOk result (λ bytes. option_map (λ b. b.items) bytes ≡ bytes_of text.now) }
+{
+    let mut bytes = Vec::with_capacity(alloc, text.len() / 2)?;
+    let mut rest = text;
+    while let [high, low, more @ ..] = rest {
+        let high = digit_value(*high);
+        let low = digit_value(*low);
+        if high > 15 || low > 15 {
+            return Ok(None);
+        }
+        bytes.push(16 * high + low)?;
+        rest = more;
+    }
+    if !rest.is_empty() {
+        return Ok(None);
+    }
+    Ok(Some(bytes))
+}

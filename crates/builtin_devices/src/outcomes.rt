@@ -1,0 +1,103 @@
+//! What a builtin comes to.
+ghost use Rattle.std.specs.Prelude.{◌≡◌, ◌++◌, ◌∷◌, [], OnOk};
+ghost use Rattle.text_tables.specs.Texts.{with_texts};
+ghost use Rattle.builtin_devices.specs.Outcomes.{failing, lacking, succeeding};
+
+use device_core::Device;
+use std::alloc::{AllocError, Global};
+use std::marker::Model;
+use text_bytes::Bytes;
+use text_tables::OwnedTexts;
+
+/// What a builtin of udev comes to: whether it succeeds, the properties in the order in which it sets them, where an
+/// empty value takes one away, and names for what the block would have to tell for it, each once.
+#[derive(Drop)]
+pub struct Outcome {
+    is_done: bool,
+    properties: Vec<(Bytes, Bytes)>,
+    needs: OwnedTexts,
+}
+
+impl Model for Outcome {
+    ghost use Rattle.builtin_devices.specs.Outcomes.{OutcomeValue};
+
+    ghost Value = { OutcomeValue };
+
+    ghost view = { λ o. record { is_done = o.is_done; properties = o.properties.items; needs = o.needs } };
+}
+
+impl Outcome {
+    /// A builtin that succeeds, with the properties that it sets.
+    pub fn succeeding(properties: Vec<(Bytes, Bytes)>, needs: OwnedTexts) -> Outcome
+        ensures { result ≡ succeeding properties.items needs }
+    {
+        Outcome {
+            is_done: true,
+            properties,
+            needs,
+        }
+    }
+
+    /// A builtin that fails, and sets nothing.
+    pub fn failing(alloc: Global, needs: OwnedTexts) -> Outcome
+        ensures { result ≡ failing needs }
+    {
+        Outcome {
+            is_done: false,
+            properties: Vec::new(alloc),
+            needs,
+        }
+    }
+
+    /// Whether the builtin succeeds.
+    pub fn is_done(&self) -> bool
+        ensures { result ≡ self.now.is_done }
+    {
+        self.is_done
+    }
+
+    /// Lends the names and values of the properties, in the order in which they are set.
+    pub fn properties(&self) -> &[(Bytes, Bytes)]
+        ensures { result.now ≡ self.now.properties }
+    {
+        &self.properties
+    }
+
+    /// Lends the names of what the block would have to tell.
+    pub fn needs(&self) -> &OwnedTexts
+        ensures { result.now ≡ self.now.needs }
+    {
+        &self.needs
+    }
+}
+
+/// Adds a copy of a name and its value behind the properties so far. The error comes where memory is refused.
+pub fn add_property(
+    alloc: Global,
+    name: &[u8],
+    value: &[u8],
+    properties: &mut Vec<(Bytes, Bytes)>,
+) -> Result<(), AllocError>
+    ensures { OnOk result (properties.new.items ≡ properties.old.items ++ (name.now, value.now) ∷ []) }
+{
+    let name = Bytes::copy_of(alloc, name)?;
+    let value = Bytes::copy_of(alloc, value)?;
+    Ok(properties.push((name, value))?)
+}
+
+/// Adds the word for an attribute to what is needed, where a device lacks it. The error comes where memory is
+/// refused.
+pub fn need_attribute(
+    alloc: Global,
+    device: &Device<'_>,
+    attribute: &[u8],
+    word: &[u8],
+    needs: &mut OwnedTexts,
+) -> Result<(), AllocError>
+    ensures { OnOk result (needs.new ≡ with_texts needs.old (lacking device.now attribute.now word.now)) }
+{
+    if device.attrs().get(attribute).is_some() {
+        return Ok(());
+    }
+    needs.add(alloc, word)
+}

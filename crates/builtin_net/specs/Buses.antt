@@ -1,0 +1,113 @@
+-- What names tell of buses other than PCI and USB.
+use Rattle.std.specs.Prelude.{ℕ, ◌^◌, ◌-◌, ◌==◌, ◌&&◌, ◌||◌, not, Bool, true, false, [], ◌++◌, codes, decimal, drop, find, length, map, nat_le, slice_get, take, Option, Some, None, option_map, option_and_then, is_some, if◌then◌else◌}
+use Rattle.std.specs.Bool.{then_some}
+use Rattle.std.specs.Char.{is_ascii_digit, is_ascii_hexdigit, is_ascii_uppercase, to_ascii_lowercase}
+use Rattle.std.specs.List.{before_first, list_all, prefix_len}
+use Rattle.text_bytes.specs.Names.{colon, dot, digit_zero, slash}
+use Rattle.text_bytes.specs.Numbers.{decimal_below}
+use Rattle.text_bytes.specs.Texts.{begins_with, split_once}
+use Rattle.text_tables.specs.Texts.{Text, same_text}
+use Rattle.device_core.specs.Values.{DeviceValue, EventValue}
+use Rattle.builtin_devices.specs.Devices.{above, is_of, kernel_of, parents_of}
+use Rattle.builtin_devices.specs.Numbers.{name_number, number_in}
+use Rattle.builtin_devices.specs.declared.numbers.Base.TheVariants.{AsWritten, Hexadecimal}
+use Rattle.builtin_net.specs.Allowed.{read}
+use Rattle.builtin_net.specs.Port.{some_text}
+use Rattle.builtin_net.specs.Words.{behind, is_plain, most_number}
+use Rattle.builtin_net.specs.declared.allowed.Attribute.TheVariants.{PhysPortName}
+
+-- the device right above the event device
+abbrev pub parent : EventValue → Option DeviceValue
+parent event = slice_get (parents_of event event.device.path) 0
+
+-- the nearest device above the event device that is not of virtio
+abbrev pub parent_behind_virtio : EventValue → Option DeviceValue
+parent_behind_virtio event = find (λ device. not (is_of (codes "virtio") None device)) (parents_of event event.device.path)
+
+-- whether there is a device, of this subsystem
+abbrev pub is_there : (subsystem : Text) → Option DeviceValue → Bool
+is_there subsystem None = false
+is_there subsystem (Some device) = is_of subsystem None device
+
+-- the component of a path behind a folder
+unfoldable pub component : (folder path : Text) → Option Text
+component folder path = option_map (before_first (λ b. b == slash)) (behind folder path)
+
+-- a text without so many bytes at its start; where these are all, the last one stays
+abbrev pub without_start : ℕ → Text → Text
+without_start count text = if count == length text then drop (length text - 1) text else drop count text
+
+-- a text without bytes at its start that pass a test; where all do, the last one stays
+abbrev pub trimmed : (ℕ → Bool) → Text → Text
+trimmed test text = without_start (prefix_len test text) text
+
+-- ccw: a name of eight or nine bytes, without zeros and dots at its start
+unfoldable pub ccw_text : (kernel : Text) → Option Text
+ccw_text kernel =
+    then_some (nat_le 8 (length kernel) && nat_le (length kernel) 9) (codes "c" ++ trimmed (λ b. b == digit_zero || b == dot) kernel)
+
+-- vio: the number of the last four of eight hexadecimal digits
+unfoldable pub vio_text : Text → Option Text
+vio_text name =
+    if length name == 8 && list_all is_ascii_hexdigit name then option_map (λ n. codes "v" ++ decimal n) (number_in Hexadecimal most_number (drop 4 name)) else None
+
+-- whether a text names a maker of platform devices: three large letters, or four large letters and digits
+unfoldable pub is_vendor : Text → Bool
+is_vendor text =
+    length text == 3 && list_all is_ascii_uppercase text || length text == 4 && list_all (λ b. is_ascii_uppercase b || is_ascii_digit b) text
+
+-- maker, model and instance of a platform device: the model in small digits without zeros before it, the instance in decimal
+abbrev pub acpi_text : (vendor model : Text) → ℕ → Text
+acpi_text vendor model instance =
+    codes "a" ++ map to_ascii_lowercase vendor ++ map to_ascii_lowercase (trimmed (λ b. b == digit_zero) model) ++ codes "i" ++ decimal instance
+
+-- whether a maker with a model of four hexadecimal digits behind it, and an instance of two bytes
+unfoldable pub is_acpi : (front instance : Text) → Bool
+is_acpi front instance =
+    is_vendor (take (length front - 4) front) && list_all is_ascii_hexdigit (drop (length front - 4) front) && length instance == 2
+
+-- platform: a maker, a model, a colon and an instance in hexadecimal
+abbrev pub platform_parts : (front instance : Text) → Option Text
+platform_parts front instance =
+    if is_acpi front instance then option_map (acpi_text (take (length front - 4) front) (drop (length front - 4) front)) (number_in Hexadecimal most_number instance)
+    else None
+unfoldable pub platform_text : Text → Option Text
+platform_text name = option_and_then (λ parts. platform_parts parts.0 parts.1) (split_once colon name)
+
+-- whether a text is a number of 32 bits in decimal digits, without zeros before it
+abbrev pub is_written_number : Text → Bool
+is_written_number text = is_some (decimal_below (2 ^ 32) text) && (same_text text (codes "0") || not (begins_with digit_zero text))
+
+-- Xen: `vif-N`
+unfoldable pub xen_text : Text → Option Text
+xen_text name = option_and_then (λ n. then_some (is_written_number n) (codes "X" ++ n)) (behind (codes "vif-") name)
+
+-- netdevsim: the number of the device, and the name of the port
+abbrev pub simulated : (number : Option ℕ) → (port : Option Text) → Option Text
+simulated (Some n) (Some port) = then_some (is_plain port) (codes "i" ++ decimal n ++ codes "n" ++ port)
+simulated _ _ = None
+
+-- the number of a kernel's name
+abbrev pub number_of_name : (kernel : Text) → Option ℕ
+number_of_name kernel = option_and_then (number_in AsWritten most_number) (name_number kernel)
+unfoldable pub netdevsim_text : (interface device : DeviceValue) → Option Text
+netdevsim_text interface device =
+    simulated (number_of_name (kernel_of device)) (some_text (read interface PhysPortName))
+
+-- by the device above, where it is of ccw
+abbrev pub of_ccw : Option DeviceValue → Option Text
+of_ccw None = None
+of_ccw (Some device) = if is_of (codes "ccwgroup") None device || is_of (codes "ccw") None device then ccw_text (kernel_of device) else None
+
+-- the texts of an interface by each bus
+unfoldable pub by_ccw : EventValue → Option Text
+by_ccw event = of_ccw (parent_behind_virtio event)
+unfoldable pub by_vio : EventValue → Option Text
+by_vio event = if is_there (codes "vio") (parent event) then option_and_then vio_text (component (codes "/devices/vio/") event.device.path) else None
+unfoldable pub by_platform : EventValue → Option Text
+by_platform event =
+    if is_there (codes "platform") (parent event) then option_and_then platform_text (component (codes "/devices/platform/") event.device.path) else None
+unfoldable pub by_xen : EventValue → Option Text
+by_xen event = if is_there (codes "xen") (parent event) then option_and_then xen_text (component (codes "/devices/") event.device.path) else None
+unfoldable pub by_netdevsim : EventValue → (interface : DeviceValue) → Option Text
+by_netdevsim event interface = option_and_then (netdevsim_text interface) (above event (codes "netdevsim") None event.device.path)

@@ -1,0 +1,77 @@
+-- Functions of PCI, by their names: `DOMAIN:BUS:SLOT.FUNCTION`.
+use Rattle.std.specs.Prelude.{ℕ, ◌+◌, ◌*◌, ◌==◌, ◌&&◌, Bool, false, not, nat_le, [], ◌++◌, codes, decimal, slice_get, Option, Some, None, option_map, option_and_then, if◌then◌else◌}
+use Rattle.std.specs.Option.{option_map_or}
+use Rattle.text_bytes.specs.Names.{colon, dot}
+use Rattle.text_bytes.specs.Texts.{split_once}
+use Rattle.text_tables.specs.Texts.{Text}
+use Rattle.device_core.specs.Values.{DeviceValue, EventValue}
+use Rattle.builtin_devices.specs.Devices.{kernel_of}
+use Rattle.builtin_devices.specs.Files.{file_at}
+use Rattle.builtin_devices.specs.Numbers.{bytes_of, number_in}
+use Rattle.builtin_devices.specs.declared.numbers.Base.TheVariants.{Decimal, Hexadecimal}
+use Rattle.builtin_net.specs.Allowed.{is_yes, read}
+use Rattle.builtin_net.specs.Words.{most_number}
+use Rattle.builtin_net.specs.declared.allowed.Attribute.TheVariants.{AriEnabled}
+use Rattle.builtin_net.specs.declared.functions.Function.{Function}
+
+-- the function of these numbers, where all four are there
+abbrev pub with_numbers : Option ℕ → Option ℕ → Option ℕ → Option ℕ → Option Function
+with_numbers (Some domain) (Some bus) (Some slot) (Some function) = Some (record { domain = domain; bus = bus; slot = slot; function = function })
+with_numbers _ _ _ _ = None
+
+-- the function of a domain and a bus whose slot and function stand in a text with a dot in between
+unfoldable pub in_bus : Text → Text → Text → Option Function
+in_bus domain bus place =
+    option_and_then (λ parts.
+        with_numbers (number_in Hexadecimal most_number domain) (number_in Hexadecimal most_number bus) (number_in Hexadecimal most_number parts.0) (number_in Decimal most_number parts.1))
+    (split_once dot place)
+
+-- the function of a domain whose bus, slot and function stand in a text
+unfoldable pub in_domain : Text → Text → Option Function
+in_domain domain rest = option_and_then (λ parts. in_bus domain parts.0 parts.1) (split_once colon rest)
+
+-- the function that a name tells: domain, bus and slot in hexadecimal, the function in decimal
+unfoldable pub function_of : Text → Option Function
+function_of name = option_and_then (λ parts. in_domain parts.0 parts.1) (split_once colon name)
+
+-- a function of a card that counts the functions of all its slots as one: eight times the slot more
+abbrev pub with_ari : Function → Function
+with_ari f = record f { function = f.function + 8 * f.slot }
+
+-- whether a device says that its card counts so
+abbrev pub has_ari : DeviceValue → Bool
+has_ari pci = option_map_or is_yes (read pci AriEnabled) false
+
+-- the function that a device is, by its name
+unfoldable pub function : DeviceValue → Option Function
+function pci = if has_ari pci then option_map with_ari (function_of (kernel_of pci)) else function_of (kernel_of pci)
+
+-- the bytes of the configuration of a function
+abbrev pub config : EventValue → DeviceValue → Option Text
+config event pci = file_at event (pci.path ++ codes "/config")
+
+-- where the type of the header stands in a configuration, and the least type of a card with several functions
+abbrev pub header_place : ℕ
+header_place = 14
+abbrev pub several_type : ℕ
+several_type = 128
+
+-- the type of the header of a configuration
+abbrev pub header_type : Text → Option ℕ
+header_type digits = option_and_then (λ bytes. slice_get bytes header_place) (bytes_of digits)
+
+-- whether a function says that its card has several
+unfoldable pub is_several : EventValue → DeviceValue → Bool
+is_several event pci = option_map_or (nat_le several_type) (option_and_then header_type (config event pci)) false
+
+-- the domain, which is left out where it is the first
+abbrev pub domain_text : Function → Text
+domain_text f = if f.domain == 0 then [] else codes "P" ++ decimal f.domain
+
+-- bus and slot
+abbrev pub place_text : Function → Text
+place_text f = codes "p" ++ decimal f.bus ++ codes "s" ++ decimal f.slot
+
+-- the function, which is left out where it is the first and the only one
+abbrev pub function_text : Function → Bool → Text
+function_text f several = if f.function == 0 && not several then [] else codes "f" ++ decimal f.function

@@ -1,0 +1,16 @@
+pub mod Words
+pub mod Allowed
+pub mod Prefixes
+pub mod Address
+pub mod Function
+pub mod Port
+pub mod OnBoard
+pub mod Slots
+pub mod Virtual
+pub mod Usb
+pub mod Buses
+pub mod Trees
+pub mod Names
+pub mod Identity
+pub mod Needs
+pub mod NetId

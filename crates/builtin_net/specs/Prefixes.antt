@@ -1,0 +1,38 @@
+-- Which interfaces have names, and how these begin.
+use Rattle.std.specs.Prelude.{ℕ, ◌==◌, Bool, true, false, codes, Option, Some, None, if◌then◌else◌}
+use Rattle.text_tables.specs.Texts.{Text, same_text}
+use Rattle.text_tables.specs.Pairs.{Pair, value_of}
+use Rattle.device_core.specs.Values.{DeviceValue, EventValue}
+use Rattle.builtin_net.specs.declared.prefixes.Prefix.{Prefix}
+use Rattle.builtin_net.specs.declared.prefixes.Prefix.TheVariants.{Ethernet, Wireless, Modem, InfiniBand, SerialLine}
+
+-- how the names of each kind of interface begin
+abbrev pub prefix_text : Prefix → Text
+prefix_text Ethernet = codes "en"
+prefix_text Wireless = codes "wl"
+prefix_text Modem = codes "ww"
+prefix_text InfiniBand = codes "ib"
+prefix_text SerialLine = codes "sl"
+
+-- an interface of Ethernet by its type
+abbrev pub ethernet_prefix : Option Text → Prefix
+ethernet_prefix None = Ethernet
+ethernet_prefix (Some kind) = if same_text kind (codes "wlan") then Wireless else (if same_text kind (codes "wwan") then Modem else Ethernet)
+
+-- by the number of the hardware, and the type
+unfoldable pub prefix_of : ℕ → Option Text → Option Prefix
+prefix_of hardware kind =
+    if hardware == 1 then Some (ethernet_prefix kind)
+    else if hardware == 32 then Some InfiniBand
+    else if hardware == 256 then Some SerialLine
+    else None
+
+-- whether it is InfiniBand
+abbrev pub is_infiniband : Prefix → Bool
+is_infiniband InfiniBand = true
+is_infiniband _ = false
+
+-- whether it is Ethernet with a cable
+abbrev pub is_ethernet : Prefix → Bool
+is_ethernet Ethernet = true
+is_ethernet _ = false

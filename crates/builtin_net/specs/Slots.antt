@@ -1,0 +1,116 @@
+-- The slot that a function stands in.
+use Rattle.std.specs.Prelude.{ℕ, ◌==◌, ◌&&◌, ◌||◌, not, Bool, false, true, List, length, find, nat_eq, codes, Option, Some, None, option_map, option_and_then, is_some, if◌then◌else◌}
+use Rattle.std.specs.Bool.{then_some}
+use Rattle.std.specs.Char.{is_ascii_hexdigit, is_ascii_uppercase}
+use Rattle.std.specs.List.{after_last, list_all, list_any, starts_with}
+use Rattle.std.specs.Option.{option_map_or, option_or}
+use Rattle.text_bytes.specs.Names.{slash}
+use Rattle.text_bytes.specs.Texts.{is_empty, split_once}
+use Rattle.text_tables.specs.Texts.{Text, same_text}
+use Rattle.text_tables.specs.Pairs.{Pair}
+use Rattle.device_core.specs.Values.{DeviceValue, EventValue}
+use Rattle.builtin_devices.specs.Devices.{above, is_of, kernel_of, parents_of}
+use Rattle.builtin_devices.specs.Files.{file_at, files_below}
+use Rattle.builtin_devices.specs.Numbers.{number_in}
+use Rattle.builtin_devices.specs.declared.numbers.Base.TheVariants.{AsWritten, Hexadecimal}
+use Rattle.builtin_net.specs.Allowed.{number, read}
+use Rattle.builtin_net.specs.Function.{is_several}
+use Rattle.builtin_net.specs.Words.{is_number, most_number, positive}
+use Rattle.builtin_net.specs.declared.allowed.Attribute.TheVariants.{Sun, FunctionId, Modalias}
+use Rattle.builtin_net.specs.declared.slots.Slot.{Slot}
+
+-- the number of a slot that the firmware tells of a device
+abbrev pub firmware_number : DeviceValue → Option ℕ
+firmware_number pci = positive (number pci Sun)
+
+-- whether a modalias is that of a bridge: it is of PCI, and behind the last `s` in it stands `c04`
+unfoldable pub is_bridge_alias : Text → Bool
+is_bridge_alias alias = starts_with nat_eq alias (codes "pci:") && starts_with nat_eq (after_last (λ b. b == 115) alias) (codes "c04")
+
+-- whether a device is a bridge
+unfoldable pub is_bridge : DeviceValue → Bool
+is_bridge pci = option_map_or is_bridge_alias (read pci Modalias) false
+
+-- the nearest device of PCI above another
+abbrev pub pci_above : EventValue → DeviceValue → Option DeviceValue
+pci_above event device = above event (codes "pci") None device.path
+
+-- what the firmware tells of the device above a function: that of a bridge counts only for a function that is one of several
+abbrev pub number_of_above : (several : Bool) → Option DeviceValue → Option ℕ
+number_of_above several None = None
+number_of_above several (Some pci) = if is_bridge pci && not several then None else firmware_number pci
+
+-- the number that the firmware tells of a function, or else of the device above
+unfoldable pub number_by_firmware : EventValue → DeviceValue → Option ℕ
+number_by_firmware event pci = option_or (firmware_number pci) (number_of_above (is_several event pci) (pci_above event pci))
+
+-- the folder of all slots, and the files in it
+abbrev pub slots_folder : Text
+slots_folder = codes "/bus/pci/slots"
+abbrev pub slot_files : EventValue → List Pair
+slot_files event = files_below event slots_folder
+
+-- whether a block tells of a folder, perhaps that it is empty
+unfoldable pub is_told : EventValue → (folder : Text) → Bool
+is_told event folder = is_some (file_at event folder) || not (is_empty (files_below event folder))
+
+-- the name of the slot whose file `NAME/address` tells what stands in it
+abbrev pub addressed : Option Pair → Option Text
+addressed None = None
+addressed (Some parts) = if same_text parts.1 (codes "address") then Some parts.0 else None
+unfoldable pub slot_name : (path : Text) → Option Text
+slot_name path = addressed (split_once slash path)
+
+-- the number of the slot that has such a file, by its name
+abbrev pub slot_number : (path : Text) → Option ℕ
+slot_number path = positive (option_and_then (number_in AsWritten most_number) (slot_name path))
+
+-- whether a slot with a number holds the device with this name: its address is the beginning of the name
+unfoldable pub holds : (kernel : Text) → Pair → Bool
+holds kernel file = starts_with nat_eq kernel file.1 && is_some (slot_number file.0)
+
+-- the number of the slot that holds a device
+unfoldable pub number_by_place : EventValue → DeviceValue → Option ℕ
+number_by_place event pci = option_and_then (λ file. slot_number file.0) (find (holds (kernel_of pci)) (slot_files event))
+
+-- whether a name is this number in eight hexadecimal digits with small letters
+unfoldable pub is_identity : ℕ → Text → Bool
+is_identity n name =
+    length name == 8 && (list_all is_ascii_hexdigit name && not (list_any is_ascii_uppercase name)) && is_number (number_in Hexadecimal most_number name) n
+
+-- whether a file is that of the slot of this number
+abbrev pub is_slot_of : ℕ → Pair → Bool
+is_slot_of n file = option_map_or (is_identity n) (slot_name file.0) false
+
+-- the slot of a function of System z, whose number has a slot of its own; a name by it leaves the domain out
+unfoldable pub slot_by_identity : EventValue → Text → Option Slot
+slot_by_identity event identity =
+    option_and_then (λ n. then_some (list_any (is_slot_of n) (slot_files event)) (record { number = n; drops_domain = true })) (positive (number_in AsWritten most_number identity))
+
+-- whether the search for a slot of the bus ends at a device: it is a function of System z, or a slot holds it
+unfoldable pub ends_search : EventValue → DeviceValue → Bool
+ends_search event pci = is_some (read pci FunctionId) || is_some (number_by_place event pci)
+
+-- whether it ends at a device, which is to be of PCI
+abbrev pub ends_search_in_pci : EventValue → DeviceValue → Bool
+ends_search_in_pci event device = is_of (codes "pci") None device && ends_search event device
+
+-- the device at which the search ends that begins at a function and goes on above it
+unfoldable pub search_end : EventValue → DeviceValue → Option DeviceValue
+search_end event pci =
+    if ends_search event pci then Some pci
+    else find (ends_search_in_pci event) (parents_of event pci.path)
+
+-- the slot of the device at which the search ends; a bridge has none
+abbrev pub slot_at_end : EventValue → DeviceValue → (identity : Option Text) → Option Slot
+slot_at_end event pci None =
+    if is_bridge pci then None else option_map (λ n. record { number = n; drops_domain = false }) (number_by_place event pci)
+slot_at_end event pci (Some identity) = slot_by_identity event identity
+
+-- the slot of a function by the slots of the bus
+unfoldable pub slot_by_bus : EventValue → DeviceValue → Option Slot
+slot_by_bus event pci = option_and_then (λ found. slot_at_end event found (read found FunctionId)) (search_end event pci)
+
+-- the slot of a function: by the firmware, or else by the slots of the bus
+unfoldable pub slot_of : EventValue → DeviceValue → Option Slot
+slot_of event pci = option_or (option_map (λ n. record { number = n; drops_domain = false }) (number_by_firmware event pci)) (slot_by_bus event pci)

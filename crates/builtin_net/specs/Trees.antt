@@ -1,0 +1,63 @@
+-- Names by the aliases of a device tree.
+use Rattle.std.specs.Prelude.{ℕ, ◌==◌, ◌&&◌, Bool, ◌++◌, codes, decimal, find, Option, Some, None, option_map, option_and_then, unwrap_or, is_some, if◌then◌else◌}
+use Rattle.std.specs.Option.{option_or}
+use Rattle.text_bytes.specs.Texts.{is_empty}
+use Rattle.text_tables.specs.Texts.{Text, same_text}
+use Rattle.text_tables.specs.Pairs.{Pair}
+use Rattle.device_core.specs.Values.{DeviceValue, EventValue}
+use Rattle.builtin_devices.specs.Files.{file_at, files_below}
+use Rattle.builtin_devices.specs.Numbers.{number_in}
+use Rattle.builtin_devices.specs.declared.numbers.Base.TheVariants.{AsWritten}
+use Rattle.builtin_net.specs.Buses.{parent}
+use Rattle.builtin_net.specs.Words.{behind, most_number}
+
+-- the root of the device tree, and the folder of its aliases
+abbrev pub tree_root : Text
+tree_root = codes "/firmware/devicetree/base"
+abbrev pub aliases_folder : Text
+aliases_folder = codes "/firmware/devicetree/base/aliases"
+
+-- where the link of a device to its node leads
+abbrev pub node_of : EventValue → DeviceValue → Option Text
+node_of event device = file_at event (device.path ++ codes "/of_node")
+
+-- where that of the event device leads, or else that of the device above
+unfoldable pub node_link : EventValue → Option Text
+node_link event = option_or (node_of event event.device) (option_and_then (node_of event) (parent event))
+
+-- the path of a node within the tree
+abbrev pub node_path : Text → Text
+node_path link = unwrap_or (behind tree_root link) link
+
+-- what stands behind `ethernet` in the name of an alias
+abbrev pub alias_end : Pair → Option Text
+alias_end file = behind (codes "ethernet") file.0
+
+-- whether a file is such an alias of a node
+unfoldable pub is_alias : (node : Text) → Pair → Bool
+is_alias node file = is_some (alias_end file) && same_text file.1 node
+
+-- what an alias is taken for that has the same number, 0
+abbrev pub other_alias : (behind : Text) → Text
+other_alias behind = if is_empty behind then codes "/firmware/devicetree/base/aliases/ethernet0" else codes "/firmware/devicetree/base/aliases/ethernet"
+
+-- the number of an alias, 0 where it has none
+abbrev pub alias_number : (behind : Text) → Option ℕ
+alias_number behind = if is_empty behind then Some 0 else number_in AsWritten most_number behind
+
+-- the number of an alias, unless it is 0 and another has the same
+unfoldable pub clear_number : EventValue → (behind : Text) → Option ℕ
+clear_number event behind =
+    option_and_then (λ n. if n == 0 && is_some (file_at event (other_alias behind)) then None else Some n) (alias_number behind)
+
+-- what stands behind `ethernet` in the name of the first alias of a node
+abbrev pub first_alias : EventValue → (node : Text) → Option Text
+first_alias event node = option_and_then alias_end (find (is_alias node) (files_below event aliases_folder))
+
+-- the number of the first alias of a node
+unfoldable pub node_number : EventValue → (node : Text) → Option ℕ
+node_number event node = option_and_then (clear_number event) (first_alias event node)
+
+-- what names tell of the node of an interface
+unfoldable pub tree_text : EventValue → Option Text
+tree_text event = option_map (λ n. codes "d" ++ decimal n) (option_and_then (λ link. node_number event (node_path link)) (node_link event))

@@ -1,0 +1,47 @@
+-- What names tell of interfaces of USB and of cores of bcma, by their names.
+use Rattle.std.specs.Prelude.{ℕ, ◌==◌, [], ◌++◌, codes, decimal, map, Option, option_map, option_and_then, if◌then◌else◌}
+use Rattle.text_bytes.specs.Names.{colon, dot, minus}
+use Rattle.text_bytes.specs.Texts.{split_once}
+use Rattle.text_tables.specs.Texts.{Text, same_text}
+use Rattle.builtin_devices.specs.Numbers.{number_in}
+use Rattle.builtin_devices.specs.declared.numbers.Base.TheVariants.{Decimal}
+use Rattle.builtin_net.specs.Words.{behind, most_number}
+
+-- ports with `u` for each dot in between
+abbrev pub ports_text : Text → Text
+ports_text ports = map (λ b. if b == dot then 117 else b) ports
+
+-- a number behind a letter, left out where it is the usual one
+abbrev pub unless_usual : (usual letter number : Text) → Text
+unless_usual usual letter number = if same_text number usual then [] else letter ++ number
+
+-- ports, and configuration and interface where they are not the first
+abbrev pub usb_text : (ports configuration interface : Text) → Text
+usb_text ports configuration interface =
+    codes "u" ++ ports_text ports ++ unless_usual (codes "1") (codes "c") configuration ++ unless_usual (codes "0") (codes "i") interface
+
+-- ports with what stands behind them, and what stands before and behind the dot in that
+abbrev pub usb_numbers : Text → Text → Option Text
+usb_numbers ports numbers = option_map (λ parts. usb_text ports parts.0 parts.1) (split_once dot numbers)
+abbrev pub usb_ports : Text → Option Text
+usb_ports rest = option_and_then (λ parts. usb_numbers parts.0 parts.1) (split_once colon rest)
+
+-- The end of names by an interface of USB, by its name `BUS-PORTS:CONFIGURATION.INTERFACE`. The bus does not count.
+unfoldable pub usb_suffix : Text → Option Text
+usb_suffix name = option_and_then (λ parts. usb_ports parts.1) (split_once minus name)
+
+-- the core behind the bus, where both are numbers
+abbrev pub core_of : (bus core : Text) → Option ℕ
+core_of bus core = option_and_then (λ n. number_in Decimal most_number core) (number_in Decimal most_number bus)
+
+-- the core that a name `bcmaBUS:CORE` tells
+abbrev pub core_in : Text → Option ℕ
+core_in name = option_and_then (λ parts. core_of parts.0 parts.1) (option_and_then (split_once colon) (behind (codes "bcma") name))
+
+-- a core, the first of which is not told
+abbrev pub core_text : ℕ → Text
+core_text core = if core == 0 then [] else codes "b" ++ decimal core
+
+-- the end of names by a core of bcma
+unfoldable pub bcma_suffix : Text → Option Text
+bcma_suffix name = option_map core_text (core_in name)

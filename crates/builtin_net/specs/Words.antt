@@ -1,0 +1,40 @@
+-- Parts of texts that several names need.
+use Rattle.std.specs.Prelude.{ℕ, ◌^◌, ◌-◌, ◌==◌, Bool, false, not, ◌&&◌, List, length, take, drop, nat_eq, Option, Some, None, if◌then◌else◌}
+use Rattle.std.specs.List.{list_any, prefix_len, starts_with}
+use Rattle.std.specs.Str.{is_utf8}
+use Rattle.text_bytes.specs.Escapes.{is_control}
+use Rattle.text_bytes.specs.Numbers.{decimal_below, is_digit}
+use Rattle.text_tables.specs.Texts.{Text}
+
+-- the greatest number of 32 bits
+abbrev pub most_number : ℕ
+most_number = 2 ^ 32 - 1
+
+-- what stands behind a beginning, where a text begins with it
+unfoldable pub behind : (front : Text) → Text → Option Text
+behind front text = if starts_with nat_eq text front then Some (drop (length front) text) else None
+
+-- the digits that a text begins with, and what stands behind them
+abbrev pub leading_digits : Text → Text
+leading_digits text = take (prefix_len is_digit text) text
+abbrev pub behind_digits : Text → Text
+behind_digits text = drop (prefix_len is_digit text) text
+
+-- the number of 32 bits that these digits write
+unfoldable pub leading_number : Text → Option ℕ
+leading_number text = decimal_below (2 ^ 32) (leading_digits text)
+
+-- whether a text may be part of a name: UTF-8 without control characters
+unfoldable pub is_plain : Text → Bool
+is_plain text = is_utf8 text && not (list_any is_control text)
+
+-- a number above 0
+abbrev pub positive : Option ℕ → Option ℕ
+positive None = None
+positive (Some zero) = None
+positive (Some (suc n)) = Some (suc n)
+
+-- whether a number is there, and this one
+abbrev pub is_number : Option ℕ → ℕ → Bool
+is_number None n = false
+is_number (Some m) n = m == n

@@ -1,0 +1,207 @@
+//! The attributes that names are made of, and which of them they may use.
+ghost use Rattle.std.specs.Prelude.{◌≡◌, option_map};
+ghost use Rattle.text_tables.specs.Pairs.{value_of};
+ghost use Rattle.builtin_net.specs.Allowed.{attribute_name, interface, is_allowed, is_yes, lacks, number, permission, permits, read};
+
+use crate::words::MOST_NUMBER;
+use builtin_devices::{Base, number_in};
+use device_core::{Device, Event};
+use text_tables::{OwnedPairs, Pairs};
+
+/// An attribute that names are made of.
+#[derive(Clone, Copy)]
+pub enum Attribute {
+    /// `iflink`, the index of the interface that this one stands upon.
+    Iflink,
+    /// `type`, the number of the hardware.
+    Type,
+    /// `addr_assign_type`, where the address comes from.
+    AddrAssignType,
+    /// `address`, the address.
+    Address,
+    /// `phys_port_name`, the name of the port.
+    PhysPortName,
+    /// `dev_port`, the number of the port.
+    DevPort,
+    /// `dev_id`, the number of the port of InfiniBand.
+    DevId,
+    /// `ari_enabled`, whether functions of all slots are counted as one.
+    AriEnabled,
+    /// `acpi_index`, the number on board by ACPI.
+    AcpiIndex,
+    /// `index`, the number on board by the table of the firmware.
+    Index,
+    /// `label`, the label on board.
+    Label,
+    /// `firmware_node/sun`, the number of the slot by ACPI.
+    Sun,
+    /// `function_id`, the number of a function of System z.
+    FunctionId,
+    /// `modalias`, which says whether a device is a bridge.
+    Modalias,
+}
+
+/// The property that says whether names may use any attribute.
+const PERMISSION_OF_ALL: &[u8] = b"ID_NET_NAME_ALLOW";
+
+/// The words that mean yes, in small letters.
+const YES_WORDS: [&[u8]; 6] = [b"1", b"yes", b"y", b"true", b"t", b"on"];
+
+impl Attribute {
+    /// Where it stands below the folder of its device.
+    pub(crate) fn name(self) -> &'static [u8]
+        ensures { result.now ≡ attribute_name self }
+    {
+        match self {
+            Attribute::Iflink => b"iflink",
+            Attribute::Type => b"type",
+            Attribute::AddrAssignType => b"addr_assign_type",
+            Attribute::Address => b"address",
+            Attribute::PhysPortName => b"phys_port_name",
+            Attribute::DevPort => b"dev_port",
+            Attribute::DevId => b"dev_id",
+            Attribute::AriEnabled => b"ari_enabled",
+            Attribute::AcpiIndex => b"acpi_index",
+            Attribute::Index => b"index",
+            Attribute::Label => b"label",
+            Attribute::Sun => b"firmware_node/sun",
+            Attribute::FunctionId => b"function_id",
+            Attribute::Modalias => b"modalias",
+        }
+    }
+
+    /// The property that says whether names may use it.
+    fn permission(self) -> &'static [u8]
+        ensures { result.now ≡ permission self }
+    {
+        match self {
+            Attribute::Iflink => b"ID_NET_NAME_ALLOW_IFLINK",
+            Attribute::Type => b"ID_NET_NAME_ALLOW_TYPE",
+            Attribute::AddrAssignType => b"ID_NET_NAME_ALLOW_ADDR_ASSIGN_TYPE",
+            Attribute::Address => b"ID_NET_NAME_ALLOW_ADDRESS",
+            Attribute::PhysPortName => b"ID_NET_NAME_ALLOW_PHYS_PORT_NAME",
+            Attribute::DevPort => b"ID_NET_NAME_ALLOW_DEV_PORT",
+            Attribute::DevId => b"ID_NET_NAME_ALLOW_DEV_ID",
+            Attribute::AriEnabled => b"ID_NET_NAME_ALLOW_ARI_ENABLED",
+            Attribute::AcpiIndex => b"ID_NET_NAME_ALLOW_ACPI_INDEX",
+            Attribute::Index => b"ID_NET_NAME_ALLOW_INDEX",
+            Attribute::Label => b"ID_NET_NAME_ALLOW_LABEL",
+            Attribute::Sun => b"ID_NET_NAME_ALLOW_FIRMWARE_NODE/SUN",
+            Attribute::FunctionId => b"ID_NET_NAME_ALLOW_FUNCTION_ID",
+            Attribute::Modalias => b"ID_NET_NAME_ALLOW_MODALIAS",
+        }
+    }
+}
+
+/// Whether a word means yes, in letters of any size.
+#[tactic(auto, unfolding(crate::specs::Allowed::is_yes))]
+pub(crate) fn is_yes(word: &[u8]) -> bool
+    ensures { result ≡ is_yes word.now }
+{
+    YES_WORDS.iter().any(|yes| word.eq_ignore_ascii_case(yes))
+}
+
+/// Whether a word of its own lets names use an attribute, or else one for all attributes.
+fn permits(own: Option<&[u8]>, all: Option<&[u8]>) -> bool
+    ensures { result ≡ permits (option_map (λ t. t.now) own.entry) (option_map (λ t. t.now) all.entry) }
+{
+    match own.or(all) {
+        Some(word) => is_yes(word),
+        None => true,
+    }
+}
+
+/// Whether properties that udev has kept let names use an attribute.
+#[tactic(auto, unfolding(crate::specs::Allowed::is_allowed))]
+fn is_allowed(env: &Pairs<'_>, attribute: Attribute) -> bool
+    ensures { result ≡ is_allowed env.now attribute }
+{
+    permits(env.get(attribute.permission()), env.get(PERMISSION_OF_ALL))
+}
+
+/// Lends the current value of a property.
+fn property<'e>(env: &'e OwnedPairs, name: &[u8]) -> Option<&'e [u8]>
+    ensures { option_map (λ t. t.now) result ≡ value_of env.now name.now }
+{
+    match env.get(name) {
+        Some(value) => Some(value.as_slice()),
+        None => None,
+    }
+}
+
+/// Whether current properties let names use an attribute.
+#[tactic(auto, unfolding(crate::specs::Allowed::is_allowed))]
+fn is_allowed_now(env: &OwnedPairs, attribute: Attribute) -> bool
+    ensures { result ≡ is_allowed env.now attribute }
+{
+    permits(
+        property(env, attribute.permission()),
+        property(env, PERMISSION_OF_ALL),
+    )
+}
+
+/// An attribute of a device, unless names may not use it.
+#[tactic(auto, unfolding(crate::specs::Allowed::read))]
+pub(crate) fn read<'a>(device: &Device<'a>, attribute: Attribute) -> Option<&'a [u8]>
+    ensures { option_map (λ t. t.now) result ≡ read device.now attribute }
+{
+    if is_allowed(device.env(), attribute) {
+        device.attrs().get(attribute.name())
+    } else {
+        None
+    }
+}
+
+/// The number that an attribute says.
+#[tactic(auto, unfolding(crate::specs::Allowed::number))]
+pub(crate) fn number(device: &Device<'_>, attribute: Attribute) -> Option<u64>
+    ensures { result ≡ number device.now attribute }
+{
+    match read(device, attribute) {
+        Some(text) => number_in(Base::AsWritten, MOST_NUMBER, text),
+        None => None,
+    }
+}
+
+/// Whether a device lacks an attribute that names may use.
+#[tactic(auto, unfolding(crate::specs::Allowed::lacks))]
+pub(crate) fn lacks(device: &Device<'_>, attribute: Attribute) -> bool
+    ensures { result ≡ lacks device.now attribute }
+{
+    is_allowed(device.env(), attribute) && device.attrs().get(attribute.name()).is_none()
+}
+
+/// An attribute of the event device, unless its current properties forbid it.
+#[tactic(auto, unfolding(crate::specs::Allowed::read))]
+pub(crate) fn read_own<'a>(
+    event: &Event<'a>,
+    env: &OwnedPairs,
+    attribute: Attribute,
+) -> Option<&'a [u8]>
+    ensures { option_map (λ t. t.now) result ≡ read (interface event.now env.now) attribute }
+{
+    if is_allowed_now(env, attribute) {
+        event.device().attrs().get(attribute.name())
+    } else {
+        None
+    }
+}
+
+/// The number that an attribute of the event device says.
+#[tactic(auto, unfolding(crate::specs::Allowed::number))]
+pub(crate) fn own_number(event: &Event<'_>, env: &OwnedPairs, attribute: Attribute) -> Option<u64>
+    ensures { result ≡ number (interface event.now env.now) attribute }
+{
+    match read_own(event, env, attribute) {
+        Some(text) => number_in(Base::AsWritten, MOST_NUMBER, text),
+        None => None,
+    }
+}
+
+/// Whether the event device lacks an attribute that names may use.
+#[tactic(auto, unfolding(crate::specs::Allowed::lacks))]
+pub(crate) fn lacks_own(event: &Event<'_>, env: &OwnedPairs, attribute: Attribute) -> bool
+    ensures { result ≡ lacks (interface event.now env.now) attribute }
+{
+    is_allowed_now(env, attribute) && event.device().attrs().get(attribute.name()).is_none()
+}

@@ -1,0 +1,96 @@
+//! The builtin.
+ghost use Rattle.std.specs.Prelude.{◌≡◌, option_map, IfOk};
+ghost use Rattle.builtin_net.specs.Allowed.{interface};
+ghost use Rattle.builtin_net.specs.NetId.{lookup, net_id, properties};
+
+use crate::address::maker_lookup;
+use crate::identity::{is_identified, naming};
+use crate::names::{lasting_address, names};
+use crate::needs::needs;
+use builtin_devices::{Devices, Outcome};
+use device_core::Event;
+use std::alloc::{AllocError, Global};
+use text_bytes::Bytes;
+use text_tables::OwnedPairs;
+
+/// What net_id comes to.
+#[derive(Drop)]
+pub struct NetNames {
+    /// Whether it succeeds, the names and what the block would have to tell.
+    pub outcome: Outcome,
+    /// What is asked of the hardware database: who made the interface. Its properties are set behind the name by the
+    /// address.
+    pub lookup: Option<Bytes>,
+}
+
+/// What is asked of the hardware database.
+#[tactic(auto, unfolding(crate::specs::NetId::lookup))]
+fn lookup(
+    alloc: Global,
+    event: &Event<'_>,
+    env: &OwnedPairs,
+) -> Result<Option<Bytes>, AllocError>
+    ensures { IfOk result (λ text. text ≡ lookup event.now env.now) }
+{
+    let Some(prefix) = naming(event, env) else {
+        return Ok(None);
+    };
+    let Some(digits) = lasting_address(alloc, prefix, event, env)? else {
+        return Ok(None);
+    };
+    match maker_lookup(alloc, &digits)? {
+        Some(text) => Ok(Some(Bytes::new(text))),
+        None => Ok(None),
+    }
+}
+
+/// The names of an interface that has some.
+fn properties(
+    alloc: Global,
+    devices: &Devices<'_>,
+    env: &OwnedPairs,
+) -> Result<Vec<(Bytes, Bytes)>, AllocError>
+    ensures { IfOk result (λ given. given.items ≡ properties devices.now (interface devices.now env.now)) }
+{
+    match naming(devices.event(), env) {
+        Some(prefix) => names(alloc, devices, prefix, env),
+        None => Ok(Vec::new(alloc)),
+    }
+}
+
+/// The outcome of net_id.
+#[tactic(auto, unfolding(crate::specs::NetId::net_id))]
+fn outcome(
+    alloc: Global,
+    devices: &Devices<'_>,
+    env: &OwnedPairs,
+) -> Result<Outcome, AllocError>
+    ensures { IfOk result (λ outcome. outcome ≡ net_id devices.now env.now) }
+{
+    let needs = needs(alloc, devices, env)?;
+    if !is_identified(devices.event(), env) {
+        return Ok(Outcome::failing(alloc, needs));
+    }
+    Ok(Outcome::succeeding(properties(alloc, devices, env)?, needs))
+}
+
+/// The names of the network interface that the event device is, as the builtin net_id of udev of systemd 257 gives
+/// them by its naming scheme v257; systemd.net-naming-scheme(7) has the forms. `env` are the current properties of
+/// the event device, which say what names may use of it; the kernel's own count for IFINDEX and DEVTYPE.
+///
+/// It fails where IFINDEX is no number above 0, or `iflink` is no number. It sets nothing for an interface upon
+/// another and for hardware other than Ethernet, InfiniBand and SLIP. The error comes where memory is refused.
+pub fn net_id(
+    alloc: Global,
+    event: &Event<'_>,
+    env: &OwnedPairs,
+) -> Result<NetNames, AllocError>
+    ensures outcome { IfOk result (λ names. names.outcome ≡ net_id event.now env.now) }
+    ensures lookup { IfOk result (λ names. names.lookup ≡ lookup event.now env.now) }
+{
+    let devices = Devices::new(alloc, event)?;
+    Ok(NetNames {
+        outcome: outcome(alloc, &devices, env)?,
+        lookup: lookup(alloc, event, env)?,
+    })
+}

@@ -1,0 +1,343 @@
+//! What names tell of buses other than PCI and USB.
+ghost use Rattle.std.specs.Prelude.{◌≡◌, ◌==◌, ◌||◌, ◌++◌, ◌≤◌, length, map, option_copied, option_map, IfOk, OnOk};
+ghost use Rattle.std.specs.Char.{is_ascii_hexdigit, to_ascii_lowercase};
+ghost use Rattle.std.specs.List.{before_first, list_all, prefix_len};
+ghost use Rattle.text_bytes.specs.Names.{digit_zero, dot};
+ghost use Rattle.builtin_net.specs.Allowed.{interface};
+ghost use Rattle.builtin_net.specs.Buses.{acpi_text, by_ccw, by_netdevsim, by_platform, by_vio, by_xen, ccw_text, component, is_acpi, is_there, is_vendor, is_written_number, netdevsim_text, number_of_name, parent, parent_behind_virtio, platform_parts, platform_text, simulated, vio_text, without_start, xen_text};
+
+use crate::allowed::{Attribute, read_own};
+use crate::ports::some_text;
+use crate::words::{MOST_NUMBER, behind, is_plain, joined, push_number};
+use builtin_devices::{Base, Devices, is_of, name_number, number_in};
+use device_core::{Device, Event};
+use std::alloc::{AllocError, Global};
+use text_bytes::{begins_with, decimal_below, split_once};
+use text_links::kernel_name;
+use text_tables::OwnedPairs;
+
+/// The device right above the event device.
+pub(crate) fn parent<'d, 'a>(
+    alloc: Global,
+    devices: &'d Devices<'a>,
+) -> Result<Option<&'d Device<'a>>, AllocError>
+    ensures { IfOk result (λ found. option_copied found ≡ parent devices.now) }
+{
+    let parents = devices.parents_of(alloc, devices.event().device().path())?;
+    Ok(parents.first().copied())
+}
+
+/// The nearest device above the event device that is not of virtio.
+pub(crate) fn parent_behind_virtio<'d, 'a>(
+    alloc: Global,
+    devices: &'d Devices<'a>,
+) -> Result<Option<&'d Device<'a>>, AllocError>
+    ensures { IfOk result (λ found. option_copied found ≡ parent_behind_virtio devices.now) }
+{
+    for device in devices.parents_of(alloc, devices.event().device().path())? {
+        if !is_of(b"virtio", None, device) {
+            return Ok(Some(device));
+        }
+    }
+    Ok(None)
+}
+
+/// Whether there is a device, of a subsystem.
+pub(crate) fn is_there(subsystem: &[u8], device: Option<&Device<'_>>) -> bool
+    ensures { result ≡ is_there subsystem.now (option_copied device.entry) }
+{
+    match device {
+        Some(device) => is_of(subsystem, None, device),
+        None => false,
+    }
+}
+
+/// The component of a path behind a folder.
+#[tactic(auto, unfolding(crate::specs::Buses::component))]
+fn component<'a>(folder: &[u8], path: &'a [u8]) -> Option<&'a [u8]>
+    ensures { option_map (λ t. t.now) result ≡ component folder.now path.now }
+{
+    let rest = behind(folder, path)?;
+    Some(before_slash(rest))
+}
+
+/// What stands before the first slash of a text, or the whole text.
+fn before_slash(text: &[u8]) -> &[u8]
+    ensures { result.now ≡ before_first (λ b. b == 47) text.now }
+{
+    let before = text.iter().take_while(|byte| **byte != b'/').count();
+    text.split_at(before).0
+}
+
+/// How many zeros and dots a text begins with.
+fn ccw_start(text: &[u8]) -> usize
+    ensures value { result ≡ prefix_len (λ b. b == digit_zero || b == dot) text.now }
+    ensures within { result ≤ length text.now }
+{
+    text.iter()
+        .take_while(|byte| **byte == b'0' || **byte == b'.')
+        .count()
+}
+
+/// How many zeros a text begins with.
+fn leading_zeros(text: &[u8]) -> usize
+    ensures value { result ≡ prefix_len (λ b. b == digit_zero) text.now }
+    ensures within { result ≤ length text.now }
+{
+    text.iter().take_while(|byte| **byte == b'0').count()
+}
+
+/// A text without so many bytes at its start; where that are all, the last one stays.
+fn without_start(text: &[u8], count: usize) -> &[u8]
+    requires { count ≤ length text.now }
+    ensures { result.now ≡ without_start count text.now }
+{
+    if count == text.len() {
+        return text.split_at(text.len().saturating_sub(1)).1;
+    }
+    text.split_at(count).1
+}
+
+/// A name of ccw as names of interfaces have it.
+#[tactic(auto, unfolding(crate::specs::Buses::ccw_text))]
+fn ccw_text(alloc: Global, kernel: &[u8]) -> Result<Option<Vec<u8>>, AllocError>
+    ensures { IfOk result (λ text. option_map (λ t. t.items) text ≡ ccw_text kernel.now) }
+{
+    if kernel.len() < 8 || kernel.len() > 9 {
+        return Ok(None);
+    }
+    Ok(Some(joined(alloc, b"c", without_start(kernel, ccw_start(kernel)))?))
+}
+
+/// A name of vio as names of interfaces have it.
+#[tactic(auto, unfolding(crate::specs::Buses::vio_text))]
+fn vio_text(alloc: Global, name: &[u8]) -> Result<Option<Vec<u8>>, AllocError>
+    ensures { IfOk result (λ text. option_map (λ t. t.items) text ≡ vio_text name.now) }
+{
+    if name.len() != 8 || !is_hexadecimal(name) {
+        return Ok(None);
+    }
+    let Some(number) = number_in(Base::Hexadecimal, MOST_NUMBER, name.split_at(4).1) else {
+        return Ok(None);
+    };
+    let mut text = Vec::new(alloc);
+    push_number(&mut text, b"v", number)?;
+    Ok(Some(text))
+}
+
+/// Whether a text has only hexadecimal digits.
+fn is_hexadecimal(text: &[u8]) -> bool
+    ensures { result ≡ list_all is_ascii_hexdigit text.now }
+{
+    text.iter().all(|byte| byte.is_ascii_hexdigit())
+}
+
+/// Whether a text names a maker of platform devices.
+#[tactic(auto, unfolding(crate::specs::Buses::is_vendor))]
+fn is_vendor(text: &[u8]) -> bool
+    ensures { result ≡ is_vendor text.now }
+{
+    match text.len() {
+        3 => text.iter().all(|byte| byte.is_ascii_uppercase()),
+        4 => text
+            .iter()
+            .all(|byte| byte.is_ascii_uppercase() || byte.is_ascii_digit()),
+        _ => false,
+    }
+}
+
+/// Puts a text behind another, in small letters.
+fn push_small(text: &mut Vec<u8>, more: &[u8]) -> Result<(), AllocError>
+    ensures { OnOk result (text.new.items ≡ text.old.items ++ map to_ascii_lowercase more.now) }
+{
+    for byte in more {
+        text.push(byte.to_ascii_lowercase())?;
+    }
+    Ok(())
+}
+
+/// Maker, model and instance of a platform device as names of interfaces have them.
+fn acpi_text(
+    alloc: Global,
+    vendor: &[u8],
+    model: &[u8],
+    instance: u64,
+) -> Result<Vec<u8>, AllocError>
+    ensures { IfOk result (λ text. text.items ≡ acpi_text vendor.now model.now instance) }
+{
+    let mut text = Vec::from_slice(alloc, b"a")?;
+    push_small(&mut text, vendor)?;
+    push_small(&mut text, without_start(model, leading_zeros(model)))?;
+    push_number(&mut text, b"i", instance)?;
+    Ok(text)
+}
+
+/// What stands before and behind the colon in the name of a platform device.
+fn platform_parts(
+    alloc: Global,
+    front: &[u8],
+    instance: &[u8],
+) -> Result<Option<Vec<u8>>, AllocError>
+    ensures { IfOk result (λ text. option_map (λ t. t.items) text ≡ platform_parts front.now instance.now) }
+{
+    let (vendor, model) = front.split_at(front.len().saturating_sub(4));
+    if !is_vendor(vendor) || !is_hexadecimal(model) || instance.len() != 2 {
+        return Ok(None);
+    }
+    match number_in(Base::Hexadecimal, MOST_NUMBER, instance) {
+        Some(instance) => Ok(Some(acpi_text(alloc, vendor, model, instance)?)),
+        None => Ok(None),
+    }
+}
+
+/// A name of a platform device as names of interfaces have it.
+#[tactic(auto, unfolding(crate::specs::Buses::platform_text))]
+fn platform_text(alloc: Global, name: &[u8]) -> Result<Option<Vec<u8>>, AllocError>
+    ensures { IfOk result (λ text. option_map (λ t. t.items) text ≡ platform_text name.now) }
+{
+    match split_once(b':', name) {
+        Some((front, instance)) => platform_parts(alloc, front, instance),
+        None => Ok(None),
+    }
+}
+
+/// Whether a text is a number of 32 bits in decimal digits, without zeros before it.
+fn is_written_number(text: &[u8]) -> bool
+    ensures { result ≡ is_written_number text.now }
+{
+    decimal_below(1 << 32, text).is_some() && (text == b"0".as_slice() || !begins_with(b'0', text))
+}
+
+/// A name of Xen as names of interfaces have it.
+#[tactic(auto, unfolding(crate::specs::Buses::xen_text))]
+fn xen_text(alloc: Global, name: &[u8]) -> Result<Option<Vec<u8>>, AllocError>
+    ensures { IfOk result (λ text. option_map (λ t. t.items) text ≡ xen_text name.now) }
+{
+    match behind(b"vif-", name) {
+        Some(number) if is_written_number(number) => Ok(Some(joined(alloc, b"X", number)?)),
+        _ => Ok(None),
+    }
+}
+
+/// The number of a device of netdevsim, and the name of a port, as names of interfaces have them.
+fn simulated(
+    alloc: Global,
+    number: Option<u64>,
+    port: Option<&[u8]>,
+) -> Result<Option<Vec<u8>>, AllocError>
+    ensures { IfOk result (λ text. option_map (λ t. t.items) text ≡ simulated number (option_map (λ t. t.now) port.entry)) }
+{
+    let Some(number) = number else {
+        return Ok(None);
+    };
+    let Some(port) = port else {
+        return Ok(None);
+    };
+    if !is_plain(port) {
+        return Ok(None);
+    }
+    let mut text = Vec::new(alloc);
+    push_number(&mut text, b"i", number)?;
+    text.extend_from_slice(b"n")?;
+    text.extend_from_slice(port)?;
+    Ok(Some(text))
+}
+
+/// The number of a kernel's name.
+fn number_of_name(kernel: &[u8]) -> Option<u64>
+    ensures { result ≡ number_of_name kernel.now }
+{
+    number_in(Base::AsWritten, MOST_NUMBER, name_number(kernel)?)
+}
+
+/// What names tell of a device of netdevsim and of the port.
+#[tactic(auto, unfolding(crate::specs::Buses::netdevsim_text))]
+fn netdevsim_text(
+    alloc: Global,
+    event: &Event<'_>,
+    env: &OwnedPairs,
+    device: &Device<'_>,
+) -> Result<Option<Vec<u8>>, AllocError>
+    ensures { IfOk result (λ text. option_map (λ t. t.items) text ≡ netdevsim_text (interface event.now env.now) device.now) }
+{
+    let kernel = kernel_name(alloc, device.path())?;
+    let number = number_of_name(kernel.as_slice());
+    let port = some_text(read_own(event, env, Attribute::PhysPortName));
+    simulated(alloc, number, port)
+}
+
+/// What names tell of the device of ccw above an interface.
+#[tactic(auto, unfolding(crate::specs::Buses::by_ccw))]
+pub(crate) fn by_ccw(alloc: Global, devices: &Devices<'_>) -> Result<Option<Vec<u8>>, AllocError>
+    ensures { IfOk result (λ text. option_map (λ t. t.items) text ≡ by_ccw devices.now) }
+{
+    let Some(device) = parent_behind_virtio(alloc, devices)? else {
+        return Ok(None);
+    };
+    if !is_of(b"ccwgroup", None, device) && !is_of(b"ccw", None, device) {
+        return Ok(None);
+    }
+    let kernel = kernel_name(alloc, device.path())?;
+    ccw_text(alloc, kernel.as_slice())
+}
+
+/// What names tell of the device of vio above an interface.
+#[tactic(auto, unfolding(crate::specs::Buses::by_vio))]
+pub(crate) fn by_vio(alloc: Global, devices: &Devices<'_>) -> Result<Option<Vec<u8>>, AllocError>
+    ensures { IfOk result (λ text. option_map (λ t. t.items) text ≡ by_vio devices.now) }
+{
+    if !is_there(b"vio", parent(alloc, devices)?) {
+        return Ok(None);
+    }
+    match component(b"/devices/vio/", devices.event().device().path()) {
+        Some(name) => vio_text(alloc, name),
+        None => Ok(None),
+    }
+}
+
+/// What names tell of the platform device above an interface.
+#[tactic(auto, unfolding(crate::specs::Buses::by_platform))]
+pub(crate) fn by_platform(
+    alloc: Global,
+    devices: &Devices<'_>,
+) -> Result<Option<Vec<u8>>, AllocError>
+    ensures { IfOk result (λ text. option_map (λ t. t.items) text ≡ by_platform devices.now) }
+{
+    if !is_there(b"platform", parent(alloc, devices)?) {
+        return Ok(None);
+    }
+    match component(b"/devices/platform/", devices.event().device().path()) {
+        Some(name) => platform_text(alloc, name),
+        None => Ok(None),
+    }
+}
+
+/// What names tell of the device of Xen above an interface.
+#[tactic(auto, unfolding(crate::specs::Buses::by_xen))]
+pub(crate) fn by_xen(alloc: Global, devices: &Devices<'_>) -> Result<Option<Vec<u8>>, AllocError>
+    ensures { IfOk result (λ text. option_map (λ t. t.items) text ≡ by_xen devices.now) }
+{
+    if !is_there(b"xen", parent(alloc, devices)?) {
+        return Ok(None);
+    }
+    match component(b"/devices/", devices.event().device().path()) {
+        Some(name) => xen_text(alloc, name),
+        None => Ok(None),
+    }
+}
+
+/// What names tell of the device of netdevsim above an interface.
+#[tactic(auto, unfolding(crate::specs::Buses::by_netdevsim))]
+pub(crate) fn by_netdevsim(
+    alloc: Global,
+    devices: &Devices<'_>,
+    env: &OwnedPairs,
+) -> Result<Option<Vec<u8>>, AllocError>
+    ensures { IfOk result (λ text. option_map (λ t. t.items) text ≡ by_netdevsim devices.now (interface devices.now env.now)) }
+{
+    let event = devices.event();
+    match devices.above(alloc, b"netdevsim", None, event.device().path())? {
+        Some(device) => netdevsim_text(alloc, event, env, device),
+        None => Ok(None),
+    }
+}

@@ -1,0 +1,181 @@
+//! Functions of PCI, by their names.
+ghost use Rattle.std.specs.Prelude.{◌≡◌, ◌++◌, ◌≤◌, IfOk, IfSome, OnOk, option_map};
+ghost use Rattle.builtin_devices.specs.Numbers.{number_in};
+ghost use Rattle.builtin_net.specs.Function.{config, domain_text, function, function_of, function_text, has_ari, header_type, in_bus, in_domain, is_several, place_text, with_ari};
+ghost use Rattle.builtin_net.specs.Words.{most_number};
+
+use crate::allowed::{Attribute, is_yes, read};
+use crate::words::{MOST_NUMBER, joined, push_number};
+use builtin_devices::{Base, bytes_of, file_at, number_in};
+use device_core::{Device, Event};
+use std::alloc::{AllocError, Global};
+use text_bytes::split_once;
+use text_links::kernel_name;
+
+/// A function of a card in a slot of a bus; each domain has buses of its own.
+#[derive(Clone, Copy)]
+pub struct Function {
+    /// The domain.
+    pub domain: u64,
+    /// The bus.
+    pub bus: u64,
+    /// The slot.
+    pub slot: u64,
+    /// The function.
+    pub function: u64,
+}
+
+/// A number of 32 bits.
+fn small_number(base: Base, text: &[u8]) -> Option<u64>
+    ensures value { result ≡ number_in base most_number text.now }
+    ensures small { IfSome result (λ n. n ≤ most_number) }
+{
+    number_in(base, MOST_NUMBER, text)
+}
+
+/// The function of a domain and a bus, whose slot and function stand in a text.
+#[tactic(auto, unfolding(crate::specs::Function::in_bus))]
+fn in_bus(domain: &[u8], bus: &[u8], place: &[u8]) -> Option<Function>
+    ensures value { result ≡ in_bus domain.now bus.now place.now }
+    ensures slot { IfSome result (λ f. f.slot ≤ most_number) }
+    ensures function { IfSome result (λ f. f.function ≤ most_number) }
+{
+    let (slot, function) = split_once(b'.', place)?;
+    Some(Function {
+        domain: small_number(Base::Hexadecimal, domain)?,
+        bus: small_number(Base::Hexadecimal, bus)?,
+        slot: small_number(Base::Hexadecimal, slot)?,
+        function: small_number(Base::Decimal, function)?,
+    })
+}
+
+/// The function of a domain, whose bus, slot and function stand in a text.
+#[tactic(auto, unfolding(crate::specs::Function::in_domain))]
+fn in_domain(domain: &[u8], rest: &[u8]) -> Option<Function>
+    ensures value { result ≡ in_domain domain.now rest.now }
+    ensures slot { IfSome result (λ f. f.slot ≤ most_number) }
+    ensures function { IfSome result (λ f. f.function ≤ most_number) }
+{
+    let (bus, place) = split_once(b':', rest)?;
+    in_bus(domain, bus, place)
+}
+
+/// The function that a name tells.
+#[tactic(auto, unfolding(crate::specs::Function::function_of))]
+fn function_of(name: &[u8]) -> Option<Function>
+    ensures value { result ≡ function_of name.now }
+    ensures slot { IfSome result (λ f. f.slot ≤ most_number) }
+    ensures function { IfSome result (λ f. f.function ≤ most_number) }
+{
+    let (domain, rest) = split_once(b':', name)?;
+    in_domain(domain, rest)
+}
+
+/// A function of a card that counts the functions of all its slots as one.
+fn with_ari(f: Function) -> Function
+    requires slot { f.slot ≤ most_number }
+    requires function { f.function ≤ most_number }
+    ensures { result ≡ with_ari f }
+{
+    Function {
+        function: f.function + 8 * f.slot,
+        ..f
+    }
+}
+
+/// Whether a device says that its card counts the functions of all slots as one.
+fn has_ari(pci: &Device<'_>) -> bool
+    ensures { result ≡ has_ari pci.now }
+{
+    match read(pci, Attribute::AriEnabled) {
+        Some(word) => is_yes(word),
+        None => false,
+    }
+}
+
+/// The function that a device is.
+#[tactic(auto, unfolding(crate::specs::Function::function))]
+pub(crate) fn function_at(alloc: Global, pci: &Device<'_>) -> Result<Option<Function>, AllocError>
+    ensures { IfOk result (λ f. f ≡ function pci.now) }
+{
+    let name = kernel_name(alloc, pci.path())?;
+    let Some(function) = function_of(name.as_slice()) else {
+        return Ok(None);
+    };
+    if has_ari(pci) {
+        return Ok(Some(with_ari(function)));
+    }
+    Ok(Some(function))
+}
+
+/// The bytes of the configuration of a function, in hexadecimal digits.
+pub(crate) fn config<'a>(
+    alloc: Global,
+    event: &Event<'a>,
+    pci: &Device<'_>,
+) -> Result<Option<&'a [u8]>, AllocError>
+    ensures { IfOk result (λ digits. option_map (λ t. t.now) digits ≡ config event.now pci.now) }
+{
+    let path = joined(alloc, pci.path(), b"/config")?;
+    Ok(file_at(event, &path))
+}
+
+/// The type of the header of a configuration.
+fn header_type(alloc: Global, digits: &[u8]) -> Result<Option<u8>, AllocError>
+    ensures { IfOk result (λ kind. kind ≡ header_type digits.now) }
+{
+    match bytes_of(alloc, digits)? {
+        Some(bytes) => Ok(bytes.get(14).copied()),
+        None => Ok(None),
+    }
+}
+
+/// Whether a function says that its card has several.
+#[tactic(auto, unfolding(crate::specs::Function::is_several))]
+pub(crate) fn is_several(
+    alloc: Global,
+    event: &Event<'_>,
+    pci: &Device<'_>,
+) -> Result<bool, AllocError>
+    ensures { IfOk result (λ several. several ≡ is_several event.now pci.now) }
+{
+    let Some(digits) = config(alloc, event, pci)? else {
+        return Ok(false);
+    };
+    match header_type(alloc, digits)? {
+        Some(kind) => Ok(kind >= 0x80),
+        None => Ok(false),
+    }
+}
+
+/// Puts the domain behind a text, unless it is the first.
+pub(crate) fn push_domain(text: &mut Vec<u8>, f: Function) -> Result<(), AllocError>
+    ensures { OnOk result (text.new.items ≡ text.old.items ++ domain_text f) }
+{
+    if f.domain == 0 {
+        return Ok(());
+    }
+    push_number(text, b"P", f.domain)
+}
+
+/// Puts bus and slot behind a text.
+pub(crate) fn push_place(text: &mut Vec<u8>, f: Function) -> Result<(), AllocError>
+    ensures { OnOk result (text.new.items ≡ text.old.items ++ place_text f) }
+{
+    push_number(text, b"p", f.bus)?;
+    push_number(text, b"s", f.slot)
+}
+
+/// Puts the function behind a text, unless it is the first and the only one.
+pub(crate) fn push_function(
+    text: &mut Vec<u8>,
+    f: Function,
+    several: bool,
+) -> Result<(), AllocError>
+    ensures { OnOk result (text.new.items ≡ text.old.items ++ function_text f several) }
+{
+    if f.function == 0 && !several {
+        return Ok(());
+    }
+    push_number(text, b"f", f.function)
+}

@@ -1,0 +1,22 @@
+//! The builtin net_id of udev 257: names for network interfaces, by what they stand on.
+#![tactic(auto)]
+
+mod address;
+mod allowed;
+mod builtin;
+mod buses;
+mod functions;
+mod identity;
+mod names;
+mod needs;
+
+mod on_board;
+mod ports;
+mod prefixes;
+mod slots;
+mod trees;
+mod usb;
+mod virtual_functions;
+mod words;
+
+pub use builtin::{NetNames, net_id};

@@ -1,0 +1,31 @@
+//! Interfaces on board: their label and number.
+ghost use Rattle.std.specs.Prelude.{◌≡◌, option_map};
+ghost use Rattle.builtin_net.specs.OnBoard.{board_number, label};
+
+use crate::allowed::{Attribute, number, read};
+use crate::words::is_plain;
+use device_core::Device;
+
+/// The label of a function, where it may be told.
+#[tactic(auto, unfolding(crate::specs::OnBoard::label))]
+pub(crate) fn label<'a>(pci: &Device<'a>) -> Option<&'a [u8]>
+    ensures { option_map (λ t. t.now) result ≡ label pci.now }
+{
+    let text = read(pci, Attribute::Label)?;
+    if !is_plain(text) {
+        return None;
+    }
+    Some(text)
+}
+
+/// The number of a function on board, of 16 bits.
+#[tactic(auto, unfolding(crate::specs::OnBoard::board_number))]
+pub(crate) fn board_number(pci: &Device<'_>) -> Option<u64>
+    ensures { result ≡ board_number pci.now }
+{
+    let number = number(pci, Attribute::AcpiIndex).or(number(pci, Attribute::Index))?;
+    if number >= 1 << 16 {
+        return None;
+    }
+    Some(number)
+}

@@ -1,0 +1,104 @@
+//! What tells the ports of one function apart.
+ghost use Rattle.std.specs.Prelude.{◌≡◌, IfOk, option_map};
+ghost use Rattle.builtin_net.specs.Allowed.{interface};
+ghost use Rattle.builtin_net.specs.Port.{named_port, numbered_port, port_number, port_text, represented, some_text, virtual_of};
+
+use crate::allowed::{Attribute, own_number, read_own};
+use crate::prefixes::Prefix;
+use crate::words::{behind, behind_digits, is_plain, joined, leading_number, push_number};
+use device_core::Event;
+use std::alloc::{AllocError, Global};
+use text_tables::OwnedPairs;
+
+/// The number of the virtual function behind that of a physical one.
+#[tactic(auto, unfolding(crate::specs::Port::virtual_of))]
+fn virtual_of(text: &[u8]) -> Option<u64>
+    ensures { result ≡ virtual_of text.now }
+{
+    leading_number(text)?;
+    let digits = behind(b"vf", behind_digits(text))?;
+    leading_number(digits)
+}
+
+/// The virtual function that the interface of a switch stands for, by the name of its port.
+#[tactic(auto, unfolding(crate::specs::Port::represented))]
+fn represented(name: &[u8]) -> Option<u64>
+    ensures { result ≡ represented name.now }
+{
+    virtual_of(behind(b"pf", name)?)
+}
+
+/// A port by its name, where that may be part of one.
+#[tactic(auto, unfolding(crate::specs::Port::named_port))]
+fn named_port(alloc: Global, name: &[u8]) -> Result<Option<Vec<u8>>, AllocError>
+    ensures { IfOk result (λ text. option_map (λ t. t.items) text ≡ named_port name.now) }
+{
+    if let Some(number) = represented(name) {
+        let mut text = Vec::new(alloc);
+        push_number(&mut text, b"r", number)?;
+        return Ok(Some(text));
+    }
+    if !is_plain(name) {
+        return Ok(None);
+    }
+    Ok(Some(joined(alloc, b"n", name)?))
+}
+
+/// A port by its number, the first of which is not told.
+fn numbered_port(alloc: Global, number: u64) -> Result<Vec<u8>, AllocError>
+    ensures { IfOk result (λ text. text.items ≡ numbered_port number) }
+{
+    let mut text = Vec::new(alloc);
+    if number != 0 {
+        push_number(&mut text, b"d", number)?;
+    }
+    Ok(text)
+}
+
+/// The number of a port.
+#[tactic(auto, unfolding(crate::specs::Port::port_number))]
+fn port_number(
+    prefix: Prefix,
+    event: &Event<'_>,
+    env: &OwnedPairs,
+    by_id: bool,
+) -> Option<u64>
+    ensures { result ≡ port_number prefix (interface event.now env.now) by_id }
+{
+    let number = own_number(event, env, Attribute::DevPort)?;
+    if number == 0 && by_id && prefix.is_infiniband() {
+        return own_number(event, env, Attribute::DevId);
+    }
+    Some(number)
+}
+
+/// A text that is not empty.
+pub(crate) fn some_text(text: Option<&[u8]>) -> Option<&[u8]>
+    ensures { option_map (λ t. t.now) result ≡ some_text (option_map (λ t. t.now) text.entry) }
+{
+    match text {
+        Some(text) if !text.is_empty() => Some(text),
+        _ => None,
+    }
+}
+
+/// What names of an interface tell of its port; `None` where no name can be given. The number of the
+/// port of InfiniBand counts where `by_id` says so.
+#[tactic(auto, unfolding(crate::specs::Port::port_text))]
+pub(crate) fn port_text(
+    alloc: Global,
+    prefix: Prefix,
+    event: &Event<'_>,
+    env: &OwnedPairs,
+    by_id: bool,
+) -> Result<Option<Vec<u8>>, AllocError>
+    ensures { IfOk result (λ text. option_map (λ t. t.items) text ≡ port_text prefix (interface event.now env.now) by_id) }
+{
+    if let Some(name) = some_text(read_own(event, env, Attribute::PhysPortName)) {
+        return named_port(alloc, name);
+    }
+    match port_number(prefix, event, env, by_id) {
+        Some(number) => Ok(Some(numbered_port(alloc, number)?)),
+        None => Ok(None),
+    }
+}

@@ -1,0 +1,302 @@
+//! The slot that a function stands in.
+ghost use Rattle.std.specs.Prelude.{◌≡◌, ◌==◌, ◌&&◌, codes, find, is_some, length, map, option_copied, option_map, IfOk, None};
+ghost use Rattle.std.specs.List.{after_last, list_any};
+ghost use Rattle.std.specs.Option.{option_map_or};
+ghost use Rattle.builtin_devices.specs.Devices.{parents_of};
+ghost use Rattle.builtin_net.specs.Allowed.{read};
+ghost use Rattle.builtin_net.specs.Slots.{ends_search, ends_search_in_pci, firmware_number, holds, is_bridge, is_bridge_alias, is_identity, is_slot_of, is_told, number_by_firmware, number_by_place, number_of_above, pci_above, search_end, slot_at_end, slot_by_bus, slot_by_identity, slot_files, slot_name, slot_number, slot_of};
+
+use crate::allowed::{Attribute, number, read};
+use crate::functions::is_several;
+use crate::words::{MOST_NUMBER, is_number, positive};
+use builtin_devices::{Base, Devices, file_at, files_below, is_of, number_in};
+use device_core::{Device, Event};
+use std::alloc::{AllocError, Global};
+use text_bytes::split_once;
+use text_links::kernel_name;
+
+/// The folder of all slots of the bus.
+pub(crate) const SLOTS_FOLDER: &[u8] = b"/bus/pci/slots";
+
+/// A slot by its number, and whether names by it leave the domain out.
+#[derive(Clone, Copy)]
+pub struct Slot {
+    /// The number.
+    pub number: u64,
+    /// Whether the domain is left out.
+    pub drops_domain: bool,
+}
+
+/// The number of a slot that the firmware tells of a device.
+pub(crate) fn firmware_number(pci: &Device<'_>) -> Option<u64>
+    ensures { result ≡ firmware_number pci.now }
+{
+    positive(number(pci, Attribute::Sun))
+}
+
+/// What stands behind the last `s` of a text, or the whole text.
+fn behind_last_s(text: &[u8]) -> &[u8]
+    ensures { result.now ≡ after_last (λ b. b == 115) text.now }
+{
+    let behind = text.iter().rev().take_while(|byte| **byte != b's').count();
+    text.split_at(text.len() - behind).1
+}
+
+/// Whether a modalias is that of a bridge.
+#[tactic(auto, unfolding(crate::specs::Slots::is_bridge_alias))]
+fn is_bridge_alias(alias: &[u8]) -> bool
+    ensures { result ≡ is_bridge_alias alias.now }
+{
+    alias.starts_with(b"pci:") && behind_last_s(alias).starts_with(b"c04")
+}
+
+/// Whether a device is a bridge.
+#[tactic(auto, unfolding(crate::specs::Slots::is_bridge))]
+pub(crate) fn is_bridge(pci: &Device<'_>) -> bool
+    ensures { result ≡ is_bridge pci.now }
+{
+    match read(pci, Attribute::Modalias) {
+        Some(alias) => is_bridge_alias(alias),
+        None => false,
+    }
+}
+
+/// The nearest device of PCI above another.
+pub(crate) fn pci_above<'d, 'a>(
+    alloc: Global,
+    devices: &'d Devices<'a>,
+    device: &Device<'_>,
+) -> Result<Option<&'d Device<'a>>, AllocError>
+    ensures { IfOk result (λ found. option_copied found ≡ pci_above devices.now device.now) }
+{
+    devices.above(alloc, b"pci", None, device.path())
+}
+
+/// What the firmware tells of the device above a function.
+fn number_of_above(several: bool, above: Option<&Device<'_>>) -> Option<u64>
+    ensures { result ≡ number_of_above several (option_copied above.entry) }
+{
+    let pci = above?;
+    if is_bridge(pci) && !several {
+        return None;
+    }
+    firmware_number(pci)
+}
+
+/// The number that the firmware tells of a function, or else of the device above.
+#[tactic(auto, unfolding(crate::specs::Slots::number_by_firmware))]
+pub(crate) fn number_by_firmware(
+    alloc: Global,
+    devices: &Devices<'_>,
+    pci: &Device<'_>,
+) -> Result<Option<u64>, AllocError>
+    ensures { IfOk result (λ number. number ≡ number_by_firmware devices.now pci.now) }
+{
+    if let Some(number) = firmware_number(pci) {
+        return Ok(Some(number));
+    }
+    let several = is_several(alloc, devices.event(), pci)?;
+    let above = pci_above(alloc, devices, pci)?;
+    Ok(number_of_above(several, above))
+}
+
+/// Whether a block tells of a folder, perhaps that it is empty.
+#[tactic(auto, unfolding(crate::specs::Slots::is_told))]
+pub(crate) fn is_told(alloc: Global, event: &Event<'_>, folder: &[u8]) -> Result<bool, AllocError>
+    ensures { IfOk result (λ told. told ≡ is_told event.now folder.now) }
+{
+    let files = files_below(alloc, event, folder)?;
+    Ok(file_at(event, folder).is_some() || !files.is_empty())
+}
+
+/// The name of the slot whose file tells what stands in it.
+#[tactic(auto, unfolding(crate::specs::Slots::slot_name))]
+fn slot_name(path: &[u8]) -> Option<&[u8]>
+    ensures { option_map (λ t. t.now) result ≡ slot_name path.now }
+{
+    let (name, file) = split_once(b'/', path)?;
+    if file != b"address".as_slice() {
+        return None;
+    }
+    Some(name)
+}
+
+/// The number of a slot by its name.
+fn slot_number(path: &[u8]) -> Option<u64>
+    ensures { result ≡ slot_number path.now }
+{
+    positive(number_in(Base::AsWritten, MOST_NUMBER, slot_name(path)?))
+}
+
+/// Whether a slot with a number holds the device with a name.
+#[tactic(auto, unfolding(crate::specs::Slots::holds))]
+fn holds(kernel: &[u8], file: (&[u8], &[u8])) -> bool
+    ensures { result ≡ holds kernel.now (file.entry.0.now, file.entry.1.now) }
+{
+    kernel.starts_with(file.1) && slot_number(file.0).is_some()
+}
+
+/// The number of the slot that holds the device with a name.
+#[tactic(auto, unfolding(crate::specs::Slots::number_by_place))]
+fn number_by_place(
+    alloc: Global,
+    event: &Event<'_>,
+    pci: &Device<'_>,
+) -> Result<Option<u64>, AllocError>
+    ensures { IfOk result (λ number. number ≡ number_by_place event.now pci.now) }
+{
+    let kernel = kernel_name(alloc, pci.path())?;
+    let files = files_below(alloc, event, SLOTS_FOLDER)?;
+    match files.iter().find(|file| holds(kernel.as_slice(), **file)) {
+        Some(file) => Ok(slot_number(file.0)),
+        None => Ok(None),
+    }
+}
+
+/// Whether a name is a number in eight hexadecimal digits with small letters.
+#[tactic(auto, unfolding(crate::specs::Slots::is_identity))]
+fn is_identity(number: u64, name: &[u8]) -> bool
+    ensures { result ≡ is_identity number name.now }
+{
+    name.len() == 8
+        && name.iter().all(|byte| byte.is_ascii_hexdigit())
+        && !name.iter().any(|byte| byte.is_ascii_uppercase())
+        && is_number(number_in(Base::Hexadecimal, MOST_NUMBER, name), number)
+}
+
+/// Whether there is a slot of a number of System z.
+fn has_slot_of(alloc: Global, event: &Event<'_>, number: u64) -> Result<bool, AllocError>
+    ensures { IfOk result (λ has. has ≡ list_any (is_slot_of number) (slot_files event.now)) }
+{
+    let files = files_below(alloc, event, SLOTS_FOLDER)?;
+    Ok(files.iter().any(|file| is_slot_of(number, file.0)))
+}
+
+/// Whether a file is that of the slot of a number of System z.
+fn is_slot_of(number: u64, path: &[u8]) -> bool
+    ensures { result ≡ option_map_or (is_identity number) (slot_name path.now) false }
+{
+    match slot_name(path) {
+        Some(name) => is_identity(number, name),
+        None => false,
+    }
+}
+
+/// The slot of a function of System z, whose number has a slot of its own.
+#[tactic(auto, unfolding(crate::specs::Slots::slot_by_identity))]
+fn slot_by_identity(
+    alloc: Global,
+    event: &Event<'_>,
+    identity: &[u8],
+) -> Result<Option<Slot>, AllocError>
+    ensures { IfOk result (λ slot. slot ≡ slot_by_identity event.now identity.now) }
+{
+    let Some(number) = positive(number_in(Base::AsWritten, MOST_NUMBER, identity)) else {
+        return Ok(None);
+    };
+    if !has_slot_of(alloc, event, number)? {
+        return Ok(None);
+    }
+    Ok(Some(Slot {
+        number,
+        drops_domain: true,
+    }))
+}
+
+/// Whether the search for a slot of the bus ends at a device.
+#[tactic(auto, unfolding(crate::specs::Slots::ends_search))]
+fn ends_search(alloc: Global, event: &Event<'_>, pci: &Device<'_>) -> Result<bool, AllocError>
+    ensures { IfOk result (λ ends. ends ≡ ends_search event.now pci.now) }
+{
+    if read(pci, Attribute::FunctionId).is_some() {
+        return Ok(true);
+    }
+    Ok(number_by_place(alloc, event, pci)?.is_some())
+}
+
+/// The device above another at which the search ends.
+fn search_above<'d, 'a>(
+    alloc: Global,
+    devices: &'d Devices<'a>,
+    path: &[u8],
+) -> Result<Option<&'d Device<'a>>, AllocError>
+    ensures { IfOk result (λ found. option_copied found ≡ find (ends_search_in_pci devices.now) (parents_of devices.now path.now)) }
+{
+    for device in devices.parents_of(alloc, path)? {
+        if is_of(b"pci", None, device) && ends_search(alloc, devices.event(), device)? {
+            return Ok(Some(device));
+        }
+    }
+    Ok(None)
+}
+
+/// The device at which the search ends that begins at a function.
+#[tactic(auto, unfolding(crate::specs::Slots::search_end))]
+pub(crate) fn search_end<'d, 'a>(
+    alloc: Global,
+    devices: &'d Devices<'a>,
+    pci: &'d Device<'a>,
+) -> Result<Option<&'d Device<'a>>, AllocError>
+    ensures { IfOk result (λ found. option_copied found ≡ search_end devices.now pci.now) }
+{
+    if ends_search(alloc, devices.event(), pci)? {
+        return Ok(Some(pci));
+    }
+    search_above(alloc, devices, pci.path())
+}
+
+/// The slot of the device at which the search ends.
+fn slot_at_end(
+    alloc: Global,
+    event: &Event<'_>,
+    pci: &Device<'_>,
+) -> Result<Option<Slot>, AllocError>
+    ensures { IfOk result (λ slot. slot ≡ slot_at_end event.now pci.now (read pci.now Attribute.FunctionId)) }
+{
+    if let Some(identity) = read(pci, Attribute::FunctionId) {
+        return slot_by_identity(alloc, event, identity);
+    }
+    if is_bridge(pci) {
+        return Ok(None);
+    }
+    match number_by_place(alloc, event, pci)? {
+        Some(number) => Ok(Some(Slot {
+            number,
+            drops_domain: false,
+        })),
+        None => Ok(None),
+    }
+}
+
+/// The slot of a function by the slots of the bus.
+#[tactic(auto, unfolding(crate::specs::Slots::slot_by_bus))]
+fn slot_by_bus<'a>(
+    alloc: Global,
+    devices: &Devices<'a>,
+    pci: &Device<'a>,
+) -> Result<Option<Slot>, AllocError>
+    ensures { IfOk result (λ slot. slot ≡ slot_by_bus devices.now pci.now) }
+{
+    match search_end(alloc, devices, pci)? {
+        Some(found) => slot_at_end(alloc, devices.event(), found),
+        None => Ok(None),
+    }
+}
+
+/// The slot of a function: by the firmware, or else by the slots of the bus.
+#[tactic(auto, unfolding(crate::specs::Slots::slot_of))]
+pub(crate) fn slot_of<'a>(
+    alloc: Global,
+    devices: &Devices<'a>,
+    pci: &Device<'a>,
+) -> Result<Option<Slot>, AllocError>
+    ensures { IfOk result (λ slot. slot ≡ slot_of devices.now pci.now) }
+{
+    match number_by_firmware(alloc, devices, pci)? {
+        Some(number) => Ok(Some(Slot {
+            number,
+            drops_domain: false,
+        })),
+        None => slot_by_bus(alloc, devices, pci),
+    }
+}

@@ -1,0 +1,138 @@
+//! Names by the aliases of a device tree.
+ghost use Rattle.std.specs.Prelude.{◌≡◌, IfOk, option_map};
+ghost use Rattle.builtin_net.specs.Trees.{alias_number, clear_number, first_alias, is_alias, node_link, node_number, node_of, node_path, other_alias, tree_text};
+
+use crate::buses::parent;
+use crate::words::{MOST_NUMBER, behind, joined, push_number};
+use builtin_devices::{Base, Devices, file_at, files_below, number_in};
+use device_core::{Device, Event};
+use std::alloc::{AllocError, Global};
+
+/// The folder of the aliases of a device tree.
+pub(crate) const ALIASES_FOLDER: &[u8] = b"/firmware/devicetree/base/aliases";
+
+/// Where the link of a device to its node leads.
+fn node_of<'a>(
+    alloc: Global,
+    event: &Event<'a>,
+    device: &Device<'_>,
+) -> Result<Option<&'a [u8]>, AllocError>
+    ensures { IfOk result (λ link. option_map (λ t. t.now) link ≡ node_of event.now device.now) }
+{
+    let link = joined(alloc, device.path(), b"/of_node")?;
+    Ok(file_at(event, &link))
+}
+
+/// Where the link of the event device to its node leads, or else that of the device above.
+#[tactic(auto, unfolding(crate::specs::Trees::node_link))]
+pub(crate) fn node_link<'a>(
+    alloc: Global,
+    devices: &Devices<'a>,
+) -> Result<Option<&'a [u8]>, AllocError>
+    ensures { IfOk result (λ link. option_map (λ t. t.now) link ≡ node_link devices.now) }
+{
+    let event = devices.event();
+    if let Some(link) = node_of(alloc, event, event.device())? {
+        return Ok(Some(link));
+    }
+    match parent(alloc, devices)? {
+        Some(device) => node_of(alloc, event, device),
+        None => Ok(None),
+    }
+}
+
+/// The path of a node within the tree.
+fn node_path(link: &[u8]) -> &[u8]
+    ensures { result.now ≡ node_path link.now }
+{
+    match behind(b"/firmware/devicetree/base", link) {
+        Some(path) => path,
+        None => link,
+    }
+}
+
+/// Whether a file is the alias of a node by which an interface is called.
+#[tactic(auto, unfolding(crate::specs::Trees::is_alias))]
+fn is_alias(node: &[u8], file: (&[u8], &[u8])) -> bool
+    ensures { result ≡ is_alias node.now (file.entry.0.now, file.entry.1.now) }
+{
+    behind(b"ethernet", file.0).is_some() && file.1 == node
+}
+
+/// The alias that is taken for the same number, 0.
+fn other_alias(behind: &[u8]) -> &'static [u8]
+    ensures { result.now ≡ other_alias behind.now }
+{
+    if behind.is_empty() {
+        b"/firmware/devicetree/base/aliases/ethernet0"
+    } else {
+        b"/firmware/devicetree/base/aliases/ethernet"
+    }
+}
+
+/// The number of an alias, 0 where it has none.
+fn alias_number(behind: &[u8]) -> Option<u64>
+    ensures { result ≡ alias_number behind.now }
+{
+    if behind.is_empty() {
+        return Some(0);
+    }
+    number_in(Base::AsWritten, MOST_NUMBER, behind)
+}
+
+/// The number of an alias, unless it is 0 and another has the same.
+#[tactic(auto, unfolding(crate::specs::Trees::clear_number))]
+fn clear_number(event: &Event<'_>, behind: &[u8]) -> Option<u64>
+    ensures { result ≡ clear_number event.now behind.now }
+{
+    let number = alias_number(behind)?;
+    if number == 0 && file_at(event, other_alias(behind)).is_some() {
+        return None;
+    }
+    Some(number)
+}
+
+/// What stands behind `ethernet` in the name of the first alias of a node.
+fn first_alias<'a>(
+    alloc: Global,
+    event: &Event<'a>,
+    node: &[u8],
+) -> Result<Option<&'a [u8]>, AllocError>
+    ensures { IfOk result (λ behind. option_map (λ t. t.now) behind ≡ first_alias event.now node.now) }
+{
+    let files = files_below(alloc, event, ALIASES_FOLDER)?;
+    match files.iter().find(|file| is_alias(node, **file)) {
+        Some(file) => Ok(behind(b"ethernet", file.0)),
+        None => Ok(None),
+    }
+}
+
+/// The number of the first alias of a node.
+#[tactic(auto, unfolding(crate::specs::Trees::node_number))]
+fn node_number(alloc: Global, event: &Event<'_>, node: &[u8]) -> Result<Option<u64>, AllocError>
+    ensures { IfOk result (λ number. number ≡ node_number event.now node.now) }
+{
+    match first_alias(alloc, event, node)? {
+        Some(behind) => Ok(clear_number(event, behind)),
+        None => Ok(None),
+    }
+}
+
+/// What names tell of the node of an interface.
+#[tactic(auto, unfolding(crate::specs::Trees::tree_text))]
+pub(crate) fn tree_text(
+    alloc: Global,
+    devices: &Devices<'_>,
+) -> Result<Option<Vec<u8>>, AllocError>
+    ensures { IfOk result (λ text. option_map (λ t. t.items) text ≡ tree_text devices.now) }
+{
+    let Some(link) = node_link(alloc, devices)? else {
+        return Ok(None);
+    };
+    let Some(number) = node_number(alloc, devices.event(), node_path(link))? else {
+        return Ok(None);
+    };
+    let mut text = Vec::new(alloc);
+    push_number(&mut text, b"d", number)?;
+    Ok(Some(text))
+}

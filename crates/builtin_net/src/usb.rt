@@ -1,0 +1,115 @@
+//! What names tell of interfaces of USB.
+ghost use Rattle.std.specs.Prelude.{◌≡◌, ◌++◌, IfOk, OnOk, option_map};
+ghost use Rattle.builtin_net.specs.Usb.{bcma_suffix, core_in, core_of, ports_text, unless_usual, usb_numbers, usb_ports, usb_suffix, usb_text};
+
+use crate::words::{MOST_NUMBER, behind, push_number};
+use builtin_devices::{Base, number_in};
+use std::alloc::{AllocError, Global};
+use text_bytes::split_once;
+
+/// Puts ports behind a text, with `u` for each dot.
+fn push_ports(text: &mut Vec<u8>, ports: &[u8]) -> Result<(), AllocError>
+    ensures { OnOk result (text.new.items ≡ text.old.items ++ ports_text ports.now) }
+{
+    for byte in ports {
+        text.push(if *byte == b'.' { b'u' } else { *byte })?;
+    }
+    Ok(())
+}
+
+/// Puts a number behind a text, with a letter before it, unless it is the usual one.
+fn push_unless_usual(
+    text: &mut Vec<u8>,
+    usual: &[u8],
+    letter: &[u8],
+    number: &[u8],
+) -> Result<(), AllocError>
+    ensures { OnOk result (text.new.items ≡ text.old.items ++ unless_usual usual.now letter.now number.now) }
+{
+    if number == usual {
+        return Ok(());
+    }
+    text.extend_from_slice(letter)?;
+    text.extend_from_slice(number)
+}
+
+/// Ports, configuration and interface as the end of a name.
+fn usb_text(
+    alloc: Global,
+    ports: &[u8],
+    configuration: &[u8],
+    interface: &[u8],
+) -> Result<Vec<u8>, AllocError>
+    ensures { IfOk result (λ text. text.items ≡ usb_text ports.now configuration.now interface.now) }
+{
+    let mut text = Vec::from_slice(alloc, b"u")?;
+    push_ports(&mut text, ports)?;
+    push_unless_usual(&mut text, b"1", b"c", configuration)?;
+    push_unless_usual(&mut text, b"0", b"i", interface)?;
+    Ok(text)
+}
+
+/// Ports with what stands behind them.
+fn usb_numbers(alloc: Global, ports: &[u8], numbers: &[u8]) -> Result<Option<Vec<u8>>, AllocError>
+    ensures { IfOk result (λ text. option_map (λ t. t.items) text ≡ usb_numbers ports.now numbers.now) }
+{
+    match split_once(b'.', numbers) {
+        Some((configuration, interface)) => {
+            Ok(Some(usb_text(alloc, ports, configuration, interface)?))
+        }
+        None => Ok(None),
+    }
+}
+
+/// What stands behind the bus in the name of an interface of USB.
+fn usb_ports(alloc: Global, rest: &[u8]) -> Result<Option<Vec<u8>>, AllocError>
+    ensures { IfOk result (λ text. option_map (λ t. t.items) text ≡ usb_ports rest.now) }
+{
+    match split_once(b':', rest) {
+        Some((ports, numbers)) => usb_numbers(alloc, ports, numbers),
+        None => Ok(None),
+    }
+}
+
+/// The end of names by an interface of USB, by its name.
+#[tactic(auto, unfolding(crate::specs::Usb::usb_suffix))]
+pub(crate) fn usb_suffix(alloc: Global, name: &[u8]) -> Result<Option<Vec<u8>>, AllocError>
+    ensures { IfOk result (λ text. option_map (λ t. t.items) text ≡ usb_suffix name.now) }
+{
+    match split_once(b'-', name) {
+        Some((_, rest)) => usb_ports(alloc, rest),
+        None => Ok(None),
+    }
+}
+
+/// The core behind a bus, where both are numbers.
+fn core_of(bus: &[u8], core: &[u8]) -> Option<u64>
+    ensures { result ≡ core_of bus.now core.now }
+{
+    number_in(Base::Decimal, MOST_NUMBER, bus)?;
+    number_in(Base::Decimal, MOST_NUMBER, core)
+}
+
+/// The core that a name of bcma tells.
+fn core_in(name: &[u8]) -> Option<u64>
+    ensures { result ≡ core_in name.now }
+{
+    let rest = behind(b"bcma", name)?;
+    let (bus, core) = split_once(b':', rest)?;
+    core_of(bus, core)
+}
+
+/// The end of names by a core of bcma, by its name.
+#[tactic(auto, unfolding(crate::specs::Usb::bcma_suffix))]
+pub(crate) fn bcma_suffix(alloc: Global, name: &[u8]) -> Result<Option<Vec<u8>>, AllocError>
+    ensures { IfOk result (λ text. option_map (λ t. t.items) text ≡ bcma_suffix name.now) }
+{
+    let Some(core) = core_in(name) else {
+        return Ok(None);
+    };
+    let mut text = Vec::new(alloc);
+    if core != 0 {
+        push_number(&mut text, b"b", core)?;
+    }
+    Ok(Some(text))
+}

@@ -1,0 +1,102 @@
+//! Virtual functions, whose names are those of the physical one.
+ghost use Rattle.std.specs.Prelude.{◌≡◌, IfOk, option_map};
+ghost use Rattle.builtin_net.specs.Virtual.{leads_to, named_function, physical_path, virtual_number};
+
+use crate::words::{behind, joined};
+use builtin_devices::{Devices, file_at, files_below};
+use device_core::{Device, Event};
+use std::alloc::{AllocError, Global};
+use std::marker::Model;
+use text_bytes::is_digit;
+
+/// A function by which names are told.
+#[derive(Drop)]
+pub(crate) struct NamedFunction<'d, 'a> {
+    /// The device.
+    pub(crate) pci: &'d Device<'a>,
+    /// What stands behind its names: the number of the virtual function, or nothing.
+    pub(crate) suffix: Vec<u8>,
+}
+
+impl<'d, 'a> Model for NamedFunction<'d, 'a> {
+    ghost use Rattle.builtin_net.specs.Virtual.{Named};
+
+    ghost Value = { Named };
+
+    ghost view = { λ f. (f.pci.now, f.suffix.items) };
+}
+
+/// Where the link to the physical function leads.
+fn physical_path<'a>(
+    alloc: Global,
+    event: &Event<'a>,
+    pci: &Device<'_>,
+) -> Result<Option<&'a [u8]>, AllocError>
+    ensures { IfOk result (λ path. option_map (λ t. t.now) path ≡ physical_path event.now pci.now) }
+{
+    let link = joined(alloc, pci.path(), b"/physfn")?;
+    Ok(file_at(event, &link))
+}
+
+/// Whether a text is one decimal digit or more.
+fn is_decimal(text: &[u8]) -> bool
+    ensures { result ≡ is_decimal text.now }
+{
+    !text.is_empty() && text.iter().all(|byte| is_digit(*byte))
+}
+
+/// Whether a link of a physical function leads to a virtual one.
+#[tactic(auto, unfolding(crate::specs::Virtual::leads_to))]
+fn leads_to(path: &[u8], file: (&[u8], &[u8])) -> bool
+    ensures { result ≡ leads_to path.now (file.entry.0.now, file.entry.1.now) }
+{
+    match behind(b"virtfn", file.0) {
+        Some(digits) => is_decimal(digits) && file.1 == path,
+        None => false,
+    }
+}
+
+/// The number of a virtual function among those of its physical one.
+#[tactic(auto, unfolding(crate::specs::Virtual::virtual_number))]
+fn virtual_number<'a>(
+    alloc: Global,
+    event: &Event<'a>,
+    physical: &[u8],
+    path: &[u8],
+) -> Result<Option<&'a [u8]>, AllocError>
+    ensures { IfOk result (λ number. option_map (λ t. t.now) number ≡ virtual_number event.now physical.now path.now) }
+{
+    let links = files_below(alloc, event, physical)?;
+    match links.iter().find(|link| leads_to(path, **link)) {
+        Some(link) => Ok(behind(b"virtfn", link.0)),
+        None => Ok(None),
+    }
+}
+
+/// By which function names are told; `None` where the block does not tell of the physical one.
+#[tactic(auto, unfolding(crate::specs::Virtual::named_function))]
+pub(crate) fn named_function<'d, 'a>(
+    alloc: Global,
+    devices: &'d Devices<'a>,
+    pci: &'d Device<'a>,
+) -> Result<Option<NamedFunction<'d, 'a>>, AllocError>
+    ensures { IfOk result (λ named. named ≡ named_function devices.now pci.now) }
+{
+    let own = NamedFunction {
+        pci,
+        suffix: Vec::new(alloc),
+    };
+    let Some(path) = physical_path(alloc, devices.event(), pci)? else {
+        return Ok(Some(own));
+    };
+    let Some(physical) = devices.device_by(path) else {
+        return Ok(None);
+    };
+    match virtual_number(alloc, devices.event(), physical.path(), pci.path())? {
+        Some(number) => Ok(Some(NamedFunction {
+            pci: physical,
+            suffix: joined(alloc, b"v", number)?,
+        })),
+        None => Ok(Some(own)),
+    }
+}

@@ -1,0 +1,118 @@
+//! Parts of texts that several names need.
+ghost use Rattle.std.specs.Prelude.{◌≡◌, ◌++◌, ◌<◌, ◌≤◌, ◌^◌, decimal, length, option_map, IfOk, IfSome, OnOk};
+ghost use Rattle.std.specs.List.{list_any, prefix_len};
+ghost use Rattle.std.specs.Str.{is_utf8};
+ghost use Rattle.text_bytes.specs.Escapes.{is_control};
+ghost use Rattle.text_bytes.specs.Numbers.{is_digit};
+ghost use Rattle.builtin_net.specs.Words.{behind, behind_digits, is_number, is_plain, leading_number, positive};
+
+use itoa::Buffer;
+use std::alloc::{AllocError, Global};
+use text_bytes::{decimal_below, is_digit};
+
+/// The greatest number of 32 bits.
+pub(crate) const MOST_NUMBER: u64 = u32::MAX as u64;
+
+/// What stands behind a beginning, where a text begins with it.
+#[tactic(auto, unfolding(crate::specs::Words::behind))]
+pub(crate) fn behind<'a>(front: &[u8], text: &'a [u8]) -> Option<&'a [u8]>
+    ensures { option_map (λ t. t.now) result ≡ behind front.now text.now }
+{
+    if !text.starts_with(front) {
+        return None;
+    }
+    let (_, behind) = text.split_at(front.len());
+    Some(behind)
+}
+
+/// How many digits a text begins with.
+fn digit_count(text: &[u8]) -> usize
+    ensures value { result ≡ prefix_len is_digit text.now }
+    ensures within { result ≤ length text.now }
+{
+    text.iter().take_while(|byte| is_digit(**byte)).count()
+}
+
+/// What stands behind the digits that a text begins with.
+pub(crate) fn behind_digits(text: &[u8]) -> &[u8]
+    ensures { result.now ≡ behind_digits text.now }
+{
+    let (_, behind) = text.split_at(digit_count(text));
+    behind
+}
+
+/// The number of 32 bits that the digits write with which a text begins.
+#[tactic(auto, unfolding(crate::specs::Words::leading_number))]
+pub(crate) fn leading_number(text: &[u8]) -> Option<u64>
+    ensures value { result ≡ leading_number text.now }
+    ensures below { IfSome result (λ number. number < 2 ^ 32) }
+{
+    let (digits, _) = text.split_at(digit_count(text));
+    decimal_below(1 << 32, digits)
+}
+
+/// Whether a byte is a control character of ASCII.
+fn is_control(byte: u8) -> bool
+    ensures { result ≡ is_control byte }
+{
+    byte < 0x20 || byte == 0x7F
+}
+
+/// Whether a text has a control character of ASCII.
+fn has_control(text: &[u8]) -> bool
+    ensures { result ≡ list_any is_control text.now }
+{
+    text.iter().any(|byte| is_control(*byte))
+}
+
+/// Whether a text is UTF-8.
+fn is_utf8(text: &[u8]) -> bool
+    ensures { result ≡ is_utf8 text.now }
+{
+    str::from_utf8(text).is_ok()
+}
+
+/// Whether a text may be part of a name: UTF-8 without control characters.
+#[tactic(auto, unfolding(crate::specs::Words::is_plain))]
+pub(crate) fn is_plain(text: &[u8]) -> bool
+    ensures { result ≡ is_plain text.now }
+{
+    is_utf8(text) && !has_control(text)
+}
+
+/// Puts a number behind a text, with letters before it.
+pub(crate) fn push_number(text: &mut Vec<u8>, letters: &[u8], number: u64) -> Result<(), AllocError>
+    ensures { OnOk result (text.new.items ≡ text.old.items ++ letters.now ++ decimal number) }
+{
+    text.extend_from_slice(letters)?;
+    text.extend_from_slice(Buffer::new().format(number).as_bytes())
+}
+
+/// A number, if it is above 0.
+pub(crate) fn positive(number: Option<u64>) -> Option<u64>
+    ensures { result ≡ positive number }
+{
+    match number {
+        Some(0) => None,
+        other => other,
+    }
+}
+
+/// A text with another behind it.
+pub(crate) fn joined(alloc: Global, front: &[u8], behind: &[u8]) -> Result<Vec<u8>, AllocError>
+    ensures { IfOk result (λ text. text.items ≡ front.now ++ behind.now) }
+{
+    let mut text = Vec::from_slice(alloc, front)?;
+    text.extend_from_slice(behind)?;
+    Ok(text)
+}
+
+/// Whether a number is there, and a certain one.
+pub(crate) fn is_number(number: Option<u64>, other: u64) -> bool
+    ensures { result ≡ is_number number other }
+{
+    match number {
+        Some(number) => number == other,
+        None => false,
+    }
+}

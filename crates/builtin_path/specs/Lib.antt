@@ -1,0 +1,9 @@
+pub mod Texts
+pub mod Members
+pub mod Stops
+pub mod Usb
+pub mod Scsi
+pub mod Nvme
+pub mod Table
+pub mod Way
+pub mod Path

@@ -1,0 +1,45 @@
+-- The devices that the way up passes, and what it asks of them.
+use Rattle.std.specs.Prelude.{ℕ, ◌+◌, ◌-◌, not, ◌&&◌, Bool, List, [], ◌∷◌, codes, length, drop, take, nat_eq, Option, slice_get}
+use Rattle.std.specs.List.{concat, prefix_len, starts_with}
+use Rattle.std.specs.Option.{option_and_then}
+use Rattle.text_tables.specs.Pairs.{value_of}
+use Rattle.text_tables.specs.Texts.{Text}
+use Rattle.device_core.specs.Values.{DeviceValue}
+use Rattle.text_links.specs.Kernels.{last_component}
+use Rattle.builtin_devices.specs.Devices.{is_text}
+
+-- whether a device is of a subsystem
+abbrev pub is_in : Text → DeviceValue → Bool
+is_in subsystem m = is_text subsystem m.subsystem
+
+-- how many devices of one subsystem a list begins with
+abbrev pub row : Text → List DeviceValue → ℕ
+row subsystem members = prefix_len (is_in subsystem) members
+
+-- the devices from the nearest on that passes a test
+abbrev pub from_first : (DeviceValue → Bool) → List DeviceValue → List DeviceValue
+from_first test members = drop (prefix_len (λ m. not (test m)) members) members
+
+-- the folder that a path stands in
+abbrev pub folder : Text → Text
+folder path = take (length path - (length (last_component path) + 1)) path
+
+-- an attribute of a device
+abbrev pub attribute : DeviceValue → Text → Option Text
+attribute m name = value_of m.attrs name
+
+-- the attribute of the device of a class that has this device's name and stands right below it
+unfoldable pub class_attribute : (class name : Text) → DeviceValue → Option Text
+class_attribute class name m = attribute m (concat (class ∷ codes "/" ∷ last_component m.path ∷ codes "/" ∷ name ∷ []))
+
+-- the same of the device at a place of a list, where there is one
+abbrev pub class_attribute_at : List DeviceValue → ℕ → (class name : Text) → Option Text
+class_attribute_at members place class name = option_and_then (class_attribute class name) (slice_get members place)
+
+-- an attribute of the device at a place of a list, where there is one
+abbrev pub attribute_at : List DeviceValue → ℕ → (name : Text) → Option Text
+attribute_at members place name = option_and_then (λ m. attribute m name) (slice_get members place)
+
+-- whether a text begins with another one
+abbrev pub begins : (start text : Text) → Bool
+begins start text = starts_with nat_eq text start

@@ -1,0 +1,76 @@
+-- NVMe: the number of a disk's namespace, and the controller by which a disk of several ways is reached.
+use Rattle.std.specs.Prelude.{ℕ, ◌+◌, ◌==◌, ◌&&◌, Bool, false, true, not, List, [], ◌∷◌, ◌++◌, codes, drop, filter, filter_map, if◌then◌else◌, is_some, is_none, length, map, Option, Some, None, option_and_then, option_map, reverse, slice_index, take}
+use Rattle.std.specs.List.{concat, list_any, prefix_len, range_with_len}
+use Rattle.text_bytes.specs.Names.{slash}
+use Rattle.text_bytes.specs.Numbers.{is_digit}
+use Rattle.text_bytes.specs.Texts.{is_empty}
+use Rattle.text_tables.specs.Pairs.{value_of}
+use Rattle.text_tables.specs.Texts.{Text}
+use Rattle.device_core.specs.Values.{DeviceValue, EventValue, chain}
+use Rattle.text_links.specs.Kernels.{last_component}
+use Rattle.builtin_devices.specs.Devices.{device_by, is_text, type_of}
+use Rattle.builtin_devices.specs.Files.{file_at}
+use Rattle.builtin_path.specs.Members.{begins, row}
+use Rattle.builtin_path.specs.Stops.{adding_both, ending, passing}
+use Rattle.builtin_path.specs.declared.stops.Next.TheVariants.{Fails, On}
+use Rattle.builtin_path.specs.declared.stops.Stop.{Stop}
+
+-- the number of the event device's namespace
+abbrev pub namespace : EventValue → Option Text
+namespace event = value_of event.device.attrs (codes "nsid")
+
+-- the name of the controller of a disk: that of the disk up to the digits behind `nvme`
+unfoldable pub controller_name : Text → Option Text
+controller_name name = if begins (codes "nvme") name then Some (take (4 + prefix_len is_digit (drop 4 name)) name) else None
+
+-- where a link of a device leads, which a constant tells
+abbrev pub link_told : EventValue → (path name : Text) → Option Text
+link_told event path name = file_at event (concat (path ∷ codes "/" ∷ name ∷ []))
+
+-- the controller of the disk among the links of its NVMe subsystem, where it is told, too
+unfoldable pub controller_told : EventValue → DeviceValue → Option DeviceValue
+controller_told event subsystem =
+    option_and_then (device_by event)
+    (option_and_then (link_told event subsystem.path) (controller_name (last_component event.device.path)))
+
+-- a device that is no virtual one
+abbrev pub if_real : DeviceValue → Option DeviceValue
+if_real device = if begins (codes "/devices/virtual/") device.path then None else Some device
+
+-- the controller, where it is told and no virtual device
+abbrev pub controller : EventValue → DeviceValue → Option DeviceValue
+controller event subsystem = option_and_then if_real (controller_told event subsystem)
+
+-- what a block does not tell of the controller: its name
+abbrev pub name_needed : Option Text → List Text
+name_needed None = []
+name_needed (Some name) = name ∷ []
+
+abbrev pub controller_needs : EventValue → DeviceValue → List Text
+controller_needs event subsystem = if is_some (controller_told event subsystem) then [] else name_needed (controller_name (last_component event.device.path))
+
+-- what a device of subsystem nvme adds, or one of nvme-subsystem whose controller stands above it: nothing, where the event device has no namespace
+abbrev pub is_bare_disk : EventValue → Bool
+is_bare_disk event = is_text (codes "block") event.device.subsystem && is_text (codes "disk") (type_of event.device)
+
+abbrev pub namespace_needs : EventValue → List Text
+namespace_needs event = if is_bare_disk event then codes "nsid" ∷ [] else []
+
+abbrev pub namespace_stop : (nsid : Text) → List DeviceValue → Stop
+namespace_stop nsid above = adding_both (concat (codes "nvme-" ∷ nsid ∷ [])) true (row (codes "nvme") above)
+
+abbrev pub nvme_by : EventValue → Option Text → List DeviceValue → Stop
+nvme_by event None above = record (passing false) { needs = namespace_needs event }
+nvme_by event (Some nsid) above = namespace_stop nsid above
+
+unfoldable pub nvme_stop : EventValue → List DeviceValue → Stop
+nvme_stop event above = nvme_by event (namespace event) above
+
+abbrev pub ways_by : EventValue → Option Text → DeviceValue → List DeviceValue → Stop
+ways_by event None m above = record (passing false) { needs = namespace_needs event }
+ways_by event (Some nsid) m above =
+    if is_some (controller event m) then namespace_stop nsid above
+    else record (ending false false (controller_needs event m)) { next = Fails }
+
+unfoldable pub ways_stop : EventValue → DeviceValue → List DeviceValue → Stop
+ways_stop event m above = ways_by event (namespace event) m above

@@ -1,0 +1,121 @@
+-- path_id: what comes of the parts.
+use Rattle.std.specs.Prelude.{ℕ, ◌+◌, Bool, false, true, not, ◌&&◌, ◌||◌, ◌==◌, List, [], ◌∷◌, ◌++◌, codes, drop, filter_map, flat_map, if◌then◌else◌, is_none, is_some, map, Option, Some, None, position, reverse, slice_index, take}
+use Rattle.std.specs.Char.{is_ascii_alphanumeric}
+use Rattle.std.specs.List.{join_with_byte, list_any, prefix_len, suffix_len}
+use Rattle.text_bytes.specs.Names.{minus, space, underscore}
+use Rattle.text_bytes.specs.Numbers.{is_digit}
+use Rattle.text_bytes.specs.Texts.{ends_in, is_empty}
+use Rattle.text_links.specs.Underscores.{underscored}
+use Rattle.text_tables.specs.Pairs.{Pair}
+use Rattle.text_tables.specs.Texts.{Text, with_texts}
+use Rattle.device_core.specs.Values.{DeviceValue, EventValue}
+use Rattle.builtin_devices.specs.Devices.{is_text, type_of}
+use Rattle.builtin_devices.specs.Outcomes.{OutcomeValue, failing, succeeding}
+use Rattle.builtin_path.specs.Members.{is_in}
+use Rattle.builtin_path.specs.Texts.{first_place}
+use Rattle.builtin_path.specs.Way.{members_of, stops_of}
+use Rattle.builtin_path.specs.declared.stops.Next.{Next}
+use Rattle.builtin_path.specs.declared.stops.Next.TheVariants.{On, Ends, Fails}
+use Rattle.builtin_path.specs.declared.stops.Share.{Share}
+use Rattle.builtin_path.specs.declared.stops.Share.TheVariants.{Apart, Both, Ata}
+use Rattle.builtin_path.specs.declared.stops.Stop.{Stop}
+
+-- the parts that stops add, the highest first
+abbrev pub parts : List Stop → List Text
+parts stops = reverse (filter_map (λ s. s.part) stops)
+
+-- what a stop adds to the compatible path
+abbrev pub share_of : Share → Option Text → Option Text
+share_of Apart part = None
+share_of Both part = part
+share_of (Ata port) part = Some port
+
+abbrev pub is_ata : Share → Bool
+is_ata (Ata port) = true
+is_ata Both = false
+is_ata Apart = false
+
+-- the parts of the compatible path, the highest first: it begins at the first port of ATA
+abbrev pub compatible_parts : List Stop → List Text
+compatible_parts stops = reverse (filter_map (λ s. share_of s.share s.part) (drop (prefix_len (λ s. not (is_ata s.share)) stops) stops))
+
+-- whether a stop makes path_id fail
+abbrev pub is_failing : Next → Bool
+is_failing (On count) = false
+is_failing Ends = false
+is_failing Fails = true
+
+-- whether stops are a path: one of them adds a part, one is of a parent that is known, and of a block device one is of a transport that is known
+unfoldable pub is_whole : EventValue → List Stop → Bool
+is_whole event stops =
+    not (list_any (λ s. is_failing s.next) stops)
+    && list_any (λ s. is_some s.part) stops
+    && list_any (λ s. s.parent) stops
+    && (not (is_text (codes "block") event.device.subsystem) || list_any (λ s. s.transport) stops)
+
+-- whether behind the place where `-usbv` stands a digit and `-` follow
+abbrev pub is_revision : Text → ℕ → Bool
+is_revision text place = is_digit (slice_index text (place + 5)) && slice_index text (place + 6) == minus
+
+-- the first place of `-usbv`, where a digit and `-` follow
+abbrev pub if_revision : Text → Option ℕ → Option ℕ
+if_revision text None = None
+if_revision text (Some place) = if is_revision text place then Some place else None
+
+unfoldable pub revision_place : Text → Option ℕ
+revision_place text = if_revision text (first_place (codes "-usbv") text)
+
+-- a text without the `v` and the digit there
+abbrev pub without_revision : Text → ℕ → Text
+without_revision text place = take (place + 4) text ++ drop (place + 6) text
+
+-- the bytes that stay in a tag: letters and digits of ASCII, and `-`
+abbrev pub stays_in_tag : ℕ → Bool
+stays_in_tag b = is_ascii_alphanumeric b || b == minus
+
+abbrev pub tag_byte : ℕ → ℕ
+tag_byte b = if stays_in_tag b then b else space
+
+-- a text without a `_` at its end
+abbrev pub without_last : Text → Text
+without_last text = if ends_in underscore text then take (length text - 1) text else text
+
+-- a text as a tag: runs of other bytes are one `_` each, with none at the ends, of at most 511 bytes
+unfoldable pub tag : Text → Text
+tag text = without_last (take 511 (underscored (map tag_byte text)))
+
+-- a path without and, where it has one, with the revision of USB
+abbrev pub path_pairs : Text → List Pair
+path_pairs path = (codes "ID_PATH", path) ∷ (codes "ID_PATH_TAG", tag path) ∷ []
+
+abbrev pub revision_pairs : Text → Option ℕ → List Pair
+revision_pairs text None = path_pairs text
+revision_pairs text (Some place) = (codes "ID_PATH_WITH_USB_REVISION", text) ∷ path_pairs (without_revision text place)
+
+abbrev pub compatible_pairs : List Text → List Pair
+compatible_pairs [] = []
+compatible_pairs (part ∷ parts) = (codes "ID_PATH_ATA_COMPAT", join_with_byte minus (part ∷ parts)) ∷ []
+
+-- what path_id sets for stops
+unfoldable pub properties_of : List Stop → List Pair
+properties_of stops =
+    let text = join_with_byte minus (parts stops) in
+    revision_pairs text (revision_place text) ++ compatible_pairs (compatible_parts stops)
+
+-- each device of usb and scsi has a type
+abbrev pub lacks_type : DeviceValue → Bool
+lacks_type m = (is_in (codes "usb") m || is_in (codes "scsi") m) && is_none (type_of m)
+
+abbrev pub type_needs : List DeviceValue → List Text
+type_needs members = if list_any lacks_type members then codes "DEVTYPE" ∷ [] else []
+
+-- what a block would have to tell, each once
+unfoldable pub needs : List DeviceValue → List Stop → List Text
+needs members stops = with_texts (type_needs members) (flat_map (λ s. s.needs) stops)
+
+-- what path_id makes of an event
+unfoldable pub path_id : EventValue → OutcomeValue
+path_id event =
+    let stops = stops_of event in
+    let missing = needs (members_of event) stops in
+    if is_whole event stops then succeeding (properties_of stops) missing else failing missing

@@ -1,0 +1,273 @@
+-- SCSI: the transport that the path of a device tells of, and what the device adds by it.
+use Rattle.std.specs.Prelude.{ℕ, ◌+◌, ◌-◌, ◌^◌, ◌==◌, ◌/◌, ◌%◌, Bool, false, true, not, ◌&&◌, nat_lt, List, [], ◌∷◌, ◌++◌, codes, decimal, drop, filter, filter_map, find, fold, if◌then◌else◌, is_some, length, min, Option, Some, None, option_and_then, option_map, slice_get, slice_index, take}
+use Rattle.std.specs.List.{concat, list_any, prefix_len}
+use Rattle.text_bytes.specs.Names.{close_brace, colon, minus, open_brace, slash}
+use Rattle.text_bytes.specs.Numbers.{decimal_below}
+use Rattle.text_bytes.specs.Texts.{begins_with, split_once}
+use Rattle.text_tables.specs.Texts.{Text, same_text}
+use Rattle.text_links.specs.Kernels.{last_component}
+use Rattle.device_core.specs.Values.{DeviceValue}
+use Rattle.builtin_devices.specs.Devices.{is_of, is_text, type_of}
+use Rattle.builtin_devices.specs.Numbers.{name_number, number_in}
+use Rattle.builtin_devices.specs.declared.numbers.Base.TheVariants.{AsWritten, Decimal}
+use Rattle.builtin_path.specs.Members.{attribute, attribute_at, begins, class_attribute, class_attribute_at, folder, from_first, row}
+use Rattle.builtin_path.specs.Stops.{absent, adding, ending, passing}
+use Rattle.builtin_path.specs.Texts.{contains}
+use Rattle.builtin_path.specs.declared.scsi.Address.{Address}
+use Rattle.builtin_path.specs.declared.scsi.Transport.{Transport}
+use Rattle.builtin_path.specs.declared.scsi.Transport.TheVariants as transport
+use Rattle.builtin_path.specs.declared.stops.Next.TheVariants.{Fails, On}
+use Rattle.builtin_path.specs.declared.stops.Share.TheVariants.{Apart, Ata}
+use Rattle.builtin_path.specs.declared.stops.Stop.{Stop}
+
+-- texts that stand in the path of a device, each with the transport that it tells of
+abbrev pub transports : List (Text × Transport)
+transports =
+    (codes "/rport-", transport.FibreChannel)
+    ∷ (codes "/end_device-", transport.Sas)
+    ∷ (codes "/session", transport.Iscsi)
+    ∷ (codes "/ata", transport.Ata)
+    ∷ (codes "/vmbus_", transport.HyperV)
+    ∷ (codes "/VMBUS", transport.HyperVByAcpi)
+    ∷ []
+
+-- the transport that a path tells of: that of the first of these texts that stands in it
+unfoldable pub transport_of : Text → Option Transport
+transport_of path = option_map (λ r. r.1) (find (λ r. contains r.0 path) transports)
+
+-- the number before the first colon of a text, and what stands behind the colon
+unfoldable pub before_colon : Text → Option (ℕ × Text)
+before_colon text = option_and_then (λ cut. option_map (λ n. (n, cut.1)) (decimal_below (2 ^ 32) cut.0)) (split_once colon text)
+
+-- the address that a SCSI device's name is: four numbers below 2^32 with colons in between
+unfoldable pub address_of : Text → Option Address
+address_of text =
+    option_and_then (λ host.
+    option_and_then (λ bus.
+    option_and_then (λ target.
+    option_map (λ unit. record { host = host.0; bus = bus.0; target = target.0; unit = unit })
+    (decimal_below (2 ^ 32) target.1))
+    (before_colon bus.1))
+    (before_colon host.1))
+    (before_colon text)
+
+-- the address of a device
+abbrev pub address : DeviceValue → Option Address
+address m = address_of (last_component m.path)
+
+-- a digit in base 16, and the four of a number's low 16 bits
+abbrev pub hex_digit : ℕ → ℕ
+hex_digit n = slice_index (codes "0123456789abcdef") (n % 16)
+
+abbrev pub four_digits : ℕ → Text
+four_digits n = hex_digit (n / 4096) ∷ hex_digit (n / 256) ∷ hex_digit (n / 16) ∷ hex_digit n ∷ []
+
+-- a unit by its number: below 256 in decimal digits; else its low and then its high 16 bits in base 16, and eight zeros
+abbrev pub numbered_unit : Option ℕ → Text
+numbered_unit None = codes "(null)"
+numbered_unit (Some n) =
+    if nat_lt n 256 then concat (codes "lun-" ∷ decimal n ∷ [])
+    else concat (codes "lun-0x" ∷ four_digits n ∷ four_digits (n / 65536) ∷ codes "00000000" ∷ [])
+
+-- the unit of a SCSI device, whose number its name ends in
+abbrev pub unit_number : DeviceValue → Option ℕ
+unit_number m = option_and_then (number_in Decimal (2 ^ 64 - 1)) (name_number (last_component m.path))
+
+unfoldable pub unit_text : DeviceValue → Text
+unit_text m = numbered_unit (unit_number m)
+
+-- the target and the host above a device, each with what is above it
+abbrev pub from_target : List DeviceValue → List DeviceValue
+from_target above = from_first (is_of (codes "scsi") (Some (codes "scsi_target"))) above
+
+abbrev pub from_host : List DeviceValue → List DeviceValue
+from_host above = from_first (is_of (codes "scsi") (Some (codes "scsi_host"))) above
+
+-- Fibre Channel: the port of the target
+abbrev pub fibre_by : DeviceValue → Option Text → Stop
+fibre_by m None = ending true true (codes "port_name" ∷ [])
+fibre_by m (Some port) = adding (concat (codes "fc-" ∷ port ∷ codes "-" ∷ unit_text m ∷ [])) true true 0
+
+unfoldable pub fibre_stop : DeviceValue → List DeviceValue → Stop
+fibre_stop m above = fibre_by m (class_attribute_at (from_target above) 0 (codes "fc_transport") (codes "port_name"))
+
+-- SAS, at a port of several phys: the address of the end device
+abbrev pub wide_stop : DeviceValue → Option Text → Stop
+wide_stop m None = ending true true (codes "sas_address" ∷ [])
+wide_stop m (Some sas) = adding (concat (codes "sas-" ∷ sas ∷ codes "-" ∷ unit_text m ∷ [])) true true 0
+
+-- SAS, at one phy: the number of the phy, behind an expander also its address
+abbrev pub expander_start : Option Text → Text
+expander_start None = codes "sas-"
+expander_start (Some sas) = concat (codes "sas-exp" ∷ sas ∷ codes "-" ∷ [])
+
+abbrev pub expander_needs : DeviceValue → Option Text → List Text
+expander_needs expander sas = if begins (codes "expander") (last_component expander.path) then absent (codes "sas_address") sas else []
+
+abbrev pub phy_stop : DeviceValue → (phy : Text) → (above_port : Option DeviceValue) → Stop
+phy_stop m phy None = ending true true []
+phy_stop m phy (Some expander) =
+    let sas = class_attribute (codes "sas_device") (codes "sas_address") expander in
+    record (adding (concat (expander_start sas ∷ codes "phy" ∷ phy ∷ codes "-" ∷ unit_text m ∷ [])) true true 0) { needs = expander_needs expander sas }
+
+abbrev pub narrow_stop : DeviceValue → (phy : Option Text) → (above_port : Option DeviceValue) → Stop
+narrow_stop m None above_port = ending true true (codes "phy_identifier" ∷ [])
+narrow_stop m (Some phy) above_port = phy_stop m phy above_port
+
+-- SAS, by the devices from the target on: above it the end device, then the port, then an expander or the host
+abbrev pub counted_stop : DeviceValue → List DeviceValue → ℕ → Stop
+counted_stop m devices count =
+    if nat_lt 1 count then wide_stop m (class_attribute_at devices 1 (codes "sas_device") (codes "sas_address"))
+    else narrow_stop m (class_attribute_at devices 1 (codes "sas_device") (codes "phy_identifier")) (slice_get devices 3)
+
+abbrev pub sas_by : DeviceValue → List DeviceValue → (phys : Option Text) → Option ℕ → Stop
+sas_by m devices phys None = ending true true (absent (codes "num_phys") phys)
+sas_by m devices phys (Some count) = counted_stop m devices count
+
+abbrev pub sas_at : DeviceValue → List DeviceValue → Stop
+sas_at m devices =
+    let phys = class_attribute_at devices 2 (codes "sas_port") (codes "num_phys") in
+    sas_by m devices phys (option_and_then (number_in AsWritten (2 ^ 32 - 1)) phys)
+
+unfoldable pub sas_stop : DeviceValue → List DeviceValue → Stop
+sas_stop m above = sas_at m (from_target above)
+
+-- an attribute of the connection 0 of a session
+abbrev pub portal_attribute : (name : Text) → DeviceValue → Option Text
+portal_attribute name session =
+    option_and_then
+    (λ n. attribute session (concat (codes "connection" ∷ n ∷ codes ":0/iscsi_connection/connection" ∷ n ∷ codes ":0/" ∷ name ∷ [])))
+    (name_number (last_component session.path))
+
+abbrev pub portal_needs : (address port : Option Text) → List Text
+portal_needs address port = absent (codes "persistent_address") address ++ absent (codes "persistent_port") port
+
+-- iSCSI: the portal and the target of the session
+abbrev pub portal_stop : DeviceValue → (target : Text) → (address port : Option Text) → Stop
+portal_stop m target (Some address) (Some port) =
+    adding (concat (codes "ip-" ∷ address ∷ codes ":" ∷ port ∷ codes "-iscsi-" ∷ target ∷ codes "-" ∷ unit_text m ∷ [])) true true 0
+portal_stop m target address port = ending true true (portal_needs address port)
+
+abbrev pub session_stop : DeviceValue → (session : DeviceValue) → (target : Option Text) → Stop
+session_stop m session None = ending true true (codes "targetname" ∷ [])
+session_stop m session (Some target) =
+    portal_stop m target (portal_attribute (codes "persistent_address") session) (portal_attribute (codes "persistent_port") session)
+
+abbrev pub iscsi_by : DeviceValue → (session : Option DeviceValue) → Stop
+iscsi_by m None = ending true true []
+iscsi_by m (Some session) = session_stop m session (class_attribute (codes "iscsi_session") (codes "targetname") session)
+
+abbrev pub is_session : DeviceValue → Bool
+is_session m = begins (codes "session") (last_component m.path)
+
+unfoldable pub iscsi_stop : DeviceValue → List DeviceValue → Stop
+iscsi_stop m above = iscsi_by m (find is_session above)
+
+-- ATA: the port above the host, and the target; with a bus that is not 0 the bus in its place, behind a multiplier
+abbrev pub ata_place : Address → Text
+ata_place place = if place.bus == 0 then decimal place.target else concat (decimal place.bus ∷ codes ".0" ∷ [])
+
+abbrev pub ata_port_stop : Address → Option Text → Stop
+ata_port_stop place None = ending true false (codes "port_no" ∷ [])
+ata_port_stop place (Some port) =
+    record (adding (concat (codes "ata-" ∷ port ∷ codes "." ∷ ata_place place ∷ [])) true false 0) { share = Ata (concat (codes "ata-" ∷ port ∷ [])) }
+
+abbrev pub ata_by : Option Address → List DeviceValue → Stop
+ata_by None above = ending true false []
+ata_by (Some place) above = ata_port_stop place (class_attribute_at (from_host above) 1 (codes "ata_port") (codes "port_no"))
+
+unfoldable pub ata_stop : DeviceValue → List DeviceValue → Stop
+ata_stop m above = ata_by (address m) above
+
+-- what stands between braces at the start of a text of at least so many bytes, the braces among them, without `-`
+abbrev pub has_braces : ℕ → Text → Bool
+has_braces size text = begins_with open_brace text && slice_index text (size - 1) == close_brace
+
+abbrev pub braced : (size : ℕ) → Text → Text
+braced size text = filter (λ b. not (b == minus)) (take (size - 2) (drop 1 text))
+
+-- Hyper-V: the name of the device above the host
+abbrev pub guid_stop : DeviceValue → (size : ℕ) → Option Text → Stop
+guid_stop m size None = ending true false (codes "device_id" ∷ [])
+guid_stop m size (Some guid) =
+    if has_braces size guid then adding (concat (codes "vmbus-" ∷ braced size guid ∷ codes "-" ∷ unit_text m ∷ [])) true false 0
+    else ending true false []
+
+unfoldable pub guid_by : DeviceValue → List DeviceValue → (size : ℕ) → Stop
+guid_by m above size = guid_stop m size (attribute_at (from_host above) 1 (codes "device_id"))
+
+-- the name of a folder `host*` in which an attribute lies
+abbrev pub in_host : Text → Option Text
+in_host folder = if begins (codes "host") folder then Some folder else None
+
+abbrev pub host_name : (attribute : Text) → Option Text
+host_name attribute = option_and_then (λ cut. in_host cut.0) (split_once slash attribute)
+
+-- the folders of hosts in the folder of a device
+unfoldable pub host_names : DeviceValue → List Text
+host_names m = filter_map (λ pair. host_name pair.0) m.attrs
+
+-- the number of a folder of a host
+abbrev pub host_number : Text → Option ℕ
+host_number name = number_in Decimal (2 ^ 32 - 1) (drop 4 name)
+
+abbrev pub lower : Option ℕ → ℕ → Option ℕ
+lower None n = Some n
+lower (Some m) n = Some (min m n)
+
+-- the lowest number of these folders, if one has a number
+unfoldable pub lowest : List Text → Option ℕ
+lowest names = fold lower None (filter_map host_number names)
+
+-- every other transport: the address, whose first number counts from the lowest host beside the device's own; the way goes on above the host
+abbrev pub host_part : Address → ℕ → Text
+host_part place first =
+    concat (codes "scsi-" ∷ decimal (place.host - first) ∷ codes ":" ∷ decimal place.bus ∷ codes ":" ∷ decimal place.target ∷ codes ":" ∷ decimal place.unit ∷ [])
+
+abbrev pub numbered_host_stop : Address → ℕ → Option ℕ → Stop
+numbered_host_stop place count None = record (passing true) { next = On count }
+numbered_host_stop place count (Some first) = adding (host_part place first) true false count
+
+-- where the block does not tell of the host's own folder, it tells of none, and nothing is found out
+abbrev pub hosts_stop : Address → ℕ → (host : Text) → (hosts : List Text) → Stop
+hosts_stop place count host hosts =
+    if list_any (same_text host) hosts then numbered_host_stop place count (lowest hosts)
+    else record (ending true false (codes "host*" ∷ [])) { next = Fails }
+
+-- the folders of hosts beside a host: those in its folder, where this is that of the device above it
+abbrev pub beside_host : (host : DeviceValue) → (above : Option DeviceValue) → List Text
+beside_host host None = []
+beside_host host (Some above) = if same_text above.path (folder host.path) then host_names above else []
+
+abbrev pub host_stop : Address → ℕ → Option DeviceValue → (above : Option DeviceValue) → Stop
+host_stop place count None above = ending true false []
+host_stop place count (Some host) above = hosts_stop place count (last_component host.path) (beside_host host above)
+
+abbrev pub other_by : Option Address → List DeviceValue → Stop
+other_by None above = ending true false []
+other_by (Some place) above =
+    host_stop place (prefix_len (λ m. not (is_of (codes "scsi") (Some (codes "scsi_host")) m)) above + 1) (slice_get (from_host above) 0) (slice_get (from_host above) 1)
+
+unfoldable pub other_stop : DeviceValue → List DeviceValue → Stop
+other_stop m above = other_by (address m) above
+
+-- what a SCSI device adds by its transport
+abbrev pub transport_stop : Option Transport → DeviceValue → List DeviceValue → Stop
+transport_stop None m above = other_stop m above
+transport_stop (Some transport.FibreChannel) m above = fibre_stop m above
+transport_stop (Some transport.Sas) m above = sas_stop m above
+transport_stop (Some transport.Iscsi) m above = iscsi_stop m above
+transport_stop (Some transport.Ata) m above = ata_stop m above
+transport_stop (Some transport.HyperV) m above = guid_by m above 37
+transport_stop (Some transport.HyperVByAcpi) m above = guid_by m above 38
+
+-- FireWire goes before what the path tells
+abbrev pub firewire_stop : Option Text → DeviceValue → List DeviceValue → Stop
+firewire_stop None m above = transport_stop (transport_of m.path) m above
+firewire_stop (Some id) m above = adding (concat (codes "ieee1394-0x" ∷ id ∷ [])) true true (row (codes "scsi") above)
+
+-- what a device of subsystem scsi adds: only one of type scsi_device adds a part
+unfoldable pub scsi_stop : DeviceValue → List DeviceValue → Stop
+scsi_stop m above =
+    if is_text (codes "scsi_device") (type_of m) then firewire_stop (attribute m (codes "ieee1394_id")) m above
+    else passing true

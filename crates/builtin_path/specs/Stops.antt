@@ -1,0 +1,36 @@
+-- What one device of the way adds to a path.
+use Rattle.std.specs.Prelude.{ℕ, Bool, true, false, List, [], ◌∷◌, length, Option, Some, None, concat, codes}
+use Rattle.text_tables.specs.Texts.{Text}
+use Rattle.device_core.specs.Values.{DeviceValue}
+use Rattle.builtin_path.specs.Members.{row, kernel_name}
+use Rattle.builtin_path.specs.declared.stops.Next.{Next}
+use Rattle.builtin_path.specs.declared.stops.Next.TheVariants.{On, Ends, Fails}
+use Rattle.builtin_path.specs.declared.stops.Share.TheVariants.{Apart, Both}
+use Rattle.builtin_path.specs.declared.stops.Stop.{Stop}
+
+-- how many of the devices above one are passed over: all where the way ends
+abbrev pub passed : Next → List DeviceValue → ℕ
+passed (On count) above = count
+passed Ends above = length above
+passed Fails above = length above
+
+-- a name that a block would have to tell, where it does not
+abbrev pub absent : (name : Text) → Option Text → List Text
+absent name None = name ∷ []
+absent name (Some value) = []
+
+-- a device that adds nothing, and above which the way goes on
+abbrev pub passing : (transport : Bool) → Stop
+passing transport = record { part = None; share = Apart; transport = transport; parent = false; needs = []; next = On 0 }
+
+-- a device that adds nothing, and at which the way ends; what is below it stays
+abbrev pub ending : (transport parent : Bool) → (needs : List Text) → Stop
+ending transport parent needs = record { part = None; share = Apart; transport = transport; parent = parent; needs = needs; next = Ends }
+
+-- a device that adds a part, above which so many devices are passed over
+abbrev pub adding : (part : Text) → (transport parent : Bool) → ℕ → Stop
+adding part transport parent count = record { part = Some part; share = Apart; transport = transport; parent = parent; needs = []; next = On count }
+
+-- a device whose part counts for the compatible path, too
+abbrev pub adding_both : (part : Text) → (transport : Bool) → ℕ → Stop
+adding_both part transport count = record { part = Some part; share = Both; transport = transport; parent = true; needs = []; next = On count }

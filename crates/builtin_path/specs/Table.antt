@@ -1,0 +1,149 @@
+-- What devices of each subsystem add to a path.
+use Rattle.std.specs.Prelude.{ℕ, ◌+◌, Bool, false, true, List, [], ◌∷◌, codes, decimal, drop, find, if◌then◌else◌, is_some, length, not, ◌&&◌, ◌||◌, ◌^◌, Option, Some, None, take, unwrap_or}
+use Rattle.std.specs.List.{concat, list_any, prefix_len}
+use Rattle.std.specs.Option.{option_and_then, option_map}
+use Rattle.text_bytes.specs.Numbers.{decimal_below, is_digit}
+use Rattle.text_tables.specs.Texts.{Text, is_among, same_text}
+use Rattle.text_links.specs.Kernels.{kernel_name, last_component}
+use Rattle.device_core.specs.Values.{DeviceValue, EventValue}
+use Rattle.builtin_devices.specs.Numbers.{name_number}
+use Rattle.builtin_path.specs.Members.{attribute, begins, row}
+use Rattle.builtin_path.specs.Nvme.{nvme_stop, ways_stop}
+use Rattle.builtin_path.specs.Scsi.{scsi_stop}
+use Rattle.builtin_path.specs.Stops.{adding, adding_both, ending, passing}
+use Rattle.builtin_path.specs.Usb.{usb_stop}
+use Rattle.builtin_path.specs.declared.table.Manner.{Manner}
+use Rattle.builtin_path.specs.declared.table.Manner.TheVariants as manner
+use Rattle.builtin_path.specs.declared.stops.Next.TheVariants.{On}
+use Rattle.builtin_path.specs.declared.stops.Stop.{Stop}
+
+-- Each subsystem whose devices add to a path, and how: the parents that are known by their names, some of which are transports, too, and
+-- those with a rule of their own.
+abbrev pub manners : List (Text × Manner)
+manners =
+    (codes "pci", manner.Parent)
+    ∷ (codes "acpi", manner.Parent)
+    ∷ (codes "xen", manner.Parent)
+    ∷ (codes "platform", manner.Transport)
+    ∷ (codes "amba", manner.Transport)
+    ∷ (codes "scm", manner.Transport)
+    ∷ (codes "ccw", manner.Transport)
+    ∷ (codes "ccwgroup", manner.Transport)
+    ∷ (codes "iucv", manner.Transport)
+    ∷ (codes "ap", manner.Ap)
+    ∷ (codes "virtio", manner.Virtio)
+    ∷ (codes "usb", manner.Usb)
+    ∷ (codes "scsi", manner.Scsi)
+    ∷ (codes "nvme", manner.Nvme)
+    ∷ (codes "nvme-subsystem", manner.NvmeSubsystem)
+    ∷ (codes "serio", manner.Serio)
+    ∷ (codes "spi", manner.Spi)
+    ∷ (codes "bcma", manner.Bcma)
+    ∷ (codes "cciss", manner.Cciss)
+    ∷ (codes "scsi_tape", manner.ScsiTape)
+    ∷ []
+
+-- how a subsystem adds
+unfoldable pub manner_of : Text → Option Manner
+manner_of subsystem = option_map (λ r. r.1) (find (λ r. same_text r.0 subsystem) manners)
+
+-- a device by its subsystem and its name; the row of its subsystem is passed over
+abbrev pub named_stop : Text → (transport : Bool) → DeviceValue → List DeviceValue → Stop
+named_stop subsystem transport m above = adding_both (concat (subsystem ∷ codes "-" ∷ kernel_name m.path ∷ [])) transport (row subsystem above)
+
+-- a queue of cryptographic adapters: by its type and functions, where one of them is absent by its name
+abbrev pub ap_part : Option Text → Option Text → (name : Text) → Text
+ap_part (Some type) (Some functions) name = concat (codes "ap-" ∷ type ∷ codes "-" ∷ functions ∷ [])
+ap_part type functions name = concat (codes "ap-" ∷ name ∷ [])
+
+abbrev pub ap_stop : DeviceValue → List DeviceValue → Stop
+ap_stop m above = adding (ap_part (attribute m (codes "type")) (attribute m (codes "ap_functions")) (kernel_name m.path)) true true (row (codes "ap") above)
+
+-- a device of virtio adds nothing; its row is passed over
+abbrev pub virtio_stop : Text → List DeviceValue → Stop
+virtio_stop subsystem above = record (passing true) { next = On (row subsystem above) }
+
+-- a device by the number at the end of its name: one without a number adds nothing, and no row is passed over
+abbrev pub numbered_by : Text → Text → Option Text → List DeviceValue → Stop
+numbered_by subsystem start None above = passing false
+numbered_by subsystem start (Some digits) above = adding (concat (start ∷ digits ∷ [])) false false (row subsystem above)
+
+abbrev pub numbered_stop : (subsystem start : Text) → DeviceValue → List DeviceValue → Stop
+numbered_stop subsystem start m above = numbered_by subsystem start (name_number (last_component m.path)) above
+
+-- the number that a text begins with, and what stands behind it
+unfoldable pub leading_number : Text → Option (ℕ × Text)
+leading_number text =
+    let digits = prefix_len is_digit text in
+    option_map (λ n. (n, drop digits text)) (decimal_below (2 ^ 32) (take digits text))
+
+-- what stands behind a start, where a text begins with it
+abbrev pub behind : (start text : Text) → Option Text
+behind start text = if begins start text then Some (drop (length start) text) else None
+
+-- the second number of a name that is a start, a number, a mark, and a number; what stands behind that does not count
+unfoldable pub second_number : (start mark : Text) → (name : Text) → Option ℕ
+second_number start mark name =
+    option_and_then (λ text.
+    option_and_then (λ first.
+    option_and_then (λ rest. option_map (λ second. second.0) (leading_number rest))
+    (behind mark first.1))
+    (leading_number text))
+    (behind start name)
+
+-- a device by that number; at one with another name the way ends
+abbrev pub second_by : (start : Text) → Option ℕ → ℕ → Stop
+second_by start None count = ending true false []
+second_by start (Some n) count = adding (concat (start ∷ decimal n ∷ [])) true false count
+
+abbrev pub bcma_stop : DeviceValue → Stop
+bcma_stop m = second_by (codes "bcma-") (second_number (codes "bcma") (codes ":") (kernel_name m.path)) 0
+
+abbrev pub cciss_stop : DeviceValue → List DeviceValue → Stop
+cciss_stop m above = second_by (codes "cciss-disk") (second_number (codes "c") (codes "d") (kernel_name m.path)) (row (codes "cciss") above)
+
+-- names of tapes: one of the first two whole, or one of the others with anything behind it
+abbrev pub whole_tapes : List Text
+whole_tapes = codes "nst" ∷ codes "st" ∷ []
+
+abbrev pub begun_tapes : List Text
+begun_tapes = codes "nstl" ∷ codes "nstm" ∷ codes "nsta" ∷ codes "stl" ∷ codes "stm" ∷ codes "sta" ∷ []
+
+unfoldable pub tape_part : (name : Text) → Option Text
+tape_part name = if is_among whole_tapes name then Some name else find (λ start. begins start name) begun_tapes
+
+-- a tape adds a part only where no device below has added one
+abbrev pub tape_by : Option Text → Stop
+tape_by None = passing false
+tape_by (Some part) = adding part false false 0
+
+abbrev pub tape_stop : (is_begun : Bool) → DeviceValue → Stop
+tape_stop is_begun m = if is_begun then passing false else tape_by (tape_part (kernel_name m.path))
+
+-- what a device adds in each manner; `is_begun` says whether a device below has added a part
+abbrev pub stop_as : Manner → EventValue → (is_begun : Bool) → (subsystem : Text) → DeviceValue → List DeviceValue → Stop
+stop_as manner.Parent event is_begun subsystem m above = named_stop subsystem false m above
+stop_as manner.Transport event is_begun subsystem m above = named_stop subsystem true m above
+stop_as manner.Ap event is_begun subsystem m above = ap_stop m above
+stop_as manner.Virtio event is_begun subsystem m above = virtio_stop subsystem above
+stop_as manner.Usb event is_begun subsystem m above = usb_stop m above
+stop_as manner.Scsi event is_begun subsystem m above = scsi_stop m above
+stop_as manner.Nvme event is_begun subsystem m above = nvme_stop event above
+stop_as manner.NvmeSubsystem event is_begun subsystem m above = ways_stop event m above
+stop_as manner.Serio event is_begun subsystem m above = numbered_stop subsystem (codes "serio-") m above
+stop_as manner.Spi event is_begun subsystem m above = numbered_stop subsystem (codes "cs-") m above
+stop_as manner.Bcma event is_begun subsystem m above = bcma_stop m
+stop_as manner.Cciss event is_begun subsystem m above = cciss_stop m above
+stop_as manner.ScsiTape event is_begun subsystem m above = tape_stop is_begun m
+
+abbrev pub stop_by : Option Manner → EventValue → (is_begun : Bool) → (subsystem : Text) → DeviceValue → List DeviceValue → Stop
+stop_by None event is_begun subsystem m above = passing false
+stop_by (Some manner) event is_begun subsystem m above = stop_as manner event is_begun subsystem m above
+
+abbrev pub stop_of : Option Text → EventValue → (is_begun : Bool) → DeviceValue → List DeviceValue → Stop
+stop_of None event is_begun m above = passing false
+stop_of (Some subsystem) event is_begun m above = stop_by (manner_of subsystem) event is_begun subsystem m above
+
+-- what a device adds, with those above it
+unfoldable pub stop : EventValue → (is_begun : Bool) → DeviceValue → List DeviceValue → Stop
+stop event is_begun m above = stop_of m.subsystem event is_begun m above

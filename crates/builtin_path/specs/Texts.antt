@@ -1,0 +1,16 @@
+-- What a text has in it.
+use Rattle.std.specs.Prelude.{ℕ, Bool, drop, length, nat_eq, position, Option}
+use Rattle.std.specs.List.{list_any, range_with_len, starts_with}
+use Rattle.text_tables.specs.Texts.{Text}
+
+-- whether a text stands at a place of another one
+abbrev pub stands_at : (wanted text : Text) → ℕ → Bool
+stands_at wanted text place = starts_with nat_eq (drop place text) wanted
+
+-- the first place of a text where another one stands
+unfoldable pub first_place : (wanted text : Text) → Option ℕ
+first_place wanted text = position (stands_at wanted text) (range_with_len 0 (length text))
+
+-- whether a text stands in another one
+unfoldable pub contains : (wanted text : Text) → Bool
+contains wanted text = list_any (stands_at wanted text) (range_with_len 0 (length text))

@@ -1,0 +1,46 @@
+-- The way up from the event device: which devices it passes, and what they add.
+use Rattle.std.specs.Prelude.{ℕ, zero, suc, ◌+◌, Bool, false, not, ◌||◌, List, [], ◌∷◌, ◌++◌, codes, if◌then◌else◌, is_some, length, map, Option, Some, None, slice_get, take}
+use Rattle.std.specs.List.{prefix_len}
+use Rattle.std.specs.Option.{option_and_then}
+use Rattle.text_tables.specs.Texts.{Text}
+use Rattle.device_core.specs.Values.{DeviceValue, EventValue}
+use Rattle.builtin_devices.specs.Devices.{parents_of}
+use Rattle.builtin_path.specs.Members.{is_in}
+use Rattle.builtin_path.specs.Nvme.{controller, namespace}
+use Rattle.builtin_path.specs.Stops.{passed}
+use Rattle.builtin_path.specs.Table.{stop}
+use Rattle.builtin_path.specs.declared.stops.Stop.{Stop}
+
+-- a device and those above it
+abbrev pub from_device : EventValue → DeviceValue → List DeviceValue
+from_device event device = device ∷ parents_of event device.path
+
+-- how many devices a list begins with that are no NVMe subsystem
+abbrev pub below_subsystem : List DeviceValue → ℕ
+below_subsystem members = prefix_len (λ m. not (is_in (codes "nvme-subsystem") m)) members
+
+-- the controller by which a disk of several ways is reached
+abbrev pub way_by : EventValue → List DeviceValue → (nsid : Option Text) → Option DeviceValue
+way_by event members None = None
+way_by event members (Some nsid) = option_and_then (controller event) (slice_get members (below_subsystem members))
+
+abbrev pub with_controller : EventValue → List DeviceValue → Option DeviceValue → List DeviceValue
+with_controller event members None = members
+with_controller event members (Some device) = take (below_subsystem members + 1) members ++ from_device event device
+
+-- the devices of the way: the event device and those above it; of a disk of several ways what stands above its NVMe subsystem are the controller and
+-- the devices above that
+unfoldable pub members_of : EventValue → List DeviceValue
+members_of event = let members = from_device event event.device in with_controller event members (way_by event members (namespace event))
+
+-- what the devices add, from the first on behind so many that are passed over
+abbrev pub stops_from : EventValue → (is_begun : Bool) → ℕ → List DeviceValue → List Stop
+stops_from event is_begun n [] = []
+stops_from event is_begun zero (m ∷ above) =
+    let here = stop event is_begun m above in
+    here ∷ stops_from event (is_begun || is_some here.part) (passed here.next above) above
+stops_from event is_begun (suc n) (m ∷ above) = stops_from event is_begun n above
+
+-- what the devices of an event add, from the event device up
+unfoldable pub stops_of : EventValue → List Stop
+stops_of event = stops_from event false 0 (members_of event)

@@ -1,0 +1,306 @@
+//! path_id: what comes of the parts.
+ghost use Rattle.std.specs.Prelude.{◌≡◌, ◌∷◌, ◌++◌, ◌+◌, [], IfOk, IfSome, OnOk, codes, filter_map, flat_map, length, map, option_map, is_some, ◌<◌};
+ghost use Rattle.std.specs.List.{join_with_byte, list_any, prefix_len};
+ghost use Rattle.text_bytes.specs.Names.{minus};
+ghost use Rattle.text_tables.specs.Texts.{with_texts};
+ghost use Rattle.builtin_path.specs.Path.{compatible_pairs, compatible_parts, if_revision, is_ata, is_failing, is_revision, is_whole, lacks_type, needs, parts, path_id, path_pairs, properties_of, revision_pairs, revision_place, share_of, stays_in_tag, tag, tag_byte, type_needs, without_last, without_revision};
+
+use crate::members::Member;
+use crate::stops::{Next, Share, Stop};
+use crate::texts::{behind_first, first_bytes, first_place, joined};
+use crate::way::{members_of, stops_from};
+use builtin_devices::{Devices, Outcome, add_property, is_text, type_of};
+use device_core::Event;
+use std::alloc::{AllocError, Global};
+use text_bytes::{Bytes, ends_in, is_digit};
+use text_links::underscored;
+use text_tables::OwnedTexts;
+
+/// The most bytes of a tag.
+const MOST_TAG: usize = 511;
+
+/// What a stop adds to the path.
+fn part_of(stop: &Stop) -> Option<&[u8]>
+    ensures { option_map (λ t. t.now) result ≡ stop.now.part }
+{
+    match &stop.part {
+        Some(part) => Some(part.as_slice()),
+        None => None,
+    }
+}
+
+/// What a stop adds to the compatible path.
+fn share_of(stop: &Stop) -> Option<&[u8]>
+    ensures { option_map (λ t. t.now) result ≡ share_of stop.now.share stop.now.part }
+{
+    match &stop.share {
+        Share::Apart => None,
+        Share::Both => part_of(stop),
+        Share::Ata(port) => Some(port.as_slice()),
+    }
+}
+
+/// Whether a stop is a port of ATA.
+fn is_ata(share: &Share) -> bool
+    ensures { result ≡ is_ata share.now }
+{
+    match share {
+        Share::Ata(_) => true,
+        Share::Both => false,
+        Share::Apart => false,
+    }
+}
+
+/// The parts that stops add, the highest first.
+fn parts(alloc: Global, stops: &[Stop]) -> Result<Vec<&[u8]>, AllocError>
+    ensures { IfOk result (λ found. map (λ t. t.now) found.items ≡ parts stops.now) }
+{
+    let mut parts = Vec::new(alloc);
+    for stop in stops {
+        if let Some(part) = part_of(stop) {
+            parts.push(part)?;
+        }
+    }
+    parts.reverse();
+    Ok(parts)
+}
+
+/// How many stops a list begins with that are no port of ATA.
+fn below_ata(stops: &[Stop]) -> usize
+    ensures value { result ≡ prefix_len (λ s. not (is_ata s.share)) stops.now }
+    ensures within { result ≤ length stops.now }
+{
+    stops.iter().take_while(|stop| !is_ata(&stop.share)).count()
+}
+
+/// The parts of the compatible path, the highest first.
+fn compatible_parts(alloc: Global, stops: &[Stop]) -> Result<Vec<&[u8]>, AllocError>
+    ensures { IfOk result (λ found. map (λ t. t.now) found.items ≡ compatible_parts stops.now) }
+{
+    let mut parts = Vec::new(alloc);
+    let (_, begun) = stops.split_at(below_ata(stops));
+    for stop in begun {
+        if let Some(part) = share_of(stop) {
+            parts.push(part)?;
+        }
+    }
+    parts.reverse();
+    Ok(parts)
+}
+
+/// Whether path_id fails where the way goes on so.
+fn is_failing(next: Next) -> bool
+    ensures { result ≡ is_failing next }
+{
+    match next {
+        Next::Fails => true,
+        Next::Ends => false,
+        Next::On(_) => false,
+    }
+}
+
+/// Whether stops are a path.
+#[tactic(auto, unfolding(crate::specs::Path::is_whole))]
+fn is_whole(event: &Event<'_>, stops: &[Stop]) -> bool
+    ensures { result ≡ is_whole event.now stops.now }
+{
+    if stops.iter().any(|stop| is_failing(stop.next)) {
+        return false;
+    }
+    stops.iter().any(|stop| stop.part.is_some())
+        && stops.iter().any(|stop| stop.parent)
+        && (!is_text(b"block", event.device().subsystem())
+            || stops.iter().any(|stop| stop.transport))
+}
+
+/// Whether a digit and `-` stand behind the place where `-usbv` stands.
+fn is_revision(text: &[u8], place: usize) -> bool
+    requires { place < length text.now }
+    ensures { result ≡ is_revision text.now place }
+{
+    match (text.get(place + 5), text.get(place + 6)) {
+        (Some(digit), Some(mark)) => is_digit(*digit) && *mark == b'-',
+        _ => false,
+    }
+}
+
+/// The first place of `-usbv` in a text, where a digit and `-` follow.
+#[tactic(auto, unfolding(crate::specs::Path::revision_place))]
+fn revision_place(text: &[u8]) -> Option<usize>
+    ensures { result ≡ revision_place text.now }
+{
+    let place = first_place(b"-usbv", text)?;
+    if is_revision(text, place) {
+        Some(place)
+    } else {
+        None
+    }
+}
+
+/// A text without the `v` and the digit of a revision.
+fn without_revision(alloc: Global, text: &[u8], place: usize) -> Result<Bytes, AllocError>
+    requires { place < length text.now }
+    ensures { IfOk result (λ plain. plain ≡ without_revision text.now place) }
+{
+    let mut plain = Vec::from_slice(alloc, first_bytes(place + 4, text))?;
+    plain.extend_from_slice(behind_first(place + 6, text))?;
+    Ok(Bytes::new(plain))
+}
+
+/// Whether a byte stays in a tag.
+fn stays_in_tag(byte: u8) -> bool
+    ensures { result ≡ stays_in_tag byte }
+{
+    byte.is_ascii_alphanumeric() || byte == b'-'
+}
+
+/// A byte that stays in a tag, and a space for any other.
+fn tag_byte(byte: u8) -> u8
+    ensures { result ≡ tag_byte byte }
+{
+    if stays_in_tag(byte) { byte } else { b' ' }
+}
+
+/// A text without a `_` at its end.
+fn without_last(text: &[u8]) -> &[u8]
+    ensures { result.now ≡ without_last text.now }
+{
+    if ends_in(b'_', text) {
+        first_bytes(text.len().saturating_sub(1), text)
+    } else {
+        text
+    }
+}
+
+/// A text as a tag.
+#[tactic(auto, unfolding(crate::specs::Path::tag))]
+fn tag(alloc: Global, text: &[u8]) -> Result<Bytes, AllocError>
+    ensures { IfOk result (λ word. word ≡ tag text.now) }
+{
+    let bytes: Vec<u8> = text.iter().map(|byte| tag_byte(*byte)).collect(alloc)?;
+    let word = underscored(alloc, &bytes)?;
+    Bytes::copy_of(alloc, without_last(first_bytes(MOST_TAG, &word)))
+}
+
+/// Adds what is set of a path without a revision.
+fn add_path(
+    alloc: Global,
+    path: &[u8],
+    properties: &mut Vec<(Bytes, Bytes)>,
+) -> Result<(), AllocError>
+    ensures { OnOk result (properties.new.items ≡ properties.old.items ++ path_pairs path.now) }
+{
+    add_property(alloc, b"ID_PATH", path, properties)?;
+    let tag = tag(alloc, path)?;
+    add_property(alloc, b"ID_PATH_TAG", tag.as_slice(), properties)
+}
+
+/// Adds what is set of a text that may tell the revision of USB.
+fn add_revised(
+    alloc: Global,
+    text: &[u8],
+    properties: &mut Vec<(Bytes, Bytes)>,
+) -> Result<(), AllocError>
+    ensures { OnOk result (properties.new.items ≡ properties.old.items ++ revision_pairs text.now (revision_place text.now)) }
+{
+    match revision_place(text) {
+        None => add_path(alloc, text, properties),
+        Some(place) => {
+            add_property(alloc, b"ID_PATH_WITH_USB_REVISION", text, properties)?;
+            let plain = without_revision(alloc, text, place)?;
+            add_path(alloc, plain.as_slice(), properties)
+        }
+    }
+}
+
+/// Adds the compatible path, where there is one.
+fn add_compatible(
+    alloc: Global,
+    stops: &[Stop],
+    properties: &mut Vec<(Bytes, Bytes)>,
+) -> Result<(), AllocError>
+    ensures { OnOk result (properties.new.items ≡ properties.old.items ++ compatible_pairs (compatible_parts stops.now)) }
+{
+    let parts = compatible_parts(alloc, stops)?;
+    if parts.is_empty() {
+        return Ok(());
+    }
+    let text = joined(alloc, &parts)?;
+    add_property(alloc, b"ID_PATH_ATA_COMPAT", text.as_slice(), properties)
+}
+
+/// What path_id sets for stops.
+#[tactic(auto, unfolding(crate::specs::Path::properties_of))]
+fn properties_of(alloc: Global, stops: &[Stop]) -> Result<Vec<(Bytes, Bytes)>, AllocError>
+    ensures { IfOk result (λ properties. properties.items ≡ properties_of stops.now) }
+{
+    let mut properties = Vec::new(alloc);
+    let parts = parts(alloc, stops)?;
+    let text = joined(alloc, &parts)?;
+    add_revised(alloc, text.as_slice(), &mut properties)?;
+    add_compatible(alloc, stops, &mut properties)?;
+    Ok(properties)
+}
+
+/// Whether a device has no type, though each of its subsystem has one.
+fn lacks_type(member: &Member<'_>) -> bool
+    ensures { result ≡ lacks_type member.now }
+{
+    (member.is_in(b"usb") || member.is_in(b"scsi")) && type_of(member.device).is_none()
+}
+
+/// What a block would have to tell of types.
+fn type_needs(alloc: Global, members: &[Member<'_>]) -> Result<OwnedTexts, AllocError>
+    ensures { IfOk result (λ needs. needs ≡ type_needs members.now) }
+{
+    let mut needs = OwnedTexts::new(alloc);
+    if members.iter().any(lacks_type) {
+        needs.add(alloc, b"DEVTYPE")?;
+    }
+    Ok(needs)
+}
+
+/// What a block would have to tell.
+#[tactic(auto, unfolding(crate::specs::Path::needs))]
+fn needs(alloc: Global, members: &[Member<'_>], stops: &[Stop]) -> Result<OwnedTexts, AllocError>
+    ensures { IfOk result (λ texts. texts ≡ needs members.now stops.now) }
+{
+    let mut needs = type_needs(alloc, members)?;
+    for stop in stops {
+        add_needs(alloc, stop.needs.as_slice(), &mut needs)?;
+    }
+    Ok(needs)
+}
+
+/// Adds texts that are not there yet.
+fn add_needs(alloc: Global, more: &[Vec<u8>], needs: &mut OwnedTexts) -> Result<(), AllocError>
+    ensures { OnOk result (needs.new ≡ with_texts needs.old (map (λ t. t.items) more.now)) }
+{
+    for need in more {
+        needs.add(alloc, need)?;
+    }
+    Ok(())
+}
+
+/// What the builtin path_id of udev (systemd 257) makes of an event: the path by which its device is reached.
+///
+/// It goes up from the event device, by the devices that the block tells of. Each device adds a part by its subsystem,
+/// and the parts are joined by `-`, the highest first. It fails where no device adds a part, where none is a parent that
+/// is known, where a block device has no transport that is known, where the folders of hosts beside a SCSI host are not
+/// told, and where the controller of an NVMe disk of several ways is not told, or virtual.
+///
+/// `ID_PATH_WITH_USB_REVISION` is set where a port of USB tells its revision, then `ID_PATH` and `ID_PATH_TAG`, and
+/// `ID_PATH_ATA_COMPAT` behind a port of ATA. The error comes where memory is refused.
+#[tactic(auto, unfolding(crate::specs::Path::path_id, crate::specs::Way::stops_of))]
+pub fn path_id(alloc: Global, event: &Event<'_>) -> Result<Outcome, AllocError>
+    ensures { IfOk result (λ outcome. outcome ≡ path_id event.now) }
+{
+    let devices = Devices::new(alloc, event)?;
+    let members = members_of(alloc, &devices)?;
+    let stops = stops_from(alloc, &devices, &members)?;
+    let missing = needs(alloc, &members, &stops)?;
+    if !is_whole(event, &stops) {
+        return Ok(Outcome::failing(alloc, missing));
+    }
+    Ok(Outcome::succeeding(properties_of(alloc, &stops)?, missing))
+}

@@ -1,0 +1,218 @@
+//! SCSI: the transport that the path of a device tells of, its address and its unit, and what the device adds.
+ghost use Rattle.std.specs.Prelude.{◌≡◌, ◌∷◌, ◌<◌, ◌^◌, [], codes, decimal, IfOk, IfSome, length, option_map};
+ghost use Rattle.std.specs.List.{concat};
+ghost use Rattle.builtin_path.specs.Members.{attribute};
+ghost use Rattle.builtin_path.specs.Scsi.{address, address_of, before_colon, firewire_stop, four_digits, hex_digit, numbered_unit, scsi_stop, transport_of, transport_stop, unit_number, unit_text};
+
+use crate::members::{Member, row};
+use crate::scsi_hosts::other_stop;
+use crate::scsi_transports::{ata_stop, fibre_stop, guid_stop_above, iscsi_stop, sas_stop};
+use crate::stops::Stop;
+use crate::texts::{concatenated, contains};
+use builtin_devices::{Base, is_text, name_number, number_in, type_of};
+use itoa::Buffer;
+use std::alloc::{AllocError, Global};
+use text_bytes::{Bytes, decimal_below, split_once};
+
+/// By what a device of SCSI is reached, as its path tells.
+#[derive(Clone, Copy)]
+pub enum Transport {
+    /// Fibre Channel.
+    FibreChannel,
+    /// SAS.
+    Sas,
+    /// iSCSI.
+    Iscsi,
+    /// ATA.
+    Ata,
+    /// Hyper-V.
+    HyperV,
+    /// Hyper-V, by a name of ACPI.
+    HyperVByAcpi,
+}
+
+/// Texts that stand in the path of a device, each with the transport that it tells of.
+const TRANSPORTS: [(&[u8], Transport); 6] = [
+    (b"/rport-", Transport::FibreChannel),
+    (b"/end_device-", Transport::Sas),
+    (b"/session", Transport::Iscsi),
+    (b"/ata", Transport::Ata),
+    (b"/vmbus_", Transport::HyperV),
+    (b"/VMBUS", Transport::HyperVByAcpi),
+];
+
+/// What the numbers of an address are below.
+const NUMBERS: u64 = 1 << 32;
+
+/// The digits in base 16.
+const HEX_DIGITS: [u8; 16] = *b"0123456789abcdef";
+
+/// The address of a SCSI device.
+#[derive(Clone, Copy)]
+pub struct Address {
+    /// The number of the host.
+    pub host: u64,
+    /// The number of the bus.
+    pub bus: u64,
+    /// The number of the target.
+    pub target: u64,
+    /// The number of the unit.
+    pub unit: u64,
+}
+
+/// The transport that a path tells of.
+#[tactic(auto, unfolding(crate::specs::Scsi::transport_of))]
+fn transport_of(path: &[u8]) -> Option<Transport>
+    ensures { result ≡ transport_of path.now }
+{
+    TRANSPORTS
+        .iter()
+        .find(|row| contains(row.0, path))
+        .map(|row| row.1)
+}
+
+/// The number before the first colon of a text, and what stands behind the colon.
+#[tactic(auto, unfolding(crate::specs::Scsi::before_colon))]
+fn before_colon(text: &[u8]) -> Option<(u64, &[u8])>
+    ensures { option_map (λ p. (p.0, p.1.now)) result ≡ before_colon text.now }
+{
+    let (number, behind) = split_once(b':', text)?;
+    Some((decimal_below(NUMBERS, number)?, behind))
+}
+
+/// The address that a SCSI device's name is.
+#[tactic(auto, unfolding(crate::specs::Scsi::address_of))]
+fn address_of(text: &[u8]) -> Option<Address>
+    ensures { result ≡ address_of text.now }
+{
+    let (host, behind) = before_colon(text)?;
+    let (bus, behind) = before_colon(behind)?;
+    let (target, behind) = before_colon(behind)?;
+    let unit = decimal_below(NUMBERS, behind)?;
+    Some(Address {
+        host,
+        bus,
+        target,
+        unit,
+    })
+}
+
+/// The address of a device.
+pub(crate) fn place_of(member: &Member<'_>) -> Option<Address>
+    ensures { result ≡ address member.now }
+{
+    address_of(member.component())
+}
+
+/// The last digit of a number in base 16.
+fn hex_digit(number: u64) -> u8
+    ensures { result ≡ hex_digit number }
+{
+    HEX_DIGITS[(number % 16) as usize]
+}
+
+/// The low 16 bits of a number in base 16.
+fn four_digits(number: u64) -> [u8; 4]
+    ensures { result ≡ four_digits number }
+{
+    [
+        hex_digit(number / 4096),
+        hex_digit(number / 256),
+        hex_digit(number / 16),
+        hex_digit(number),
+    ]
+}
+
+/// A unit below 256.
+fn low_unit(alloc: Global, number: u64) -> Result<Bytes, AllocError>
+    ensures { IfOk result (λ text. text ≡ concat (codes "lun-" ∷ decimal number ∷ [])) }
+{
+    let mut buffer = Buffer::new();
+    concatenated(alloc, &[b"lun-", buffer.format(number).as_bytes()])
+}
+
+/// A unit by its number.
+fn numbered_unit(alloc: Global, number: Option<u64>) -> Result<Bytes, AllocError>
+    ensures { IfOk result (λ text. text ≡ numbered_unit number) }
+{
+    match number {
+        None => Bytes::copy_of(alloc, b"(null)"),
+        Some(number) => known_unit(alloc, number),
+    }
+}
+
+/// A unit by its number, where it has one.
+fn known_unit(alloc: Global, number: u64) -> Result<Bytes, AllocError>
+    ensures { IfOk result (λ text. text ≡ numbered_unit (Some number)) }
+{
+    if number < 256 {
+        return low_unit(alloc, number);
+    }
+    let low = four_digits(number);
+    let high = four_digits(number / 65536);
+    concatenated(alloc, &[b"lun-0x", &low, &high, b"00000000"])
+}
+
+/// The number of the unit of a SCSI device.
+fn unit_number(member: &Member<'_>) -> Option<u64>
+    ensures { result ≡ unit_number member.now }
+{
+    number_in(Base::Decimal, u64::MAX, name_number(member.component())?)
+}
+
+/// The unit of a SCSI device.
+#[tactic(auto, unfolding(crate::specs::Scsi::unit_text))]
+pub(crate) fn unit_text(alloc: Global, member: &Member<'_>) -> Result<Bytes, AllocError>
+    ensures { IfOk result (λ text. text ≡ unit_text member.now) }
+{
+    numbered_unit(alloc, unit_number(member))
+}
+
+/// What a SCSI device adds by a transport.
+fn transport_stop(
+    alloc: Global,
+    transport: Option<Transport>,
+    member: &Member<'_>,
+    above: &[Member<'_>],
+) -> Result<Stop, AllocError>
+    ensures { IfOk result (λ stop. stop ≡ transport_stop transport member.now above.now) }
+{
+    match transport {
+        None => other_stop(alloc, member, above),
+        Some(Transport::FibreChannel) => fibre_stop(alloc, member, above),
+        Some(Transport::Sas) => sas_stop(alloc, member, above),
+        Some(Transport::Iscsi) => iscsi_stop(alloc, member, above),
+        Some(Transport::Ata) => ata_stop(alloc, member, above),
+        Some(Transport::HyperV) => guid_stop_above(alloc, member, above, 37),
+        Some(Transport::HyperVByAcpi) => guid_stop_above(alloc, member, above, 38),
+    }
+}
+
+/// What a SCSI device adds, which may be one of FireWire.
+fn unit_stop(alloc: Global, member: &Member<'_>, above: &[Member<'_>]) -> Result<Stop, AllocError>
+    ensures { IfOk result (λ stop. stop ≡ firewire_stop (attribute member.now (codes "ieee1394_id")) member.now above.now) }
+{
+    match member.attribute(b"ieee1394_id") {
+        None => transport_stop(alloc, transport_of(member.device.path()), member, above),
+        Some(id) => {
+            let part = concatenated(alloc, &[b"ieee1394-0x", id])?;
+            Ok(Stop::adding(alloc, part, true, true, row(b"scsi", above)))
+        }
+    }
+}
+
+/// What a device of subsystem scsi adds: only one of type scsi_device adds a part.
+#[tactic(auto, unfolding(crate::specs::Scsi::scsi_stop))]
+pub(crate) fn scsi_stop(
+    alloc: Global,
+    member: &Member<'_>,
+    above: &[Member<'_>],
+) -> Result<Stop, AllocError>
+    ensures { IfOk result (λ stop. stop ≡ scsi_stop member.now above.now) }
+{
+    if is_text(b"scsi_device", type_of(member.device)) {
+        unit_stop(alloc, member, above)
+    } else {
+        Ok(Stop::passing(alloc, true))
+    }
+}

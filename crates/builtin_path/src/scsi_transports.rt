@@ -1,0 +1,388 @@
+//! What a SCSI device adds by its transport.
+ghost use Rattle.std.specs.Prelude.{◌≡◌, ◌∷◌, [], ◌-◌, IfOk, codes, find, length, map, option_and_then, option_copied, option_map, ◌≤◌, ◌^◌};
+ghost use Rattle.std.specs.List.{concat};
+ghost use Rattle.builtin_devices.specs.Numbers.{number_in};
+ghost use Rattle.builtin_devices.specs.declared.numbers.Base.TheVariants.{AsWritten};
+ghost use Rattle.builtin_path.specs.Members.{class_attribute};
+ghost use Rattle.builtin_path.specs.Stops.{ending};
+ghost use Rattle.builtin_path.specs.Scsi.{ata_by, ata_place, ata_port_stop, ata_stop, braced, expander_needs, expander_start, fibre_by, fibre_stop, guid_by, guid_stop, has_braces, is_session, iscsi_by, iscsi_stop, narrow_stop, counted_stop, phy_stop, portal_needs, portal_attribute, portal_stop, sas_at, sas_by, sas_stop, session_stop, wide_stop};
+
+use crate::members::{Member, attribute_at, class_attribute_at, from_first};
+use crate::scsi::{Address, place_of, unit_text};
+use crate::stops::{Share, Stop, absent, needed};
+use crate::texts::{behind_first, concatenated, first_bytes};
+use builtin_devices::{Base, name_number, number_in};
+use itoa::Buffer;
+use std::alloc::{AllocError, Global};
+use text_bytes::{Bytes, begins_with};
+use text_tables::OwnedTexts;
+
+/// The way ends at a device behind a transport whose parent is known, as a name is not told.
+fn lost(alloc: Global, name: &[u8], parent: bool) -> Result<Stop, AllocError>
+    ensures { IfOk result (λ stop. stop ≡ ending true parent (name.now ∷ [])) }
+{
+    Ok(Stop::ending(true, parent, needed(alloc, name)?))
+}
+
+/// What a disk of Fibre Channel adds: the port of its target.
+#[tactic(auto, unfolding(crate::specs::Scsi::fibre_stop))]
+pub(crate) fn fibre_stop(
+    alloc: Global,
+    member: &Member<'_>,
+    above: &[Member<'_>],
+) -> Result<Stop, AllocError>
+    ensures { IfOk result (λ stop. stop ≡ fibre_stop member.now above.now) }
+{
+    let devices = from_first(b"scsi", b"scsi_target", above);
+    match class_attribute_at(alloc, devices, 0, b"fc_transport", b"port_name")? {
+        None => lost(alloc, b"port_name", true),
+        Some(port) => {
+            let unit = unit_text(alloc, member)?;
+            let part = concatenated(alloc, &[b"fc-", port, b"-", unit.as_slice()])?;
+            Ok(Stop::adding(alloc, part, true, true, 0))
+        }
+    }
+}
+
+/// What a disk of SAS at a port of several phys adds.
+fn wide_stop(alloc: Global, member: &Member<'_>, sas: Option<&[u8]>) -> Result<Stop, AllocError>
+    ensures { IfOk result (λ stop. stop ≡ wide_stop member.now (option_map (λ t. t.now) sas.entry)) }
+{
+    match sas {
+        None => lost(alloc, b"sas_address", true),
+        Some(sas) => {
+            let unit = unit_text(alloc, member)?;
+            let part = concatenated(alloc, &[b"sas-", sas, b"-", unit.as_slice()])?;
+            Ok(Stop::adding(alloc, part, true, true, 0))
+        }
+    }
+}
+
+/// How the part of a disk at one phy begins.
+fn expander_start(alloc: Global, sas: Option<&[u8]>) -> Result<Bytes, AllocError>
+    ensures { IfOk result (λ start. start ≡ expander_start (option_map (λ t. t.now) sas.entry)) }
+{
+    match sas {
+        None => Bytes::copy_of(alloc, b"sas-"),
+        Some(sas) => concatenated(alloc, &[b"sas-exp", sas, b"-"]),
+    }
+}
+
+/// What the block would have to tell of an expander.
+fn expander_needs(
+    alloc: Global,
+    expander: &Member<'_>,
+    sas: Option<&[u8]>,
+) -> Result<OwnedTexts, AllocError>
+    ensures { IfOk result (λ needs. needs ≡ expander_needs expander.now (option_map (λ t. t.now) sas.entry)) }
+{
+    if expander.component().starts_with(b"expander") {
+        absent(alloc, b"sas_address", sas)
+    } else {
+        Ok(OwnedTexts::new(alloc))
+    }
+}
+
+/// What a disk of SAS at one phy adds, by what stands above its port.
+fn phy_stop(
+    alloc: Global,
+    member: &Member<'_>,
+    phy: &[u8],
+    above_port: Option<&Member<'_>>,
+) -> Result<Stop, AllocError>
+    ensures { IfOk result (λ stop. stop ≡ phy_stop member.now phy.now (option_copied above_port.entry)) }
+{
+    let Some(expander) = above_port else {
+        return Ok(Stop::ending(true, true, OwnedTexts::new(alloc)));
+    };
+    let sas = expander.class_attribute(alloc, b"sas_device", b"sas_address")?;
+    let start = expander_start(alloc, sas)?;
+    let unit = unit_text(alloc, member)?;
+    let part = concatenated(
+        alloc,
+        &[start.as_slice(), b"phy", phy, b"-", unit.as_slice()],
+    )?;
+    let mut stop = Stop::adding(alloc, part, true, true, 0);
+    stop.needs = expander_needs(alloc, expander, sas)?;
+    Ok(stop)
+}
+
+/// What a disk of SAS at one phy adds.
+fn narrow_stop(
+    alloc: Global,
+    member: &Member<'_>,
+    phy: Option<&[u8]>,
+    above_port: Option<&Member<'_>>,
+) -> Result<Stop, AllocError>
+    ensures { IfOk result (λ stop. stop ≡ narrow_stop member.now (option_map (λ t. t.now) phy.entry) (option_copied above_port.entry)) }
+{
+    match phy {
+        None => lost(alloc, b"phy_identifier", true),
+        Some(phy) => phy_stop(alloc, member, phy, above_port),
+    }
+}
+
+/// What a disk of SAS adds, by the devices from the target on and how many phys its port has.
+fn counted_stop(
+    alloc: Global,
+    member: &Member<'_>,
+    devices: &[Member<'_>],
+    count: u64,
+) -> Result<Stop, AllocError>
+    ensures { IfOk result (λ stop. stop ≡ counted_stop member.now devices.now count) }
+{
+    if count > 1 {
+        let sas = class_attribute_at(alloc, devices, 1, b"sas_device", b"sas_address")?;
+        wide_stop(alloc, member, sas)
+    } else {
+        let phy = class_attribute_at(alloc, devices, 1, b"sas_device", b"phy_identifier")?;
+        narrow_stop(alloc, member, phy, devices.get(3))
+    }
+}
+
+/// The number that an attribute is, as it is written.
+fn number_of(value: Option<&[u8]>) -> Option<u64>
+    ensures { result ≡ option_and_then (number_in AsWritten (2 ^ 32 - 1)) (option_map (λ t. t.now) value.entry) }
+{
+    number_in(Base::AsWritten, (1 << 32) - 1, value?)
+}
+
+/// What a disk of SAS adds.
+#[tactic(auto, unfolding(crate::specs::Scsi::sas_stop))]
+pub(crate) fn sas_stop(
+    alloc: Global,
+    member: &Member<'_>,
+    above: &[Member<'_>],
+) -> Result<Stop, AllocError>
+    ensures { IfOk result (λ stop. stop ≡ sas_stop member.now above.now) }
+{
+    let devices = from_first(b"scsi", b"scsi_target", above);
+    let phys = class_attribute_at(alloc, devices, 2, b"sas_port", b"num_phys")?;
+    match number_of(phys) {
+        None => Ok(Stop::ending(true, true, absent(alloc, b"num_phys", phys)?)),
+        Some(count) => counted_stop(alloc, member, devices, count),
+    }
+}
+
+/// An attribute of the connection 0 of a session.
+fn portal_attribute<'d>(
+    alloc: Global,
+    name: &[u8],
+    session: &Member<'d>,
+) -> Result<Option<&'d [u8]>, AllocError>
+    ensures { IfOk result (λ text. option_map (λ t. t.now) text ≡ portal_attribute name.now session.now) }
+{
+    let Some(number) = name_number(session.component()) else {
+        return Ok(None);
+    };
+    let path = concatenated(
+        alloc,
+        &[
+            b"connection",
+            number,
+            b":0/iscsi_connection/connection",
+            number,
+            b":0/",
+            name,
+        ],
+    )?;
+    Ok(session.attribute(path.as_slice()))
+}
+
+/// What the block would have to tell of a portal.
+fn portal_needs(
+    alloc: Global,
+    address: Option<&[u8]>,
+    port: Option<&[u8]>,
+) -> Result<OwnedTexts, AllocError>
+    ensures { IfOk result (λ needs. needs ≡ portal_needs (option_map (λ t. t.now) address.entry) (option_map (λ t. t.now) port.entry)) }
+{
+    let mut needs = OwnedTexts::new(alloc);
+    if address.is_none() {
+        needs.add(alloc, b"persistent_address")?;
+    }
+    if port.is_none() {
+        needs.add(alloc, b"persistent_port")?;
+    }
+    Ok(needs)
+}
+
+/// What a disk of iSCSI adds, by the portal and the target of its session.
+fn portal_stop(
+    alloc: Global,
+    member: &Member<'_>,
+    target: &[u8],
+    address: Option<&[u8]>,
+    port: Option<&[u8]>,
+) -> Result<Stop, AllocError>
+    ensures { IfOk result (λ stop. stop ≡ portal_stop member.now target.now (option_map (λ t. t.now) address.entry) (option_map (λ t. t.now) port.entry)) }
+{
+    match (address, port) {
+        (Some(address), Some(port)) => {
+            let unit = unit_text(alloc, member)?;
+            let part = concatenated(
+                alloc,
+                &[
+                    b"ip-",
+                    address,
+                    b":",
+                    port,
+                    b"-iscsi-",
+                    target,
+                    b"-",
+                    unit.as_slice(),
+                ],
+            )?;
+            Ok(Stop::adding(alloc, part, true, true, 0))
+        }
+        _ => Ok(Stop::ending(true, true, portal_needs(alloc, address, port)?)),
+    }
+}
+
+/// What a disk of iSCSI adds, by its session.
+fn session_stop(
+    alloc: Global,
+    member: &Member<'_>,
+    session: &Member<'_>,
+) -> Result<Stop, AllocError>
+    ensures { IfOk result (λ stop. stop ≡ session_stop member.now session.now (class_attribute (codes "iscsi_session") (codes "targetname") session.now)) }
+{
+    match session.class_attribute(alloc, b"iscsi_session", b"targetname")? {
+        None => lost(alloc, b"targetname", true),
+        Some(target) => {
+            let address = portal_attribute(alloc, b"persistent_address", session)?;
+            let port = portal_attribute(alloc, b"persistent_port", session)?;
+            portal_stop(alloc, member, target, address, port)
+        }
+    }
+}
+
+/// Whether a device is a session of iSCSI, by its name.
+fn is_session(member: &Member<'_>) -> bool
+    ensures { result ≡ is_session member.now }
+{
+    member.component().starts_with(b"session")
+}
+
+/// The nearest session of iSCSI.
+fn nearest_session<'m, 'd>(above: &'m [Member<'d>]) -> Option<&'m Member<'d>>
+    ensures { option_copied result ≡ find is_session above.now }
+{
+    above.iter().find(|member| is_session(member))
+}
+
+/// What a disk of iSCSI adds.
+#[tactic(auto, unfolding(crate::specs::Scsi::iscsi_stop))]
+pub(crate) fn iscsi_stop(
+    alloc: Global,
+    member: &Member<'_>,
+    above: &[Member<'_>],
+) -> Result<Stop, AllocError>
+    ensures { IfOk result (λ stop. stop ≡ iscsi_stop member.now above.now) }
+{
+    match nearest_session(above) {
+        Some(session) => session_stop(alloc, member, session),
+        None => Ok(Stop::ending(true, true, OwnedTexts::new(alloc))),
+    }
+}
+
+/// The place of a disk at a port of ATA.
+fn ata_place(alloc: Global, place: Address) -> Result<Bytes, AllocError>
+    ensures { IfOk result (λ text. text ≡ ata_place place) }
+{
+    let mut buffer = Buffer::new();
+    if place.bus == 0 {
+        Bytes::copy_of(alloc, buffer.format(place.target).as_bytes())
+    } else {
+        concatenated(alloc, &[buffer.format(place.bus).as_bytes(), b".0"])
+    }
+}
+
+/// What a disk of ATA adds, by the number of its port.
+fn ata_port_stop(alloc: Global, place: Address, port: Option<&[u8]>) -> Result<Stop, AllocError>
+    ensures { IfOk result (λ stop. stop ≡ ata_port_stop place (option_map (λ t. t.now) port.entry)) }
+{
+    let Some(port) = port else {
+        return lost(alloc, b"port_no", false);
+    };
+    let place = ata_place(alloc, place)?;
+    let part = concatenated(alloc, &[b"ata-", port, b".", place.as_slice()])?;
+    let mut stop = Stop::adding(alloc, part, true, false, 0);
+    stop.share = Share::Ata(concatenated(alloc, &[b"ata-", port])?);
+    Ok(stop)
+}
+
+/// What a disk of ATA adds.
+#[tactic(auto, unfolding(crate::specs::Scsi::ata_stop))]
+pub(crate) fn ata_stop(
+    alloc: Global,
+    member: &Member<'_>,
+    above: &[Member<'_>],
+) -> Result<Stop, AllocError>
+    ensures { IfOk result (λ stop. stop ≡ ata_stop member.now above.now) }
+{
+    let Some(place) = place_of(member) else {
+        return Ok(Stop::ending(true, false, OwnedTexts::new(alloc)));
+    };
+    let devices = from_first(b"scsi", b"scsi_host", above);
+    let port = class_attribute_at(alloc, devices, 1, b"ata_port", b"port_no")?;
+    ata_port_stop(alloc, place, port)
+}
+
+/// Whether a text has braces at its start and at the end of so many bytes.
+fn has_braces(size: usize, text: &[u8]) -> bool
+    requires { 1 ≤ size }
+    ensures { result ≡ has_braces size text.now }
+{
+    begins_with(b'{', text) && text.get(size - 1) == Some(&b'}')
+}
+
+/// What stands between the braces, without `-`.
+fn braced(alloc: Global, size: usize, text: &[u8]) -> Result<Bytes, AllocError>
+    ensures { IfOk result (λ bytes. bytes ≡ braced size text.now) }
+{
+    let inner = first_bytes(size.saturating_sub(2), behind_first(1, text));
+    let bytes = inner
+        .iter()
+        .copied()
+        .filter(|byte| *byte != b'-')
+        .collect(alloc)?;
+    Ok(Bytes::new(bytes))
+}
+
+/// What a disk of Hyper-V adds, by the name of the device above its host.
+fn guid_stop(
+    alloc: Global,
+    member: &Member<'_>,
+    size: usize,
+    guid: Option<&[u8]>,
+) -> Result<Stop, AllocError>
+    requires { 1 ≤ size }
+    ensures { IfOk result (λ stop. stop ≡ guid_stop member.now size (option_map (λ t. t.now) guid.entry)) }
+{
+    let Some(guid) = guid else {
+        return lost(alloc, b"device_id", false);
+    };
+    if !has_braces(size, guid) {
+        return Ok(Stop::ending(true, false, OwnedTexts::new(alloc)));
+    }
+    let name = braced(alloc, size, guid)?;
+    let unit = unit_text(alloc, member)?;
+    let part = concatenated(alloc, &[b"vmbus-", name.as_slice(), b"-", unit.as_slice()])?;
+    Ok(Stop::adding(alloc, part, true, false, 0))
+}
+
+/// What a disk of Hyper-V adds, whose name has so many bytes with its braces.
+#[tactic(auto, unfolding(crate::specs::Scsi::guid_by))]
+pub(crate) fn guid_stop_above(
+    alloc: Global,
+    member: &Member<'_>,
+    above: &[Member<'_>],
+    size: usize,
+) -> Result<Stop, AllocError>
+    requires { 1 ≤ size }
+    ensures { IfOk result (λ stop. stop ≡ guid_by member.now above.now size) }
+{
+    let devices = from_first(b"scsi", b"scsi_host", above);
+    guid_stop(alloc, member, size, attribute_at(devices, 1, b"device_id"))
+}

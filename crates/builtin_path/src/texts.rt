@@ -1,0 +1,73 @@
+//! What a text has in it, and texts put together.
+ghost use Rattle.std.specs.Prelude.{◌≡◌, ◌<◌, IfOk, IfSome, drop, length, map, take};
+ghost use Rattle.std.specs.List.{concat, join_with_byte};
+ghost use Rattle.text_bytes.specs.Names.{minus};
+ghost use Rattle.builtin_path.specs.Texts.{contains, first_place, stands_at};
+
+use std::alloc::{AllocError, Global};
+use text_bytes::Bytes;
+
+/// A text without its first bytes, so many of them.
+pub(crate) fn behind_first(count: usize, text: &[u8]) -> &[u8]
+    ensures { result.now ≡ drop count text.now }
+{
+    text.get(count..).unwrap_or(b"")
+}
+
+/// The first bytes of a text, at most so many of them.
+pub(crate) fn first_bytes(count: usize, text: &[u8]) -> &[u8]
+    ensures { result.now ≡ take count text.now }
+{
+    text.get(..count).unwrap_or(text)
+}
+
+/// Whether a text stands at a place of another one.
+fn stands_at(wanted: &[u8], text: &[u8], place: usize) -> bool
+    ensures { result ≡ stands_at wanted.now text.now place }
+{
+    behind_first(place, text).starts_with(wanted)
+}
+
+/// The first place of a text where another one stands.
+#[tactic(auto, unfolding(crate::specs::Texts::first_place))]
+pub(crate) fn first_place(wanted: &[u8], text: &[u8]) -> Option<usize>
+    ensures value { result ≡ first_place wanted.now text.now }
+    ensures within { IfSome result (λ place. place < length text.now) }
+{
+    (0..text.len()).position(|place| stands_at(wanted, text, place))
+}
+
+/// Whether a text stands in another one.
+#[tactic(auto, unfolding(crate::specs::Texts::contains))]
+pub(crate) fn contains(wanted: &[u8], text: &[u8]) -> bool
+    ensures { result ≡ contains wanted.now text.now }
+{
+    (0..text.len()).any(|place| stands_at(wanted, text, place))
+}
+
+/// Texts one behind another.
+pub(crate) fn concatenated(alloc: Global, texts: &[&[u8]]) -> Result<Bytes, AllocError>
+    ensures { IfOk result (λ whole. whole ≡ concat (map (λ t. t.now) texts.now)) }
+{
+    let mut whole = Vec::new(alloc);
+    for text in texts {
+        whole.extend_from_slice(text)?;
+    }
+    Ok(Bytes::new(whole))
+}
+
+/// Texts with a `-` between each two.
+#[tactic(auto, using(crate::proofs::Joining::join_more))]
+pub(crate) fn joined(alloc: Global, texts: &[&[u8]]) -> Result<Bytes, AllocError>
+    ensures { IfOk result (λ whole. whole ≡ join_with_byte minus (map (λ t. t.now) texts.now)) }
+{
+    let Some((first, others)) = texts.split_first() else {
+        return Ok(Bytes::new(Vec::new(alloc)));
+    };
+    let mut whole = Vec::from_slice(alloc, first)?;
+    for text in others {
+        whole.push(b'-')?;
+        whole.extend_from_slice(text)?;
+    }
+    Ok(Bytes::new(whole))
+}

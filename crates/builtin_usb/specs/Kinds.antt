@@ -1,0 +1,97 @@
+-- What ID_TYPE says, by numbers that the kernel tells.
+use Rattle.std.specs.Prelude.{ℕ, ◌-◌, ◌^◌, ◌==◌, ◌&&◌, ◌||◌, Bool, false, List, [], ◌∷◌, Option, Some, None, codes, if◌then◌else◌}
+use Rattle.std.specs.Option.{option_and_then}
+use Rattle.text_tables.specs.Texts.{Text}
+use Rattle.text_tables.specs.Pairs.{value_of}
+use Rattle.device_core.specs.Values.{DeviceValue}
+use Rattle.builtin_devices.specs.Numbers.{number_in}
+use Rattle.builtin_devices.specs.declared.numbers.Base.TheVariants.{AsWritten, Hexadecimal}
+
+-- an attribute of a device
+abbrev pub attribute : DeviceValue → Text → Option Text
+attribute device name = value_of device.attrs name
+
+-- the kinds of devices, by the class of an interface
+abbrev pub class_kinds : List (ℕ × Text)
+class_kinds =
+    (1, codes "audio")
+    ∷ (3, codes "hid")
+    ∷ (6, codes "media")
+    ∷ (7, codes "printer")
+    ∷ (9, codes "hub")
+    ∷ (14, codes "video")
+    ∷ []
+
+-- the kinds of storage, by the subclass of an interface
+abbrev pub storage_kinds : List (ℕ × Text)
+storage_kinds =
+    (1, codes "rbc")
+    ∷ (2, codes "atapi")
+    ∷ (3, codes "tape")
+    ∷ (4, codes "floppy")
+    ∷ (6, codes "scsi")
+    ∷ []
+
+-- the kinds of SCSI devices, by their type
+abbrev pub unit_kinds : List (ℕ × Text)
+unit_kinds =
+    (0, codes "disk")
+    ∷ (1, codes "tape")
+    ∷ (4, codes "optical")
+    ∷ (5, codes "cd")
+    ∷ (7, codes "optical")
+    ∷ (14, codes "disk")
+    ∷ (15, codes "optical")
+    ∷ []
+
+-- the kind that stands beside a number, and `generic` for a number that has none
+abbrev pub kind_beside : List (ℕ × Text) → ℕ → Text
+kind_beside [] number = codes "generic"
+kind_beside (row ∷ rows) number = if row.0 == number then row.1 else kind_beside rows number
+
+-- the same for a text that may be no number, which is `generic`, too
+abbrev pub kind_in : List (ℕ × Text) → Option ℕ → Text
+kind_in rows None = codes "generic"
+kind_in rows (Some number) = kind_beside rows number
+
+-- the class of an interface, in base sixteen and 32 bits
+abbrev pub class_of : (interface : DeviceValue) → Option ℕ
+class_of interface = option_and_then (number_in Hexadecimal (2 ^ 32 - 1)) (attribute interface (codes "bInterfaceClass"))
+
+-- the number of a subclass, in 31 bits
+abbrev pub subclass_number : Text → Option ℕ
+subclass_number text = number_in AsWritten (2 ^ 31 - 1) text
+
+-- the subclass of an interface
+abbrev pub subclass_of : (interface : DeviceValue) → Option ℕ
+subclass_of interface = option_and_then subclass_number (attribute interface (codes "bInterfaceSubClass"))
+
+-- whether a number is there, and the same
+abbrev pub is_number : ℕ → Option ℕ → Bool
+is_number number None = false
+is_number number (Some other) = number == other
+
+-- whether an interface is of class 8, storage
+abbrev pub is_storage : (interface : DeviceValue) → Bool
+is_storage interface = is_number 8 (class_of interface)
+
+-- whether an interface is storage that commands of SCSI are sent to: ATAPI or SCSI
+abbrev pub takes_scsi : (interface : DeviceValue) → Bool
+takes_scsi interface = is_storage interface && (is_number 2 (subclass_of interface) || is_number 6 (subclass_of interface))
+
+-- the kind of storage, by the text of the subclass; empty where it is not told
+abbrev pub storage_kind : Option Text → Text
+storage_kind None = []
+storage_kind (Some text) = kind_in storage_kinds (subclass_number text)
+
+-- the kind of an interface
+abbrev pub interface_kind : (interface : DeviceValue) → Text
+interface_kind interface =
+    if is_storage interface then storage_kind (attribute interface (codes "bInterfaceSubClass"))
+    else kind_in class_kinds (class_of interface)
+
+-- what ID_TYPE says: by the type of the SCSI device where it is told, else by the interface; empty where there is neither
+abbrev pub told_kind : (interface : Option DeviceValue) → (unit_type : Option Text) → Text
+told_kind interface (Some text) = kind_in unit_kinds (number_in AsWritten (2 ^ 32 - 1) text)
+told_kind None None = []
+told_kind (Some interface) None = interface_kind interface

@@ -1,0 +1,7 @@
+pub mod Interfaces
+pub mod Kinds
+pub mod Subjects
+pub mod Units
+pub mod Identities
+pub mod Needs
+pub mod UsbId

@@ -1,0 +1,92 @@
+-- What the block would have to tell for usb_id.
+use Rattle.std.specs.Prelude.{ℕ, Bool, true, false, not, ◌&&◌, ◌||◌, unwrap_or, List, [], ◌∷◌, ◌++◌, Option, Some, None, is_some, is_none, take_while, codes, if◌then◌else◌}
+use Rattle.std.specs.List.{list_any}
+use Rattle.std.specs.Option.{option_and_then, option_to_list}
+use Rattle.text_bytes.specs.Texts.{is_empty}
+use Rattle.text_tables.specs.Texts.{Text}
+use Rattle.device_core.specs.Values.{DeviceValue, EventValue}
+use Rattle.builtin_devices.specs.Devices.{is_of, is_text, kernel_of, parents_of, type_of}
+use Rattle.builtin_devices.specs.Files.{file_at}
+use Rattle.builtin_devices.specs.Numbers.{bytes_of}
+use Rattle.builtin_devices.specs.Outcomes.{lacking}
+use Rattle.builtin_usb.specs.Identities.{most_bytes, shown}
+use Rattle.builtin_usb.specs.Kinds.{attribute, class_of, is_storage, takes_scsi}
+use Rattle.builtin_usb.specs.Subjects.{is_usb_device}
+use Rattle.builtin_usb.specs.Units.{UnitValue, target_and_unit, unit_texts}
+
+-- whether a device of a subsystem tells no type
+abbrev pub is_untyped : (subsystem : Text) → DeviceValue → Bool
+is_untyped subsystem device = is_text subsystem device.subsystem && is_none (type_of device)
+
+-- whether one of these devices that is of a subsystem and tells no type stands before the first of that subsystem and a type
+abbrev pub untyped_among : (subsystem kind : Text) → List DeviceValue → Bool
+untyped_among subsystem kind devices = list_any (is_untyped subsystem) (take_while (λ device. not (is_of subsystem (Some kind) device)) devices)
+
+-- whether the search for the nearest device above a path of a subsystem and a type meets one of the subsystem that tells no type
+abbrev pub meets_untyped : EventValue → (subsystem kind path : Text) → Bool
+meets_untyped event subsystem kind path = untyped_among subsystem kind (parents_of event path)
+
+-- the same for the search above an interface, which is made where its class is a number
+abbrev pub meets_above : EventValue → (interface : Option DeviceValue) → Bool
+meets_above event None = false
+meets_above event (Some interface) = is_some (class_of interface) && meets_untyped event (codes "usb") (codes "usb_device") interface.path
+
+-- the same for the search for the SCSI device
+abbrev pub meets_unit : EventValue → (interface device : Option DeviceValue) → Bool
+meets_unit event None device = false
+meets_unit event (Some interface) device = is_some device && takes_scsi interface && meets_untyped event (codes "scsi") (codes "scsi_device") event.device.path
+
+-- whether a device is asked for a type that it does not tell
+abbrev pub lacks_type : EventValue → (interface device : Option DeviceValue) → Bool
+lacks_type event interface device =
+    is_untyped (codes "usb") event.device || is_untyped (codes "scsi") event.device
+    || not (is_usb_device event.device)
+    && (meets_untyped event (codes "usb") (codes "usb_interface") event.device.path || meets_above event interface || meets_unit event interface device)
+
+-- words of an interface
+abbrev pub interface_words : Option DeviceValue → List Text
+interface_words None = []
+interface_words (Some interface) =
+    lacking interface (codes "bInterfaceNumber") (codes "bInterfaceNumber")
+    ++ lacking interface (codes "bInterfaceClass") (codes "bInterfaceClass")
+    ++ (if is_storage interface then lacking interface (codes "bInterfaceSubClass") (codes "bInterfaceSubClass") else [])
+
+-- the first of the texts of a SCSI device that is absent, if one is
+abbrev pub first_absent : UnitValue → Option Text
+first_absent unit =
+    if is_none unit.vendor then Some (codes "vendor")
+    else if is_none unit.model then Some (codes "model")
+    else if is_none unit.kind then Some (codes "type")
+    else if is_none unit.revision then Some (codes "rev")
+    else None
+
+-- words of a SCSI device, whose texts are asked for where its name tells an instance
+abbrev pub unit_words : Option DeviceValue → List Text
+unit_words None = []
+unit_words (Some unit) = if is_some (target_and_unit (kernel_of unit)) then option_to_list (first_absent (unit_texts (Some unit))) else []
+
+-- the bytes of the file of descriptors of a device, which the block tells in hexadecimal digits
+abbrev pub descriptors_at : EventValue → DeviceValue → Option (List ℕ)
+descriptors_at event device = option_and_then bytes_of (file_at event (device.path ++ codes "/descriptors"))
+
+-- whether a USB device is asked for its revision: where both numbers are there, and the SCSI device tells none
+abbrev pub asks_revision : DeviceValue → UnitValue → Bool
+asks_revision device texts =
+    is_some (attribute device (codes "idVendor")) && is_some (attribute device (codes "idProduct")) && is_empty (shown most_bytes (unwrap_or texts.revision []))
+
+-- words of a USB device: each attribute is asked for where those before it are there
+abbrev pub device_words : EventValue → (device : Option DeviceValue) → UnitValue → List Text
+device_words event None texts = []
+device_words event (Some device) texts =
+    (if is_none (descriptors_at event device) then codes "descriptors" ∷ [] else [])
+    ++ lacking device (codes "idVendor") (codes "idVendor")
+    ++ (if is_some (attribute device (codes "idVendor")) then lacking device (codes "idProduct") (codes "idProduct") else [])
+    ++ (if asks_revision device texts then lacking device (codes "bcdDevice") (codes "bcdDevice") else [])
+
+-- all that the block would have to tell
+abbrev pub words : EventValue → (interface device unit : Option DeviceValue) → List Text
+words event interface device unit =
+    (if lacks_type event interface device then codes "DEVTYPE" ∷ [] else [])
+    ++ interface_words interface
+    ++ unit_words unit
+    ++ device_words event device (unit_texts unit)

@@ -1,0 +1,181 @@
+//! What a USB device says of itself.
+ghost use Rattle.std.specs.Prelude.{◌≡◌, ◌++◌, [], IfOk, OnOk, option_map, unwrap_or};
+ghost use Rattle.std.specs.List.{list_all};
+ghost use Rattle.builtin_usb.specs.Identities.{all_texts, from_first, full_serial, identity_of, marked, may_number, most_bytes, most_serial_bytes, serial_of, shown};
+
+use crate::kinds::attribute;
+use crate::units::Unit;
+use device_core::Device;
+use std::alloc::{AllocError, Global};
+use std::marker::Model;
+use text_bytes::Bytes;
+use text_links::{underscored, value_safe};
+
+/// The most bytes of a vendor, a model or a revision that are told.
+const MOST_BYTES: usize = 63;
+
+/// The most bytes of a serial number that are told.
+const MOST_SERIAL_BYTES: usize = 511;
+
+/// The most bytes of vendor, model, serial number and instance in one text.
+const MOST_ALL_BYTES: usize = 255;
+
+/// What is known of a device, its texts as it has them; empty where there is none.
+#[derive(Drop)]
+pub(crate) struct Identity<'a> {
+    pub(crate) vendor: &'a [u8],
+    pub(crate) vendor_id: &'a [u8],
+    pub(crate) model: &'a [u8],
+    pub(crate) model_id: &'a [u8],
+    pub(crate) revision: &'a [u8],
+    pub(crate) serial: &'a [u8],
+    pub(crate) kind: &'static [u8],
+    pub(crate) instance: Bytes,
+}
+
+impl<'a> Model for Identity<'a> {
+    ghost use Rattle.builtin_usb.specs.Identities.{IdentityValue};
+
+    ghost Value = { IdentityValue };
+
+    ghost view = { λ i. record { vendor = i.vendor.now; vendor_id = i.vendor_id.now; model = i.model.now; model_id = i.model_id.now; revision = i.revision.now; serial = i.serial.now; kind = i.kind.now; instance = i.instance } };
+}
+
+/// A text as it is told, of so many bytes at its start. The error comes where memory is refused.
+#[tactic(auto, unfolding(crate::specs::Identities::shown), using(std::proofs::lemmas::List::take_min))]
+fn shown_of(alloc: Global, most: usize, text: &[u8]) -> Result<Vec<u8>, AllocError>
+    ensures { IfOk result (λ made. made.items ≡ shown most text.now) }
+{
+    let word = underscored(alloc, &text[..most.min(text.len())])?;
+    value_safe(alloc, &word)
+}
+
+/// A vendor, a model or a revision as it is told. The error comes where memory is refused.
+pub(crate) fn shown(alloc: Global, text: &[u8]) -> Result<Vec<u8>, AllocError>
+    ensures { IfOk result (λ made. made.items ≡ shown most_bytes text.now) }
+{
+    shown_of(alloc, MOST_BYTES, text)
+}
+
+/// A serial number as it is told. The error comes where memory is refused.
+pub(crate) fn shown_serial(alloc: Global, text: &[u8]) -> Result<Vec<u8>, AllocError>
+    ensures { IfOk result (λ made. made.items ≡ shown most_serial_bytes text.now) }
+{
+    shown_of(alloc, MOST_SERIAL_BYTES, text)
+}
+
+/// The first of two texts where something of it is told, else the second.
+fn from_first<'a>(
+    alloc: Global,
+    first: Option<&'a [u8]>,
+    second: &'a [u8],
+) -> Result<&'a [u8], AllocError>
+    ensures { IfOk result (λ text. text.now ≡ from_first (option_map (λ t. t.now) first.entry) second.now) }
+{
+    let Some(first) = first else {
+        return Ok(second);
+    };
+    let made = shown(alloc, first)?;
+    if made.is_empty() {
+        Ok(second)
+    } else {
+        Ok(first)
+    }
+}
+
+/// Whether a serial number may have a byte.
+fn may_number(byte: u8) -> bool
+    ensures { result ≡ may_number byte }
+{
+    b' ' <= byte && byte <= 0x7F && byte != b','
+}
+
+/// Whether a serial number may have each byte of a text.
+fn is_number_text(text: &[u8]) -> bool
+    ensures { result ≡ list_all may_number text.now }
+{
+    text.iter().all(|byte| may_number(*byte))
+}
+
+/// A serial number, empty where there is none or where it has a byte that none may have.
+fn serial_of<'a>(text: Option<&'a [u8]>) -> &'a [u8]
+    ensures { result.now ≡ serial_of (option_map (λ t. t.now) text.entry) }
+{
+    match text {
+        Some(text) if is_number_text(text) => text,
+        _ => b"",
+    }
+}
+
+/// The bytes of an instance, none where there is no instance.
+fn instance_of(alloc: Global, instance: Option<Bytes>) -> Bytes
+    ensures { result ≡ unwrap_or instance [] }
+{
+    instance.unwrap_or(Bytes::new(Vec::new(alloc)))
+}
+
+/// What is known of a USB device with a SCSI device that is asked: `None` where its vendor or its product has no number. The
+/// error comes where memory is refused.
+pub(crate) fn identity_of<'a>(
+    alloc: Global,
+    device: &Device<'a>,
+    unit: Unit<'a>,
+    kind: &'static [u8],
+) -> Result<Option<Identity<'a>>, AllocError>
+    ensures { IfOk result (λ known. known ≡ identity_of device.now unit.entry kind.now) }
+{
+    let Some(vendor_id) = attribute(device, b"idVendor") else {
+        return Ok(None);
+    };
+    let Some(model_id) = attribute(device, b"idProduct") else {
+        return Ok(None);
+    };
+    let vendor = attribute(device, b"manufacturer").unwrap_or(vendor_id);
+    let model = attribute(device, b"product").unwrap_or(model_id);
+    let revision = attribute(device, b"bcdDevice").unwrap_or(b"");
+    Ok(Some(Identity {
+        vendor: from_first(alloc, unit.vendor, vendor)?,
+        vendor_id,
+        model: from_first(alloc, unit.model, model)?,
+        model_id,
+        revision: from_first(alloc, unit.revision, revision)?,
+        serial: serial_of(attribute(device, b"serial")),
+        kind,
+        instance: instance_of(alloc, unit.instance),
+    }))
+}
+
+/// Puts a text that is not empty behind another, with a mark in between.
+fn push_marked(made: &mut Vec<u8>, mark: u8, text: &[u8]) -> Result<(), AllocError>
+    ensures { OnOk result (made.new.items ≡ made.old.items ++ marked mark text.now) }
+{
+    if !text.is_empty() {
+        made.push(mark)?;
+        made.extend_from_slice(text)?;
+    }
+    Ok(())
+}
+
+/// Vendor, model, serial number and instance in one text, whatever its length. The error comes where memory is refused.
+fn all_texts(alloc: Global, identity: &Identity<'_>) -> Result<Vec<u8>, AllocError>
+    ensures { IfOk result (λ made. made.items ≡ all_texts identity.now) }
+{
+    let mut made = shown(alloc, identity.vendor)?;
+    let model = shown(alloc, identity.model)?;
+    let serial = shown_serial(alloc, identity.serial)?;
+    made.push(b'_')?;
+    made.extend_from_slice(&model)?;
+    push_marked(&mut made, b'_', &serial)?;
+    push_marked(&mut made, b'-', identity.instance.as_slice())?;
+    Ok(made)
+}
+
+/// ID_SERIAL, at most 255 bytes. The error comes where memory is refused.
+#[tactic(auto, unfolding(crate::specs::Identities::full_serial))]
+pub(crate) fn full_serial(alloc: Global, identity: &Identity<'_>) -> Result<Vec<u8>, AllocError>
+    ensures { IfOk result (λ made. made.items ≡ full_serial identity.now) }
+{
+    let mut made = all_texts(alloc, identity)?;
+    made.truncate(MOST_ALL_BYTES);
+    Ok(made)
+}

@@ -1,0 +1,255 @@
+//! What the block would have to tell for usb_id.
+ghost use Rattle.std.specs.Prelude.{◌≡◌, IfOk, OnOk, map, option_copied, option_map};
+ghost use Rattle.text_tables.specs.Texts.{with_texts};
+ghost use Rattle.builtin_devices.specs.Outcomes.{lacking, needs_of};
+ghost use Rattle.builtin_usb.specs.Units.{unit_texts};
+ghost use Rattle.builtin_usb.specs.Needs.{descriptors_at, asks_revision, device_words, first_absent, interface_words, is_untyped, lacks_type, meets_above, meets_unit, meets_untyped, unit_words, untyped_among, words};
+
+use crate::identities::shown;
+use crate::kinds::{attribute, class_of, is_storage, takes_scsi};
+use crate::subjects::is_usb_device;
+use crate::units::{Unit, has_instance, unit_texts};
+use builtin_devices::{Devices, bytes_of, file_at, is_of, is_text, need_attribute, type_of};
+use device_core::{Device, Event};
+use std::alloc::{AllocError, Global};
+use text_tables::OwnedTexts;
+
+/// Whether a device of a subsystem tells no type.
+fn is_untyped(subsystem: &[u8], device: &Device<'_>) -> bool
+    ensures { result ≡ is_untyped subsystem.now device.now }
+{
+    is_text(subsystem, device.subsystem()) && type_of(device).is_none()
+}
+
+/// Whether the first of these that is of a subsystem and a type stands behind one of the subsystem that tells no type.
+fn untyped_among(subsystem: &[u8], kind: &[u8], devices: &[&Device<'_>]) -> bool
+    ensures { result ≡ untyped_among subsystem.now kind.now (map (λ device. device.now) devices.now) }
+{
+    for device in devices {
+        if is_of(subsystem, Some(kind), device) {
+            return false;
+        }
+        if is_untyped(subsystem, device) {
+            return true;
+        }
+    }
+    false
+}
+
+/// Whether the search for the nearest device above a path meets one that tells no type.
+fn meets_untyped(
+    alloc: Global,
+    devices: &Devices<'_>,
+    subsystem: &[u8],
+    kind: &[u8],
+    path: &[u8],
+) -> Result<bool, AllocError>
+    ensures { IfOk result (λ met. met ≡ meets_untyped devices.now subsystem.now kind.now path.now) }
+{
+    let parents = devices.parents_of(alloc, path)?;
+    Ok(untyped_among(subsystem, kind, &parents))
+}
+
+/// The same for the search above an interface.
+fn meets_above(
+    alloc: Global,
+    devices: &Devices<'_>,
+    interface: Option<&Device<'_>>,
+) -> Result<bool, AllocError>
+    ensures { IfOk result (λ met. met ≡ meets_above devices.now (option_copied interface.entry)) }
+{
+    match interface {
+        Some(interface) if class_of(interface).is_some() => {
+            meets_untyped(alloc, devices, b"usb", b"usb_device", interface.path())
+        }
+        _ => Ok(false),
+    }
+}
+
+/// The same for the search for the SCSI device.
+fn meets_unit(
+    alloc: Global,
+    devices: &Devices<'_>,
+    interface: Option<&Device<'_>>,
+    device: Option<&Device<'_>>,
+) -> Result<bool, AllocError>
+    ensures { IfOk result (λ met. met ≡ meets_unit devices.now (option_copied interface.entry) (option_copied device.entry)) }
+{
+    match interface {
+        Some(interface) if device.is_some() && takes_scsi(interface) => {
+            let path = devices.event().device().path();
+            meets_untyped(alloc, devices, b"scsi", b"scsi_device", path)
+        }
+        _ => Ok(false),
+    }
+}
+
+/// Whether a device is asked for a type that it does not tell.
+fn lacks_type(
+    alloc: Global,
+    devices: &Devices<'_>,
+    interface: Option<&Device<'_>>,
+    device: Option<&Device<'_>>,
+) -> Result<bool, AllocError>
+    ensures { IfOk result (λ lacks. lacks ≡ lacks_type devices.now (option_copied interface.entry) (option_copied device.entry)) }
+{
+    let own = devices.event().device();
+    if is_untyped(b"usb", own) || is_untyped(b"scsi", own) {
+        return Ok(true);
+    }
+    if is_usb_device(own) {
+        return Ok(false);
+    }
+    let below = meets_untyped(alloc, devices, b"usb", b"usb_interface", own.path())?;
+    let above = meets_above(alloc, devices, interface)?;
+    let unit = meets_unit(alloc, devices, interface, device)?;
+    Ok(below || above || unit)
+}
+
+/// Adds what an interface lacks.
+fn need_of_interface(
+    alloc: Global,
+    interface: Option<&Device<'_>>,
+    needs: &mut OwnedTexts,
+) -> Result<(), AllocError>
+    ensures { OnOk result (needs.new ≡ with_texts needs.old (interface_words (option_copied interface.entry))) }
+{
+    let Some(interface) = interface else {
+        return Ok(());
+    };
+    need(alloc, interface, b"bInterfaceNumber", needs)?;
+    need(alloc, interface, b"bInterfaceClass", needs)?;
+    if is_storage(interface) {
+        need(alloc, interface, b"bInterfaceSubClass", needs)?;
+    }
+    Ok(())
+}
+
+/// Adds an attribute that a device lacks.
+fn need(
+    alloc: Global,
+    device: &Device<'_>,
+    name: &[u8],
+    needs: &mut OwnedTexts,
+) -> Result<(), AllocError>
+    ensures { OnOk result (needs.new ≡ with_texts needs.old (lacking device.now name.now name.now)) }
+{
+    need_attribute(alloc, device, name, name, needs)
+}
+
+/// The first of the texts of a SCSI device that is absent.
+fn first_absent(unit: &Unit<'_>) -> Option<&'static [u8]>
+    ensures { option_map (λ t. t.now) result ≡ first_absent unit.now }
+{
+    if unit.vendor.is_none() {
+        Some(b"vendor")
+    } else if unit.model.is_none() {
+        Some(b"model")
+    } else if unit.kind.is_none() {
+        Some(b"type")
+    } else if unit.revision.is_none() {
+        Some(b"rev")
+    } else {
+        None
+    }
+}
+
+/// Adds what a SCSI device lacks.
+fn need_of_unit(
+    alloc: Global,
+    unit: Option<&Device<'_>>,
+    texts: &Unit<'_>,
+    needs: &mut OwnedTexts,
+) -> Result<(), AllocError>
+    requires { texts.now ≡ unit_texts (option_copied unit.entry) }
+    ensures { OnOk result (needs.new ≡ with_texts needs.old (unit_words (option_copied unit.entry))) }
+{
+    let Some(unit) = unit else {
+        return Ok(());
+    };
+    if !has_instance(alloc, unit)? {
+        return Ok(());
+    }
+    if let Some(word) = first_absent(texts) {
+        needs.add(alloc, word)?;
+    }
+    Ok(())
+}
+
+/// The bytes of the file of descriptors of a device, if the block tells them. The error comes where memory is refused.
+pub(crate) fn descriptors_at(
+    alloc: Global,
+    event: &Event<'_>,
+    device: &Device<'_>,
+) -> Result<Option<Vec<u8>>, AllocError>
+    ensures { IfOk result (λ file. option_map (λ f. f.items) file ≡ descriptors_at event.now device.now) }
+{
+    let mut path = Vec::from_slice(alloc, device.path())?;
+    path.extend_from_slice(b"/descriptors")?;
+    match file_at(event, &path) {
+        Some(text) => bytes_of(alloc, text),
+        None => Ok(None),
+    }
+}
+
+/// Whether the revision is asked for of the USB device.
+fn asks_revision(alloc: Global, device: &Device<'_>, texts: &Unit<'_>) -> Result<bool, AllocError>
+    ensures { IfOk result (λ asks. asks ≡ asks_revision device.now texts.now) }
+{
+    if attribute(device, b"idVendor").is_none() || attribute(device, b"idProduct").is_none() {
+        return Ok(false);
+    }
+    match texts.revision {
+        Some(text) => Ok(shown(alloc, text)?.is_empty()),
+        None => Ok(true),
+    }
+}
+
+/// Adds what a USB device lacks.
+fn need_of_device(
+    alloc: Global,
+    event: &Event<'_>,
+    device: Option<&Device<'_>>,
+    texts: &Unit<'_>,
+    needs: &mut OwnedTexts,
+) -> Result<(), AllocError>
+    ensures { OnOk result (needs.new ≡ with_texts needs.old (device_words event.now (option_copied device.entry) texts.now)) }
+{
+    let Some(device) = device else {
+        return Ok(());
+    };
+    if descriptors_at(alloc, event, device)?.is_none() {
+        needs.add(alloc, b"descriptors")?;
+    }
+    need(alloc, device, b"idVendor", needs)?;
+    if attribute(device, b"idVendor").is_some() {
+        need(alloc, device, b"idProduct", needs)?;
+    }
+    if asks_revision(alloc, device, texts)? {
+        need(alloc, device, b"bcdDevice", needs)?;
+    }
+    Ok(())
+}
+
+/// All that the block would have to tell, by the devices that the builtin looks at and the texts of the SCSI device. The
+/// error comes where memory is refused.
+pub(crate) fn needs_by(
+    alloc: Global,
+    devices: &Devices<'_>,
+    interface: Option<&Device<'_>>,
+    device: Option<&Device<'_>>,
+    unit: Option<&Device<'_>>,
+    texts: &Unit<'_>,
+) -> Result<OwnedTexts, AllocError>
+    requires { texts.now ≡ unit_texts (option_copied unit.entry) }
+    ensures { IfOk result (λ needs. needs ≡ needs_of (words devices.now (option_copied interface.entry) (option_copied device.entry) (option_copied unit.entry))) }
+{
+    let mut needs = OwnedTexts::new(alloc);
+    if lacks_type(alloc, devices, interface, device)? {
+        needs.add(alloc, b"DEVTYPE")?;
+    }
+    need_of_interface(alloc, interface, &mut needs)?;
+    need_of_unit(alloc, unit, texts, &mut needs)?;
+    need_of_device(alloc, devices.event(), device, texts, &mut needs)?;
+    Ok(needs)
+}

@@ -1,0 +1,170 @@
+//! The properties that usb_id sets.
+ghost use Rattle.std.specs.Prelude.{◌≡◌, ◌++◌, ◌∷◌, [], IfOk, OnOk, codes, if◌then◌else◌, map, option_copied, option_map};
+ghost use Rattle.std.specs.Option.{option_and_then};
+ghost use Rattle.builtin_usb.specs.Identities.{named, rows, unless_empty};
+ghost use Rattle.builtin_usb.specs.UsbId.{bus_properties, driver_text, interfaces_text, number_text, own_rows, properties};
+
+use crate::identities::{Identity, full_serial, shown, shown_serial};
+use crate::interfaces::packed;
+use crate::kinds::attribute;
+use crate::needs::descriptors_at;
+use builtin_devices::add_property;
+use device_core::{Device, Event};
+use std::alloc::{AllocError, Global};
+use text_bytes::Bytes;
+use text_links::encoded;
+
+/// A name, and the value that it is set to, if it is.
+type Row<'a> = (&'static [u8], Option<&'a [u8]>);
+
+/// A text that is set only where it is not empty.
+fn unless_empty(text: &[u8]) -> Option<&[u8]>
+    ensures { option_map (λ t. t.now) result ≡ unless_empty text.now }
+{
+    if text.is_empty() { None } else { Some(text) }
+}
+
+/// Sets a name behind a prefix.
+fn set(
+    alloc: Global,
+    prefix: &[u8],
+    name: &[u8],
+    value: &[u8],
+    properties: &mut Vec<(Bytes, Bytes)>,
+) -> Result<(), AllocError>
+    ensures { OnOk result (properties.new.items ≡ properties.old.items ++ (prefix.now ++ name.now, value.now) ∷ []) }
+{
+    let mut whole = Vec::from_slice(alloc, prefix)?;
+    whole.extend_from_slice(name)?;
+    add_property(alloc, &whole, value, properties)
+}
+
+/// Sets the rows that have a value.
+fn set_rows(
+    alloc: Global,
+    prefix: &[u8],
+    rows: &[Row<'_>],
+    properties: &mut Vec<(Bytes, Bytes)>,
+) -> Result<(), AllocError>
+    ensures { OnOk result (properties.new.items ≡ properties.old.items ++ named prefix.now (map (λ row. (row.0.now, option_map (λ t. t.now) row.1)) rows.now)) }
+{
+    for (name, value) in rows {
+        if let Some(value) = value {
+            set(alloc, prefix, name, value, properties)?;
+        }
+    }
+    Ok(())
+}
+
+/// Sets what is known of a device behind a prefix.
+fn set_identity(
+    alloc: Global,
+    prefix: &[u8],
+    identity: &Identity<'_>,
+    properties: &mut Vec<(Bytes, Bytes)>,
+) -> Result<(), AllocError>
+    ensures { OnOk result (properties.new.items ≡ properties.old.items ++ named prefix.now (rows identity.now)) }
+{
+    let model = shown(alloc, identity.model)?;
+    let model_encoded = encoded(alloc, identity.model)?;
+    let vendor = shown(alloc, identity.vendor)?;
+    let vendor_encoded = encoded(alloc, identity.vendor)?;
+    let revision = shown(alloc, identity.revision)?;
+    let serial = shown_serial(alloc, identity.serial)?;
+    let full = full_serial(alloc, identity)?;
+    let rows: [Row<'_>; 11] = [
+        (b"MODEL", Some(&model)),
+        (b"MODEL_ENC", Some(&model_encoded)),
+        (b"MODEL_ID", Some(identity.model_id)),
+        (b"SERIAL", Some(&full)),
+        (b"SERIAL_SHORT", unless_empty(&serial)),
+        (b"VENDOR", Some(&vendor)),
+        (b"VENDOR_ENC", Some(&vendor_encoded)),
+        (b"VENDOR_ID", Some(identity.vendor_id)),
+        (b"REVISION", Some(&revision)),
+        (b"TYPE", unless_empty(identity.kind)),
+        (b"INSTANCE", unless_empty(identity.instance.as_slice())),
+    ];
+    set_rows(alloc, prefix, &rows, properties)
+}
+
+/// The interfaces of a USB device.
+fn interfaces_text(
+    alloc: Global,
+    event: &Event<'_>,
+    device: &Device<'_>,
+) -> Result<Vec<u8>, AllocError>
+    ensures { IfOk result (λ text. text.items ≡ interfaces_text event.now (Some device.now)) }
+{
+    match descriptors_at(alloc, event, device)? {
+        Some(file) => packed(alloc, &file),
+        None => packed(alloc, b""),
+    }
+}
+
+/// Sets what stands only behind `ID_USB_`.
+fn set_own(
+    alloc: Global,
+    event: &Event<'_>,
+    interface: Option<&Device<'_>>,
+    device: &Device<'_>,
+    properties: &mut Vec<(Bytes, Bytes)>,
+) -> Result<(), AllocError>
+    ensures { OnOk result (properties.new.items ≡ properties.old.items ++ named (codes "ID_USB_") (own_rows event.now (option_copied interface.entry) (Some device.now))) }
+{
+    let interfaces = interfaces_text(alloc, event, device)?;
+    let rows: [Row<'_>; 3] = [
+        (b"INTERFACES", unless_empty(&interfaces)),
+        (b"INTERFACE_NUM", number_of(interface)),
+        (b"DRIVER", driver_of(interface)),
+    ];
+    set_rows(alloc, b"ID_USB_", &rows, properties)
+}
+
+/// The number of an interface, as it is told.
+fn number_of<'a>(interface: Option<&Device<'a>>) -> Option<&'a [u8]>
+    ensures { option_map (λ t. t.now) result ≡ option_and_then number_text (option_copied interface.entry) }
+{
+    attribute(interface?, b"bInterfaceNumber")
+}
+
+/// The driver of an interface.
+fn driver_of<'a>(interface: Option<&Device<'a>>) -> Option<&'a [u8]>
+    ensures { option_map (λ t. t.now) result ≡ option_and_then driver_text (option_copied interface.entry) }
+{
+    interface?.driver()
+}
+
+/// Sets the bus and what is told behind `ID_`, unless a bus was told before.
+fn set_bus(
+    alloc: Global,
+    identity: &Identity<'_>,
+    is_bus_set: bool,
+    properties: &mut Vec<(Bytes, Bytes)>,
+) -> Result<(), AllocError>
+    ensures { OnOk result (properties.new.items ≡ properties.old.items ++ (if is_bus_set then [] else bus_properties identity.now)) }
+{
+    if is_bus_set {
+        return Ok(());
+    }
+    add_property(alloc, b"ID_BUS", b"usb", properties)?;
+    set_identity(alloc, b"ID_", identity, properties)
+}
+
+/// The properties of a device that is known. The error comes where memory is refused.
+pub(crate) fn properties_of(
+    alloc: Global,
+    event: &Event<'_>,
+    interface: Option<&Device<'_>>,
+    device: &Device<'_>,
+    identity: &Identity<'_>,
+    is_bus_set: bool,
+) -> Result<Vec<(Bytes, Bytes)>, AllocError>
+    ensures { IfOk result (λ set. set.items ≡ properties event.now (option_copied interface.entry) (Some device.now) identity.now is_bus_set) }
+{
+    let mut properties = Vec::new(alloc);
+    set_bus(alloc, identity, is_bus_set, &mut properties)?;
+    set_identity(alloc, b"ID_USB_", identity, &mut properties)?;
+    set_own(alloc, event, interface, device, &mut properties)?;
+    Ok(properties)
+}

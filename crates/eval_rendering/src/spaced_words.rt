@@ -1,0 +1,24 @@
+//! Texts as one word.
+ghost use Rattle.std.specs.Prelude.{◌≡◌, map, IfOk};
+ghost use Rattle.text_links.specs.Underscores.{underscored};
+ghost use Rattle.eval_rendering.specs.Bounds.{bounded};
+ghost use Rattle.eval_rendering.specs.Words.{spaced};
+
+use crate::bounded_text::MOST_BYTES;
+use std::alloc::{AllocError, Global};
+use text_links::Word;
+
+/// Texts with a space between each two, as one word; of one that is too long only so much that it is too long, too.
+pub(crate) fn spaced_word(alloc: Global, texts: &[Vec<u8>]) -> Result<Vec<u8>, AllocError>
+    ensures { IfOk result (λ word. bounded word.items ≡ bounded (underscored (spaced (map (λ t. t.items) texts.now)))) }
+{
+    let mut word = Word::new(alloc);
+    for text in texts {
+        if word.len() > MOST_BYTES {
+            return Ok(word.into_bytes());
+        }
+        word.push(b" ")?;
+        word.push(text)?;
+    }
+    Ok(word.into_bytes())
+}

@@ -1,0 +1,3 @@
+pub mod JoinedWords
+pub mod Places
+pub mod ReadingBack

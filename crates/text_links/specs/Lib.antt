@@ -1,0 +1,5 @@
+pub mod Safe
+pub mod Underscores
+pub mod Encoded
+pub mod Kernels
+pub mod Steps

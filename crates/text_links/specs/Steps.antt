@@ -1,0 +1,32 @@
+-- For proofs only, no reader has to believe it: what the bytes that are left still add to a text's words.
+use Rattle.std.specs.Prelude.{ℕ, Bool, true, false, if◌then◌else◌, List, [], ◌∷◌, ◌++◌, flat_map, not, ◌&&◌}
+use Rattle.text_bytes.specs.Names.{underscore, is_whitespace}
+use Rattle.text_bytes.specs.Texts.{is_empty}
+use Rattle.text_links.specs.Underscores.{words}
+use Rattle.text_links.specs.declared.underscores.Word.{Word}
+
+-- words behind others, each with `_` before it
+abbrev pub further : List (List ℕ) → List ℕ
+further ws = flat_map (λ word. underscore ∷ word) ws
+
+-- what is added where a word goes on
+abbrev pub within : List ℕ → List ℕ
+within [] = []
+within (b ∷ text) = if is_whitespace b then further (words text) else b ∷ within text
+
+-- what is added, by whether no word stands before and whether whitespace does
+abbrev pub added : Bool → Bool → List ℕ → List ℕ
+added true gap [] = []
+added true gap (b ∷ text) = if is_whitespace b then added true gap text else b ∷ within text
+added false true text = further (words text)
+added false false text = within text
+
+-- a byte behind a word, unless it is whitespace; behind a gap with `_` before it
+abbrev pub with_byte : List ℕ → Bool → ℕ → List ℕ
+with_byte word gap b =
+    if is_whitespace b then word
+    else (if gap && not (is_empty word) then word ++ underscore ∷ [] else word) ++ b ∷ []
+
+-- the word that comes of a word as so much of the text is left
+abbrev pub grown : Word → List ℕ → List ℕ
+grown word left = word.bytes.items ++ added (is_empty word.bytes.items) word.gap left

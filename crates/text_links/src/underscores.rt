@@ -1,0 +1,79 @@
+//! A text as one word.
+ghost use Rattle.std.specs.Prelude.{◌≡◌, ◌++◌, [], List, ℕ, false, length, IfOk, OnOk};
+ghost use Rattle.text_links.specs.Steps.{grown, with_byte};
+ghost use Rattle.text_links.specs.Underscores.{underscored};
+
+use std::alloc::{AllocError, Global};
+use text_bytes::is_whitespace;
+
+/// The word that a text becomes which is put in part by part.
+#[derive(Drop)]
+pub struct Word {
+    pub(crate) bytes: Vec<u8>,
+    pub(crate) gap: bool,
+}
+
+impl Word {
+    /// The word of no text.
+    pub fn new(alloc: Global) -> Word
+        ensures bytes { result.bytes.items ≡ [] }
+        ensures gap { result.gap ≡ false }
+    {
+        Word {
+            bytes: Vec::new(alloc),
+            gap: false,
+        }
+    }
+
+    /// How many bytes the word has so far.
+    pub fn len(&self) -> usize
+        ensures { result ≡ length self.now.bytes.items }
+    {
+        self.bytes.len()
+    }
+
+    /// Puts more of the text behind. The error comes where memory is refused.
+    pub fn push(&mut self, more: &[u8]) -> Result<(), AllocError>
+        ensures { OnOk result ((left : List ℕ) → grown self.new left ≡ grown self.old (more.now ++ left)) }
+    {
+        for byte in more {
+            push_byte(&mut self.bytes, self.gap, *byte)?;
+            self.gap = is_whitespace(*byte);
+        }
+        Ok(())
+    }
+
+    /// Gives the bytes up.
+    pub fn into_bytes(self) -> Vec<u8>
+        ensures { result.items ≡ self.bytes.items }
+    {
+        let Word { bytes, gap: _gap } = self;
+        bytes
+    }
+}
+
+/// A text as one word: without the whitespace at its ends, and with one `_` for each run of it inside.
+/// So udev has what stands in the place of a substitution in the name of a link.
+///
+/// The error comes where memory is refused.
+pub fn underscored(alloc: Global, text: &[u8]) -> Result<Vec<u8>, AllocError>
+    ensures { IfOk result (λ word. word.items ≡ underscored text.now) }
+{
+    let mut word = Word::new(alloc);
+    word.push(text)?;
+    Ok(word.into_bytes())
+}
+
+/// Puts a byte behind a word, unless it is whitespace: behind a gap with `_` before it.
+fn push_byte(word: &mut Vec<u8>, gap: bool, byte: u8) -> Result<(), AllocError>
+    ensures { OnOk result (word.new.items ≡ with_byte word.old.items gap byte) }
+{
+    if is_whitespace(byte) {
+        return Ok(());
+    }
+    if gap && !word.is_empty() {
+        word.push(b'_')?;
+    }
+    word.push(byte)?;
+    Ok(())
+}

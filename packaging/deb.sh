@@ -67,9 +67,9 @@ Description: dry run of udev's rules and hardware database
  Answers events by udev's rules and hardware database: which name, links,
  tags, properties and commands a device would get. Checks rules files and the
  files of the database, and tells which properties the database has for a
- device, with the file and the line that each comes from. No device is touched
- and no program is started, so that it serves in builds and over images of
- other systems.
+ device, with the file and the line that each comes from. It touches no device
+ and starts no program, so it can be used in builds and on images of other
+ systems.
 END
 find "$root" -exec touch -h -d "@$SOURCE_DATE_EPOCH" {} +
 dpkg-deb --root-owner-group --build "$root" "$target/devdry_${version}_$architecture.deb"

@@ -66,8 +66,8 @@ class Source:
                 head = function
                 if not head[1]:
                     module, owner = self.module(path), []
-            if line.endswith((";\n", "{}\n")):
-                # a function of a trait, or an empty body
+            if line == "}\n" or line.endswith("{}\n"):
+                # the end of a trait, or an empty body
                 head = None
             elif head and (line == head[1] + "{\n" or line.endswith(" {\n") and line.startswith((head[0], head[1] + ")"))):
                 names.append(Name(module, owner, head[2]))

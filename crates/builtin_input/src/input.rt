@@ -1,0 +1,206 @@
+//! What input_id makes of an event.
+ghost use Rattle.std.specs.Prelude.{◌≡◌, ◌&&◌, ◌++◌, IfOk, OnOk, map, option_copied, Some};
+ghost use Rattle.std.specs.List.{find, list_any};
+ghost use Rattle.text_tables.specs.Texts.{with_texts};
+ghost use Rattle.device_core.specs.Values.{chain};
+ghost use Rattle.builtin_devices.specs.Outcomes.{needs_of};
+ghost use Rattle.builtin_input.specs.Input.{attribute_needs, chain_needs, device_needs, input_device, input_id, is_input, is_input_device, is_input_path, kind_properties, outcome_of, set, size_needs, tells};
+ghost use Rattle.builtin_input.specs.Kinds.{property_of};
+ghost use Rattle.builtin_input.specs.Capabilities.{capabilities};
+
+use crate::capabilities::Capabilities;
+use crate::kinds::Kind;
+use builtin_devices::{Outcome, add_property, is_text, need_attribute};
+use device_core::{Device, Event};
+use std::alloc::{AllocError, Global};
+use text_bytes::Bytes;
+use text_links::{kernel_name, last_digits};
+use text_tables::OwnedTexts;
+
+/// The attributes that each input device has.
+const EXPECTED: [&[u8]; 5] = [
+    b"id/bustype",
+    b"capabilities/abs",
+    b"capabilities/rel",
+    b"capabilities/key",
+    b"properties",
+];
+
+/// Whether a device tells which kinds of events it has.
+fn tells(device: &Device<'_>) -> bool
+    ensures { result ≡ tells device.now }
+{
+    device.attrs().get(b"capabilities/ev").is_some()
+}
+
+/// Whether a device is of the subsystem of input devices.
+fn is_input(device: &Device<'_>) -> bool
+    ensures { result ≡ is_input device.now }
+{
+    is_text(b"input", device.subsystem())
+}
+
+/// The nearest of these devices that is of the subsystem and tells of itself.
+fn nearest<'d, 'a>(devices: &'d [Device<'a>]) -> Option<&'d Device<'a>>
+    ensures { option_copied result ≡ find (λ device. is_input device && tells device) devices.now }
+{
+    devices
+        .iter()
+        .find(|device| is_input(device) && tells(device))
+}
+
+/// The device that tells of itself.
+fn input_device<'d, 'a>(event: &'d Event<'a>) -> Option<&'d Device<'a>>
+    ensures { option_copied result ≡ input_device event.now }
+{
+    if tells(event.device()) {
+        Some(event.device())
+    } else {
+        nearest(event.parents())
+    }
+}
+
+/// Adds the properties that tell these kinds.
+fn add_kinds(
+    alloc: Global,
+    kinds: &[Kind],
+    properties: &mut Vec<(Bytes, Bytes)>,
+) -> Result<(), AllocError>
+    ensures { OnOk result (properties.new.items ≡ properties.old.items ++ map (λ kind. set (property_of kind)) kinds.now) }
+{
+    for kind in kinds {
+        add_property(alloc, kind.property(), b"1", properties)?;
+    }
+    Ok(())
+}
+
+/// The properties that are set for a device that tells this of itself.
+#[tactic(auto, unfolding(crate::specs::Input::kind_properties))]
+fn kind_properties(alloc: Global, device: &Capabilities) -> Result<Vec<(Bytes, Bytes)>, AllocError>
+    ensures { IfOk result (λ p. p.items ≡ kind_properties device.now) }
+{
+    let kinds = device.kinds(alloc)?;
+    let mut properties = Vec::new(alloc);
+    add_property(alloc, b"ID_INPUT", b"1", &mut properties)?;
+    add_kinds(alloc, &kinds, &mut properties)?;
+    Ok(properties)
+}
+
+/// Adds the size of a device to what is needed, where it is asked of the node.
+fn add_size(
+    alloc: Global,
+    event: &Event<'_>,
+    told: &Capabilities,
+    needs: &mut OwnedTexts,
+) -> Result<(), AllocError>
+    ensures { OnOk result (needs.new ≡ with_texts needs.old (size_needs event.now told.now)) }
+{
+    let kernel = kernel_name(alloc, event.device().path())?;
+    if kernel.as_slice().starts_with(b"event") && told.has_position() {
+        needs.add(alloc, b"absolute axes")?;
+    }
+    Ok(())
+}
+
+/// Adds those of these attributes to what is needed that a device lacks.
+fn add_lacking(
+    alloc: Global,
+    device: &Device<'_>,
+    names: &[&[u8]],
+    needs: &mut OwnedTexts,
+) -> Result<(), AllocError>
+    ensures { OnOk result (needs.new ≡ with_texts needs.old (attribute_needs device.now (map (λ name. name.now) names.now))) }
+{
+    for name in names {
+        need_attribute(alloc, device, name, name, needs)?;
+    }
+    Ok(())
+}
+
+/// What the block would have to tell of a device and of its node.
+#[tactic(auto, using(crate::proofs::Needs::in_two), unfolding(crate::specs::Input::device_needs))]
+fn device_needs(
+    alloc: Global,
+    event: &Event<'_>,
+    device: &Device<'_>,
+    told: &Capabilities,
+) -> Result<OwnedTexts, AllocError>
+    requires { told.now ≡ capabilities device.now }
+    ensures { IfOk result (λ needs. needs ≡ needs_of (device_needs event.now device.now)) }
+{
+    let mut needs = OwnedTexts::new(alloc);
+    add_lacking(alloc, device, &EXPECTED, &mut needs)?;
+    add_size(alloc, event, told, &mut needs)?;
+    Ok(needs)
+}
+
+/// Whether the last component of a path is `input` and a number.
+fn is_input_path(path: &[u8]) -> bool
+    ensures { result ≡ is_input_path path.now }
+{
+    let digits = last_digits(path);
+    let (before, _) = path.split_at(path.len() - digits.len());
+    !digits.is_empty() && before.ends_with(b"/input")
+}
+
+/// Whether a device is an input device by its subsystem and its name.
+fn is_input_device(device: &Device<'_>) -> bool
+    ensures { result ≡ is_input_device device.now }
+{
+    is_input(device) && is_input_path(device.path())
+}
+
+/// Whether one of these devices is an input device.
+fn some_input_device(devices: &[Device<'_>]) -> bool
+    ensures { result ≡ list_any is_input_device devices.now }
+{
+    devices.iter().any(|device| is_input_device(device))
+}
+
+/// Whether a device of the chain is an input device.
+fn has_input_device(event: &Event<'_>) -> bool
+    ensures { result ≡ list_any is_input_device (chain event.now) }
+{
+    is_input_device(event.device()) || some_input_device(event.parents())
+}
+
+/// What is needed where no device tells of itself.
+#[tactic(auto, unfolding(crate::specs::Input::chain_needs))]
+fn chain_needs(alloc: Global, event: &Event<'_>) -> Result<OwnedTexts, AllocError>
+    ensures { IfOk result (λ needs. needs ≡ needs_of (chain_needs event.now)) }
+{
+    let mut needs = OwnedTexts::new(alloc);
+    if has_input_device(event) {
+        needs.add(alloc, b"capabilities/ev")?;
+    }
+    Ok(needs)
+}
+
+/// What comes of a device that tells of itself.
+fn outcome_of(alloc: Global, event: &Event<'_>, device: &Device<'_>) -> Result<Outcome, AllocError>
+    ensures { IfOk result (λ outcome. outcome ≡ outcome_of event.now (Some device.now)) }
+{
+    let told = Capabilities::read(alloc, device)?;
+    let needs = device_needs(alloc, event, device, &told)?;
+    let properties = kind_properties(alloc, &told)?;
+    drop(told);
+    Ok(Outcome::succeeding(properties, needs))
+}
+
+/// What input_id of udev of systemd 257 makes of an event: `ID_INPUT=1`, then a property for each kind of input device
+/// that the device is, as `ID_INPUT_MOUSE=1`.
+///
+/// The kinds follow from the attributes `capabilities/*`, `properties` and `id/bustype` of the event device where it
+/// has `capabilities/ev`, or else of its nearest parent of the subsystem `input` that has. It always succeeds, and sets
+/// nothing where no device has them. Needed are the attributes that an input device lacks, and `absolute axes` where
+/// udev would ask the node of a touchpad or a screen for its size, which is never set here. The error comes where memory
+/// is refused.
+#[tactic(auto, unfolding(crate::specs::Input::input_id))]
+pub fn input_id(alloc: Global, event: &Event<'_>) -> Result<Outcome, AllocError>
+    ensures { IfOk result (λ outcome. outcome ≡ input_id event.now) }
+{
+    match input_device(event) {
+        Some(device) => outcome_of(alloc, event, device),
+        None => Ok(Outcome::succeeding(Vec::new(alloc), chain_needs(alloc, event)?)),
+    }
+}

@@ -1,0 +1,18 @@
+//! The builtin input_id of udev of systemd 257: which kinds of input device a device is, by the attributes in which it
+//! tells of itself.
+#![tactic(auto)]
+
+mod bitmaps;
+mod capabilities;
+mod groups;
+mod input;
+mod kinds;
+mod laws;
+mod signs;
+
+pub use input::input_id;
+pub use laws::{
+    accelerometers_are_nothing_else, devices_with_nothing_have_no_kind, mice_are_not_joysticks,
+    some_kinds_imply_others, the_last_word_is_the_lowest, touchpads_are_not_touchscreens,
+    zeros_in_front_change_nothing,
+};

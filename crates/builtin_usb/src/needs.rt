@@ -161,7 +161,7 @@ fn need_of_unit(
     texts: &Unit<'_>,
     needs: &mut OwnedTexts,
 ) -> Result<(), AllocError>
-    requires { texts.now ≡ unit_texts (option_copied unit.entry) }
+    requires { texts.now ≡ unit_texts (option_copied unit) }
     ensures { OnOk result (needs.new ≡ with_texts needs.old (unit_words (option_copied unit.entry))) }
 {
     let Some(unit) = unit else {
@@ -241,7 +241,7 @@ pub(crate) fn needs_by(
     unit: Option<&Device<'_>>,
     texts: &Unit<'_>,
 ) -> Result<OwnedTexts, AllocError>
-    requires { texts.now ≡ unit_texts (option_copied unit.entry) }
+    requires { texts.now ≡ unit_texts (option_copied unit) }
     ensures { IfOk result (λ needs. needs ≡ needs_of (words devices.now (option_copied interface.entry) (option_copied device.entry) (option_copied unit.entry))) }
 {
     let mut needs = OwnedTexts::new(alloc);

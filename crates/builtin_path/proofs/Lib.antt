@@ -1,1 +1,2 @@
-mod Joining
+pub mod Joining
+pub mod Skipping

@@ -217,26 +217,27 @@ fn portal_stop(
 ) -> Result<Stop, AllocError>
     ensures { IfOk result (λ stop. stop ≡ portal_stop member.now target.now (option_map (λ t. t.now) address.entry) (option_map (λ t. t.now) port.entry)) }
 {
-    match (address, port) {
-        (Some(address), Some(port)) => {
-            let unit = unit_text(alloc, member)?;
-            let part = concatenated(
-                alloc,
-                &[
-                    b"ip-",
-                    address,
-                    b":",
-                    port,
-                    b"-iscsi-",
-                    target,
-                    b"-",
-                    unit.as_slice(),
-                ],
-            )?;
-            Ok(Stop::adding(alloc, part, true, true, 0))
-        }
-        _ => Ok(Stop::ending(true, true, portal_needs(alloc, address, port)?)),
-    }
+    let Some(portal) = address else {
+        return Ok(Stop::ending(true, true, portal_needs(alloc, address, port)?));
+    };
+    let Some(number) = port else {
+        return Ok(Stop::ending(true, true, portal_needs(alloc, address, port)?));
+    };
+    let unit = unit_text(alloc, member)?;
+    let part = concatenated(
+        alloc,
+        &[
+            b"ip-",
+            portal,
+            b":",
+            number,
+            b"-iscsi-",
+            target,
+            b"-",
+            unit.as_slice(),
+        ],
+    )?;
+    Ok(Stop::adding(alloc, part, true, true, 0))
 }
 
 /// What a disk of iSCSI adds, by its session.

@@ -1,9 +1,9 @@
 //! What devices of each subsystem add to a path.
-ghost use Rattle.std.specs.Prelude.{◌≡◌, ◌∷◌, ◌≤◌, [], IfOk, codes, decimal, drop, length, option_map};
+ghost use Rattle.std.specs.Prelude.{◌≡◌, ◌∷◌, ◌≤◌, [], IfOk, codes, decimal, drop, find, length, option_map};
 ghost use Rattle.std.specs.List.{concat, prefix_len};
 ghost use Rattle.text_bytes.specs.Numbers.{is_digit};
-ghost use Rattle.builtin_path.specs.Members.{attribute, row};
-ghost use Rattle.builtin_path.specs.Table.{ap_part, ap_stop, bcma_stop, behind, cciss_stop, leading_number, manner_of, named_stop, numbered_by, numbered_stop, second_by, second_number, stop, stop_as, stop_by, tape_by, tape_part, tape_stop, virtio_stop};
+ghost use Rattle.builtin_path.specs.Members.{attribute, begins, row};
+ghost use Rattle.builtin_path.specs.Table.{ap_part, ap_stop, bcma_stop, begun_tapes, behind, cciss_stop, leading_number, manner_of, named_stop, numbered_by, numbered_stop, second_by, second_number, stop, stop_as, stop_by, tape_by, tape_part, tape_stop, virtio_stop};
 
 use crate::members::{Member, row};
 use crate::nvme::{nvme_stop, ways_stop};
@@ -235,6 +235,16 @@ fn cciss_stop(alloc: Global, member: &Member<'_>, above: &[Member<'_>]) -> Resul
     second_by(alloc, b"cciss-disk", number, row(b"cciss", above))
 }
 
+/// What the name of a tape begins with, of these.
+fn begun_tape(name: &[u8]) -> Option<&'static [u8]>
+    ensures { option_map (λ t. t.now) result ≡ find (λ start. begins start name.now) begun_tapes }
+{
+    BEGUN_TAPES
+        .iter()
+        .copied()
+        .find(|start| name.starts_with(start))
+}
+
 /// What the name of a tape gives.
 #[tactic(auto, unfolding(crate::specs::Table::tape_part))]
 fn tape_part(name: &[u8]) -> Option<&[u8]>
@@ -243,10 +253,10 @@ fn tape_part(name: &[u8]) -> Option<&[u8]>
     if WHOLE_TAPES.iter().any(|whole| *whole == name) {
         return Some(name);
     }
-    BEGUN_TAPES
-        .iter()
-        .copied()
-        .find(|start| name.starts_with(start))
+    match begun_tape(name) {
+        Some(start) => Some(start),
+        None => None,
+    }
 }
 
 /// What a tape adds, where no device below has added a part.

@@ -52,6 +52,7 @@ fn is_ata(share: &Share) -> bool
 }
 
 /// The parts that stops add, the highest first.
+#[tactic(auto, using(crate::proofs::Turning::turned))]
 fn parts(alloc: Global, stops: &[Stop]) -> Result<Vec<&[u8]>, AllocError>
     ensures { IfOk result (λ found. map (λ t. t.now) found.items ≡ parts stops.now) }
 {
@@ -74,6 +75,7 @@ fn below_ata(stops: &[Stop]) -> usize
 }
 
 /// The parts of the compatible path, the highest first.
+#[tactic(auto, using(crate::proofs::Turning::turned))]
 fn compatible_parts(alloc: Global, stops: &[Stop]) -> Result<Vec<&[u8]>, AllocError>
     ensures { IfOk result (λ found. map (λ t. t.now) found.items ≡ compatible_parts stops.now) }
 {

@@ -208,12 +208,12 @@ fn portal_needs(
 }
 
 /// What a disk of iSCSI adds, by the portal and the target of its session.
-fn portal_stop(
+fn portal_stop<'t>(
     alloc: Global,
     member: &Member<'_>,
-    target: &[u8],
-    address: Option<&[u8]>,
-    port: Option<&[u8]>,
+    target: &'t [u8],
+    address: Option<&'t [u8]>,
+    port: Option<&'t [u8]>,
 ) -> Result<Stop, AllocError>
     ensures { IfOk result (λ stop. stop ≡ portal_stop member.now target.now (option_map (λ t. t.now) address.entry) (option_map (λ t. t.now) port.entry)) }
 {

@@ -16,7 +16,7 @@ use std::alloc::{AllocError, Global};
 /// A device and those above it.
 fn from_device<'d>(
     alloc: Global,
-    devices: &'d Devices<'_>,
+    devices: &'d Devices<'d>,
     device: &'d Device<'d>,
 ) -> Result<Vec<Member<'d>>, AllocError>
     ensures { IfOk result (λ members. members.items ≡ from_device devices.now device.now) }
@@ -43,7 +43,7 @@ fn below_subsystem(members: &[Member<'_>]) -> usize
 /// The controller by which a disk of several ways is reached.
 fn way_by<'d>(
     alloc: Global,
-    devices: &'d Devices<'_>,
+    devices: &'d Devices<'d>,
     members: &[Member<'_>],
 ) -> Result<Option<&'d Device<'d>>, AllocError>
     ensures { IfOk result (λ device. option_copied device ≡ way_by devices.now members.now (namespace devices.now)) }
@@ -76,7 +76,7 @@ fn going_on<'d>(
 #[tactic(auto, unfolding(crate::specs::Way::members_of))]
 pub(crate) fn members_of<'d>(
     alloc: Global,
-    devices: &'d Devices<'_>,
+    devices: &'d Devices<'d>,
 ) -> Result<Vec<Member<'d>>, AllocError>
     ensures { IfOk result (λ members. members.items ≡ members_of devices.now) }
 {

@@ -1,7 +1,6 @@
 -- Files that a block tells of by constants: the name is a path below /sys, and the value what the file says.
-use Rattle.std.specs.Prelude.{Bool, List, [], ◌∷◌, ◌++◌, Option, Some, None, filter_map, option_map, length, take, drop, nat_eq, if◌then◌else◌, codes}
-use Rattle.std.specs.List.{ends_with, find, starts_with}
-use Rattle.std.specs.Prelude.{◌-◌}
+use Rattle.std.specs.Prelude.{◌+◌, ◌-◌, List, [], ◌∷◌, ◌++◌, Option, Some, None, filter_map, length, take, drop, nat_eq, if◌then◌else◌, codes}
+use Rattle.std.specs.List.{ends_with, starts_with}
 use Rattle.text_bytes.specs.Names.{slash}
 use Rattle.text_tables.specs.Texts.{Text, same_text}
 use Rattle.text_tables.specs.Pairs.{Pair, value_of, with_values}

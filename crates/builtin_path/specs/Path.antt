@@ -1,5 +1,5 @@
 -- path_id: what comes of the parts.
-use Rattle.std.specs.Prelude.{ℕ, ◌+◌, Bool, false, true, not, ◌&&◌, ◌||◌, ◌==◌, List, [], ◌∷◌, ◌++◌, codes, drop, filter_map, flat_map, if◌then◌else◌, is_none, is_some, map, Option, Some, None, position, reverse, slice_index, take}
+use Rattle.std.specs.Prelude.{ℕ, ◌+◌, ◌-◌, Bool, false, true, not, ◌&&◌, ◌||◌, ◌==◌, List, [], ◌∷◌, ◌++◌, codes, drop, filter_map, flat_map, if◌then◌else◌, is_none, is_some, length, map, Option, Some, None, position, reverse, slice_index, take}
 use Rattle.std.specs.Char.{is_ascii_alphanumeric}
 use Rattle.std.specs.List.{join_with_byte, list_any, prefix_len, suffix_len}
 use Rattle.text_bytes.specs.Names.{minus, space, underscore}

@@ -1,5 +1,5 @@
 //! path_id: what comes of the parts.
-ghost use Rattle.std.specs.Prelude.{◌≡◌, ◌∷◌, ◌++◌, ◌+◌, [], IfOk, IfSome, OnOk, codes, filter_map, flat_map, length, map, option_map, is_some, ◌<◌};
+ghost use Rattle.std.specs.Prelude.{◌≡◌, ◌∷◌, ◌++◌, ◌+◌, [], ◌≤◌, IfOk, IfSome, OnOk, codes, not, filter_map, flat_map, length, map, option_map, is_some, ◌<◌};
 ghost use Rattle.std.specs.List.{join_with_byte, list_any, prefix_len};
 ghost use Rattle.text_bytes.specs.Names.{minus};
 ghost use Rattle.text_tables.specs.Texts.{with_texts};
@@ -293,15 +293,22 @@ fn add_needs(alloc: Global, more: &[Vec<u8>], needs: &mut OwnedTexts) -> Result<
 ///
 /// `ID_PATH_WITH_USB_REVISION` is set where a port of USB tells its revision, then `ID_PATH` and `ID_PATH_TAG`, and
 /// `ID_PATH_ATA_COMPAT` behind a port of ATA. The error comes where memory is refused.
-#[tactic(auto, unfolding(crate::specs::Path::path_id, crate::specs::Way::stops_of))]
 pub fn path_id(alloc: Global, event: &Event<'_>) -> Result<Outcome, AllocError>
     ensures { IfOk result (λ outcome. outcome ≡ path_id event.now) }
 {
     let devices = Devices::new(alloc, event)?;
-    let members = members_of(alloc, &devices)?;
-    let stops = stops_from(alloc, &devices, &members)?;
+    outcome_of(alloc, &devices)
+}
+
+/// What path_id makes of the devices of an event.
+#[tactic(auto, unfolding(crate::specs::Path::path_id, crate::specs::Way::stops_of))]
+fn outcome_of(alloc: Global, devices: &Devices<'_>) -> Result<Outcome, AllocError>
+    ensures { IfOk result (λ outcome. outcome ≡ path_id devices.now) }
+{
+    let members = members_of(alloc, devices)?;
+    let stops = stops_from(alloc, devices, &members)?;
     let missing = needs(alloc, &members, &stops)?;
-    if !is_whole(event, &stops) {
+    if !is_whole(devices.event(), &stops) {
         return Ok(Outcome::failing(alloc, missing));
     }
     Ok(Outcome::succeeding(properties_of(alloc, &stops)?, missing))

@@ -1,5 +1,5 @@
 //! What a SCSI device adds by its transport.
-ghost use Rattle.std.specs.Prelude.{◌≡◌, ◌∷◌, [], ◌-◌, IfOk, codes, find, length, map, option_and_then, option_copied, option_map, ◌≤◌, ◌^◌};
+ghost use Rattle.std.specs.Prelude.{◌≡◌, ◌∷◌, [], ◌-◌, IfOk, codes, find, length, map, option_and_then, option_copied, option_map, true, ◌≤◌, ◌^◌};
 ghost use Rattle.std.specs.List.{concat};
 ghost use Rattle.builtin_devices.specs.Numbers.{number_in};
 ghost use Rattle.builtin_devices.specs.declared.numbers.Base.TheVariants.{AsWritten};

@@ -1,5 +1,5 @@
 //! The way up from the event device: which devices it passes, and what they add.
-ghost use Rattle.std.specs.Prelude.{◌≡◌, ◌++◌, ◌+◌, ◌≤◌, ◌||◌, IfOk, codes, is_some, length, map, not, option_copied, take};
+ghost use Rattle.std.specs.Prelude.{◌≡◌, ◌++◌, ◌+◌, ◌≤◌, ◌||◌, IfOk, codes, false, is_some, length, map, not, option_copied, take};
 ghost use Rattle.std.specs.List.{prefix_len};
 ghost use Rattle.builtin_path.specs.Members.{is_in};
 ghost use Rattle.builtin_path.specs.Nvme.{namespace};
@@ -62,7 +62,7 @@ fn going_on<'d>(
     mut members: Vec<Member<'d>>,
     others: Vec<Member<'d>>,
 ) -> Result<Vec<Member<'d>>, AllocError>
-    ensures { IfOk result (λ all. all.items ≡ take (below_subsystem members.items + 1) members.items ++ others.items) }
+    ensures { IfOk result (λ all. all.items ≡ take (below_subsystem members.entry.items + 1) members.entry.items ++ others.entry.items) }
 {
     let below = below_subsystem(&members);
     members.truncate(below + 1);

@@ -1,7 +1,8 @@
 -- What the builtins of udev that look at the devices of an event come to. Each comes to the scene after it, and whether it was done.
-use Rattle.std.specs.Prelude.{ℕ, Bool, List, ◌++◌, Option, Some, None, codes, fold, take}
+use Rattle.std.specs.Prelude.{ℕ, ◌+◌, nat_le, Bool, false, List, [], ◌∷◌, ◌++◌, length, Option, Some, None, codes, if◌then◌else◌}
+use Rattle.std.specs.List.{sum_by}
 use Rattle.text_tables.specs.Texts.{Text}
-use Rattle.text_tables.specs.Pairs.{named}
+use Rattle.text_tables.specs.Pairs.{Pair, named}
 use Rattle.hwdb_lookup.specs.Query.{query}
 use Rattle.hwdb_lookup.specs.declared.entry.Entry.{Entry}
 use Rattle.rule_parts.specs.Builtins.{builtin_name}
@@ -14,24 +15,36 @@ use Rattle.builtin_path.specs.Path.{path_id}
 use Rattle.builtin_usb.specs.UsbId.{usb_id}
 use Rattle.eval_state.specs.Properties.{properties_set}
 use Rattle.eval_state.specs.Scenes.{noted, with_env}
-use Rattle.eval_state.specs.declared.note_kind.NoteKind.TheVariants.{BuiltinNeeds}
+use Rattle.eval_state.specs.declared.note_kind.NoteKind.TheVariants.{BuiltinNeeds, TextTooLong}
 use Rattle.eval_state.specs.declared.scene.Scene.{Scene}
 
 -- the word of a note on what a builtin needs: its name, a colon, a space and what it needs
 abbrev pub need_word : (name need : Text) → Text
 need_word name need = name ++ codes ": " ++ need
 
--- the most things that are told of what a builtin needs
-abbrev pub most_needs : ℕ
-most_needs = 32
+-- the most that a builtin may set: its names and values, each counted with one byte more, as many bytes as a block may have
+abbrev pub most_set : ℕ
+most_set = 65536
 
--- a note on each thing that the block would have to tell a builtin
-abbrev pub needs_noted : Rule → (name : Text) → List Text → Scene → Scene
-needs_noted r name needs s = fold (λ held need. noted r BuiltinNeeds (need_word name need) held) s needs
+-- how much a property counts of that
+abbrev pub property_size : Pair → ℕ
+property_size property = (length property.0 + 1) + (length property.1 + 1)
 
--- what a builtin comes to: its properties are set, it is noted what it needs, of more than 32 things the first 32, and it was done where it succeeds
+-- how much properties count together
+abbrev pub properties_size : List Pair → ℕ
+properties_size properties = sum_by property_size properties
+
+-- a note on the first thing that the block would have to tell
+abbrev pub need_noted : Rule → (name : Text) → List Text → Scene → Scene
+need_noted r name [] s = s
+need_noted r name (need ∷ needs) s = noted r BuiltinNeeds (need_word name need) s
+
+-- Of what a builtin comes to the properties are set, and the first thing that it needs is noted; it was done where it succeeds. Where it would set more
+-- than a builtin may, it sets nothing, which is noted, and it was not done.
 abbrev pub outcome_taken : Rule → (name : Text) → OutcomeValue → Scene → Scene × Bool
-outcome_taken r name outcome s = (needs_noted r name (take most_needs outcome.needs) (with_env (properties_set s.state.env outcome.properties) s), outcome.is_done)
+outcome_taken r name outcome s =
+    if nat_le (properties_size outcome.properties) most_set then (need_noted r name outcome.needs (with_env (properties_set s.state.env outcome.properties) s), outcome.is_done)
+    else (noted r TextTooLong name s, false)
 
 -- a scene in which usb_id has run
 abbrev pub usb_id_ran : Scene × Bool → Scene × Bool

@@ -1,8 +1,8 @@
 //! The builtins of udev that look at the devices of an event.
-ghost use Rattle.std.specs.Prelude.{◌≡◌, ◌++◌, IfOk, OnErr, OnOk, map, option_map};
+ghost use Rattle.std.specs.Prelude.{◌≡◌, ◌-◌, nat_le, Some, None, if◌then◌else◌, IfOk, OnErr, OnOk, map, option_map};
 ghost use Rattle.rule_parts.specs.Builtins.{builtin_name};
 ghost use Rattle.eval_state.specs.Properties.{properties_set};
-ghost use Rattle.eval_acts.specs.BuiltinRuns.{input_id_run, looked_up, need_word, needs_noted, net_id_run, outcome_taken, path_id_run, usb_id_run};
+ghost use Rattle.eval_acts.specs.BuiltinRuns.{input_id_run, looked_up, most_set, need_noted, need_word, net_id_run, outcome_taken, path_id_run, properties_size, property_size, usb_id_run};
 
 use crate::imports::set_as_udev;
 use builtin_devices::Outcome;
@@ -18,8 +18,8 @@ use std::alloc::{AllocError, Global};
 use text_bytes::Bytes;
 use text_tables::OwnedPairs;
 
-/// The most things that are told of what a builtin needs.
-const MOST_NEEDS: usize = 32;
+/// The most that a builtin may set: its names and values, each counted with one byte more.
+const MOST_SET: usize = 65536;
 
 /// The word of a note on what a builtin needs.
 fn need_word(alloc: Global, name: &[u8], need: &[u8]) -> Result<Vec<u8>, AllocError>
@@ -31,22 +31,47 @@ fn need_word(alloc: Global, name: &[u8], need: &[u8]) -> Result<Vec<u8>, AllocEr
     Ok(word)
 }
 
-/// Notes each thing that the block would have to tell a builtin.
-fn note_needs(
+/// Notes the first thing that the block would have to tell a builtin, if there is one.
+fn note_need(
     alloc: Global,
     rule: &Rule,
     name: &[u8],
     needs: &[Vec<u8>],
     scene: &mut Scene<'_>,
 ) -> Result<(), AllocError>
-    ensures scene { OnOk result (scene.new ≡ needs_noted rule.now name.now (map (λ need. need.items) needs.now) scene.old) }
+    ensures scene { OnOk result (scene.new ≡ need_noted rule.now name.now (map (λ need. need.items) needs.now) scene.old) }
     ensures refused { OnErr result (scene.new.state.event ≡ scene.old.state.event) }
 {
-    for need in needs {
-        let word = need_word(alloc, name, need)?;
-        scene.note(alloc, rule, NoteKind::BuiltinNeeds, &word)?;
+    match needs.split_first() {
+        Some((need, _)) => {
+            let word = need_word(alloc, name, need)?;
+            scene.note(alloc, rule, NoteKind::BuiltinNeeds, &word)
+        }
+        None => Ok(()),
     }
-    Ok(())
+}
+
+/// How much of a room is left after a property, if it fits.
+fn room_after(room: usize, name: &[u8], value: &[u8]) -> Option<usize>
+    ensures { result ≡ (if nat_le (property_size (name.now, value.now)) room then Some (room - property_size (name.now, value.now)) else None) }
+{
+    room.checked_sub(name.len())?
+        .checked_sub(value.len())?
+        .checked_sub(2)
+}
+
+/// Whether properties are no more than a builtin may set.
+fn may_be_set(properties: &[(Bytes, Bytes)]) -> bool
+    ensures { result ≡ nat_le (properties_size properties.now) most_set }
+{
+    let mut room = MOST_SET;
+    for (name, value) in properties {
+        match room_after(room, name.as_slice(), value.as_slice()) {
+            Some(left) => room = left,
+            None => return false,
+        }
+    }
+    true
 }
 
 /// Sets the properties of a builtin.
@@ -74,10 +99,12 @@ fn take_outcome(
     ensures scene { IfOk result (λ done. (scene.new, done) ≡ outcome_taken rule.now (builtin_name builtin) outcome.now scene.old) }
     ensures refused { OnErr result (scene.new.state.event ≡ scene.old.state.event) }
 {
+    if !may_be_set(outcome.properties()) {
+        scene.note(alloc, rule, NoteKind::TextTooLong, builtin.name())?;
+        return Ok(false);
+    }
     set_properties(alloc, outcome.properties(), &mut scene.state.env)?;
-    let needs = outcome.needs().as_slice();
-    let (told, _) = needs.split_at(needs.len().min(MOST_NEEDS));
-    note_needs(alloc, rule, builtin.name(), told, scene)?;
+    note_need(alloc, rule, builtin.name(), outcome.needs().as_slice(), scene)?;
     Ok(outcome.is_done())
 }
 

@@ -1,12 +1,14 @@
 -- What a scene weighs behind an act of a rule.
-use Rattle.std.proofs.Common.{ℕ, ◌+◌, ◌≤◌, Bool, true, false, ◌==◌, List, [], ◌∷◌, length, Option, Some, None, is_some, ◌||◌, ap, if◌then◌else◌, arith}
+use Rattle.std.proofs.Common.{◌≡◌, ℕ, ◌+◌, ◌≤◌, nat_le, Bool, true, false, ◌==◌, List, [], ◌∷◌, length, Option, Some, None, is_some, ◌||◌, ap, codes, if◌then◌else◌, refl, arith}
+use Rattle.std.proofs.lemmas.Bool.{leb-true}
 use Rattle.std.proofs.lemmas.List.Sums.{sum_by-cons}
 use Rattle.std.specs.List.{slice_get}
 use Rattle.text_bytes.specs.Names.{slash}
 use Rattle.text_bytes.specs.Texts.{begins_with}
 use Rattle.text_bytes.specs.declared.profile.Profile.{Profile}
 use Rattle.text_bytes.specs.declared.profile.Profile.TheVariants.{Manual, Udev}
-use Rattle.text_tables.specs.Texts.{Text}
+use Rattle.text_tables.specs.Texts.{Text, same_text}
+use Rattle.text_tables.specs.Pairs as pairs
 use Rattle.text_tables.specs.Pairs.{Pair, value_of}
 use Rattle.text_core.specs.Choices.{choice_fits}
 use Rattle.text_core.specs.Fnmatch.{fnmatch_items}
@@ -28,25 +30,37 @@ use Rattle.eval_state.specs.Chains.{device_at}
 use Rattle.eval_rendering.specs.declared.rendered.Rendered.{Rendered}
 use Rattle.eval_rendering.specs.declared.rendered.Rendered.TheVariants as rendered
 use Rattle.eval_state.specs.Notes.{word_of_key}
-use Rattle.eval_state.specs.Scenes.{noted}
+use Rattle.eval_state.specs.Scenes.{noted, with_env}
 use Rattle.eval_state.specs.declared.note_kind.NoteKind.{NoteKind}
-use Rattle.eval_state.specs.declared.note_kind.NoteKind.TheVariants.{BadHwdbArguments, BuiltinNotRun, ImportNotRun, NoAnswer, TestNotMade, TextTooLong}
+use Rattle.eval_state.specs.declared.note_kind.NoteKind.TheVariants.{BadHwdbArguments, BuiltinNeeds, BuiltinNotRun, ImportNotRun, NoAnswer, TestNotMade, TextTooLong}
 use Rattle.eval_state.specs.declared.scene.Scene.{Scene}
-use Rattle.eval_acts.specs.Builtins.{builtin}
+use Rattle.hwdb_lookup.specs.Query.{query}
+use Rattle.rule_parts.specs.Builtins.{builtin_name}
+use Rattle.rule_parts.specs.declared.builtins.Builtin.TheVariants.{InputId, NetId, PathId, UsbId}
+use Rattle.builtin_devices.specs.Outcomes.{OutcomeValue}
+use Rattle.builtin_input.specs.Input.{input_id}
+use Rattle.builtin_net.specs.NetId.{lookup, net_id}
+use Rattle.builtin_path.specs.Path.{path_id}
+use Rattle.builtin_usb.specs.UsbId.{usb_id}
+use Rattle.eval_acts.specs.BuiltinRuns.{looked_up, most_set, need_noted, need_word, net_id_run, outcome_taken, path_id_run, properties_size, usb_id_run}
+use Rattle.eval_acts.specs.Builtins.{builtin, builtin_of, hwdb_asked}
+use Rattle.eval_acts.specs.Hwdb.{hwdb_of}
+use Rattle.eval_acts.specs.Words.{command_words}
+use Rattle.eval_acts.specs.declared.hwdb.Hwdb.{Hwdb}
 use Rattle.eval_acts.specs.LookUps.{found}
 use Rattle.eval_acts.specs.declared.builtin.Builtin.{Builtin}
 use Rattle.eval_acts.specs.declared.builtin.Builtin.TheVariants as asked_for
 use Rattle.eval_state.specs.Named.{NamedValue, named, named_place}
-use Rattle.eval_state.specs.Properties.{property_set}
+use Rattle.eval_state.specs.Properties.{properties_set, property_set}
 use Rattle.eval_acts.specs.ActTexts.{import_text, most_command_bytes, most_path_bytes, names_text, program_text, test_text}
 use Rattle.eval_acts.specs.Acts.{act_step, from_parent_by, imported, on_text, parent_imported, performed, unrun}
 use Rattle.eval_acts.specs.Imports.{builtin_run, from_parent, names_fitting, not_run, run_builtin, with_found}
 use Rattle.eval_acts.specs.Questions.{answered_or_noted, asked, result_of, tested, tested_at, tested_by, tested_by_udev, with_result}
-use Rattle.eval_laws.specs.Allowances.{deed_allowance, entries_weight}
+use Rattle.eval_laws.specs.Allowances.{builtin_allowance, deed_allowance, entries_weight}
 use Rattle.eval_laws.specs.Inner.{Within, scene_weight}
 use Rattle.eval_laws.proofs.Tables.{with_value_light, with_values_light, without_name_light}
 use Rattle.eval_laws.proofs.Sums.{filter_light, fold_light}
-use Rattle.eval_laws.proofs.Found.{found_light}
+use Rattle.eval_laws.proofs.Found.{found_light, query_light}
 use Rattle.eval_laws.proofs.Scenes.{more, noted_within}
 
 -- the properties of a device, if there is one
@@ -79,6 +93,40 @@ found_more Udev env properties = fold_light pair_weight pair_weight (λ held pai
 parent_light : (event : EventValue) → pairs_weight (env_of (device_at event 1)) ≤ event_weight event
 unfolding event_weight
 parent_light event = let a = second_light event.device event.parents in omega (arith, a)
+
+-- what udev's builtins set and note
+module _ (event : EventValue) where
+  set_within : (n : ℕ) (properties : List Pair) (s : Scene) → Within event n s → Within event (n + properties_size properties) (with_env (properties_set s.state.env properties) s)
+  unfolding scene_weight
+  set_within n properties s h =
+      let a = h.light in
+      let b : pairs_weight (properties_set s.state.env properties) ≤ pairs_weight s.state.env + properties_size properties = found_more Udev s.state.env properties in
+      record { same = h.same; light = omega (arith, a, b) }
+
+  need_within : (n : ℕ) (r : Rule) (name : Text) (needs : List Text) (s : Scene) → Within event n s → Within event (n + (length r.file + 56)) (need_noted r name needs s)
+  need_within n r name [] s h = more event n (n + (length r.file + 56)) s (omega arith) h
+  need_within n r name (need ∷ needs) s h = noted_within event n r BuiltinNeeds (need_word name need) s h
+
+  outcome_within : (n : ℕ) (r : Rule) (name : Text) (outcome : OutcomeValue) (s : Scene) → Within event n s → Within event (n + (most_set + (length r.file + 56))) (outcome_taken r name outcome s).0
+  outcome_within n r name outcome s h = by (nat_le (properties_size outcome.properties) most_set) refl
+    where
+      set : Scene
+      set = with_env (properties_set s.state.env outcome.properties) s
+
+      by : (b : Bool) → nat_le (properties_size outcome.properties) most_set ≡ b
+          → Within event (n + (most_set + (length r.file + 56))) (if◌then◌else◌ {A = Scene × Bool} b (need_noted r name outcome.needs set, outcome.is_done) (noted r TextTooLong name s, false)).0
+      by true fits =
+          let a = leb-true (properties_size outcome.properties) most_set fits in
+          more event (n + properties_size outcome.properties + (length r.file + 56)) (n + (most_set + (length r.file + 56))) _ (omega (arith, a))
+          (need_within (n + properties_size outcome.properties) r name outcome.needs set (set_within n outcome.properties s h))
+      by false over = more event (n + (length r.file + 56)) (n + (most_set + (length r.file + 56))) _ (omega arith) (noted_within event n r TextTooLong name s h)
+
+  looked_up_within : (n : ℕ) (entries : List Entry) (text : Option Text) (s : Scene) → Within event n s → Within event (n + entries_weight entries) (looked_up entries text s)
+  looked_up_within n entries None s h = more event n (n + entries_weight entries) s (omega arith) h
+  looked_up_within n entries (Some text) s h =
+      let a = query_light entries text in
+      let b : pairs_weight (query entries text) ≡ properties_size (query entries text) = refl in
+      more event (n + properties_size (query entries text)) (n + entries_weight entries) _ (omega (arith, a, b)) (set_within n (query entries text) s h)
 
 module _ (event : EventValue) where
   module _ (n : ℕ) (r : Rule) (s : Scene) (h : Within event n s) (most : ℕ) (room : length r.file + 56 ≤ most) where
@@ -137,12 +185,55 @@ module _ (event : EventValue) where
         let a = filter_light pair_weight (λ property. choice_fits names property.0) parent.env in
         more_env Manual (names_fitting names parent.env) (omega (arith, a, light))
 
-    builtin_within : (entries : List Entry) (command : Text) (wanted : Builtin) → entries_weight entries ≤ most → Within event (n + most) (builtin_run entries r command wanted s).0
-    builtin_within entries command (asked_for.Hwdb hwdb) light =
+    hwdb_within : (entries : List Entry) (command : Text) (hwdb : Option Hwdb) → entries_weight entries ≤ most → Within event (n + most) (builtin_run entries r command (hwdb_asked hwdb) s).0
+    hwdb_within entries command None light = notes BadHwdbArguments command
+    hwdb_within entries command (Some hwdb) light =
         let a = found_light entries hwdb s.state in
         more_env s.state.event.profile (found entries hwdb s.state) (omega (arith, a, light))
-    builtin_within entries command (asked_for.Other name) light = notes BuiltinNotRun name
-    builtin_within entries command asked_for.BadArguments light = notes BadHwdbArguments command
+
+    manual_within : (entries : List Entry) (command : Text) (words : Option (List Text)) → entries_weight entries ≤ most → Within event (n + most) (builtin_run entries r command (builtin_of words) s).0
+    manual_within entries command None light = notes BadHwdbArguments command
+    manual_within entries command (Some []) light = notes BuiltinNotRun []
+    manual_within entries command (Some (name ∷ words)) light = by (same_text name (codes "hwdb"))
+      where
+        by : (b : Bool) → Within event (n + most) (builtin_run entries r command (if b then hwdb_asked (hwdb_of words) else asked_for.Other name) s).0
+        by true = hwdb_within entries command (hwdb_of words) light
+        by false = notes BuiltinNotRun name
+
+    taken_within : (name : Text) (outcome : OutcomeValue) → most_set + (length r.file + 56) ≤ most → Within event (n + most) (outcome_taken r name outcome s).0
+    taken_within name outcome light = more event (n + (most_set + (length r.file + 56))) (n + most) _ (omega (arith, light)) (outcome_within event n r name outcome s h)
+
+    usb_within : (ran : Option Bool) → most_set + (length r.file + 56) ≤ most → Within event (n + most) (usb_id_run ran r s).0
+    unfolding scene_weight
+    usb_within (Some done) light = stays
+    usb_within None light =
+        let after = taken_within (builtin_name UsbId) (usb_id s.state.event (pairs.named s.state.env (codes "ID_BUS"))) light in
+        record { same = after.same; light = after.light }
+
+    path_within : (ran : Option Bool) → most_set + (length r.file + 56) ≤ most → Within event (n + most) (path_id_run ran r s).0
+    unfolding scene_weight
+    path_within (Some done) light = stays
+    path_within None light = let after = taken_within (builtin_name PathId) (path_id s.state.event) light in record { same = after.same; light = after.light }
+
+    net_within : (entries : List Entry) → entries_weight entries + (most_set + (length r.file + 56)) ≤ most → Within event (n + most) (net_id_run entries r s).0
+    net_within entries light =
+        let text : Option Text = lookup s.state.event s.state.env in
+        more event (n + entries_weight entries + (most_set + (length r.file + 56))) (n + most) _ (omega (arith, light))
+        (outcome_within event (n + entries_weight entries) r (builtin_name NetId) (net_id s.state.event s.state.env) (looked_up entries text s) (looked_up_within event n entries text s h))
+
+    meant_within : (entries : List Entry) (command : Text) (wanted : Builtin) → entries_weight entries + (most_set + (length r.file + 56)) ≤ most → Within event (n + most) (builtin_run entries r command wanted s).0
+    meant_within entries command (asked_for.Hwdb hwdb) light = hwdb_within entries command (Some hwdb) (omega (arith, light))
+    meant_within entries command asked_for.InputId light = taken_within (builtin_name InputId) (input_id s.state.event) (omega (arith, light))
+    meant_within entries command asked_for.NetId light = net_within entries light
+    meant_within entries command asked_for.PathId light = path_within s.ran.path_id (omega (arith, light))
+    meant_within entries command asked_for.UsbId light = usb_within s.ran.usb_id (omega (arith, light))
+    meant_within entries command (asked_for.Other name) light = notes BuiltinNotRun name
+    meant_within entries command asked_for.BadArguments light = notes BadHwdbArguments command
+
+    builtin_within : (profile : Profile) (entries : List Entry) (command : Text) → entries_weight entries + (builtin_allowance profile + (length r.file + 56)) ≤ most
+        → Within event (n + most) (builtin_run entries r command (builtin profile command) s).0
+    builtin_within Manual entries command light = manual_within entries command (command_words command) (omega (arith, light))
+    builtin_within Udev entries command light = meant_within entries command (builtin Udev command) light
 
     not_run_within : (from : Import) → Within event (n + most) (not_run r from s).0
     not_run_within from = notes ImportNotRun (import_name (type_of from))
@@ -157,10 +248,10 @@ module _ (event : EventValue) where
     unrun_within Manual d from bytes template = not_run_within from
     unrun_within Udev d from bytes template = on_text_within d (λ text. not_run r from) (import_text bytes template s.state) (λ text. not_run_within from)
 
-    import_within : (entries : List Entry) (from : Import) → entries_weight entries ≤ most → event_weight event ≤ most → Within event (n + most) (imported entries r (deed.Import from) from s).0
+    import_within : (entries : List Entry) (from : Import) → entries_weight entries + (builtin_allowance event.profile + (length r.file + 56)) ≤ most → event_weight event ≤ most → Within event (n + most) (imported entries r (deed.Import from) from s).0
     import_within entries (import.Builtin template) light short =
         on_text_within (deed.Import (import.Builtin template)) (run_builtin entries r) (import_text most_command_bytes template s.state)
-        (λ command. builtin_within entries command (builtin s.state.event.profile command) light)
+        (λ command. builtin_within s.state.event.profile entries command (let same = ap (λ e. builtin_allowance e.profile) h.same in omega (arith, same, light)))
     import_within entries (import.Parent names text) light short =
         let a = parent_light event in
         let b = ap (λ e. pairs_weight (env_of (device_at e 1))) h.same in
@@ -175,18 +266,18 @@ module _ (event : EventValue) where
   emptied n s h = record { same = h.same; light = h.light }
 
   module _ (len : ℕ) (short : event_weight event ≤ len) (entries : List Entry) where
-    deed_within : (n : ℕ) (r : Rule) (s : Scene) → Within event n s → (d : Deed) → Within event (n + deed_allowance len entries r d) (performed entries r d s).0
+    deed_within : (n : ℕ) (r : Rule) (s : Scene) → Within event n s → (d : Deed) → Within event (n + deed_allowance event.profile len entries r d) (performed entries r d s).0
     deed_within n r s h (deed.Test mask template) =
-        let most : ℕ = deed_allowance len entries r (deed.Test mask template) in
+        let most : ℕ = deed_allowance event.profile len entries r (deed.Test mask template) in
         on_text_within n r s h most (omega arith) (deed.Test mask template) (tested r mask) (test_text template s.state) (tested_within n r s h most (omega arith) mask)
     deed_within n r s h (deed.Program template) =
-        let most : ℕ = deed_allowance len entries r (deed.Program template) in
+        let most : ℕ = deed_allowance event.profile len entries r (deed.Program template) in
         on_text_within n r (with_result [] s) (emptied n s h) most (omega arith) (deed.Program template) (asked r) (program_text template s.state)
         (asked_within n r (with_result [] s) (emptied n s h) most (omega arith))
     deed_within n r s h (deed.Import from) =
-        import_within n r s h (deed_allowance len entries r (deed.Import from)) (omega arith) entries from (omega arith) (omega (arith, short))
+        import_within n r s h (deed_allowance event.profile len entries r (deed.Import from)) (omega arith) entries from (omega arith) (omega (arith, short))
 
     -- an act
-    pub act_within : (r : Rule) (act : Act) (n : ℕ) (s : Scene) → Within event n s → Within event (n + deed_allowance len entries r act.deed) (act_step entries r act s).0
+    pub act_within : (r : Rule) (act : Act) (n : ℕ) (s : Scene) → Within event n s → Within event (n + deed_allowance event.profile len entries r act.deed) (act_step entries r act s).0
     unfolding act_step
     act_within r act n s h = deed_within n r s h act.deed

@@ -1,10 +1,11 @@
 -- How much an act of a rule adds to what is counted.
-use Rattle.std.proofs.Common.{ℕ, ◌+◌, ◌≤◌, Bool, true, false, ◌==◌, List, [], ◌∷◌, Option, Some, None, is_some, ◌||◌, if◌then◌else◌, arith}
+use Rattle.std.proofs.Common.{ℕ, ◌+◌, ◌≤◌, nat_le, Bool, true, false, ◌==◌, List, [], ◌∷◌, Option, Some, None, is_some, ◌||◌, codes, if◌then◌else◌, arith}
 use Rattle.text_bytes.specs.Names.{slash}
 use Rattle.text_bytes.specs.Texts.{begins_with}
 use Rattle.text_bytes.specs.declared.profile.Profile.{Profile}
 use Rattle.text_bytes.specs.declared.profile.Profile.TheVariants.{Manual, Udev}
 use Rattle.text_tables.specs.Texts.{Text}
+use Rattle.text_tables.specs.Pairs as pairs
 use Rattle.text_tables.specs.Pairs.{value_of}
 use Rattle.text_core.specs.Fnmatch.{fnmatch_items}
 use Rattle.text_core.specs.declared.item.Item.{Item}
@@ -26,11 +27,20 @@ use Rattle.eval_rendering.specs.declared.rendered.Rendered.TheVariants as render
 use Rattle.eval_state.specs.Named.{NamedValue, named, named_place}
 use Rattle.eval_state.specs.Notes.{note_about, word_of_key}
 use Rattle.eval_state.specs.Runs.{RunValue}
-use Rattle.eval_state.specs.Scenes.{noted}
+use Rattle.eval_state.specs.Properties.{properties_set}
+use Rattle.eval_state.specs.Scenes.{noted, with_env}
 use Rattle.eval_state.specs.declared.notes.Note.{Note}
 use Rattle.eval_state.specs.declared.note_kind.NoteKind.{NoteKind}
-use Rattle.eval_state.specs.declared.note_kind.NoteKind.TheVariants.{BadHwdbArguments, BuiltinNotRun, ImportNotRun, NoAnswer, TestNotMade, TextTooLong}
+use Rattle.eval_state.specs.declared.note_kind.NoteKind.TheVariants.{BadHwdbArguments, BuiltinNeeds, BuiltinNotRun, ImportNotRun, NoAnswer, TestNotMade, TextTooLong}
 use Rattle.eval_state.specs.declared.scene.Scene.{Scene}
+use Rattle.rule_parts.specs.Builtins.{builtin_name}
+use Rattle.rule_parts.specs.declared.builtins.Builtin.TheVariants.{InputId, NetId, PathId, UsbId}
+use Rattle.builtin_devices.specs.Outcomes.{OutcomeValue}
+use Rattle.builtin_input.specs.Input.{input_id}
+use Rattle.builtin_net.specs.NetId.{lookup, net_id}
+use Rattle.builtin_path.specs.Path.{path_id}
+use Rattle.builtin_usb.specs.UsbId.{usb_id}
+use Rattle.eval_acts.specs.BuiltinRuns.{looked_up, most_set, need_noted, need_word, outcome_taken, path_id_run, properties_size, usb_id_run}
 use Rattle.eval_acts.specs.Builtins.{builtin}
 use Rattle.eval_acts.specs.declared.builtin.Builtin.{Builtin}
 use Rattle.eval_acts.specs.declared.builtin.Builtin.TheVariants as asked_for
@@ -44,6 +54,32 @@ use Rattle.eval_laws.proofs.Measured.{measured, noted_more}
 module _ (w : Note → ℕ) (v : RunValue → ℕ) (c : Rule → ℕ) (light : (r : Rule) (kind : NoteKind) (text : Text) → w (note_about r kind text) ≤ c r) where
   abbrev counted : Scene → ℕ
   counted s = measured w v s
+
+  need_counts : (r : Rule) (name : Text) (needs : List Text) (s : Scene) → counted (need_noted r name needs s) ≤ counted s + c r
+  need_counts r name [] s = omega arith
+  need_counts r name (need ∷ needs) s = noted_more w v c light r s BuiltinNeeds (need_word name need)
+
+  outcome_counts : (r : Rule) (name : Text) (outcome : OutcomeValue) (s : Scene) → counted (outcome_taken r name outcome s).0 ≤ counted s + c r
+  outcome_counts r name outcome s = by (nat_le (properties_size outcome.properties) most_set)
+    where
+      set : Scene
+      set = with_env (properties_set s.state.env outcome.properties) s
+
+      by : (b : Bool) → counted (if◌then◌else◌ {A = Scene × Bool} b (need_noted r name outcome.needs set, outcome.is_done) (noted r TextTooLong name s, false)).0 ≤ counted s + c r
+      by true = need_counts r name outcome.needs set
+      by false = noted_more w v c light r s TextTooLong name
+
+  looked_up_counts : (entries : List Entry) (text : Option Text) (s : Scene) → counted (looked_up entries text s) ≤ counted s
+  looked_up_counts entries None s = omega arith
+  looked_up_counts entries (Some text) s = omega arith
+
+  usb_counts : (r : Rule) (ran : Option Bool) (s : Scene) → counted (usb_id_run ran r s).0 ≤ counted s + c r
+  usb_counts r (Some done) s = omega arith
+  usb_counts r None s = outcome_counts r (builtin_name UsbId) (usb_id s.state.event (pairs.named s.state.env (codes "ID_BUS"))) s
+
+  path_counts : (r : Rule) (ran : Option Bool) (s : Scene) → counted (path_id_run ran r s).0 ≤ counted s + c r
+  path_counts r (Some done) s = omega arith
+  path_counts r None s = outcome_counts r (builtin_name PathId) (path_id s.state.event) s
 
   module _ (r : Rule) (s : Scene) where
     notes : (kind : NoteKind) (text : Text) → counted (noted r kind text s) ≤ counted s + c r
@@ -82,6 +118,14 @@ module _ (w : Note → ℕ) (v : RunValue → ℕ) (c : Rule → ℕ) (light : (
 
     builtin_counts : (entries : List Entry) (command : Text) (wanted : Builtin) → counted (builtin_run entries r command wanted s).0 ≤ counted s + c r
     builtin_counts entries command (asked_for.Hwdb hwdb) = omega arith
+    builtin_counts entries command asked_for.InputId = outcome_counts r (builtin_name InputId) (input_id s.state.event) s
+    builtin_counts entries command asked_for.NetId =
+        let text : Option Text = lookup s.state.event s.state.env in
+        let a = outcome_counts r (builtin_name NetId) (net_id s.state.event s.state.env) (looked_up entries text s) in
+        let b = looked_up_counts entries text s in
+        omega (arith, a, b)
+    builtin_counts entries command asked_for.PathId = path_counts r s.ran.path_id s
+    builtin_counts entries command asked_for.UsbId = usb_counts r s.ran.usb_id s
     builtin_counts entries command (asked_for.Other name) = notes BuiltinNotRun name
     builtin_counts entries command asked_for.BadArguments = notes BadHwdbArguments command
 

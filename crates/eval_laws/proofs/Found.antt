@@ -35,12 +35,17 @@ properties_light (e ∷ entries) =
     let c = properties_light entries in
     omega (arith, a, b, c)
 
+pub query_light : (entries : List Entry) (text : Text) → pairs_weight (query entries text) ≤ entries_weight entries
+query_light entries text =
+    let a = properties_light (winners entries text) in
+    let b = winners_light entries text in
+    omega (arith, a, b)
+
 answer_light : (entries : List Entry) (hwdb : Hwdb) (text : Text) → pairs_weight (answer entries hwdb text) ≤ entries_weight entries
 answer_light entries hwdb text =
     let a = filter_light pair_weight (λ p. counts hwdb.filter p.0) (query entries text) in
-    let b = properties_light (winners entries text) in
-    let c = winners_light entries text in
-    omega (arith, a, b, c)
+    let b = query_light entries text in
+    omega (arith, a, b)
 
 first_light : (most : ℕ) (give : Text → List Pair) → ((text : Text) → pairs_weight (give text) ≤ most) → (texts : List Text) → pairs_weight (first_found (map give texts)) ≤ most
 first_light most give each [] = omega arith

@@ -1,5 +1,5 @@
 -- Keys that are final stay, through any further rules.
-use Rattle.std.proofs.Common.{◌≡◌, ℕ, Bool, true, false, cond, ◌||◌, is_some, List, [], ◌∷◌, Option, Some, None, refl, ap, ◌∙◌, codes, take}
+use Rattle.std.proofs.Common.{◌≡◌, ℕ, Bool, true, false, cond, ◌||◌, is_some, List, [], ◌∷◌, Option, Some, None, refl, ap, ◌∙◌, codes, nat_le}
 use Rattle.std.specs.List.{fold}
 use Rattle.text_bytes.specs.Names.{slash}
 use Rattle.text_bytes.specs.Texts.{begins_with}
@@ -29,7 +29,7 @@ use Rattle.eval_state.specs.Chains.{device_at}
 use Rattle.eval_state.specs.Named.{NamedValue, named, named_place}
 use Rattle.eval_state.specs.Properties.{properties_set}
 use Rattle.eval_state.specs.Scenes.{noted, with_env}
-use Rattle.eval_state.specs.declared.note_kind.NoteKind.TheVariants.{AttributeNotRead, BuiltinNeeds, TestNotMade}
+use Rattle.eval_state.specs.declared.note_kind.NoteKind.TheVariants.{AttributeNotRead, BuiltinNeeds, TestNotMade, TextTooLong}
 use Rattle.eval_rendering.specs.declared.rendered.Rendered.{Rendered}
 use Rattle.eval_rendering.specs.declared.rendered.Rendered.TheVariants as rendered
 use Rattle.rule_parts.specs.Builtins.{builtin_name}
@@ -48,7 +48,7 @@ use Rattle.eval_state.specs.declared.scene.Scene.{Scene}
 use Rattle.eval_matching.specs.Attributes.{is_not_read}
 use Rattle.eval_acts.specs.ActTexts.{import_text, names_text, program_text}
 use Rattle.eval_acts.specs.Acts.{act_step, from_parent_by, imported, on_text, parent_imported, performed, unrun}
-use Rattle.eval_acts.specs.BuiltinRuns.{looked_up, most_needs, need_word, needs_noted, outcome_taken, path_id_run, usb_id_run}
+use Rattle.eval_acts.specs.BuiltinRuns.{looked_up, most_set, need_noted, need_word, outcome_taken, path_id_run, properties_size, usb_id_run}
 use Rattle.eval_acts.specs.Imports.{builtin_run, from_parent, not_run, run_builtin}
 use Rattle.eval_acts.specs.Questions.{answered_or_noted, asked, result_of, tested, tested_at, tested_by, tested_by_udev, with_result}
 use Rattle.eval_acts.specs.Reaching.{reached}
@@ -117,12 +117,19 @@ answered_same : (r : Rule) (t : Text) (a : Option AnswerValue) (s : Scene) → S
 answered_same r t None s = refl
 answered_same r t (Some a) s = chosen s (with_result (result_of s.state.event.profile a.text) s) s true false _ refl refl
 
-needs_same : (r : Rule) (name : Text) (needs : List Text) (s : Scene) → Same s (needs_noted r name needs s)
-needs_same r name [] s = refl
-needs_same r name (need ∷ needs) s = needs_same r name needs (noted r BuiltinNeeds (need_word name need) s)
+need_same : (r : Rule) (name : Text) (needs : List Text) (s : Scene) → Same s (need_noted r name needs s)
+need_same r name [] s = refl
+need_same r name (need ∷ needs) s = refl
 
 outcome_same : (r : Rule) (name : Text) (o : OutcomeValue) (s : Scene) → Same s (outcome_taken r name o s).0
-outcome_same r name o s = needs_same r name (take most_needs o.needs) (with_env (properties_set s.state.env o.properties) s)
+outcome_same r name o s = by (nat_le (properties_size o.properties) most_set)
+  where
+    set : Scene
+    set = with_env (properties_set s.state.env o.properties) s
+
+    by : (b : Bool) → Same s (cond {A = Scene × Bool} b (need_noted r name o.needs set, o.is_done) (noted r TextTooLong name s, false)).0
+    by true = need_same r name o.needs set
+    by false = refl
 
 usb_same : (ran : Option Bool) (r : Rule) (s : Scene) → Same s (usb_id_run ran r s).0
 usb_same None r s = through s _ _ (outcome_same r (builtin_name UsbId) (usb_id s.state.event (pairs.named s.state.env (codes "ID_BUS"))) s) refl

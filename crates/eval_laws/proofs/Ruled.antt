@@ -99,7 +99,7 @@ module _ (event : EventValue) where
     unfolding steps rule_allowance
     steps_within r n s h =
         let plain_own : PlainMatch → ℕ = λ m. part_allowance r (attribute_of_plain m.key) in
-        let act_own : Act → ℕ = λ act. deed_allowance len entries r act.deed in
+        let act_own : Act → ℕ = λ act. deed_allowance event.profile len entries r act.deed in
         let result_own : Comparison → ℕ = λ c. part_allowance r None in
         let set_own : Assignment → ℕ = set_allowance event.profile len r in
         let p : ℕ = n + sum_by plain_own r.plain in
@@ -121,7 +121,7 @@ module _ (event : EventValue) where
     notes_fit r =
         let most : ℕ = length r.file + 56 in
         let a = sum_less (λ (m : PlainMatch). most) (λ m. part_allowance r (attribute_of_plain m.key)) (λ m. omega arith) r.plain in
-        let b = sum_less (λ (m : Act). most) (λ act. deed_allowance len entries r act.deed) (λ act. omega arith) r.acts in
+        let b = sum_less (λ (m : Act). most) (λ act. deed_allowance event.profile len entries r act.deed) (λ act. omega arith) r.acts in
         let c = sum_less (λ (m : Comparison). most) (λ m. part_allowance r None) (λ m. omega arith) r.results in
         let d = sum_less (λ (m : Assignment). most) (set_allowance event.profile len r) (λ a. omega arith) r.sets in
         omega (arith, a, b, c, d)

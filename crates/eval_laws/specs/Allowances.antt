@@ -15,6 +15,7 @@ use Rattle.rule_types.specs.declared.part.Change.TheVariants as change
 use Rattle.rule_types.specs.declared.part.Deed.{Deed}
 use Rattle.rule_types.specs.declared.part.Deed.TheVariants as deed
 use Rattle.rule_types.specs.Rules.{Rule}
+use Rattle.eval_acts.specs.BuiltinRuns.{most_set}
 use Rattle.eval_laws.specs.DeviceWeights.{text_weight}
 use Rattle.eval_state.specs.Texts.{or_empty}
 
@@ -34,15 +35,20 @@ entries_weight entries = sum_by entry_weight entries
 abbrev pub part_allowance : Rule → Option Text → ℕ
 part_allowance r attribute = most_added + length (or_empty attribute) + length r.file
 
--- what IMPORT may add besides, for a block of so many bytes
-abbrev pub import_allowance : ℕ → List Entry → Deed → ℕ
-import_allowance len entries (deed.Import i) = 2 * len + entries_weight entries
-import_allowance len entries (deed.Test mask t) = 0
-import_allowance len entries (deed.Program t) = 0
+-- what a builtin of udev's may set
+abbrev pub builtin_allowance : Profile → ℕ
+builtin_allowance Manual = 0
+builtin_allowance Udev = most_set
+
+-- what IMPORT may add besides, by a profile and for a block of so many bytes
+abbrev pub import_allowance : Profile → ℕ → List Entry → Deed → ℕ
+import_allowance profile len entries (deed.Import i) = 2 * len + entries_weight entries + builtin_allowance profile
+import_allowance profile len entries (deed.Test mask t) = 0
+import_allowance profile len entries (deed.Program t) = 0
 
 -- something that is done
-abbrev pub deed_allowance : ℕ → List Entry → Rule → Deed → ℕ
-deed_allowance len entries r d = part_allowance r (attribute_of_deed d) + import_allowance len entries d
+abbrev pub deed_allowance : Profile → ℕ → List Entry → Rule → Deed → ℕ
+deed_allowance profile len entries r d = part_allowance r (attribute_of_deed d) + import_allowance profile len entries d
 
 -- what udev may add besides where a text is assigned, by the text as it is written, for a block of so many bytes: a label that comes to nothing
 -- is as it is written, and the name of an attribute may come from the block
@@ -71,7 +77,7 @@ unfoldable pub rule_allowance : Profile → ℕ → List Entry → Rule → ℕ
 rule_allowance profile len entries r =
     sum_by (λ m. part_allowance r (attribute_of_plain m.key)) r.plain
     + sum_by (λ m. part_allowance r (attribute_of_up m.key)) r.up
-    + sum_by (λ act. deed_allowance len entries r act.deed) r.acts
+    + sum_by (λ act. deed_allowance profile len entries r act.deed) r.acts
     + sum_by (λ comparison. part_allowance r None) r.results
     + sum_by (set_allowance profile len r) r.sets
 

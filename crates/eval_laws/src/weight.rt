@@ -18,8 +18,8 @@ ghost use Rattle.eval_laws.specs.Weights.{outcome_weight};
 /// The texts that an event comes to, each with one more, are together at most four times its block and
 /// 128, and for each part of a rule 32,896, the length of its attribute and that of its file's name, and
 /// for each IMPORT besides twice the block and all keys and values of the database, each with one more.
-/// An event of udev's may come to more by the text of each SECLABEL as it is written, and by the block for
-/// each ATTR.
+/// An event of udev's may come to more by the text of each SECLABEL as it is written, by the block for
+/// each ATTR, and by 65,536 for each IMPORT.
 pub fn an_answer_weighs_no_more_than_is_allowed()
     ensures { (profile : Profile) (rules : List Rule) (entries : List Entry) (block : Text) (event : EventValue) → block_gives block ≡ Ok event → outcome_weight (outcome rules entries (by_profile profile event)) ≤ most_weight profile (length block) entries rules }
 {}

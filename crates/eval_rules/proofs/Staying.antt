@@ -1,5 +1,5 @@
 -- What an event says of itself stays, whatever rules do.
-use Rattle.std.proofs.Common.{◌==◌, ◌||◌, ℕ, Bool, true, false, cond, List, [], ◌∷◌, Option, Some, None, is_some, refl, take, ◌∙◌}
+use Rattle.std.proofs.Common.{◌==◌, ◌||◌, ℕ, Bool, true, false, cond, List, [], ◌∷◌, Option, Some, None, is_some, refl, nat_le, ◌∙◌}
 use Rattle.std.specs.List.{fold}
 use Rattle.text_bytes.specs.Names.{slash}
 use Rattle.text_bytes.specs.Texts.{begins_with}
@@ -34,11 +34,11 @@ use Rattle.eval_state.specs.Chains.{device_at}
 use Rattle.eval_state.specs.Named.{NamedValue, named, named_place}
 use Rattle.eval_state.specs.Properties.{properties_set}
 use Rattle.eval_state.specs.Scenes.{noted, with_env}
-use Rattle.eval_state.specs.declared.note_kind.NoteKind.TheVariants.{AttributeNotRead, BuiltinNeeds, TestNotMade}
+use Rattle.eval_state.specs.declared.note_kind.NoteKind.TheVariants.{AttributeNotRead, BuiltinNeeds, TestNotMade, TextTooLong}
 use Rattle.eval_state.specs.declared.scene.Scene.{Scene}
 use Rattle.eval_acts.specs.Acts.{act_step, from_parent_by, imported, on_text, parent_imported, performed, unrun}
 use Rattle.eval_acts.specs.ActTexts.{most_command_bytes, most_path_bytes}
-use Rattle.eval_acts.specs.BuiltinRuns.{looked_up, most_needs, need_word, needs_noted, outcome_taken, path_id_run, usb_id_run}
+use Rattle.eval_acts.specs.BuiltinRuns.{looked_up, most_set, need_noted, need_word, outcome_taken, path_id_run, properties_size, usb_id_run}
 use Rattle.eval_acts.specs.Imports.{builtin_run, from_parent, not_run, run_builtin}
 use Rattle.eval_acts.specs.Questions.{answered_or_noted, asked, result_of, tested, tested_at, tested_by, tested_by_udev, with_result}
 use Rattle.eval_acts.specs.Reaching.{reached}
@@ -76,12 +76,14 @@ answered_stays : (r : Rule) (t : Text) (a : Option AnswerValue) (s : Scene) → 
 answered_stays r t None s = refl
 answered_stays r t (Some a) s = either s (a.status == 0) (with_result (result_of s.state.event.profile a.text) s, true) (s, false) refl refl
 
-needs_stay : (r : Rule) (name : Text) (needs : List Text) (s : Scene) → Stays s (needs_noted r name needs s)
-needs_stay r name [] s = refl
-needs_stay r name (need ∷ needs) s = needs_stay r name needs (noted r BuiltinNeeds (need_word name need) s)
+need_stays : (r : Rule) (name : Text) (needs : List Text) (s : Scene) → Stays s (need_noted r name needs s)
+need_stays r name [] s = refl
+need_stays r name (need ∷ needs) s = refl
 
 outcome_stays : (r : Rule) (name : Text) (o : OutcomeValue) (s : Scene) → Stays s (outcome_taken r name o s).0
-outcome_stays r name o s = needs_stay r name (take most_needs o.needs) (with_env (properties_set s.state.env o.properties) s)
+outcome_stays r name o s =
+    let set : Scene = with_env (properties_set s.state.env o.properties) s in
+    either s (nat_le (properties_size o.properties) most_set) (need_noted r name o.needs set, o.is_done) (noted r TextTooLong name s, false) (need_stays r name o.needs set) refl
 
 usb_stays : (ran : Option Bool) (r : Rule) (s : Scene) → Stays s (usb_id_run ran r s).0
 usb_stays None r s = outcome_stays r _ _ s

@@ -32,8 +32,12 @@ transports =
     ∷ []
 
 -- the transport that a path tells of: that of the first of these texts that stands in it
-unfoldable pub transport_of : Text → Option Transport
-transport_of path = option_map (λ r. r.1) (find (λ r. contains r.0 path) transports)
+abbrev pub told_by : List (Text × Transport) → (path : Text) → Option Transport
+told_by [] path = None
+told_by (r ∷ rows) path = if contains r.0 path then Some r.1 else told_by rows path
+
+unfoldable pub transport_of : (path : Text) → Option Transport
+transport_of path = told_by transports path
 
 -- the number before the first colon of a text, and what stands behind the colon
 unfoldable pub before_colon : Text → Option (ℕ × Text)

@@ -1,6 +1,7 @@
 //! The builtin path_id of udev: the path by which a device is reached, told by what stands above it.
 #![tactic(auto)]
 
+mod laws;
 mod members;
 mod nvme;
 mod path;
@@ -13,4 +14,7 @@ mod texts;
 mod usb;
 mod way;
 
+pub use laws::{
+    each_part_tells_paths_apart, nothing_is_set_without_a_path, parts_tell_ports_apart, tags_are_short,
+};
 pub use path::path_id;

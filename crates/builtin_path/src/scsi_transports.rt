@@ -1,5 +1,5 @@
 //! What a SCSI device adds by its transport.
-ghost use Rattle.std.specs.Prelude.{◌≡◌, ◌∷◌, [], ◌-◌, IfOk, codes, find, length, map, option_and_then, option_copied, option_map, ◌≤◌, ◌^◌};
+ghost use Rattle.std.specs.Prelude.{◌≡◌, ◌∷◌, [], ◌-◌, IfOk, codes, find, length, map, option_and_then, option_copied, option_map, true, ◌≤◌, ◌^◌};
 ghost use Rattle.std.specs.List.{concat};
 ghost use Rattle.builtin_devices.specs.Numbers.{number_in};
 ghost use Rattle.builtin_devices.specs.declared.numbers.Base.TheVariants.{AsWritten};
@@ -208,35 +208,36 @@ fn portal_needs(
 }
 
 /// What a disk of iSCSI adds, by the portal and the target of its session.
-fn portal_stop(
+fn portal_stop<'t>(
     alloc: Global,
     member: &Member<'_>,
-    target: &[u8],
-    address: Option<&[u8]>,
-    port: Option<&[u8]>,
+    target: &'t [u8],
+    address: Option<&'t [u8]>,
+    port: Option<&'t [u8]>,
 ) -> Result<Stop, AllocError>
     ensures { IfOk result (λ stop. stop ≡ portal_stop member.now target.now (option_map (λ t. t.now) address.entry) (option_map (λ t. t.now) port.entry)) }
 {
-    match (address, port) {
-        (Some(address), Some(port)) => {
-            let unit = unit_text(alloc, member)?;
-            let part = concatenated(
-                alloc,
-                &[
-                    b"ip-",
-                    address,
-                    b":",
-                    port,
-                    b"-iscsi-",
-                    target,
-                    b"-",
-                    unit.as_slice(),
-                ],
-            )?;
-            Ok(Stop::adding(alloc, part, true, true, 0))
-        }
-        _ => Ok(Stop::ending(true, true, portal_needs(alloc, address, port)?)),
-    }
+    let Some(portal) = address else {
+        return Ok(Stop::ending(true, true, portal_needs(alloc, address, port)?));
+    };
+    let Some(number) = port else {
+        return Ok(Stop::ending(true, true, portal_needs(alloc, address, port)?));
+    };
+    let unit = unit_text(alloc, member)?;
+    let part = concatenated(
+        alloc,
+        &[
+            b"ip-",
+            portal,
+            b":",
+            number,
+            b"-iscsi-",
+            target,
+            b"-",
+            unit.as_slice(),
+        ],
+    )?;
+    Ok(Stop::adding(alloc, part, true, true, 0))
 }
 
 /// What a disk of iSCSI adds, by its session.

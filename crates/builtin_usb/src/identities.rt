@@ -1,7 +1,7 @@
 //! What a USB device says of itself.
 ghost use Rattle.std.specs.Prelude.{◌≡◌, ◌++◌, [], IfOk, OnOk, option_map, unwrap_or};
 ghost use Rattle.std.specs.List.{list_all};
-ghost use Rattle.builtin_usb.specs.Identities.{all_texts, from_first, full_serial, identity_of, marked, may_number, most_bytes, most_serial_bytes, serial_of, shown};
+ghost use Rattle.builtin_usb.specs.Identities.{all_texts, from_first, full_serial, identity_of, known_as, marked, may_number, most_bytes, most_serial_bytes, says_nothing, serial_of, shown};
 
 use crate::kinds::attribute;
 use crate::units::Unit;
@@ -83,6 +83,16 @@ fn from_first<'a>(
     }
 }
 
+/// Whether nothing is told of a text, or there is none. The error comes where memory is refused.
+pub(crate) fn says_nothing(alloc: Global, text: Option<&[u8]>) -> Result<bool, AllocError>
+    ensures { IfOk result (λ nothing. nothing ≡ says_nothing (option_map (λ t. t.now) text.entry)) }
+{
+    match text {
+        Some(text) => Ok(shown(alloc, text)?.is_empty()),
+        None => Ok(true),
+    }
+}
+
 /// Whether a serial number may have a byte.
 fn may_number(byte: u8) -> bool
     ensures { result ≡ may_number byte }
@@ -114,6 +124,35 @@ fn instance_of(alloc: Global, instance: Option<Bytes>) -> Bytes
     instance.unwrap_or(Bytes::new(Vec::new(alloc)))
 }
 
+/// What is known of a USB device whose vendor and product have numbers.
+fn known_as<'a>(
+    alloc: Global,
+    device: &Device<'a>,
+    unit: Unit<'a>,
+    kind: &'static [u8],
+    vendor_id: &'a [u8],
+    model_id: &'a [u8],
+) -> Result<Identity<'a>, AllocError>
+    ensures { IfOk result (λ known. known ≡ known_as device.now unit.entry kind.now vendor_id.now model_id.now) }
+{
+    let vendor = attribute(device, b"manufacturer").unwrap_or(vendor_id);
+    let model = attribute(device, b"product").unwrap_or(model_id);
+    let revision = attribute(device, b"bcdDevice").unwrap_or(b"");
+    let vendor = from_first(alloc, unit.vendor, vendor)?;
+    let model = from_first(alloc, unit.model, model)?;
+    let revision = from_first(alloc, unit.revision, revision)?;
+    Ok(Identity {
+        vendor,
+        vendor_id,
+        model,
+        model_id,
+        revision,
+        serial: serial_of(attribute(device, b"serial")),
+        kind,
+        instance: instance_of(alloc, unit.instance),
+    })
+}
+
 /// What is known of a USB device with a SCSI device that is asked: `None` where its vendor or its product has no number. The
 /// error comes where memory is refused.
 pub(crate) fn identity_of<'a>(
@@ -130,19 +169,8 @@ pub(crate) fn identity_of<'a>(
     let Some(model_id) = attribute(device, b"idProduct") else {
         return Ok(None);
     };
-    let vendor = attribute(device, b"manufacturer").unwrap_or(vendor_id);
-    let model = attribute(device, b"product").unwrap_or(model_id);
-    let revision = attribute(device, b"bcdDevice").unwrap_or(b"");
-    Ok(Some(Identity {
-        vendor: from_first(alloc, unit.vendor, vendor)?,
-        vendor_id,
-        model: from_first(alloc, unit.model, model)?,
-        model_id,
-        revision: from_first(alloc, unit.revision, revision)?,
-        serial: serial_of(attribute(device, b"serial")),
-        kind,
-        instance: instance_of(alloc, unit.instance),
-    }))
+    let identity = known_as(alloc, device, unit, kind, vendor_id, model_id)?;
+    Ok(Some(identity))
 }
 
 /// Puts a text that is not empty behind another, with a mark in between.

@@ -15,13 +15,33 @@ use text_bytes::Bytes;
 use text_links::encoded;
 
 /// A name, and the value that it is set to, if it is.
-type Row<'a> = (&'static [u8], Option<&'a [u8]>);
+type Row = (&'static [u8], Option<Bytes>);
+
+/// A text that is set whatever it is.
+fn always(text: Vec<u8>) -> Option<Bytes>
+    ensures { result ≡ Some text.items }
+{
+    Some(Bytes::new(text))
+}
 
 /// A text that is set only where it is not empty.
-fn unless_empty(text: &[u8]) -> Option<&[u8]>
-    ensures { option_map (λ t. t.now) result ≡ unless_empty text.now }
+fn unless_empty(text: Vec<u8>) -> Option<Bytes>
+    ensures { result ≡ unless_empty text.items }
 {
-    if text.is_empty() { None } else { Some(text) }
+    if text.is_empty() {
+        return None;
+    }
+    Some(Bytes::new(text))
+}
+
+/// A copy of a text that is there.
+fn copy_of(alloc: Global, text: Option<&[u8]>) -> Result<Option<Bytes>, AllocError>
+    ensures { IfOk result (λ copy. copy ≡ option_map (λ t. t.now) text.entry) }
+{
+    match text {
+        Some(text) => Ok(Some(Bytes::copy_of(alloc, text)?)),
+        None => Ok(None),
+    }
 }
 
 /// Sets a name behind a prefix.
@@ -43,14 +63,14 @@ fn set(
 fn set_rows(
     alloc: Global,
     prefix: &[u8],
-    rows: &[Row<'_>],
+    rows: &[Row],
     properties: &mut Vec<(Bytes, Bytes)>,
 ) -> Result<(), AllocError>
-    ensures { OnOk result (properties.new.items ≡ properties.old.items ++ named prefix.now (map (λ row. (row.0.now, option_map (λ t. t.now) row.1)) rows.now)) }
+    ensures { OnOk result (properties.new.items ≡ properties.old.items ++ named prefix.now (map (λ row. (row.0.now, row.1)) rows.now)) }
 {
     for (name, value) in rows {
         if let Some(value) = value {
-            set(alloc, prefix, name, value, properties)?;
+            set(alloc, prefix, name, value.as_slice(), properties)?;
         }
     }
     Ok(())
@@ -67,23 +87,27 @@ fn set_identity(
 {
     let model = shown(alloc, identity.model)?;
     let model_encoded = encoded(alloc, identity.model)?;
+    let model_id = Vec::from_slice(alloc, identity.model_id)?;
+    let full = full_serial(alloc, identity)?;
+    let serial = shown_serial(alloc, identity.serial)?;
     let vendor = shown(alloc, identity.vendor)?;
     let vendor_encoded = encoded(alloc, identity.vendor)?;
+    let vendor_id = Vec::from_slice(alloc, identity.vendor_id)?;
     let revision = shown(alloc, identity.revision)?;
-    let serial = shown_serial(alloc, identity.serial)?;
-    let full = full_serial(alloc, identity)?;
-    let rows: [Row<'_>; 11] = [
-        (b"MODEL", Some(&model)),
-        (b"MODEL_ENC", Some(&model_encoded)),
-        (b"MODEL_ID", Some(identity.model_id)),
-        (b"SERIAL", Some(&full)),
-        (b"SERIAL_SHORT", unless_empty(&serial)),
-        (b"VENDOR", Some(&vendor)),
-        (b"VENDOR_ENC", Some(&vendor_encoded)),
-        (b"VENDOR_ID", Some(identity.vendor_id)),
-        (b"REVISION", Some(&revision)),
-        (b"TYPE", unless_empty(identity.kind)),
-        (b"INSTANCE", unless_empty(identity.instance.as_slice())),
+    let kind = Vec::from_slice(alloc, identity.kind)?;
+    let instance = Vec::from_slice(alloc, identity.instance.as_slice())?;
+    let rows: [Row; 11] = [
+        (b"MODEL", always(model)),
+        (b"MODEL_ENC", always(model_encoded)),
+        (b"MODEL_ID", always(model_id)),
+        (b"SERIAL", always(full)),
+        (b"SERIAL_SHORT", unless_empty(serial)),
+        (b"VENDOR", always(vendor)),
+        (b"VENDOR_ENC", always(vendor_encoded)),
+        (b"VENDOR_ID", always(vendor_id)),
+        (b"REVISION", always(revision)),
+        (b"TYPE", unless_empty(kind)),
+        (b"INSTANCE", unless_empty(instance)),
     ];
     set_rows(alloc, prefix, &rows, properties)
 }
@@ -113,10 +137,12 @@ fn set_own(
     ensures { OnOk result (properties.new.items ≡ properties.old.items ++ named (codes "ID_USB_") (own_rows event.now (option_copied interface.entry) (Some device.now))) }
 {
     let interfaces = interfaces_text(alloc, event, device)?;
-    let rows: [Row<'_>; 3] = [
-        (b"INTERFACES", unless_empty(&interfaces)),
-        (b"INTERFACE_NUM", number_of(interface)),
-        (b"DRIVER", driver_of(interface)),
+    let number = copy_of(alloc, number_of(interface))?;
+    let driver = copy_of(alloc, driver_of(interface))?;
+    let rows: [Row; 3] = [
+        (b"INTERFACES", unless_empty(interfaces)),
+        (b"INTERFACE_NUM", number),
+        (b"DRIVER", driver),
     ];
     set_rows(alloc, b"ID_USB_", &rows, properties)
 }

@@ -83,6 +83,16 @@ fn from_first<'a>(
     }
 }
 
+/// A text, or another where there is none.
+fn text_or<'a>(text: Option<&'a [u8]>, other: &'a [u8]) -> &'a [u8]
+    ensures { result.now ≡ unwrap_or (option_map (λ t. t.now) text.entry) other.now }
+{
+    match text {
+        Some(text) => text,
+        None => other,
+    }
+}
+
 /// Whether nothing is told of a text, or there is none. The error comes where memory is refused.
 pub(crate) fn says_nothing(alloc: Global, text: Option<&[u8]>) -> Result<bool, AllocError>
     ensures { IfOk result (λ nothing. nothing ≡ says_nothing (option_map (λ t. t.now) text.entry)) }
@@ -135,9 +145,9 @@ fn known_as<'a>(
 ) -> Result<Identity<'a>, AllocError>
     ensures { IfOk result (λ known. known ≡ known_as device.now unit.entry kind.now vendor_id.now model_id.now) }
 {
-    let vendor = attribute(device, b"manufacturer").unwrap_or(vendor_id);
-    let model = attribute(device, b"product").unwrap_or(model_id);
-    let revision = attribute(device, b"bcdDevice").unwrap_or(b"");
+    let vendor = text_or(attribute(device, b"manufacturer"), vendor_id);
+    let model = text_or(attribute(device, b"product"), model_id);
+    let revision = text_or(attribute(device, b"bcdDevice"), b"");
     let vendor = from_first(alloc, unit.vendor, vendor)?;
     let model = from_first(alloc, unit.model, model)?;
     let revision = from_first(alloc, unit.revision, revision)?;

@@ -95,10 +95,12 @@ none_usb (row ∷ pairs) h =
     none_row row.0 row.1 (named (codes "ID_") pairs) parts.0 (none_usb pairs parts.1)
 
 bus_apart : (i : IdentityValue) → filter is_usb (bus_properties i) ≡ []
+unfolding rows
 bus_apart i = none_usb (rows i) refl
 
 same_properties : (event : EventValue) (interface device : Option DeviceValue) (i : IdentityValue)
     → filter is_usb (properties event interface device i true) ≡ filter is_usb (properties event interface device i false)
+unfolding properties
 same_properties event interface device i =
     let bus : List Pair = bus_properties i in
     let own : List Pair = named (codes "ID_USB_") (rows i) in

@@ -101,6 +101,6 @@ abbrev pub type_words : EventValue → (interface device : Option DeviceValue) �
 type_words event interface device = if lacks_type event interface device then codes "DEVTYPE" ∷ [] else []
 
 -- all that the block would have to tell
-abbrev pub words : EventValue → (interface device unit : Option DeviceValue) → List Text
+unfoldable pub words : EventValue → (interface device unit : Option DeviceValue) → List Text
 words event interface device unit =
     type_words event interface device ++ interface_words interface ++ unit_words unit ++ device_words event device (unit_texts unit)

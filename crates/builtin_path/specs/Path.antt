@@ -72,7 +72,7 @@ unfoldable pub revision_place : Text → Option ℕ
 revision_place text = if_revision text (first_place (codes "-usbv") text)
 
 -- a text without the `v` and the digit there
-abbrev pub without_revision : Text → ℕ → Text
+unfoldable pub without_revision : Text → ℕ → Text
 without_revision text place = take (place + 4) text ++ drop (place + 6) text
 
 -- the bytes that stay in a tag: letters and digits of ASCII, and `-`

@@ -177,7 +177,8 @@ fn is_revision(text: &[u8], place: usize) -> bool
 /// The first place of `-usbv` in a text, where a digit and `-` follow.
 #[tactic(auto, unfolding(crate::specs::Path::revision_place))]
 fn revision_place(text: &[u8]) -> Option<usize>
-    ensures { result ≡ revision_place text.now }
+    ensures value { result ≡ revision_place text.now }
+    ensures within { IfSome result (λ place. place < length text.now) }
 {
     let place = first_place(b"-usbv", text)?;
     if is_revision(text, place) {
@@ -188,6 +189,7 @@ fn revision_place(text: &[u8]) -> Option<usize>
 }
 
 /// A text without the `v` and the digit of a revision.
+#[tactic(auto, unfolding(crate::specs::Path::without_revision))]
 fn without_revision(alloc: Global, text: &[u8], place: usize) -> Result<Bytes, AllocError>
     requires { place < length text.now }
     ensures { IfOk result (λ plain. plain ≡ without_revision text.now place) }
@@ -259,6 +261,21 @@ fn add_path(
     add_property(alloc, b"ID_PATH_TAG", tag.as_slice(), properties)
 }
 
+/// Adds what is set of a text that tells the revision of USB at a place.
+fn add_revision(
+    alloc: Global,
+    text: &[u8],
+    place: usize,
+    properties: &mut Vec<(Bytes, Bytes)>,
+) -> Result<(), AllocError>
+    requires { place < length text.now }
+    ensures { OnOk result (properties.new.items ≡ properties.old.items ++ revision_pairs text.now (Some place)) }
+{
+    let plain = without_revision(alloc, text, place)?;
+    add_property(alloc, b"ID_PATH_WITH_USB_REVISION", text, properties)?;
+    add_path(alloc, plain.as_slice(), properties)
+}
+
 /// Adds what is set of a text that may tell the revision of USB.
 fn add_revised(
     alloc: Global,
@@ -268,12 +285,8 @@ fn add_revised(
     ensures { OnOk result (properties.new.items ≡ properties.old.items ++ revision_pairs text.now (revision_place text.now)) }
 {
     match revision_place(text) {
+        Some(place) => add_revision(alloc, text, place, properties),
         None => add_path(alloc, text, properties),
-        Some(place) => {
-            add_property(alloc, b"ID_PATH_WITH_USB_REVISION", text, properties)?;
-            let plain = without_revision(alloc, text, place)?;
-            add_path(alloc, plain.as_slice(), properties)
-        }
     }
 }
 

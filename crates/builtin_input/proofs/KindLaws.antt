@@ -1,13 +1,13 @@
 -- What the kinds of input devices exclude and imply.
-use Rattle.std.specs.Prelude.{◌≡◌, ℕ, ◌+◌, ◌*◌, ◌≤◌, Bool, true, false, not, ◌&&◌, ◌||◌, cond, nat_le, nat_lt, ◌==◌, List, [], ◌∷◌, fold, length, refl}
+use Rattle.std.specs.Prelude.{◌≡◌, ℕ, ◌+◌, ◌*◌, ◌≤◌, Bool, true, false, not, ◌&&◌, ◌||◌, cond, nat_le, ◌==◌, List, [], ◌∷◌, fold, length, refl}
 use Rattle.std.specs.List.{list_any, range_with_len}
 use Rattle.std.proofs.Common.{arith}
-use Rattle.std.proofs.lemmas.Bool.{and_from, and_left, and_parts, and_right, eqb-true, le-leb, leb-true, or_left, false≢true}
+use Rattle.std.proofs.lemmas.Bool.{and_from, and_parts, and_right, eqb-true, le-leb, leb-true, or_left, false≢true}
 use Rattle.std.proofs.lemmas.Grind.{common_steps}
 use Rattle.builtin_input.specs.Bitmaps.{Bitmap, count_of, has}
 use Rattle.builtin_input.specs.Groups.{is_in}
 use Rattle.builtin_input.specs.Capabilities.{CapabilitiesValue, nothing}
-use Rattle.builtin_input.specs.Signs.{has_fingers, has_mouse_buttons, has_motion, has_pad_buttons, has_place, has_usual_keys, has_wheel, is_touched, joystick_buttons, joystick_parts, key_event, takes_finger, takes_pen}
+use Rattle.builtin_input.specs.Signs.{has_multitouch, has_mouse_buttons, has_motion, has_pad_buttons, has_position, has_usual_keys, has_wheel, takes_touch, joystick_buttons, joystick_parts, key_event, takes_finger, takes_pen}
 use Rattle.builtin_input.specs.Kinds.{has_keys, is_accelerometer, is_joystick, is_keyboard, is_mouse, is_of, is_plain_mouse, is_pointer, is_pointing_stick, is_tablet, is_tablet_pad, is_touchpad, is_touchscreen, kinds, may_be_joystick}
 use Rattle.builtin_input.specs.declared.groups.Group.TheVariants as group
 use Rattle.builtin_input.specs.declared.kinds.Kind.TheVariants as kind
@@ -18,7 +18,7 @@ apart some place pen finger buttons touched aside others h = grind (arith, commo
 
 may_be_none : (c : CapabilitiesValue) → is_of kind.Mouse c ≡ true → may_be_joystick c ≡ false
 unfolding is_of is_mouse is_plain_mouse may_be_joystick
-may_be_none c h = apart (not (joystick_parts c == 0)) (has_place c) (takes_pen c) (takes_finger c) (has_mouse_buttons c) (is_touched c) (is_tablet c || is_touchpad c) (has_motion c || not (has_place c)) (and_parts (not (is_accelerometer c)) (is_mouse c) h).1
+may_be_none c h = apart (not (joystick_parts c == 0)) (has_position c) (takes_pen c) (takes_finger c) (has_mouse_buttons c) (takes_touch c) (is_tablet c || is_touchpad c) (has_motion c || not (has_position c)) (and_parts (not (is_accelerometer c)) (is_mouse c) h).1
 
 pub mouse_apart : (c : CapabilitiesValue) → is_of kind.Mouse c ≡ true → is_of kind.Joystick c ≡ false
 unfolding is_of is_joystick
@@ -31,7 +31,7 @@ fingered c h = (and_parts (not (is_accelerometer c)) (is_touchpad c) h).1
 
 takes : (c : CapabilitiesValue) → is_of kind.Touchpad c ≡ true → takes_finger c ≡ true
 unfolding is_touchpad
-takes c h = (and_parts (has_place c || has_fingers c) (takes_finger c) (fingered c h)).1
+takes c h = (and_parts (has_position c || has_multitouch c) (takes_finger c) (fingered c h)).1
 
 no_screen : (still pen touched rest : Bool) → (still && (pen && not true && touched && rest)) ≡ false
 no_screen true true touched rest = refl
@@ -40,7 +40,7 @@ no_screen false pen touched rest = refl
 
 pub screen_apart : (c : CapabilitiesValue) → is_of kind.Touchpad c ≡ true → is_of kind.Touchscreen c ≡ false
 unfolding is_of is_touchscreen
-screen_apart c h = rw (takes c h) (no_screen (not (is_accelerometer c)) (not (takes_pen c)) (is_touched c) (has_fingers c || has_place c && not (has_mouse_buttons c)))
+screen_apart c h = rw (takes c h) (no_screen (not (is_accelerometer c)) (not (takes_pen c)) (takes_touch c) (has_multitouch c || has_position c && not (has_mouse_buttons c)))
 
 no_buttons : (buttons tablet joystick rest : Bool) → (buttons && not (tablet || true || joystick) && rest) ≡ false
 no_buttons true true joystick rest = refl
@@ -49,7 +49,7 @@ no_buttons false tablet joystick rest = refl
 
 pub buttons_apart : (c : CapabilitiesValue) → is_of kind.Touchpad c ≡ true → is_plain_mouse c ≡ false
 unfolding is_plain_mouse
-buttons_apart c h = rw (fingered c h) (no_buttons (has_mouse_buttons c) (is_tablet c) (may_be_joystick c) (has_motion c || not (has_place c)))
+buttons_apart c h = rw (fingered c h) (no_buttons (has_mouse_buttons c) (is_tablet c) (may_be_joystick c) (has_motion c || not (has_position c)))
 
 -- a pad is a tablet
 kept : (still tablet pad : Bool) → (still && (tablet && pad)) ≡ true → (still && tablet) ≡ true
@@ -89,7 +89,7 @@ some_key words h = le-leb 1 (count_of (is_in group.Key) words) (omega (arith, eq
 
 pub keyboard_is_key : (c : CapabilitiesValue) → is_of kind.Keyboard c ≡ true → is_of kind.Key c ≡ true
 unfolding is_of is_keyboard has_keys
-keyboard_is_key c h = let parts = and_parts (has c.events key_event) (count_of (is_in group.FirstKey) c.buttons == 31) h in or_left (has_keys c) (not (is_pointer c) && has_wheel c) (and_from (has c.events key_event) (nat_le 1 (count_of (is_in group.Key) c.buttons)) parts.0 (some_key c.buttons parts.1))
+keyboard_is_key c h = let parts = and_parts (has c.events key_event) (count_of (is_in group.FirstKey) c.keys == 31) h in or_left (has_keys c) (not (is_pointer c) && has_wheel c) (and_from (has c.events key_event) (nat_le 1 (count_of (is_in group.Key) c.keys)) parts.0 (some_key c.keys parts.1))
 
 -- an accelerometer is nothing else that points
 pub alone : (c : CapabilitiesValue) → is_of kind.Accelerometer c ≡ true → list_any (λ k. is_of k c) (kind.PointingStick ∷ kind.Mouse ∷ kind.Touchpad ∷ kind.Touchscreen ∷ kind.Joystick ∷ kind.Tablet ∷ kind.TabletPad ∷ []) ≡ false
@@ -98,5 +98,5 @@ alone c h = rw h refl
 
 -- a device that tells nothing of itself is of no kind
 pub no_kind : (bus : ℕ) → kinds (nothing bus) ≡ []
-unfolding kinds is_of has count_of is_accelerometer is_pointing_stick is_mouse is_plain_mouse is_touchpad is_touchscreen is_joystick may_be_joystick is_tablet is_tablet_pad is_pointer has_keys is_keyboard has_place has_fingers has_motion has_wheel takes_pen takes_finger is_touched has_mouse_buttons has_pad_buttons joystick_buttons joystick_parts has_usual_keys
+unfolding kinds is_of has count_of is_accelerometer is_pointing_stick is_mouse is_plain_mouse is_touchpad is_touchscreen is_joystick may_be_joystick is_tablet is_tablet_pad is_pointer has_keys is_keyboard has_position has_multitouch has_motion has_wheel takes_pen takes_finger takes_touch has_mouse_buttons has_pad_buttons joystick_buttons joystick_parts has_usual_keys
 no_kind bus = refl

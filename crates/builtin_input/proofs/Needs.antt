@@ -1,5 +1,5 @@
 -- What is needed, gathered one behind another.
-use Rattle.std.specs.Prelude.{◌≡◌, List, [], ◌++◌, refl}
+use Rattle.std.specs.Prelude.{◌≡◌, List, [], ◌++◌}
 use Rattle.std.proofs.Common.{sym}
 use Rattle.std.proofs.lemmas.List.Sums.{fold-append}
 use Rattle.text_tables.specs.Texts.{Text, with_text, with_texts}

@@ -10,31 +10,31 @@ use Rattle.builtin_input.specs.Bitmaps.{Bitmap, bitmap, most_words}
 -- the kinds of events that a device has, its keys, its absolute and its relative axes, its properties, and its bus
 pub record CapabilitiesValue : Type 0 where
   pub events : Bitmap
-  pub buttons : Bitmap
-  pub absolute : Bitmap
-  pub relative : Bitmap
-  pub traits : Bitmap
+  pub keys : Bitmap
+  pub absolute_axes : Bitmap
+  pub relative_axes : Bitmap
+  pub properties : Bitmap
   pub bus : ℕ
 
--- what a device on a bus tells that has nothing
+-- what a device tells that has none of these, on a bus
 abbrev pub nothing : (bus : ℕ) → CapabilitiesValue
-nothing bus = record { events = []; buttons = []; absolute = []; relative = []; traits = []; bus = bus }
+nothing bus = record { events = []; keys = []; absolute_axes = []; relative_axes = []; properties = []; bus = bus }
 
 -- the text of an attribute, empty where it is absent
 abbrev pub text_of : DeviceValue → Text → Text
 text_of device name = unwrap_or (value_of device.attrs name) []
 
 -- the number of a bus: of base 16 and 16 bits, else 0
-unfoldable pub bus : Text → ℕ
-bus text = unwrap_or (number_in Hexadecimal (2 ^ 16 - 1) text) 0
+unfoldable pub bus_number : Text → ℕ
+bus_number text = unwrap_or (number_in Hexadecimal (2 ^ 16 - 1) text) 0
 
 -- what a device tells of itself; of each bitmap but that of keys one word counts
 unfoldable pub capabilities : DeviceValue → CapabilitiesValue
 capabilities device = record {
   events = bitmap 1 (text_of device (codes "capabilities/ev"));
-  buttons = bitmap most_words (text_of device (codes "capabilities/key"));
-  absolute = bitmap 1 (text_of device (codes "capabilities/abs"));
-  relative = bitmap 1 (text_of device (codes "capabilities/rel"));
-  traits = bitmap 1 (text_of device (codes "properties"));
-  bus = bus (text_of device (codes "id/bustype"));
+  keys = bitmap most_words (text_of device (codes "capabilities/key"));
+  absolute_axes = bitmap 1 (text_of device (codes "capabilities/abs"));
+  relative_axes = bitmap 1 (text_of device (codes "capabilities/rel"));
+  properties = bitmap 1 (text_of device (codes "properties"));
+  bus = bus_number (text_of device (codes "id/bustype"));
 }

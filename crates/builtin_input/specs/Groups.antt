@@ -1,4 +1,4 @@
--- Groups of keys and axes.
+-- Groups of keys and axes, by the kernel's input codes.
 use Rattle.std.specs.Prelude.{ℕ, Bool, ◌||◌, ◌==◌, ◌∷◌, []}
 use Rattle.std.specs.List.{list_any}
 use Rattle.builtin_devices.specs.Numbers.{is_between}

@@ -10,10 +10,10 @@ use Rattle.text_links.specs.Kernels.{longest_end}
 use Rattle.builtin_devices.specs.Devices.{is_text, kernel_of}
 use Rattle.builtin_devices.specs.Outcomes.{OutcomeValue, lacking, needs_of, succeeding}
 use Rattle.builtin_input.specs.Capabilities.{CapabilitiesValue, capabilities}
-use Rattle.builtin_input.specs.Signs.{has_place}
+use Rattle.builtin_input.specs.Signs.{has_position}
 use Rattle.builtin_input.specs.Kinds.{kinds, property_of}
 
--- whether a device tells of itself as input devices do
+-- whether a device tells which kinds of events it has
 abbrev pub tells : DeviceValue → Bool
 tells device = is_some (value_of device.attrs (codes "capabilities/ev"))
 
@@ -21,7 +21,7 @@ tells device = is_some (value_of device.attrs (codes "capabilities/ev"))
 abbrev pub is_input : DeviceValue → Bool
 is_input device = is_text (codes "input") device.subsystem
 
--- the device of whose capabilities the kinds are: the event device, or else its nearest parent of the subsystem that tells any
+-- the device that tells of itself: the event device, or else its nearest parent of the subsystem that does
 abbrev pub input_device : EventValue → Option DeviceValue
 input_device event = if tells event.device then Some event.device else find (λ device. is_input device && tells device) event.parents
 
@@ -29,9 +29,9 @@ input_device event = if tells event.device then Some event.device else find (λ 
 abbrev pub set : Text → Pair
 set name = (name, codes "1")
 
--- the properties of a device of which this is known
-unfoldable pub properties : CapabilitiesValue → List Pair
-properties c = set (codes "ID_INPUT") ∷ map (λ kind. set (property_of kind)) (kinds c)
+-- the properties that are set for a device that tells this of itself
+unfoldable pub kind_properties : CapabilitiesValue → List Pair
+kind_properties c = set (codes "ID_INPUT") ∷ map (λ kind. set (property_of kind)) (kinds c)
 
 -- the attributes that each input device has
 abbrev pub expected : List Text
@@ -39,7 +39,7 @@ expected = codes "id/bustype" ∷ codes "capabilities/abs" ∷ codes "capabiliti
 
 -- whether the size of a device is asked of its node, which a block does not tell: of a node of events with axes for a place
 abbrev pub asks_size : EventValue → CapabilitiesValue → Bool
-asks_size event c = starts_with nat_eq (kernel_of event.device) (codes "event") && has_place c
+asks_size event c = starts_with nat_eq (kernel_of event.device) (codes "event") && has_position c
 
 -- the size, where it is asked
 abbrev pub size_needs : EventValue → CapabilitiesValue → List Text
@@ -49,28 +49,28 @@ size_needs event c = if asks_size event c then codes "absolute axes" ∷ [] else
 abbrev pub attribute_needs : DeviceValue → List Text → List Text
 attribute_needs device names = flat_map (λ name. lacking device name name) names
 
--- what would have to be told of a device and of its node
+-- what the block would have to tell of a device and of its node
 unfoldable pub device_needs : EventValue → DeviceValue → List Text
 device_needs event device = attribute_needs device expected ++ size_needs event (capabilities device)
 
--- whether a path is that of an input device, `inputN`
+-- whether the last component of a path is `input` and a number
 abbrev pub is_input_path : Text → Bool
 is_input_path path =
     let digits = longest_end is_digit path in
     not (is_empty digits) && ends_with nat_eq (take (length path - length digits) path) (codes "/input")
 
--- whether a device is one of input, by its subsystem and its path
+-- whether a device is an input device by its subsystem and its name, which the kernel lets tell of itself
 abbrev pub is_input_device : DeviceValue → Bool
 is_input_device device = is_input device && is_input_path device.path
 
--- what is needed where no device tells of itself: of an input device its events
+-- what is needed where no device tells of itself: of an input device its kinds of events
 unfoldable pub chain_needs : EventValue → List Text
 chain_needs event = if list_any is_input_device (chain event) then codes "capabilities/ev" ∷ [] else []
 
--- what comes of a device, if there is one
+-- what comes of the device that tells of itself, if there is one
 abbrev pub outcome_of : EventValue → Option DeviceValue → OutcomeValue
 outcome_of event None = succeeding [] (needs_of (chain_needs event))
-outcome_of event (Some device) = succeeding (properties (capabilities device)) (needs_of (device_needs event device))
+outcome_of event (Some device) = succeeding (kind_properties (capabilities device)) (needs_of (device_needs event device))
 
 -- what input_id makes of an event: it always succeeds
 unfoldable pub input_id : EventValue → OutcomeValue

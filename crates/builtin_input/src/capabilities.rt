@@ -1,7 +1,7 @@
 //! What an input device tells of itself.
 ghost use Rattle.std.specs.Prelude.{◌≡◌, ◌≤◌, IfOk};
 ghost use Rattle.builtin_input.specs.Bitmaps.{bitmap, most_words};
-ghost use Rattle.builtin_input.specs.Capabilities.{bus, capabilities, text_of};
+ghost use Rattle.builtin_input.specs.Capabilities.{bus_number, capabilities, text_of};
 
 use crate::bitmaps::{Bitmap, MOST_WORDS};
 use builtin_devices::{Base, number_in};
@@ -13,10 +13,10 @@ use std::marker::Model;
 #[derive(Drop)]
 pub(crate) struct Capabilities {
     pub(crate) events: Bitmap,
-    pub(crate) buttons: Bitmap,
-    pub(crate) absolute: Bitmap,
-    pub(crate) relative: Bitmap,
-    pub(crate) traits: Bitmap,
+    pub(crate) keys: Bitmap,
+    pub(crate) absolute_axes: Bitmap,
+    pub(crate) relative_axes: Bitmap,
+    pub(crate) properties: Bitmap,
     pub(crate) bus: u64,
 }
 
@@ -25,7 +25,7 @@ impl Model for Capabilities {
 
     ghost Value = { CapabilitiesValue };
 
-    ghost view = { λ c. record { events = c.events; buttons = c.buttons; absolute = c.absolute; relative = c.relative; traits = c.traits; bus = c.bus } };
+    ghost view = { λ c. record { events = c.events; keys = c.keys; absolute_axes = c.absolute_axes; relative_axes = c.relative_axes; properties = c.properties; bus = c.bus } };
 }
 
 /// The text of an attribute, empty where it is absent.
@@ -52,9 +52,9 @@ fn bitmap_of(
 }
 
 /// The number of a bus.
-#[tactic(auto, unfolding(crate::specs::Capabilities::bus))]
-fn bus(text: &[u8]) -> u64
-    ensures { result ≡ bus text.now }
+#[tactic(auto, unfolding(crate::specs::Capabilities::bus_number))]
+fn bus_number(text: &[u8]) -> u64
+    ensures { result ≡ bus_number text.now }
 {
     number_in(Base::Hexadecimal, u64::from(u16::MAX), text).unwrap_or(0)
 }
@@ -66,17 +66,17 @@ impl Capabilities {
         ensures { IfOk result (λ c. c ≡ capabilities device.now) }
     {
         let events = bitmap_of(alloc, device, b"capabilities/ev", 1)?;
-        let buttons = bitmap_of(alloc, device, b"capabilities/key", MOST_WORDS)?;
-        let absolute = bitmap_of(alloc, device, b"capabilities/abs", 1)?;
-        let relative = bitmap_of(alloc, device, b"capabilities/rel", 1)?;
-        let traits = bitmap_of(alloc, device, b"properties", 1)?;
+        let keys = bitmap_of(alloc, device, b"capabilities/key", MOST_WORDS)?;
+        let absolute_axes = bitmap_of(alloc, device, b"capabilities/abs", 1)?;
+        let relative_axes = bitmap_of(alloc, device, b"capabilities/rel", 1)?;
+        let properties = bitmap_of(alloc, device, b"properties", 1)?;
         Ok(Capabilities {
             events,
-            buttons,
-            absolute,
-            relative,
-            traits,
-            bus: bus(text_of(device, b"id/bustype")),
+            keys,
+            absolute_axes,
+            relative_axes,
+            properties,
+            bus: bus_number(text_of(device, b"id/bustype")),
         })
     }
 }

@@ -1,4 +1,4 @@
-//! Groups of keys and axes.
+//! Groups of keys and axes, by the kernel's input codes.
 ghost use Rattle.std.specs.Prelude.{◌≡◌};
 ghost use Rattle.builtin_input.specs.Groups.{is_in};
 
@@ -11,15 +11,15 @@ pub(crate) enum Group {
     JoystickButton,
     /// The absolute axes of a joystick but the first three.
     JoystickAxis,
-    /// Keys that each keyboard has.
+    /// Keys that keyboards have, by which they are told from joysticks.
     UsualKey,
     /// The keys from 1 to 31.
     FirstKey,
-    /// What is a key and no button.
+    /// Keys that are no buttons.
     Key,
 }
 
-/// The keys by which a keyboard is told from a joystick.
+/// Keys that keyboards have.
 const USUAL_KEYS: [usize; 10] = [29, 58, 69, 110, 113, 140, 144, 155, 164, 224];
 
 impl Group {

@@ -4,7 +4,7 @@ ghost use Rattle.std.specs.List.{find, list_any};
 ghost use Rattle.text_tables.specs.Texts.{with_texts};
 ghost use Rattle.device_core.specs.Values.{chain};
 ghost use Rattle.builtin_devices.specs.Outcomes.{needs_of};
-ghost use Rattle.builtin_input.specs.Input.{attribute_needs, chain_needs, device_needs, input_device, input_id, is_input, is_input_device, is_input_path, outcome_of, properties, set, size_needs, tells};
+ghost use Rattle.builtin_input.specs.Input.{attribute_needs, chain_needs, device_needs, input_device, input_id, is_input, is_input_device, is_input_path, kind_properties, outcome_of, set, size_needs, tells};
 ghost use Rattle.builtin_input.specs.Kinds.{property_of};
 ghost use Rattle.builtin_input.specs.Capabilities.{capabilities};
 
@@ -26,7 +26,7 @@ const EXPECTED: [&[u8]; 5] = [
     b"properties",
 ];
 
-/// Whether a device tells of itself as input devices do.
+/// Whether a device tells which kinds of events it has.
 fn tells(device: &Device<'_>) -> bool
     ensures { result ≡ tells device.now }
 {
@@ -49,7 +49,7 @@ fn nearest<'d, 'a>(devices: &'d [Device<'a>]) -> Option<&'d Device<'a>>
         .find(|device| is_input(device) && tells(device))
 }
 
-/// The device of whose capabilities the kinds are.
+/// The device that tells of itself.
 fn input_device<'d, 'a>(event: &'d Event<'a>) -> Option<&'d Device<'a>>
     ensures { option_copied result ≡ input_device event.now }
 {
@@ -74,10 +74,10 @@ fn add_kinds(
     Ok(())
 }
 
-/// The properties of a device of which this is known.
-#[tactic(auto, unfolding(crate::specs::Input::properties))]
-fn properties(alloc: Global, device: &Capabilities) -> Result<Vec<(Bytes, Bytes)>, AllocError>
-    ensures { IfOk result (λ p. p.items ≡ properties device.now) }
+/// The properties that are set for a device that tells this of itself.
+#[tactic(auto, unfolding(crate::specs::Input::kind_properties))]
+fn kind_properties(alloc: Global, device: &Capabilities) -> Result<Vec<(Bytes, Bytes)>, AllocError>
+    ensures { IfOk result (λ p. p.items ≡ kind_properties device.now) }
 {
     let kinds = device.kinds(alloc)?;
     let mut properties = Vec::new(alloc);
@@ -96,7 +96,7 @@ fn add_size(
     ensures { OnOk result (needs.new ≡ with_texts needs.old (size_needs event.now told.now)) }
 {
     let kernel = kernel_name(alloc, event.device().path())?;
-    if kernel.as_slice().starts_with(b"event") && told.has_place() {
+    if kernel.as_slice().starts_with(b"event") && told.has_position() {
         needs.add(alloc, b"absolute axes")?;
     }
     Ok(())
@@ -117,7 +117,7 @@ fn add_lacking(
     Ok(())
 }
 
-/// What would have to be told of a device and of its node.
+/// What the block would have to tell of a device and of its node.
 #[tactic(auto, using(crate::proofs::Needs::in_two), unfolding(crate::specs::Input::device_needs))]
 fn device_needs(
     alloc: Global,
@@ -134,7 +134,7 @@ fn device_needs(
     Ok(needs)
 }
 
-/// Whether a path is that of an input device.
+/// Whether the last component of a path is `input` and a number.
 fn is_input_path(path: &[u8]) -> bool
     ensures { result ≡ is_input_path path.now }
 {
@@ -143,21 +143,21 @@ fn is_input_path(path: &[u8]) -> bool
     !digits.is_empty() && before.ends_with(b"/input")
 }
 
-/// Whether a device is one of input, by its subsystem and its path.
+/// Whether a device is an input device by its subsystem and its name.
 fn is_input_device(device: &Device<'_>) -> bool
     ensures { result ≡ is_input_device device.now }
 {
     is_input(device) && is_input_path(device.path())
 }
 
-/// Whether one of these devices is one of input.
+/// Whether one of these devices is an input device.
 fn some_input_device(devices: &[Device<'_>]) -> bool
     ensures { result ≡ list_any is_input_device devices.now }
 {
     devices.iter().any(|device| is_input_device(device))
 }
 
-/// Whether a device of the chain is one of input.
+/// Whether a device of the chain is an input device.
 fn has_input_device(event: &Event<'_>) -> bool
     ensures { result ≡ list_any is_input_device (chain event.now) }
 {
@@ -176,23 +176,25 @@ fn chain_needs(alloc: Global, event: &Event<'_>) -> Result<OwnedTexts, AllocErro
     Ok(needs)
 }
 
-/// What comes of a device.
+/// What comes of a device that tells of itself.
 fn outcome_of(alloc: Global, event: &Event<'_>, device: &Device<'_>) -> Result<Outcome, AllocError>
     ensures { IfOk result (λ outcome. outcome ≡ outcome_of event.now (Some device.now)) }
 {
     let told = Capabilities::read(alloc, device)?;
     let needs = device_needs(alloc, event, device, &told)?;
-    let properties = properties(alloc, &told)?;
+    let properties = kind_properties(alloc, &told)?;
     drop(told);
     Ok(Outcome::succeeding(properties, needs))
 }
 
-/// What input_id makes of an event: the kinds of input device that its device is, by the bitmaps and the properties
-/// that the kernel tells of it, as `ID_INPUT=1`, `ID_INPUT_MOUSE=1` and so on. They are told of the event device, or
-/// else of its nearest parent of the subsystem `input`. It always succeeds, and sets nothing where no device tells any.
+/// What input_id of udev of systemd 257 makes of an event: `ID_INPUT=1`, then a property for each kind of input device
+/// that the device is, as `ID_INPUT_MOUSE=1`.
 ///
-/// The size of a touchpad is never told, which udev asks of the node: `absolute axes` is needed then. By udev of
-/// systemd 257. The error comes where memory is refused.
+/// The kinds follow from the attributes `capabilities/*`, `properties` and `id/bustype` of the event device where it
+/// has `capabilities/ev`, or else of its nearest parent of the subsystem `input` that has. It always succeeds, and sets
+/// nothing where no device has them. Needed are the attributes that an input device lacks, and `absolute axes` where
+/// udev would ask the node of a touchpad or a screen for its size, which is never set here. The error comes where memory
+/// is refused.
 #[tactic(auto, unfolding(crate::specs::Input::input_id))]
 pub fn input_id(alloc: Global, event: &Event<'_>) -> Result<Outcome, AllocError>
     ensures { IfOk result (λ outcome. outcome ≡ input_id event.now) }

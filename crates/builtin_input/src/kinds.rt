@@ -51,8 +51,8 @@ impl Capabilities {
     fn is_accelerometer(&self) -> bool
         ensures { result ≡ is_accelerometer self.now }
     {
-        self.traits.has(ACCELEROMETER)
-            || !self.events.has(KEY_EVENT) && self.has_place() && self.absolute.has(Z)
+        self.properties.has(ACCELEROMETER)
+            || !self.events.has(KEY_EVENT) && self.has_position() && self.absolute_axes.has(Z)
     }
 
     /// Whether it is a tablet.
@@ -60,7 +60,7 @@ impl Capabilities {
     fn is_tablet(&self) -> bool
         ensures { result ≡ is_tablet self.now }
     {
-        (self.has_place() || self.has_fingers()) && self.takes_pen()
+        (self.has_position() || self.has_multitouch()) && self.takes_pen()
             || self.has_pad_buttons() && self.has_wheel() && !self.has_motion()
     }
 
@@ -77,7 +77,7 @@ impl Capabilities {
     fn is_touchpad(&self) -> bool
         ensures { result ≡ is_touchpad self.now }
     {
-        (self.has_place() || self.has_fingers()) && self.takes_finger()
+        (self.has_position() || self.has_multitouch()) && self.takes_finger()
     }
 
     /// Whether it is a touchscreen.
@@ -87,8 +87,8 @@ impl Capabilities {
     {
         !self.takes_pen()
             && !self.takes_finger()
-            && self.is_touched()
-            && (self.has_fingers() || self.has_place() && !self.has_mouse_buttons())
+            && self.takes_touch()
+            && (self.has_multitouch() || self.has_position() && !self.has_mouse_buttons())
     }
 
     /// Whether it may be a joystick.
@@ -97,11 +97,11 @@ impl Capabilities {
         ensures { result ≡ may_be_joystick self.now }
     {
         self.joystick_parts() != 0
-            && !(self.has_place()
+            && !(self.has_position()
                 && (self.takes_pen()
                     || self.takes_finger()
                     || self.has_mouse_buttons()
-                    || self.is_touched()))
+                    || self.takes_touch()))
     }
 
     /// Whether it is a joystick.
@@ -115,14 +115,14 @@ impl Capabilities {
             && !(self.has_wheel() && self.has_pad_buttons())
     }
 
-    /// Whether it is a mouse by its buttons.
+    /// Whether it is a mouse by its buttons, and nothing else.
     #[tactic(auto, unfolding(crate::specs::Kinds::is_plain_mouse))]
     fn is_plain_mouse(&self) -> bool
         ensures { result ≡ is_plain_mouse self.now }
     {
         self.has_mouse_buttons()
             && !(self.is_tablet() || self.is_touchpad() || self.may_be_joystick())
-            && (self.has_motion() || !self.has_place())
+            && (self.has_motion() || !self.has_position())
     }
 
     /// Whether it is a mouse.
@@ -131,7 +131,7 @@ impl Capabilities {
         ensures { result ≡ is_mouse self.now }
     {
         self.is_plain_mouse()
-            || self.has_place()
+            || self.has_position()
                 && self.has_mouse_buttons()
                 && !self.takes_pen()
                 && !self.takes_finger()
@@ -142,10 +142,10 @@ impl Capabilities {
     fn is_pointing_stick(&self) -> bool
         ensures { result ≡ is_pointing_stick self.now }
     {
-        self.traits.has(POINTING_STICK) || self.is_plain_mouse() && self.bus == I2C_BUS
+        self.properties.has(POINTING_STICK) || self.is_plain_mouse() && self.bus == I2C_BUS
     }
 
-    /// Whether it points in some way.
+    /// Whether it is of a kind that points.
     #[tactic(auto, unfolding(crate::specs::Kinds::is_pointer))]
     fn is_pointer(&self) -> bool
         ensures { result ≡ is_pointer self.now }
@@ -159,12 +159,12 @@ impl Capabilities {
             || self.is_tablet()
     }
 
-    /// Whether it has keys.
+    /// Whether it has keys that are no buttons.
     #[tactic(auto, unfolding(crate::specs::Kinds::has_keys))]
     fn has_keys(&self) -> bool
         ensures { result ≡ has_keys self.now }
     {
-        self.events.has(KEY_EVENT) && self.buttons.count(Group::Key) >= 1
+        self.events.has(KEY_EVENT) && self.keys.count(Group::Key) >= 1
     }
 
     /// Whether it is a keyboard.
@@ -172,7 +172,7 @@ impl Capabilities {
     fn is_keyboard(&self) -> bool
         ensures { result ≡ is_keyboard self.now }
     {
-        self.events.has(KEY_EVENT) && self.buttons.count(Group::FirstKey) == 31
+        self.events.has(KEY_EVENT) && self.keys.count(Group::FirstKey) == 31
     }
 
     /// The kinds of a device, in the order in which they are told.

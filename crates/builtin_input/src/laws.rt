@@ -21,29 +21,29 @@ pub fn zeros_in_front_change_nothing()
     ensures { (most : ℕ) (text : Text) (number : ℕ) → has (bitmap most (digit_zero ∷ space ∷ text)) number ≡ has (bitmap most text) number }
 {}
 
-/// A mouse is no joystick.
-pub fn mice_are_no_joysticks()
+/// A mouse is not a joystick.
+pub fn mice_are_not_joysticks()
     ensures { (c : CapabilitiesValue) → is_of kind.Mouse c ≡ true → is_of kind.Joystick c ≡ false }
 {}
 
-/// A touchpad is no touchscreen, and no mouse by its buttons.
-pub fn touchpads_are_no_screens()
+/// A touchpad is not a touchscreen, and not a mouse by its buttons.
+pub fn touchpads_are_not_touchscreens()
     ensures screen { (c : CapabilitiesValue) → is_of kind.Touchpad c ≡ true → is_of kind.Touchscreen c ≡ false }
     ensures buttons { (c : CapabilitiesValue) → is_of kind.Touchpad c ≡ true → is_plain_mouse c ≡ false }
 {}
 
-/// The buttons of a tablet are a tablet, and a keyboard has keys.
-pub fn some_kinds_are_others()
+/// The buttons of a tablet are a tablet, and a keyboard is a key.
+pub fn some_kinds_imply_others()
     ensures tablet { (c : CapabilitiesValue) → is_of kind.TabletPad c ≡ true → is_of kind.Tablet c ≡ true }
     ensures keyboard { (c : CapabilitiesValue) → is_of kind.Keyboard c ≡ true → is_of kind.Key c ≡ true }
 {}
 
-/// An accelerometer is nothing else that points.
-pub fn accelerometers_point_at_nothing()
+/// An accelerometer is of no other kind that points.
+pub fn accelerometers_are_nothing_else()
     ensures { (c : CapabilitiesValue) → is_of kind.Accelerometer c ≡ true → list_any (λ k. is_of k c) (kind.PointingStick ∷ kind.Mouse ∷ kind.Touchpad ∷ kind.Touchscreen ∷ kind.Joystick ∷ kind.Tablet ∷ kind.TabletPad ∷ []) ≡ false }
 {}
 
-/// A device that tells nothing of itself is of no kind.
-pub fn what_tells_nothing_is_of_no_kind()
+/// A device whose bitmaps are empty is of no kind.
+pub fn devices_with_nothing_have_no_kind()
     ensures { (bus : ℕ) → kinds (nothing bus) ≡ [] }
 {}

@@ -1,6 +1,5 @@
-//! What input_id makes of a device: which kinds of input device it is, by what it tells of itself.
-//!
-//! As the builtin of udev of systemd 257 does, by attributes alone.
+//! The builtin input_id of udev of systemd 257: which kinds of input device a device is, by the attributes in which it
+//! tells of itself.
 #![tactic(auto)]
 
 mod bitmaps;
@@ -13,7 +12,7 @@ mod signs;
 
 pub use input::input_id;
 pub use laws::{
-    accelerometers_point_at_nothing, mice_are_no_joysticks, some_kinds_are_others,
-    the_last_word_is_the_lowest, touchpads_are_no_screens, what_tells_nothing_is_of_no_kind,
+    accelerometers_are_nothing_else, devices_with_nothing_have_no_kind, mice_are_not_joysticks,
+    some_kinds_imply_others, the_last_word_is_the_lowest, touchpads_are_not_touchscreens,
     zeros_in_front_change_nothing,
 };

@@ -1,6 +1,6 @@
-//! What the capabilities of an input device say of what it is.
+//! Conditions on what an input device tells of itself, by which its kinds are known.
 ghost use Rattle.std.specs.Prelude.{◌≡◌, ◌≤◌};
-ghost use Rattle.builtin_input.specs.Signs.{has_fingers, has_motion, has_mouse_buttons, has_pad_buttons, has_place, has_usual_keys, has_wheel, is_touched, joystick_buttons, joystick_parts, takes_finger, takes_pen};
+ghost use Rattle.builtin_input.specs.Signs.{has_multitouch, has_motion, has_mouse_buttons, has_pad_buttons, has_position, has_usual_keys, has_wheel, takes_touch, joystick_buttons, joystick_parts, takes_finger, takes_pen};
 
 use crate::capabilities::Capabilities;
 use crate::groups::Group;
@@ -12,24 +12,24 @@ const RELATIVE_EVENT: usize = 2;
 /// The event of switches.
 pub(crate) const SWITCH_EVENT: usize = 5;
 
-/// The first axis of a place or a motion.
+/// The first axis of a position or a motion.
 const X: usize = 0;
-/// The second axis of a place or a motion.
+/// The second axis of a position or a motion.
 const Y: usize = 1;
-/// The third axis of a place.
+/// The third axis of a position.
 pub(crate) const Z: usize = 2;
 /// The relative axis of a wheel to the side.
 const SIDE_WHEEL: usize = 6;
 /// The relative axis of a wheel.
 const WHEEL: usize = 8;
-/// The axis before the number of a finger.
+/// The absolute axis before the number of the finger.
 const BEFORE_SLOT: usize = 0x2E;
-/// The number of a finger.
+/// The absolute axis of the number of the finger that is told of.
 const SLOT: usize = 0x2F;
-/// The first axis of the place of each finger.
-const FINGERS_X: usize = 0x35;
-/// The second axis of the place of each finger.
-const FINGERS_Y: usize = 0x36;
+/// The first axis of the position of each finger.
+const MULTITOUCH_X: usize = 0x35;
+/// The second axis of the position of each finger.
+const MULTITOUCH_Y: usize = 0x36;
 
 /// The first button of a pad.
 const BUTTON_0: usize = 0x100;
@@ -37,43 +37,43 @@ const BUTTON_0: usize = 0x100;
 const BUTTON_1: usize = 0x101;
 /// The last button of a mouse.
 const LAST_MOUSE_BUTTON: usize = 0x11F;
-/// A pen is near.
+/// A pen.
 const PEN: usize = 0x140;
-/// A finger is near.
+/// A finger.
 const FINGER: usize = 0x145;
-/// It is touched.
+/// A touch.
 const TOUCH: usize = 0x14A;
 /// The button of a stylus.
 const STYLUS: usize = 0x14B;
 
-/// The property of a device that is touched where it shows something.
+/// The property of a device whose touches are meant where they are, as on a screen.
 const DIRECT: usize = 1;
 
 impl Capabilities {
-    /// Whether it tells a place by two axes.
-    #[tactic(auto, unfolding(crate::specs::Signs::has_place))]
-    pub(crate) fn has_place(&self) -> bool
-        ensures { result ≡ has_place self.now }
+    /// Whether it has the absolute axes of a position.
+    #[tactic(auto, unfolding(crate::specs::Signs::has_position))]
+    pub(crate) fn has_position(&self) -> bool
+        ensures { result ≡ has_position self.now }
     {
-        self.absolute.has(X) && self.absolute.has(Y)
+        self.absolute_axes.has(X) && self.absolute_axes.has(Y)
     }
 
-    /// Whether it tells the places of several fingers.
-    #[tactic(auto, unfolding(crate::specs::Signs::has_fingers))]
-    pub(crate) fn has_fingers(&self) -> bool
-        ensures { result ≡ has_fingers self.now }
+    /// Whether it has the absolute axes of a position for each finger.
+    #[tactic(auto, unfolding(crate::specs::Signs::has_multitouch))]
+    pub(crate) fn has_multitouch(&self) -> bool
+        ensures { result ≡ has_multitouch self.now }
     {
-        self.absolute.has(FINGERS_X)
-            && self.absolute.has(FINGERS_Y)
-            && !(self.absolute.has(SLOT) && self.absolute.has(BEFORE_SLOT))
+        self.absolute_axes.has(MULTITOUCH_X)
+            && self.absolute_axes.has(MULTITOUCH_Y)
+            && !(self.absolute_axes.has(SLOT) && self.absolute_axes.has(BEFORE_SLOT))
     }
 
-    /// Whether it tells of motions.
+    /// Whether it has the relative axes of a motion.
     #[tactic(auto, unfolding(crate::specs::Signs::has_motion))]
     pub(crate) fn has_motion(&self) -> bool
         ensures { result ≡ has_motion self.now }
     {
-        self.events.has(RELATIVE_EVENT) && self.relative.has(X) && self.relative.has(Y)
+        self.events.has(RELATIVE_EVENT) && self.relative_axes.has(X) && self.relative_axes.has(Y)
     }
 
     /// Whether it has a wheel.
@@ -82,7 +82,7 @@ impl Capabilities {
         ensures { result ≡ has_wheel self.now }
     {
         self.events.has(RELATIVE_EVENT)
-            && (self.relative.has(WHEEL) || self.relative.has(SIDE_WHEEL))
+            && (self.relative_axes.has(WHEEL) || self.relative_axes.has(SIDE_WHEEL))
     }
 
     /// Whether it takes a pen.
@@ -90,23 +90,23 @@ impl Capabilities {
     pub(crate) fn takes_pen(&self) -> bool
         ensures { result ≡ takes_pen self.now }
     {
-        self.buttons.has(PEN) || self.buttons.has(STYLUS)
+        self.keys.has(PEN) || self.keys.has(STYLUS)
     }
 
-    /// Whether it takes a finger and no pen, and no screen lies below.
+    /// Whether it takes a finger and no pen, and is no screen.
     #[tactic(auto, unfolding(crate::specs::Signs::takes_finger))]
     pub(crate) fn takes_finger(&self) -> bool
         ensures { result ≡ takes_finger self.now }
     {
-        !self.takes_pen() && self.buttons.has(FINGER) && !self.traits.has(DIRECT)
+        !self.takes_pen() && self.keys.has(FINGER) && !self.properties.has(DIRECT)
     }
 
-    /// Whether it is touched.
-    #[tactic(auto, unfolding(crate::specs::Signs::is_touched))]
-    pub(crate) fn is_touched(&self) -> bool
-        ensures { result ≡ is_touched self.now }
+    /// Whether it is a screen, or tells of touches.
+    #[tactic(auto, unfolding(crate::specs::Signs::takes_touch))]
+    pub(crate) fn takes_touch(&self) -> bool
+        ensures { result ≡ takes_touch self.now }
     {
-        self.buttons.has(TOUCH) || self.traits.has(DIRECT)
+        self.keys.has(TOUCH) || self.properties.has(DIRECT)
     }
 
     /// Whether it has buttons of a mouse.
@@ -114,15 +114,15 @@ impl Capabilities {
     pub(crate) fn has_mouse_buttons(&self) -> bool
         ensures { result ≡ has_mouse_buttons self.now }
     {
-        self.buttons.count(Group::MouseButton) >= 1
+        self.keys.count(Group::MouseButton) >= 1
     }
 
-    /// Whether it has buttons of a pad.
+    /// Whether it has buttons of a pad, and takes no pen.
     #[tactic(auto, unfolding(crate::specs::Signs::has_pad_buttons))]
     pub(crate) fn has_pad_buttons(&self) -> bool
         ensures { result ≡ has_pad_buttons self.now }
     {
-        self.buttons.has(BUTTON_0) && self.buttons.has(BUTTON_1) && !self.buttons.has(PEN)
+        self.keys.has(BUTTON_0) && self.keys.has(BUTTON_1) && !self.keys.has(PEN)
     }
 
     /// How many buttons of joysticks it has.
@@ -131,10 +131,10 @@ impl Capabilities {
         ensures value { result ≡ joystick_buttons self.now }
         ensures few { result ≤ 768 }
     {
-        if self.buttons.has(LAST_MOUSE_BUTTON) {
+        if self.keys.has(LAST_MOUSE_BUTTON) {
             0
         } else {
-            self.buttons.count(Group::JoystickButton)
+            self.keys.count(Group::JoystickButton)
         }
     }
 
@@ -143,14 +143,14 @@ impl Capabilities {
     pub(crate) fn joystick_parts(&self) -> usize
         ensures { result ≡ joystick_parts self.now }
     {
-        self.joystick_buttons() + self.absolute.count(Group::JoystickAxis)
+        self.joystick_buttons() + self.absolute_axes.count(Group::JoystickAxis)
     }
 
-    /// Whether it has four of the keys that each keyboard has.
+    /// Whether it has at least four of the keys that keyboards have.
     #[tactic(auto, unfolding(crate::specs::Signs::has_usual_keys))]
     pub(crate) fn has_usual_keys(&self) -> bool
         ensures { result ≡ has_usual_keys self.now }
     {
-        self.events.has(KEY_EVENT) && self.buttons.count(Group::UsualKey) >= 4
+        self.events.has(KEY_EVENT) && self.keys.count(Group::UsualKey) >= 4
     }
 }

@@ -4,4 +4,4 @@ use Rattle.builtin_input.proofs.capabilities.Capabilities.read.Goals as goal
 
 pub returns : goal.returns
 unfolding capabilities
-returns c = rw (c.in_ok-events.ensures, c.in_ok-buttons.ensures, c.in_ok-absolute.ensures, c.in_ok-relative.ensures, c.in_ok-traits.ensures, c.bus.ensures, c.text_of.ensures) refl
+returns c = rw (c.in_ok-events.ensures, c.in_ok-keys.ensures, c.in_ok-absolute_axes.ensures, c.in_ok-relative_axes.ensures, c.in_ok-properties.ensures, c.bus_number.ensures, c.text_of.ensures) refl

@@ -1,5 +1,5 @@
 use Rattle.builtin_input.proofs.KindLaws.{no_kind}
-use Rattle.builtin_input.proofs.laws.what_tells_nothing_is_of_no_kind.Goals as goal
+use Rattle.builtin_input.proofs.laws.devices_with_nothing_have_no_kind.Goals as goal
 
 pub returns : goal.returns
 returns c = no_kind

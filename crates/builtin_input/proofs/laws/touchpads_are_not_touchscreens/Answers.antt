@@ -1,5 +1,5 @@
 use Rattle.builtin_input.proofs.KindLaws.{screen_apart, buttons_apart}
-use Rattle.builtin_input.proofs.laws.touchpads_are_no_screens.Goals as goal
+use Rattle.builtin_input.proofs.laws.touchpads_are_not_touchscreens.Goals as goal
 
 pub returns-clause-screen : goal.returns-clause-screen
 returns-clause-screen c = screen_apart

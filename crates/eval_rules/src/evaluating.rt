@@ -152,6 +152,7 @@ fn outcome_with(scene: Scene<'_>, commands: Commands, env: OwnedPairs) -> Outcom
         made: _,
         notes,
         finals: _,
+        ran: _,
     } = scene;
     let State {
         name,

@@ -174,9 +174,8 @@ pub fn bytes_of(alloc: Global, text: &[u8]) -> Result<Option<Vec<u8>>, AllocErro
         bytes.push(16 * high + low)?;
         rest = more;
     }
-    if rest.is_empty() {
-        Ok(Some(bytes))
-    } else {
-        Ok(None)
+    if !rest.is_empty() {
+        return Ok(None);
     }
+    Ok(Some(bytes))
 }

@@ -63,7 +63,7 @@ impl<'a> Model for Device<'a> {
 impl<'a> Device<'a> {
     /// A device that is told of by its path, its subsystem and its attributes alone.
     pub fn told(alloc: Global, path: &'a [u8], subsystem: &'a [u8], attrs: Pairs<'a>) -> Device<'a>
-        ensures { result ≡ told path.now subsystem.now attrs }
+        ensures { result ≡ told path.now subsystem.now attrs.entry }
     {
         Device {
             path,

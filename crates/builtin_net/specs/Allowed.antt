@@ -9,12 +9,12 @@ use Rattle.builtin_devices.specs.Numbers.{number_in}
 use Rattle.builtin_devices.specs.declared.numbers.Base.TheVariants.{AsWritten}
 use Rattle.builtin_net.specs.Words.{most_number}
 use Rattle.builtin_net.specs.declared.allowed.Attribute.{Attribute}
-use Rattle.builtin_net.specs.declared.allowed.Attribute.TheVariants.{Iflink, Type, AddrAssignType, Address, PhysPortName, DevPort, DevId, AriEnabled, AcpiIndex, Index, Label, Sun, FunctionId, Modalias}
+use Rattle.builtin_net.specs.declared.allowed.Attribute.TheVariants.{Iflink, Hardware, AddrAssignType, Address, PhysPortName, DevPort, DevId, AriEnabled, AcpiIndex, Index, Label, Sun, FunctionId, Modalias}
 
 -- where an attribute stands below the folder of its device
 abbrev pub attribute_name : Attribute → Text
 attribute_name Iflink = codes "iflink"
-attribute_name Type = codes "type"
+attribute_name Hardware = codes "type"
 attribute_name AddrAssignType = codes "addr_assign_type"
 attribute_name Address = codes "address"
 attribute_name PhysPortName = codes "phys_port_name"

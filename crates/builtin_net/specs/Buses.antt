@@ -51,10 +51,16 @@ unfoldable pub vio_text : Text → Option Text
 vio_text name =
     if length name == 8 && list_all is_ascii_hexdigit name then option_map (λ n. codes "v" ++ decimal n) (number_in Hexadecimal most_number (drop 4 name)) else None
 
+-- whether a byte is a large letter or a digit
+abbrev pub is_vendor_byte : ℕ → Bool
+is_vendor_byte b = is_ascii_uppercase b || is_ascii_digit b
+
 -- whether a text names a maker of platform devices: three large letters, or four large letters and digits
 unfoldable pub is_vendor : Text → Bool
 is_vendor text =
-    length text == 3 && list_all is_ascii_uppercase text || length text == 4 && list_all (λ b. is_ascii_uppercase b || is_ascii_digit b) text
+    if length text == 3 then list_all is_ascii_uppercase text
+    else if length text == 4 then list_all is_vendor_byte text
+    else false
 
 -- maker, model and instance of a platform device: the model in small digits without zeros before it, the instance in decimal
 abbrev pub acpi_text : (vendor model : Text) → ℕ → Text

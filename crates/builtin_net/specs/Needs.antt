@@ -18,7 +18,7 @@ use Rattle.builtin_net.specs.Slots.{firmware_number, is_bridge, is_told, number_
 use Rattle.builtin_net.specs.Trees.{aliases_folder, node_link}
 use Rattle.builtin_net.specs.Virtual.{Named}
 use Rattle.builtin_net.specs.Words.{is_number}
-use Rattle.builtin_net.specs.declared.allowed.Attribute.TheVariants.{Iflink, Type, AddrAssignType, Address, PhysPortName, DevPort, DevId, FunctionId, Modalias}
+use Rattle.builtin_net.specs.declared.allowed.Attribute.TheVariants.{Iflink, Hardware, AddrAssignType, Address, PhysPortName, DevPort, DevId, FunctionId, Modalias}
 use Rattle.builtin_net.specs.declared.functions.Function.{Function}
 use Rattle.builtin_net.specs.declared.prefixes.Prefix.{Prefix}
 
@@ -31,7 +31,7 @@ abbrev pub own_needs : EventValue → (interface : DeviceValue) → List Text
 own_needs event interface =
     when (is_of (codes "net") None event.device && not (is_some (value_of event.device.env (codes "IFINDEX")))) (codes "IFINDEX")
     ++ when (is_some (index event) && lacks interface Iflink) (codes "iflink")
-    ++ when (is_alone event interface && lacks interface Type) (codes "type")
+    ++ when (is_alone event interface && lacks interface Hardware) (codes "type")
 
 -- of the address
 abbrev pub address_needs : Prefix → (interface : DeviceValue) → List Text

@@ -8,8 +8,10 @@ use Rattle.builtin_devices.specs.declared.numbers.Base.TheVariants.{Decimal}
 use Rattle.builtin_net.specs.Words.{behind, most_number}
 
 -- ports with `u` for each dot in between
+abbrev pub port_byte : ℕ → ℕ
+port_byte b = if b == dot then 117 else b
 abbrev pub ports_text : Text → Text
-ports_text ports = map (λ b. if b == dot then 117 else b) ports
+ports_text ports = map port_byte ports
 
 -- a number behind a letter, left out where it is the usual one
 abbrev pub unless_usual : (usual letter number : Text) → Text

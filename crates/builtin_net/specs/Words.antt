@@ -31,8 +31,7 @@ is_plain text = is_utf8 text && not (list_any is_control text)
 -- a number above 0
 abbrev pub positive : Option ℕ → Option ℕ
 positive None = None
-positive (Some zero) = None
-positive (Some (suc n)) = Some (suc n)
+positive (Some n) = if n == 0 then None else Some n
 
 -- whether a number is there, and this one
 abbrev pub is_number : Option ℕ → ℕ → Bool

@@ -48,7 +48,7 @@ fn need_own(
     need(alloc, needs, lacks_index, b"IFINDEX")?;
     let lacks_link = index(event).is_some() && lacks_own(event, env, Attribute::Iflink);
     need(alloc, needs, lacks_link, b"iflink")?;
-    let lacks_type = is_alone(event, env) && lacks_own(event, env, Attribute::Type);
+    let lacks_type = is_alone(event, env) && lacks_own(event, env, Attribute::Hardware);
     need(alloc, needs, lacks_type, b"type")
 }
 

@@ -1,5 +1,6 @@
 //! Virtual functions, whose names are those of the physical one.
 ghost use Rattle.std.specs.Prelude.{◌≡◌, IfOk, option_map};
+ghost use Rattle.text_bytes.specs.Numbers.{is_decimal};
 ghost use Rattle.builtin_net.specs.Virtual.{leads_to, named_function, physical_path, virtual_number};
 
 use crate::words::{behind, joined};

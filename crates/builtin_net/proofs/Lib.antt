@@ -1,0 +1,3 @@
+mod Utf8
+mod Seen
+mod Fields

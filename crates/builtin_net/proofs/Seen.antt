@@ -2,12 +2,12 @@
 use Rattle.std.proofs.Common.{◌≡◌, ℕ, Bool, true, false, List, [], ◌∷◌, Option, Some, None, option_map, map, cond, refl, ap, ◌&&◌, ◌||◌}
 use Rattle.std.specs.List.{find, list_all, list_any}
 
-pub find_seen : {X Y : Type 0} (p : Y → Bool) (v : X → Y) (xs : List X) → option_map v (find (λ x. p (v x)) xs) ≡ find p (map v xs)
+pub find_seen : {X Y : Type 0} (p : Y → Bool) (v : X → Y) (xs : List X) → find p (map v xs) ≡ option_map v (find (λ x. p (v x)) xs)
 find_seen p v [] = refl
 find_seen p v (x ∷ xs) = by (p (v x)) (find_seen p v xs)
   where
-    by : (b : Bool) → option_map v (find (λ y. p (v y)) xs) ≡ find p (map v xs)
-        → option_map v (cond b (Some x) (find (λ y. p (v y)) xs)) ≡ cond b (Some (v x)) (find p (map v xs))
+    by : (b : Bool) → find p (map v xs) ≡ option_map v (find (λ y. p (v y)) xs)
+        → cond b (Some (v x)) (find p (map v xs)) ≡ option_map v (cond b (Some x) (find (λ y. p (v y)) xs))
     by true h = refl
     by false h = h
 

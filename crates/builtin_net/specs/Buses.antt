@@ -77,6 +77,7 @@ abbrev pub platform_parts : (front instance : Text) → Option Text
 platform_parts front instance =
     if is_acpi front instance then option_map (acpi_text (take (length front - 4) front) (drop (length front - 4) front)) (number_in Hexadecimal most_number instance)
     else None
+
 unfoldable pub platform_text : Text → Option Text
 platform_text name = option_and_then (λ parts. platform_parts parts.0 parts.1) (split_once colon name)
 
@@ -96,6 +97,7 @@ simulated _ _ = None
 -- the number of a kernel's name
 abbrev pub number_of_name : (kernel : Text) → Option ℕ
 number_of_name kernel = option_and_then (number_in AsWritten most_number) (name_number kernel)
+
 unfoldable pub netdevsim_text : (interface device : DeviceValue) → Option Text
 netdevsim_text interface device =
     simulated (number_of_name (kernel_of device)) (some_text (read interface PhysPortName))
@@ -108,12 +110,16 @@ of_ccw (Some device) = if is_of (codes "ccwgroup") None device || is_of (codes "
 -- the texts of an interface by each bus
 unfoldable pub by_ccw : EventValue → Option Text
 by_ccw event = of_ccw (parent_behind_virtio event)
+
 unfoldable pub by_vio : EventValue → Option Text
 by_vio event = if is_there (codes "vio") (parent event) then option_and_then vio_text (component (codes "/devices/vio/") event.device.path) else None
+
 unfoldable pub by_platform : EventValue → Option Text
 by_platform event =
     if is_there (codes "platform") (parent event) then option_and_then platform_text (component (codes "/devices/platform/") event.device.path) else None
+
 unfoldable pub by_xen : EventValue → Option Text
 by_xen event = if is_there (codes "xen") (parent event) then option_and_then xen_text (component (codes "/devices/") event.device.path) else None
+
 unfoldable pub by_netdevsim : EventValue → (interface : DeviceValue) → Option Text
 by_netdevsim event interface = option_and_then (netdevsim_text interface) (above event (codes "netdevsim") None event.device.path)

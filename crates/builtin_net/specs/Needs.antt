@@ -71,7 +71,7 @@ lacks_at_end device = option_map_or (λ d. lacks d Modalias && not (is_some (rea
 abbrev pub slot_needs : EventValue → (pci : DeviceValue) → List Text
 slot_needs event pci =
     when (not (is_some (firmware_number pci)) && lacks_modalias (pci_above event pci)
-          || not (is_some (number_by_firmware event pci)) && lacks_at_end (search_end event pci)) (codes "modalias")
+    || not (is_some (number_by_firmware event pci)) && lacks_at_end (search_end event pci)) (codes "modalias")
     ++ when (not (is_some (number_by_firmware event pci)) && not (is_told event slots_folder)) (codes "slots")
 
 -- of a function
@@ -80,6 +80,7 @@ of_function event prefix interface pci None = []
 of_function event prefix interface pci (Some f) =
     let has_port = is_some (port_text prefix interface true) in
     config_needs event pci f has_port ++ port_needs prefix interface true ++ (if has_port then slot_needs event pci else [])
+
 unfoldable pub function_needs : EventValue → Prefix → (interface pci : DeviceValue) → List Text
 function_needs event prefix interface pci = of_function event prefix interface pci (function pci)
 

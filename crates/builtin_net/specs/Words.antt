@@ -17,6 +17,7 @@ behind front text = if starts_with nat_eq text front then Some (drop (length fro
 -- the digits that a text begins with, and what stands behind them
 abbrev pub leading_digits : Text → Text
 leading_digits text = take (prefix_len is_digit text) text
+
 abbrev pub behind_digits : Text → Text
 behind_digits text = drop (prefix_len is_digit text) text
 

@@ -6,7 +6,9 @@ ghost use Rattle.builtin_net.specs.Slots.{slot_of};
 
 use crate::address::address_digits;
 use crate::allowed::{Attribute, own_number, read_own};
-use crate::buses::{by_ccw, by_netdevsim, by_platform, by_vio, by_xen, is_there, parent_behind_virtio};
+use crate::buses::{
+    by_ccw, by_netdevsim, by_platform, by_vio, by_xen, is_there, parent_behind_virtio,
+};
 use crate::functions::{Function, function_at, is_several, push_domain, push_function, push_place};
 use crate::on_board::{board_number, label};
 use crate::ports::port_text;
@@ -238,11 +240,7 @@ pub(crate) fn own_function<'d, 'a>(
 }
 
 /// The label of a function, unless it is a virtual one.
-fn label_of(
-    alloc: Global,
-    pci: &Device<'_>,
-    suffix: &[u8],
-) -> Result<Option<Vec<u8>>, AllocError>
+fn label_of(alloc: Global, pci: &Device<'_>, suffix: &[u8]) -> Result<Option<Vec<u8>>, AllocError>
     ensures { IfOk result (λ text. option_map (λ t. t.items) text ≡ label_of pci.now suffix.now) }
 {
     if !suffix.is_empty() {
@@ -329,7 +327,13 @@ fn give_by_usb(
     };
     match usb_function(alloc, devices)? {
         Some(pci) => give_by_function(alloc, names, devices, prefix, env, pci, &suffix),
-        None => give(alloc, names, b"ID_NET_NAME_PATH", prefix.text(), Some(suffix)),
+        None => give(
+            alloc,
+            names,
+            b"ID_NET_NAME_PATH",
+            prefix.text(),
+            Some(suffix),
+        ),
     }
 }
 
@@ -406,7 +410,13 @@ fn give_by_buses(
     give(alloc, names, path, prefix, by_ccw(alloc, devices)?)?;
     give(alloc, names, slot, prefix, by_vio(alloc, devices)?)?;
     give(alloc, names, path, prefix, by_platform(alloc, devices)?)?;
-    give(alloc, names, path, prefix, by_netdevsim(alloc, devices, env)?)?;
+    give(
+        alloc,
+        names,
+        path,
+        prefix,
+        by_netdevsim(alloc, devices, env)?,
+    )?;
     give(alloc, names, slot, prefix, by_xen(alloc, devices)?)
 }
 
@@ -423,9 +433,21 @@ pub(crate) fn names(
     let mut names = Vec::new(alloc);
     add_property(alloc, b"ID_NET_NAMING_SCHEME", b"v257", &mut names)?;
     let address = by_address(alloc, prefix, devices.event(), env)?;
-    give(alloc, &mut names, b"ID_NET_NAME_MAC", prefix.text(), address)?;
+    give(
+        alloc,
+        &mut names,
+        b"ID_NET_NAME_MAC",
+        prefix.text(),
+        address,
+    )?;
     let tree = by_tree(alloc, devices, prefix)?;
-    give(alloc, &mut names, b"ID_NET_NAME_ONBOARD", prefix.text(), tree)?;
+    give(
+        alloc,
+        &mut names,
+        b"ID_NET_NAME_ONBOARD",
+        prefix.text(),
+        tree,
+    )?;
     give_by_buses(alloc, &mut names, devices, prefix.text(), env)?;
     give_by_pci(alloc, &mut names, devices, prefix, env)?;
     give_by_usb(alloc, &mut names, devices, prefix, env)?;

@@ -13,7 +13,9 @@ use crate::names::{bcma_end, bcma_function, own_function, usb_end, usb_function}
 use crate::on_board::board_number;
 use crate::ports::{port_text, some_text};
 use crate::prefixes::Prefix;
-use crate::slots::{SLOTS_FOLDER, firmware_number, is_bridge, is_told, number_by_firmware, pci_above, search_end};
+use crate::slots::{
+    SLOTS_FOLDER, firmware_number, is_bridge, is_told, number_by_firmware, pci_above, search_end,
+};
 use crate::trees::{ALIASES_FOLDER, node_link};
 use crate::virtual_functions::NamedFunction;
 use crate::words::is_number;
@@ -23,15 +25,14 @@ use std::alloc::{AllocError, Global};
 use text_tables::{OwnedPairs, OwnedTexts};
 
 /// Adds a word to what is needed, under a condition.
-fn need(
-    alloc: Global,
-    needs: &mut OwnedTexts,
-    holds: bool,
-    word: &[u8],
-) -> Result<(), AllocError>
+fn need(alloc: Global, needs: &mut OwnedTexts, holds: bool, word: &[u8]) -> Result<(), AllocError>
     ensures { OnOk result (needs.new ≡ with_texts needs.old (when holds word.now)) }
 {
-    if holds { needs.add(alloc, word) } else { Ok(()) }
+    if holds {
+        needs.add(alloc, word)
+    } else {
+        Ok(())
+    }
 }
 
 /// Adds what is needed of the index and the hardware.
@@ -83,7 +84,12 @@ fn need_tree(
 {
     let has_node = node_link(alloc, devices)?.is_some();
     let is_told = is_told(alloc, devices.event(), ALIASES_FOLDER)?;
-    need(alloc, needs, prefix.is_ethernet() && has_node && !is_told, b"aliases")
+    need(
+        alloc,
+        needs,
+        prefix.is_ethernet() && has_node && !is_told,
+        b"aliases",
+    )
 }
 
 /// Adds what is needed of the port.
@@ -104,7 +110,12 @@ fn need_port(
     need(alloc, needs, lacks_port, b"dev_port")?;
     let is_first = is_number(own_number(event, env, Attribute::DevPort), 0);
     let asks_id = is_first && by_id && prefix.is_infiniband();
-    need(alloc, needs, asks_id && lacks_own(event, env, Attribute::DevId), b"dev_id")
+    need(
+        alloc,
+        needs,
+        asks_id && lacks_own(event, env, Attribute::DevId),
+        b"dev_id",
+    )
 }
 
 /// Whether there is a device, and it is a bridge.
@@ -165,7 +176,8 @@ fn need_slot<'a>(
 ) -> Result<(), AllocError>
     ensures { OnOk result (needs.new ≡ with_texts needs.old (slot_needs devices.now pci.now)) }
 {
-    let lacks_above = firmware_number(pci).is_none() && lacks_modalias(pci_above(alloc, devices, pci)?);
+    let lacks_above = firmware_number(pci).is_none()
+        && lacks_modalias(pci_above(alloc, devices, pci)?);
     let asks_bus = number_by_firmware(alloc, devices, pci)?.is_none();
     let lacks_end = asks_bus && lacks_at_end(search_end(alloc, devices, pci)?);
     need(alloc, needs, lacks_above || lacks_end, b"modalias")?;
@@ -212,7 +224,10 @@ fn need_pci(
         let is_pci = is_there(b"pci", parent_behind_virtio(alloc, devices)?);
         return need(alloc, needs, is_pci, b"physfn");
     };
-    let NamedFunction { pci, suffix: _suffix } = own;
+    let NamedFunction {
+        pci,
+        suffix: _suffix,
+    } = own;
     if board_number(pci).is_some() {
         need_port(alloc, needs, prefix, devices.event(), env, false)?;
     }
@@ -254,9 +269,25 @@ fn need_names(
     need_tree(alloc, needs, devices, prefix)?;
     need_pci(alloc, needs, devices, prefix, env)?;
     let usb = usb_function(alloc, devices)?;
-    need_above(alloc, needs, devices, prefix, env, usb, usb_end(alloc, devices)?)?;
+    need_above(
+        alloc,
+        needs,
+        devices,
+        prefix,
+        env,
+        usb,
+        usb_end(alloc, devices)?,
+    )?;
     let bcma = bcma_function(alloc, devices)?;
-    need_above(alloc, needs, devices, prefix, env, bcma, bcma_end(alloc, devices)?)
+    need_above(
+        alloc,
+        needs,
+        devices,
+        prefix,
+        env,
+        bcma,
+        bcma_end(alloc, devices)?,
+    )
 }
 
 /// What a block would have to tell for the names of an interface, each once.

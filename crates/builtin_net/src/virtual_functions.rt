@@ -1,7 +1,7 @@
 //! Virtual functions, whose names are those of the physical one.
-ghost use Rattle.std.specs.Prelude.{◌≡◌, IfOk, option_map};
+ghost use Rattle.std.specs.Prelude.{◌≡◌, IfOk, find, map, option_and_then, option_map};
 ghost use Rattle.text_bytes.specs.Numbers.{is_decimal};
-ghost use Rattle.builtin_net.specs.Virtual.{leads_to, named_function, physical_path, virtual_number};
+ghost use Rattle.builtin_net.specs.Virtual.{leads_to, named_function, physical_path, virtual_digits, virtual_number};
 
 use crate::words::{behind, joined};
 use builtin_devices::{Devices, file_at, files_below};
@@ -57,6 +57,17 @@ fn leads_to(path: &[u8], file: (&[u8], &[u8])) -> bool
     }
 }
 
+/// What stands behind `virtfn` in the name of the link that leads to a virtual function.
+#[tactic(auto, using(crate::proofs::Seen::find_seen))]
+fn number_among<'a>(path: &[u8], links: &[(&'a [u8], &'a [u8])]) -> Option<&'a [u8]>
+    ensures { option_map (λ t. t.now) result ≡ option_and_then virtual_digits (find (leads_to path.now) (map (λ link. (link.0.now, link.1.now)) links.now)) }
+{
+    match links.iter().find(|link| leads_to(path, **link)) {
+        Some(link) => behind(b"virtfn", link.0),
+        None => None,
+    }
+}
+
 /// The number of a virtual function among those of its physical one.
 #[tactic(auto, unfolding(crate::specs::Virtual::virtual_number))]
 fn virtual_number<'a>(
@@ -68,10 +79,7 @@ fn virtual_number<'a>(
     ensures { IfOk result (λ number. option_map (λ t. t.now) number ≡ virtual_number event.now physical.now path.now) }
 {
     let links = files_below(alloc, event, physical)?;
-    match links.iter().find(|link| leads_to(path, **link)) {
-        Some(link) => Ok(behind(b"virtfn", link.0)),
-        None => Ok(None),
-    }
+    Ok(number_among(path, &links))
 }
 
 /// By which function names are told; `None` where the block does not tell of the physical one.

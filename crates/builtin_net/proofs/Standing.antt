@@ -34,8 +34,8 @@ stacked event env h =
 not_allowed : (env : List Pair) (word : Text) → value_of env permission_of_all ≡ Some word → is_yes word ≡ false → value_of env (permission Iflink) ≡ None
     → is_allowed env Iflink ≡ false
 unfolding is_allowed
-not_allowed env word all no own =
-    ap (λ o. permits o (value_of env permission_of_all)) own ∙ ap (λ o. permits None o) all ∙ no
+not_allowed env word all denied own =
+    ap (λ o. permits o (value_of env permission_of_all)) own ∙ ap (λ o. permits None o) all ∙ denied
 
 not_read : (i : DeviceValue) → is_allowed i.env Iflink ≡ false → read i Iflink ≡ None
 unfolding read
@@ -52,7 +52,7 @@ not_identified event i h = ap (λ o. is_some (index event) && option_map_or is_l
 pub forbidden : (event : EventValue) (env : List Pair) (word : Text)
     → value_of env permission_of_all ≡ Some word → is_yes word ≡ false → value_of env (permission Iflink) ≡ None → (net_id event env).is_done ≡ false
 unfolding net_id
-forbidden event env word all no own =
+forbidden event env word all denied own =
     let i = interface event env in
     ap (λ b. (cond b (succeeding (properties event i) (needs event i)) (failing (needs event i))).is_done)
-    (not_identified event i (not_read i (not_allowed env word all no own)))
+    (not_identified event i (not_read i (not_allowed env word all denied own)))

@@ -67,17 +67,16 @@ abbrev pub acpi_text : (vendor model : Text) → ℕ → Text
 acpi_text vendor model instance =
     codes "a" ++ map to_ascii_lowercase vendor ++ map to_ascii_lowercase (trimmed (λ b. b == digit_zero) model) ++ codes "i" ++ decimal instance
 
--- whether a maker with a model of four hexadecimal digits behind it, and an instance of two bytes
-unfoldable pub is_acpi : (front instance : Text) → Bool
-is_acpi front instance =
-    is_vendor (take (length front - 4) front) && list_all is_ascii_hexdigit (drop (length front - 4) front) && length instance == 2
+-- whether these are a maker, a model of hexadecimal digits and an instance of two bytes
+unfoldable pub is_acpi : (vendor model instance : Text) → Bool
+is_acpi vendor model instance = is_vendor vendor && list_all is_ascii_hexdigit model && length instance == 2
 
--- platform: a maker, a model, a colon and an instance in hexadecimal
+-- platform: a maker, a model of four bytes, a colon and an instance in hexadecimal
+abbrev pub with_instance : (vendor model instance : Text) → Option Text
+with_instance vendor model instance =
+    if is_acpi vendor model instance then option_map (acpi_text vendor model) (number_in Hexadecimal most_number instance) else None
 abbrev pub platform_parts : (front instance : Text) → Option Text
-platform_parts front instance =
-    if is_acpi front instance then option_map (acpi_text (take (length front - 4) front) (drop (length front - 4) front)) (number_in Hexadecimal most_number instance)
-    else None
-
+platform_parts front instance = with_instance (take (length front - 4) front) (drop (length front - 4) front) instance
 unfoldable pub platform_text : Text → Option Text
 platform_text name = option_and_then (λ parts. platform_parts parts.0 parts.1) (split_once colon name)
 

@@ -67,11 +67,16 @@ lacks_modalias device = option_map_or (λ d. lacks d Modalias) device false
 abbrev pub lacks_at_end : Option DeviceValue → Bool
 lacks_at_end device = option_map_or (λ d. lacks d Modalias && not (is_some (read d FunctionId))) device false
 
+-- whether a device lacks its modalias that is asked whether it is a bridge: the device above, or that at which the search ends
+abbrev pub lacks_a_modalias : EventValue → (pci : DeviceValue) → Bool
+lacks_a_modalias event pci =
+    not (is_some (firmware_number pci)) && lacks_modalias (pci_above event pci)
+    || not (is_some (number_by_firmware event pci)) && lacks_at_end (search_end event pci)
+
 -- of the slot
 abbrev pub slot_needs : EventValue → (pci : DeviceValue) → List Text
 slot_needs event pci =
-    when (not (is_some (firmware_number pci)) && lacks_modalias (pci_above event pci)
-    || not (is_some (number_by_firmware event pci)) && lacks_at_end (search_end event pci)) (codes "modalias")
+    when (lacks_a_modalias event pci) (codes "modalias")
     ++ when (not (is_some (number_by_firmware event pci)) && not (is_told event slots_folder)) (codes "slots")
 
 -- of a function

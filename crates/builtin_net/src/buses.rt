@@ -3,7 +3,7 @@ ghost use Rattle.std.specs.Prelude.{◌≡◌, ◌==◌, ◌||◌, ◌≤◌, le
 ghost use Rattle.std.specs.List.{list_all, prefix_len};
 ghost use Rattle.text_bytes.specs.Names.{digit_zero, dot, slash};
 ghost use Rattle.builtin_net.specs.Allowed.{interface};
-ghost use Rattle.builtin_net.specs.Buses.{acpi_text, by_ccw, by_netdevsim, by_platform, by_vio, by_xen, ccw_text, component, is_acpi, is_there, is_vendor, is_vendor_byte, is_written_number, netdevsim_text, number_of_name, parent, parent_behind_virtio, platform_parts, platform_text, simulated, vio_text, without_start, xen_text};
+ghost use Rattle.builtin_net.specs.Buses.{acpi_text, by_ccw, by_netdevsim, by_platform, by_vio, by_xen, ccw_text, component, is_acpi, is_there, is_vendor, is_vendor_byte, is_written_number, netdevsim_text, number_of_name, parent, parent_behind_virtio, platform_parts, platform_text, simulated, vio_text, with_instance, without_start, xen_text};
 
 use crate::allowed::{Attribute, read_own};
 use crate::ports::some_text;
@@ -167,6 +167,32 @@ fn acpi_text(
     Ok(text)
 }
 
+/// Whether texts are a maker, a model and an instance of a platform device.
+#[tactic(auto, unfolding(crate::specs::Buses::is_acpi))]
+fn is_acpi(vendor: &[u8], model: &[u8], instance: &[u8]) -> bool
+    ensures { result ≡ is_acpi vendor.now model.now instance.now }
+{
+    is_vendor(vendor) && is_hexadecimal(model) && instance.len() == 2
+}
+
+/// A maker, a model and an instance as names of interfaces have them.
+fn with_instance(
+    alloc: Global,
+    vendor: &[u8],
+    model: &[u8],
+    instance: &[u8],
+) -> Result<Option<Vec<u8>>, AllocError>
+    ensures { IfOk result (λ text. option_map (λ t. t.items) text ≡ with_instance vendor.now model.now instance.now) }
+{
+    if !is_acpi(vendor, model, instance) {
+        return Ok(None);
+    }
+    match number_in(Base::Hexadecimal, MOST_NUMBER, instance) {
+        Some(instance) => Ok(Some(acpi_text(alloc, vendor, model, instance)?)),
+        None => Ok(None),
+    }
+}
+
 /// What stands before and behind the colon in the name of a platform device.
 fn platform_parts(
     alloc: Global,
@@ -176,13 +202,7 @@ fn platform_parts(
     ensures { IfOk result (λ text. option_map (λ t. t.items) text ≡ platform_parts front.now instance.now) }
 {
     let (vendor, model) = front.split_at(front.len().saturating_sub(4));
-    if !is_vendor(vendor) || !is_hexadecimal(model) || instance.len() != 2 {
-        return Ok(None);
-    }
-    match number_in(Base::Hexadecimal, MOST_NUMBER, instance) {
-        Some(instance) => Ok(Some(acpi_text(alloc, vendor, model, instance)?)),
-        None => Ok(None),
-    }
+    with_instance(alloc, vendor, model, instance)
 }
 
 /// A name of a platform device as names of interfaces have it.

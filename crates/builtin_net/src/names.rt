@@ -1,7 +1,8 @@
 //! The names of an interface.
-ghost use Rattle.std.specs.Prelude.{◌≡◌, ◌++◌, option_copied, option_map, IfOk, OnOk, Some};
+ghost use Rattle.std.specs.Prelude.{◌≡◌, ◌++◌, [], codes, option_copied, option_map, IfOk, OnOk, Some};
 ghost use Rattle.builtin_net.specs.Allowed.{interface};
 ghost use Rattle.builtin_net.specs.Names.{bcma_core, bcma_end, bcma_function, board_text, by_address, by_bcma, by_buses, by_function, by_pci, by_tree, by_usb, given, label_of, lasting_address, names, own_function, path_text, slot_text, tail, usb_end, usb_function, usb_interface, with_tail};
+ghost use Rattle.builtin_net.specs.Prefixes.{prefix_text};
 ghost use Rattle.builtin_net.specs.Slots.{slot_of};
 
 use crate::address::address_digits;
@@ -160,6 +161,34 @@ fn by_slot<'a>(
     }
 }
 
+/// Gives a name by a path.
+fn give_path(
+    alloc: Global,
+    names: &mut Vec<(Bytes, Bytes)>,
+    prefix: Prefix,
+    text: Vec<u8>,
+) -> Result<(), AllocError>
+    ensures { OnOk result (names.new.items ≡ names.old.items ++ given (codes "ID_NET_NAME_PATH") (prefix_text prefix) (Some text.items)) }
+{
+    give(alloc, names, b"ID_NET_NAME_PATH", prefix.text(), Some(text))
+}
+
+/// Gives the name by the slot of a function, where it stands in one.
+fn give_slot<'a>(
+    alloc: Global,
+    names: &mut Vec<(Bytes, Bytes)>,
+    devices: &Devices<'a>,
+    prefix: Prefix,
+    pci: &Device<'a>,
+    f: Function,
+    tail: &[u8],
+) -> Result<(), AllocError>
+    ensures { OnOk result (names.new.items ≡ names.old.items ++ given (codes "ID_NET_NAME_SLOT") (prefix_text prefix) (option_map (slot_text f tail.now) (slot_of devices.now pci.now))) }
+{
+    let slot = by_slot(alloc, devices, pci, f, tail)?;
+    give(alloc, names, b"ID_NET_NAME_SLOT", prefix.text(), slot)
+}
+
 /// Gives both names of a function with what stands behind.
 fn give_with_tail<'a>(
     alloc: Global,
@@ -173,9 +202,8 @@ fn give_with_tail<'a>(
     ensures { OnOk result (names.new.items ≡ names.old.items ++ with_tail devices.now prefix pci.now f (Some tail.now)) }
 {
     let path = path_text(alloc, f, tail)?;
-    give(alloc, names, b"ID_NET_NAME_PATH", prefix.text(), Some(path))?;
-    let slot = by_slot(alloc, devices, pci, f, tail)?;
-    give(alloc, names, b"ID_NET_NAME_SLOT", prefix.text(), slot)
+    give_path(alloc, names, prefix, path)?;
+    give_slot(alloc, names, devices, prefix, pci, f, tail)
 }
 
 /// Gives both names of a device, where it is a function.
@@ -252,6 +280,35 @@ fn label_of(alloc: Global, pci: &Device<'_>, suffix: &[u8]) -> Result<Option<Vec
     }
 }
 
+/// Gives the label of a function, unless it is a virtual one.
+fn give_label(
+    alloc: Global,
+    names: &mut Vec<(Bytes, Bytes)>,
+    pci: &Device<'_>,
+    suffix: &[u8],
+) -> Result<(), AllocError>
+    ensures { OnOk result (names.new.items ≡ names.old.items ++ given (codes "ID_NET_LABEL_ONBOARD") [] (label_of pci.now suffix.now)) }
+{
+    let label = label_of(alloc, pci, suffix)?;
+    give(alloc, names, b"ID_NET_LABEL_ONBOARD", b"", label)
+}
+
+/// Gives the name by the number of a function on board.
+fn give_board(
+    alloc: Global,
+    names: &mut Vec<(Bytes, Bytes)>,
+    prefix: Prefix,
+    event: &Event<'_>,
+    env: &OwnedPairs,
+    pci: &Device<'_>,
+    suffix: &[u8],
+) -> Result<(), AllocError>
+    ensures { OnOk result (names.new.items ≡ names.old.items ++ given (codes "ID_NET_NAME_ONBOARD") (prefix_text prefix) (board_text prefix (interface event.now env.now) pci.now suffix.now)) }
+{
+    let board = board_text(alloc, prefix, event, env, pci, suffix)?;
+    give(alloc, names, b"ID_NET_NAME_ONBOARD", prefix.text(), board)
+}
+
 /// Gives the names of an interface of PCI, and its label.
 #[tactic(auto, unfolding(crate::specs::Names::by_pci))]
 fn give_by_pci(
@@ -267,10 +324,8 @@ fn give_by_pci(
         return Ok(());
     };
     let NamedFunction { pci, suffix } = own;
-    let label = label_of(alloc, pci, &suffix)?;
-    give(alloc, names, b"ID_NET_LABEL_ONBOARD", b"", label)?;
-    let board = board_text(alloc, prefix, devices.event(), env, pci, &suffix)?;
-    give(alloc, names, b"ID_NET_NAME_ONBOARD", prefix.text(), board)?;
+    give_label(alloc, names, pci, &suffix)?;
+    give_board(alloc, names, prefix, devices.event(), env, pci, &suffix)?;
     give_by_function(alloc, names, devices, prefix, env, pci, &suffix)
 }
 
@@ -327,13 +382,7 @@ fn give_by_usb(
     };
     match usb_function(alloc, devices)? {
         Some(pci) => give_by_function(alloc, names, devices, prefix, env, pci, &suffix),
-        None => give(
-            alloc,
-            names,
-            b"ID_NET_NAME_PATH",
-            prefix.text(),
-            Some(suffix),
-        ),
+        None => give_path(alloc, names, prefix, suffix),
     }
 }
 

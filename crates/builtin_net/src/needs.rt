@@ -3,7 +3,7 @@ ghost use Rattle.std.specs.Prelude.{◌≡◌, ◌++◌, is_some, option_copied,
 ghost use Rattle.text_tables.specs.Texts.{with_texts};
 ghost use Rattle.builtin_net.specs.Allowed.{interface};
 ghost use Rattle.builtin_net.specs.Names.{own_function};
-ghost use Rattle.builtin_net.specs.Needs.{address_needs, config_needs, function_needs, is_bridge_there, lacks_at_end, lacks_modalias, names_needs, needs, of_above, of_own, own_needs, port_needs, slot_needs, tree_needs, when};
+ghost use Rattle.builtin_net.specs.Needs.{address_needs, config_needs, function_needs, is_bridge_there, lacks_a_modalias, lacks_at_end, lacks_modalias, names_needs, needs, of_above, of_own, own_needs, port_needs, slot_needs, tree_needs, when};
 
 use crate::allowed::{Attribute, lacks, lacks_own, own_number, read, read_own};
 use crate::buses::{is_there, parent_behind_virtio};
@@ -167,6 +167,20 @@ fn lacks_at_end(device: Option<&Device<'_>>) -> bool
     }
 }
 
+/// Whether a device lacks its modalias that is asked whether it is a bridge.
+fn lacks_a_modalias<'a>(
+    alloc: Global,
+    devices: &Devices<'a>,
+    pci: &Device<'a>,
+) -> Result<bool, AllocError>
+    ensures { IfOk result (λ lacks. lacks ≡ lacks_a_modalias devices.now pci.now) }
+{
+    let lacks_above = lacks_modalias(pci_above(alloc, devices, pci)?);
+    let number = number_by_firmware(alloc, devices, pci)?;
+    let lacks_end = lacks_at_end(search_end(alloc, devices, pci)?);
+    Ok(firmware_number(pci).is_none() && lacks_above || number.is_none() && lacks_end)
+}
+
 /// Adds what is needed of the slot of a function.
 fn need_slot<'a>(
     alloc: Global,
@@ -176,13 +190,11 @@ fn need_slot<'a>(
 ) -> Result<(), AllocError>
     ensures { OnOk result (needs.new ≡ with_texts needs.old (slot_needs devices.now pci.now)) }
 {
-    let lacks_above = firmware_number(pci).is_none()
-        && lacks_modalias(pci_above(alloc, devices, pci)?);
-    let asks_bus = number_by_firmware(alloc, devices, pci)?.is_none();
-    let lacks_end = asks_bus && lacks_at_end(search_end(alloc, devices, pci)?);
-    need(alloc, needs, lacks_above || lacks_end, b"modalias")?;
+    let lacks_modalias = lacks_a_modalias(alloc, devices, pci)?;
+    need(alloc, needs, lacks_modalias, b"modalias")?;
+    let number = number_by_firmware(alloc, devices, pci)?;
     let is_told = is_told(alloc, devices.event(), SLOTS_FOLDER)?;
-    need(alloc, needs, asks_bus && !is_told, b"slots")
+    need(alloc, needs, number.is_none() && !is_told, b"slots")
 }
 
 /// Adds what is needed of a function.

@@ -1,5 +1,5 @@
 //! The slot that a function stands in.
-ghost use Rattle.std.specs.Prelude.{◌≡◌, ◌==◌, ◌≤◌, false, find, length, map, not, option_and_then, option_copied, option_map, IfOk};
+ghost use Rattle.std.specs.Prelude.{◌≡◌, ◌==◌, ◌≤◌, false, find, length, not, option_and_then, option_copied, option_map, IfOk};
 ghost use Rattle.std.specs.Char.{is_ascii_uppercase};
 ghost use Rattle.std.specs.List.{after_last, list_any, suffix_len};
 ghost use Rattle.std.specs.Option.{option_map_or};
@@ -144,12 +144,18 @@ fn holds(kernel: &[u8], file: (&[u8], &[u8])) -> bool
     kernel.starts_with(file.1) && slot_number(file.0).is_some()
 }
 
-/// The number of the slot among files that holds the device with a name.
-#[tactic(auto, using(crate::proofs::Seen::find_seen))]
-fn number_among(kernel: &[u8], files: &[(&[u8], &[u8])]) -> Option<u64>
-    ensures { result ≡ option_and_then (λ file. slot_number file.0) (find (holds kernel.now) (map (λ file. (file.0.now, file.1.now)) files.now)) }
+/// The file of the slot among files that holds the device with a name.
+fn holding<'f, 'a>(kernel: &[u8], files: &'f [(&'a [u8], &'a [u8])]) -> Option<&'f (&'a [u8], &'a [u8])>
+    ensures { option_copied result ≡ find (λ file. holds kernel.now (file.0.now, file.1.now)) files.now }
 {
-    match files.iter().find(|file| holds(kernel, **file)) {
+    files.iter().find(|file| holds(kernel, **file))
+}
+
+/// The number of the slot among files that holds the device with a name.
+fn number_among(kernel: &[u8], files: &[(&[u8], &[u8])]) -> Option<u64>
+    ensures { result ≡ option_and_then (λ file. slot_number file.0.now) (find (λ file. holds kernel.now (file.0.now, file.1.now)) files.now) }
+{
+    match holding(kernel, files) {
         Some(file) => slot_number(file.0),
         None => None,
     }
@@ -187,14 +193,6 @@ fn is_identity(number: u64, name: &[u8]) -> bool
         && is_number(number_in(Base::Hexadecimal, MOST_NUMBER, name), number)
 }
 
-/// Whether there is a slot of a number of System z.
-fn has_slot_of(alloc: Global, event: &Event<'_>, number: u64) -> Result<bool, AllocError>
-    ensures { IfOk result (λ has. has ≡ list_any (is_slot_of number) (slot_files event.now)) }
-{
-    let files = files_below(alloc, event, SLOTS_FOLDER)?;
-    Ok(files.iter().any(|file| is_slot_of(number, file.0)))
-}
-
 /// Whether a file is that of the slot of a number of System z.
 fn is_slot_of(number: u64, path: &[u8]) -> bool
     ensures { result ≡ option_map_or (is_identity number) (slot_name path.now) false }
@@ -203,6 +201,21 @@ fn is_slot_of(number: u64, path: &[u8]) -> bool
         Some(name) => is_identity(number, name),
         None => false,
     }
+}
+
+/// Whether one of files is that of the slot of a number of System z.
+fn has_slot_among(number: u64, files: &[(&[u8], &[u8])]) -> bool
+    ensures { result ≡ list_any (λ file. is_slot_of number (file.0.now, file.1.now)) files.now }
+{
+    files.iter().any(|file| is_slot_of(number, file.0))
+}
+
+/// Whether there is a slot of a number of System z.
+fn has_slot_of(alloc: Global, event: &Event<'_>, number: u64) -> Result<bool, AllocError>
+    ensures { IfOk result (λ has. has ≡ list_any (is_slot_of number) (slot_files event.now)) }
+{
+    let files = files_below(alloc, event, SLOTS_FOLDER)?;
+    Ok(has_slot_among(number, &files))
 }
 
 /// The slot of a function of System z, whose number has a slot of its own.

@@ -1,5 +1,5 @@
 //! Names by the aliases of a device tree.
-ghost use Rattle.std.specs.Prelude.{◌≡◌, IfOk, find, map, option_and_then, option_map};
+ghost use Rattle.std.specs.Prelude.{◌≡◌, IfOk, find, option_and_then, option_copied, option_map};
 ghost use Rattle.builtin_net.specs.Trees.{alias_end, alias_number, clear_number, first_alias, is_alias, node_link, node_number, node_of, node_path, other_alias, tree_text};
 
 use crate::buses::parent;
@@ -92,12 +92,18 @@ fn clear_number(event: &Event<'_>, behind: &[u8]) -> Option<u64>
     Some(number)
 }
 
-/// What stands behind `ethernet` in the name of the first alias of a node among files.
-#[tactic(auto, using(crate::proofs::Seen::find_seen))]
-fn alias_among<'a>(node: &[u8], files: &[(&'a [u8], &'a [u8])]) -> Option<&'a [u8]>
-    ensures { option_map (λ t. t.now) result ≡ option_and_then alias_end (find (is_alias node.now) (map (λ file. (file.0.now, file.1.now)) files.now)) }
+/// The first alias of a node among files.
+fn calling<'f, 'a>(node: &[u8], files: &'f [(&'a [u8], &'a [u8])]) -> Option<&'f (&'a [u8], &'a [u8])>
+    ensures { option_copied result ≡ find (λ file. is_alias node.now (file.0.now, file.1.now)) files.now }
 {
-    match files.iter().find(|file| is_alias(node, **file)) {
+    files.iter().find(|file| is_alias(node, **file))
+}
+
+/// What stands behind `ethernet` in the name of the first alias of a node among files.
+fn alias_among<'a>(node: &[u8], files: &[(&'a [u8], &'a [u8])]) -> Option<&'a [u8]>
+    ensures { option_map (λ t. t.now) result ≡ option_and_then (λ file. alias_end (file.0.now, file.1.now)) (find (λ file. is_alias node.now (file.0.now, file.1.now)) files.now) }
+{
+    match calling(node, files) {
         Some(file) => behind(b"ethernet", file.0),
         None => None,
     }

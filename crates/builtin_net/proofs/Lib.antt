@@ -1,5 +1,6 @@
 mod Utf8
 mod Seen
+mod LentFiles
 mod Bounds
 mod ShortNames
 mod Standing

@@ -12,7 +12,7 @@ use Rattle.builtin_net.specs.Allowed.{interface}
 use Rattle.builtin_net.specs.Buses.{by_ccw, by_netdevsim, by_platform, by_vio, by_xen}
 use Rattle.builtin_net.specs.Function.{function}
 use Rattle.builtin_net.specs.Identity.{is_identified, naming}
-use Rattle.builtin_net.specs.Names.{bcma_end, bcma_function, board_text, by_address, by_bcma, by_buses, by_function, by_pci, by_tree, by_usb, given, label_of, names, of_bcma, of_function, of_own, of_usb, own_function, path_text, slot_text, tail, usb_end, usb_function, with_tail}
+use Rattle.builtin_net.specs.Names.{bcma_end, bcma_function, board_text, by_address, by_bcma, by_buses, by_function, by_kernels, by_pci, by_tree, by_usb, given, label_of, names, of_bcma, of_function, of_own, of_usb, own_function, path_text, slot_text, tail, usb_end, usb_function, with_tail}
 use Rattle.builtin_net.specs.Needs.{needs}
 use Rattle.builtin_net.specs.NetId.{net_id, properties}
 use Rattle.builtin_net.specs.Prefixes.{prefix_text}
@@ -38,6 +38,7 @@ kept key name true e = record { each = All-cons Short (key, name) [] (leb-true (
 kept key name false e = none
 
 of_given : (key prefix : Text) (text : Option Text) → AreShort (given key prefix text)
+unfolding given
 of_given key prefix None = none
 of_given key prefix (Some text) = kept key (prefix ++ text) (nat_le (length (prefix ++ text)) 127) refl
 
@@ -90,15 +91,17 @@ of_by_bcma : (event : EventValue) (prefix : Prefix) (interface : DeviceValue) �
 unfolding by_bcma
 of_by_bcma event prefix interface = of_a_bcma event prefix interface (bcma_function event) (bcma_end event)
 
+of_by_kernels : (event : EventValue) (prefix : Text) → AreShort (by_kernels event prefix)
+unfolding by_kernels
+of_by_kernels event prefix =
+    joined
+    (joined (of_given (codes "ID_NET_NAME_PATH") prefix (by_ccw event)) (of_given (codes "ID_NET_NAME_SLOT") prefix (by_vio event)))
+    (of_given (codes "ID_NET_NAME_PATH") prefix (by_platform event))
+
 of_by_buses : (event : EventValue) (prefix : Text) (interface : DeviceValue) → AreShort (by_buses event prefix interface)
 unfolding by_buses
 of_by_buses event prefix interface =
-    joined
-    (joined
-    (joined
-    (joined (of_given (codes "ID_NET_NAME_PATH") prefix (by_ccw event)) (of_given (codes "ID_NET_NAME_SLOT") prefix (by_vio event)))
-    (of_given (codes "ID_NET_NAME_PATH") prefix (by_platform event)))
-    (of_given (codes "ID_NET_NAME_PATH") prefix (by_netdevsim event interface)))
+    joined (joined (of_by_kernels event prefix) (of_given (codes "ID_NET_NAME_PATH") prefix (by_netdevsim event interface)))
     (of_given (codes "ID_NET_NAME_SLOT") prefix (by_xen event))
 
 scheme : AreShort ((codes "ID_NET_NAMING_SCHEME", codes "v257") ∷ [])

@@ -75,8 +75,10 @@ is_acpi vendor model instance = is_vendor vendor && list_all is_ascii_hexdigit m
 abbrev pub with_instance : (vendor model instance : Text) → Option Text
 with_instance vendor model instance =
     if is_acpi vendor model instance then option_map (acpi_text vendor model) (number_in Hexadecimal most_number instance) else None
+
 abbrev pub platform_parts : (front instance : Text) → Option Text
 platform_parts front instance = with_instance (take (length front - 4) front) (drop (length front - 4) front) instance
+
 unfoldable pub platform_text : Text → Option Text
 platform_text name = option_and_then (λ parts. platform_parts parts.0 parts.1) (split_once colon name)
 

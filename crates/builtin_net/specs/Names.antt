@@ -24,7 +24,7 @@ use Rattle.builtin_net.specs.declared.prefixes.Prefix.{Prefix}
 use Rattle.builtin_net.specs.declared.slots.Slot.{Slot}
 
 -- a property of a prefix and a text behind it, where there is one, and both have at most 127 bytes
-abbrev pub given : (key prefix : Text) → Option Text → List Pair
+unfoldable pub given : (key prefix : Text) → Option Text → List Pair
 given key prefix None = []
 given key prefix (Some text) = if nat_le (length (prefix ++ text)) 127 then (key, prefix ++ text) ∷ [] else []
 
@@ -139,12 +139,17 @@ bcma_end event = option_and_then (λ core. bcma_suffix (kernel_of core)) (bcma_c
 unfoldable pub by_bcma : EventValue → Prefix → (interface : DeviceValue) → List Pair
 by_bcma event prefix interface = of_bcma event prefix interface (bcma_function event) (bcma_end event)
 
--- the names by buses whose devices have no functions of PCI
-unfoldable pub by_buses : EventValue → (prefix : Text) → (interface : DeviceValue) → List Pair
-by_buses event prefix interface =
+-- the names by what the device above is called
+unfoldable pub by_kernels : EventValue → (prefix : Text) → List Pair
+by_kernels event prefix =
     given (codes "ID_NET_NAME_PATH") prefix (by_ccw event)
     ++ given (codes "ID_NET_NAME_SLOT") prefix (by_vio event)
     ++ given (codes "ID_NET_NAME_PATH") prefix (by_platform event)
+
+-- the names by buses whose devices have no functions of PCI
+unfoldable pub by_buses : EventValue → (prefix : Text) → (interface : DeviceValue) → List Pair
+by_buses event prefix interface =
+    by_kernels event prefix
     ++ given (codes "ID_NET_NAME_PATH") prefix (by_netdevsim event interface)
     ++ given (codes "ID_NET_NAME_SLOT") prefix (by_xen event)
 

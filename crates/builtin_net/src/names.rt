@@ -1,7 +1,7 @@
 //! The names of an interface.
 ghost use Rattle.std.specs.Prelude.{◌≡◌, ◌++◌, [], codes, option_copied, option_map, IfOk, OnOk, Some};
 ghost use Rattle.builtin_net.specs.Allowed.{interface};
-ghost use Rattle.builtin_net.specs.Names.{bcma_core, bcma_end, bcma_function, board_text, by_address, by_bcma, by_buses, by_function, by_pci, by_tree, by_usb, given, label_of, lasting_address, names, own_function, path_text, slot_text, tail, usb_end, usb_function, usb_interface, with_tail};
+ghost use Rattle.builtin_net.specs.Names.{bcma_core, bcma_end, bcma_function, board_text, by_address, by_bcma, by_buses, by_function, by_kernels, by_pci, by_tree, by_usb, given, label_of, lasting_address, names, own_function, path_text, slot_text, tail, usb_end, usb_function, usb_interface, with_tail};
 ghost use Rattle.builtin_net.specs.Prefixes.{prefix_text};
 ghost use Rattle.builtin_net.specs.Slots.{slot_of};
 
@@ -30,6 +30,7 @@ use text_tables::OwnedPairs;
 const MOST_NAME: usize = 127;
 
 /// Adds a property of a prefix and a text behind it, where there is one and both are not too long.
+#[tactic(auto, unfolding(crate::specs::Names::given))]
 fn give(
     alloc: Global,
     names: &mut Vec<(Bytes, Bytes)>,
@@ -443,6 +444,24 @@ fn give_by_bcma(
     }
 }
 
+/// Gives the names by what the device above is called.
+#[tactic(auto, unfolding(crate::specs::Names::by_kernels))]
+fn give_by_kernels(
+    alloc: Global,
+    names: &mut Vec<(Bytes, Bytes)>,
+    devices: &Devices<'_>,
+    prefix: &[u8],
+) -> Result<(), AllocError>
+    ensures { OnOk result (names.new.items ≡ names.old.items ++ by_kernels devices.now prefix.now) }
+{
+    let ccw = by_ccw(alloc, devices)?;
+    give(alloc, names, b"ID_NET_NAME_PATH", prefix, ccw)?;
+    let vio = by_vio(alloc, devices)?;
+    give(alloc, names, b"ID_NET_NAME_SLOT", prefix, vio)?;
+    let platform = by_platform(alloc, devices)?;
+    give(alloc, names, b"ID_NET_NAME_PATH", prefix, platform)
+}
+
 /// Gives the names by buses whose devices have no functions of PCI.
 #[tactic(auto, unfolding(crate::specs::Names::by_buses))]
 fn give_by_buses(
@@ -454,19 +473,11 @@ fn give_by_buses(
 ) -> Result<(), AllocError>
     ensures { OnOk result (names.new.items ≡ names.old.items ++ by_buses devices.now prefix.now (interface devices.now env.now)) }
 {
-    let path: &[u8] = b"ID_NET_NAME_PATH";
-    let slot: &[u8] = b"ID_NET_NAME_SLOT";
-    give(alloc, names, path, prefix, by_ccw(alloc, devices)?)?;
-    give(alloc, names, slot, prefix, by_vio(alloc, devices)?)?;
-    give(alloc, names, path, prefix, by_platform(alloc, devices)?)?;
-    give(
-        alloc,
-        names,
-        path,
-        prefix,
-        by_netdevsim(alloc, devices, env)?,
-    )?;
-    give(alloc, names, slot, prefix, by_xen(alloc, devices)?)
+    give_by_kernels(alloc, names, devices, prefix)?;
+    let simulated = by_netdevsim(alloc, devices, env)?;
+    give(alloc, names, b"ID_NET_NAME_PATH", prefix, simulated)?;
+    let xen = by_xen(alloc, devices)?;
+    give(alloc, names, b"ID_NET_NAME_SLOT", prefix, xen)
 }
 
 /// All names in the order in which they are set.

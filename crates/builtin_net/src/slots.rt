@@ -145,7 +145,10 @@ fn holds(kernel: &[u8], file: (&[u8], &[u8])) -> bool
 }
 
 /// The file of the slot among files that holds the device with a name.
-fn holding<'f, 'a>(kernel: &[u8], files: &'f [(&'a [u8], &'a [u8])]) -> Option<&'f (&'a [u8], &'a [u8])>
+fn holding<'f, 'a>(
+    kernel: &[u8],
+    files: &'f [(&'a [u8], &'a [u8])],
+) -> Option<&'f (&'a [u8], &'a [u8])>
     ensures { option_copied result ≡ find (λ file. holds kernel.now (file.0.now, file.1.now)) files.now }
 {
     files.iter().find(|file| holds(kernel, **file))

@@ -93,7 +93,10 @@ fn clear_number(event: &Event<'_>, behind: &[u8]) -> Option<u64>
 }
 
 /// The first alias of a node among files.
-fn calling<'f, 'a>(node: &[u8], files: &'f [(&'a [u8], &'a [u8])]) -> Option<&'f (&'a [u8], &'a [u8])>
+fn calling<'f, 'a>(
+    node: &[u8],
+    files: &'f [(&'a [u8], &'a [u8])],
+) -> Option<&'f (&'a [u8], &'a [u8])>
     ensures { option_copied result ≡ find (λ file. is_alias node.now (file.0.now, file.1.now)) files.now }
 {
     files.iter().find(|file| is_alias(node, **file))

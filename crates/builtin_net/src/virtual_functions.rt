@@ -66,7 +66,10 @@ fn leads_to(path: &[u8], file: (&[u8], &[u8])) -> bool
 }
 
 /// The link among others that leads to a virtual function.
-fn leading<'f, 'a>(path: &[u8], links: &'f [(&'a [u8], &'a [u8])]) -> Option<&'f (&'a [u8], &'a [u8])>
+fn leading<'f, 'a>(
+    path: &[u8],
+    links: &'f [(&'a [u8], &'a [u8])],
+) -> Option<&'f (&'a [u8], &'a [u8])>
     ensures { option_copied result ≡ find (λ link. leads_to path.now (link.0.now, link.1.now)) links.now }
 {
     links.iter().find(|link| leads_to(path, **link))

@@ -1,7 +1,7 @@
 #!/usr/bin/env python3
 """Tries the mutants of the crates named, or of all that have some: wrong bodies that the prover has to refuse, and that
-the gate leaves to this. It works in a clone of what is committed, which is thrown away, and begins with what the crates'
-own checks have kept, so only what an edit changes is proved again.
+the gate leaves to this. It works in a clone of what is committed, which is thrown away, and begins with what the
+crates' own checks have kept, so only what an edit changes is proved again.
 
 Edits of different functions are tried in one check, where each function that was changed has to be refused for its own
 body, not for one that it calls. An edit that was not refused so, and one that changes more than bodies, is tried alone,
@@ -69,9 +69,11 @@ class Source:
             if line == "}\n" or line.endswith("{}\n"):
                 # the end of a trait, or an empty body
                 head = None
-            elif head and (line == head[1] + "{\n" or line.endswith(" {\n") and line.startswith((head[0], head[1] + ")"))):
+            elif head and (line == head[1] + "{\n" or " {" in line and line.startswith((head[0], head[1] + ")"))):
                 names.append(Name(module, owner, head[2]))
-                pieces.append("")
+                behind = line.partition("{")[2]
+                pieces[-1] = pieces[-1].removesuffix(behind)
+                pieces.append(behind)
                 is_inside = True
         return names, pieces
 

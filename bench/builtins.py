@@ -39,7 +39,7 @@ def compared(lines):
 
 def told_by_udevadm(root, builtin, block, record):
     """What the real builtin makes of the device of a block, over the folder of a record or one made of the block."""
-    action, devices = make_sysfs(root, block)
+    action, devices = devices_of(block) if record else make_sysfs(root, block)
     command = ["/usr/bin/udevadm", "test-builtin", f"--action={action}", builtin, "/sys" + devices[0]["P"][0]]
     start = ["unshare", "--mount", "sh", "-c", BOUND, str(root), str(record)] if record else ["chroot", str(root)]
     done = subprocess.run([*start, *command], env=ENVIRONMENT, stdin=subprocess.DEVNULL, capture_output=True, check=False)

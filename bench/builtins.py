@@ -29,7 +29,7 @@ from tables.kinds.builtin_rows import devdry_lines, importing, without_empty
 TABLES = {"usb_id": builtin_usb, "path_id": builtin_path, "input_id": builtin_input, "net_id": builtin_net}
 WHOLE = [USB_DISK, SERIAL_ADAPTER, NVME_DISK, MOUSE, TOUCHPAD, PCI_CARD]
 # Binds a record to the root's folder sys, to be read alone, for the run of a command in the root.
-BOUND = 'mount --bind "$1" "$0/sys" && mount -o remount,bind,ro "$0/sys" && shift && exec chroot "$0" "$@"'
+BOUND = 'mkdir -p "$0/sys" && mount --bind "$1" "$0/sys" && mount -o remount,bind,ro "$0/sys" && shift && exec chroot "$0" "$@"'
 
 
 def compared(lines):
@@ -39,10 +39,12 @@ def compared(lines):
 
 def told_by_udevadm(root, builtin, block, record):
     """What the real builtin makes of the device of a block, over the folder of a record or one made of the block."""
-    action, devices = make_sysfs(root, block)
+    action, devices = devices_of(block) if record else make_sysfs(root, block)
     command = ["/usr/bin/udevadm", "test-builtin", f"--action={action}", builtin, "/sys" + devices[0]["P"][0]]
     start = ["unshare", "--mount", "sh", "-c", BOUND, str(root), str(record)] if record else ["chroot", str(root)]
     done = subprocess.run([*start, *command], env=ENVIRONMENT, stdin=subprocess.DEVNULL, capture_output=True, check=False)
+    if done.returncode > 1:
+        raise OSError(os.fsdecode(done.stderr))
     properties = [line for line in os.fsdecode(done.stdout).split("\n") if "=" in line]
     return compared(without_empty(block, devdry_lines(["failed" if done.returncode else "done", *properties])))
 

@@ -150,6 +150,8 @@ def make_device(root, device, is_event):
     make_links(root / "sys", folder, device)
     for text in device.get("A", []):
         name, value = text.split("=", 1)
+        if (folder / name).is_symlink():
+            continue
         (folder / name).parent.mkdir(parents=True, exist_ok=True)
         (folder / name).write_bytes(os.fsencode(value) + b"\n")
         *_, kind, _, _ = ("", "", *name.split("/"))

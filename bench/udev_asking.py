@@ -35,8 +35,13 @@ int main(int count, char **words) {
 '''
 
 PASSWD = "root:x:0:0:root:/root:/bin/sh\ndaemon:x:1:1:daemon:/:/bin/sh\n"
-GROUP = "root:x:0:\ndaemon:x:1:\ndisk:x:6:\naudio:x:29:\n"
+GROUPS = {"root": 0, "daemon": 1, "tty": 5, "disk": 6, "lp": 7, "kmem": 15, "dialout": 20, "cdrom": 24, "tape": 26, "audio": 29,
+          "video": 44, "input": 101, "sgx": 102, "clock": 103, "kvm": 104, "render": 105}
+GROUP = "".join(f"{name}:x:{number}:\n" for name, number in GROUPS.items())
 BUSES = {"usb", "pci", "scsi", "hid", "platform"}
+# Classes whose devices stand below the device that they tell of; its attributes in a block are theirs.
+TRANSPORTS = {"ata_port", "fc_transport", "sas_device", "sas_port", "iscsi_session", "iscsi_connection"}
+ENVIRONMENT = {"SYSTEMD_DEVICE_VERIFY_SYSFS": "0", "PATH": os.environ["PATH"], "SYSTEMD_COLORS": "0"}
 # Properties that udev adds by itself at the end of an event, or beside links and tags.
 OWN = {"DEVLINKS", "TAGS", "CURRENT_TAGS", "USEC_INITIALIZED", "ID_PROCESSING"}
 
@@ -55,22 +60,33 @@ def devices_of(block):
     return action, devices
 
 
+def make_database(root, files):
+    """Makes the database of a root anew, of files that are told by their names."""
+    shutil.rmtree(root / "etc/udev/hwdb.d", ignore_errors=True)
+    (root / "etc/udev/hwdb.d").mkdir(parents=True)
+    for name, text in files.items():
+        (root / "etc/udev/hwdb.d" / name).write_bytes(text)
+    # (without /proc an index that is there can't be replaced)
+    (root / "etc/udev/hwdb.bin").unlink(missing_ok=True)
+    subprocess.run(["chroot", str(root), "/usr/bin/systemd-hwdb", "update"], check=True)
+
+
 def make_root(source, folder, database):
     """A copy of a root by hard links, with accounts, a database and a helper of our own."""
     root = Path(folder) / "root"
     subprocess.run(["cp", "-al", str(source), str(root)], check=True)
     for below in ("usr/lib/udev/rules.d", "etc/udev/rules.d", "sys", "usr/lib/udev/hwdb.d", "run/udev", "proc"):
         shutil.rmtree(root / below, ignore_errors=True)
-    for below in ("etc/udev/rules.d", "etc/udev/hwdb.d", "run/udev/data", "proc/sys/test"):
+    for below in ("etc/udev/rules.d", "run/udev/data", "proc/sys/test"):
         (root / below).mkdir(parents=True, exist_ok=True)
     for name, text in (("passwd", PASSWD), ("group", GROUP)):
         (root / "etc" / name).unlink(missing_ok=True)
         (root / "etc" / name).write_text(text)
-    (root / "etc/udev/hwdb.d/10.hwdb").write_text(database)
     (root / "dev/null").touch()
+    (root / "proc/device-tree").symlink_to("/sys/firmware/devicetree/base")
     (root / "proc/cmdline").write_text("quiet test.given=5\n")
     (root / "proc/sys/test/value").write_text("7 \n")
-    subprocess.run(["chroot", str(root), "/usr/bin/systemd-hwdb", "update"], check=True)
+    make_database(root, {"10.hwdb": os.fsencode(database)})
     helper = Path(folder) / "helper.c"
     helper.write_text(HELPER)
     (root / "usr/lib/udev/ata_id").unlink()
@@ -96,18 +112,23 @@ def uevent_of(device, is_event):
     return "".join(line + "\n" for line in lines)
 
 
+def link_subsystem(sys, folder, subsystem):
+    """Links a device and its subsystem to each other."""
+    kind = "bus" if subsystem in BUSES else "class"
+    target = sys / kind / subsystem
+    members = target / "devices" if kind == "bus" else target
+    members.mkdir(parents=True, exist_ok=True)
+    for link, leads in ((folder / "subsystem", target), (members / folder.name, folder)):
+        if not link.is_symlink():
+            link.symlink_to(os.path.relpath(leads, link.parent))
+
+
 def make_links(sys, folder, device):
     """Links a device to its subsystem and to its driver."""
-    subsystem = device.get("U", ["usb"])[0]
-    kind = "bus" if subsystem in BUSES else "class"
     if "U" in device:
-        target = sys / kind / subsystem
-        members = target / "devices" if kind == "bus" else target
-        members.mkdir(parents=True, exist_ok=True)
-        os.symlink(os.path.relpath(target, folder), folder / "subsystem")
-        os.symlink(os.path.relpath(folder, members), members / folder.name)
+        link_subsystem(sys, folder, device["U"][0])
     if "V" in device:
-        target = sys / "bus" / subsystem / "drivers" / device["V"][0]
+        target = sys / "bus" / device.get("U", ["usb"])[0] / "drivers" / device["V"][0]
         target.mkdir(parents=True, exist_ok=True)
         os.symlink(os.path.relpath(target, folder), folder / "driver")
 
@@ -131,6 +152,10 @@ def make_device(root, device, is_event):
         name, value = text.split("=", 1)
         (folder / name).parent.mkdir(parents=True, exist_ok=True)
         (folder / name).write_bytes(os.fsencode(value) + b"\n")
+        *_, kind, _, _ = ("", "", *name.split("/"))
+        if kind in TRANSPORTS:
+            (folder / name).with_name("uevent").touch()
+            link_subsystem(root / "sys", (folder / name).parent, kind)
     if "G" in device and not is_event:
         tags = "".join(f"G:{tag}\nQ:{tag}\n" for tag in device["G"])
         (root / "run/udev/data" / identity_of(device)).write_text(tags + "V:1\n")
@@ -210,20 +235,47 @@ def commands_told(told):
     return [f"run {kind[4:-1]} {text}" for kind, text in commands if text.strip(" \t\n\r")]
 
 
-def ask(root, rules, block):
-    """What udevadm test tells of a block by rules: the lines of an answer without notes."""
+def make_file(sys, path, value):
+    """Makes the file, folder or link that a line `K: PATH=VALUE` of a block tells of (docs/behaviour.md)."""
+    file = Path(f"{sys}{path}")
+    file.parent.mkdir(parents=True, exist_ok=True)
+    if file.name in ("slots", "aliases"):
+        file.mkdir(exist_ok=True)
+    elif file.name == "subsystem":
+        (file.parent / "uevent").touch()
+        link_subsystem(sys, file.parent, value)
+    elif re.fullmatch(r"physfn|virtfn\d+|of_node|nvme\d+", file.name):
+        Path(f"{sys}{value}").mkdir(parents=True, exist_ok=True)
+        file.symlink_to(os.path.relpath(f"{sys}{value}", file.parent))
+    else:
+        file.write_bytes(bytes.fromhex(value) if file.name in ("descriptors", "config") else os.fsencode(value) + b"\n")
+
+
+def make_sysfs(root, block):
+    """Makes a root's folder /sys of a block, and gives the block's action and devices."""
     action, devices = devices_of(block)
-    for below in ("sys", "run/udev/data", "etc/udev/rules.d"):
+    for below in ("sys", "run/udev/data"):
         shutil.rmtree(root / below, ignore_errors=True)
         (root / below).mkdir(parents=True)
     (root / "sys/class").mkdir()
     (root / "sys/bus").mkdir()
-    (root / "etc/udev/rules.d/r.rules").write_bytes(rules)
     for device in reversed(devices):
         make_device(root, device, device is devices[0])
-    environment = {"SYSTEMD_DEVICE_VERIFY_SYSFS": "0", "PATH": os.environ["PATH"], "SYSTEMD_COLORS": "0"}
-    done = subprocess.run(["chroot", str(root), "/usr/bin/udevadm", "test", f"--action={action}", "/sys" + devices[0]["P"][0]],
-                          env=environment, stdin=subprocess.DEVNULL, capture_output=True, check=False)
+    for path, value in re.findall("^K: (/.*?)=(.*)$", block, re.M):
+        make_file(root / "sys", path, value)
+    return action, devices
+
+
+def ask(root, rules, block):
+    """What udevadm test tells of a block by rules files, which are told by their names: the lines of an answer without notes."""
+    action, devices = make_sysfs(root, block)
+    shutil.rmtree(root / "etc/udev/rules.d")
+    (root / "etc/udev/rules.d").mkdir()
+    for name, text in rules.items():
+        (root / "etc/udev/rules.d" / name).write_bytes(text)
+    # (no interface of this machine answers)
+    done = subprocess.run(["unshare", "--net", "chroot", str(root), "/usr/bin/udevadm", "test", f"--action={action}", "/sys" + devices[0]["P"][0]],
+                          env=ENVIRONMENT, stdin=subprocess.DEVNULL, capture_output=True, check=False)
     err, told = os.fsdecode(done.stderr), sections_of(os.fsdecode(done.stdout))
     first = [f'event {action} {devices[0]["P"][0]}']
     return first + node_told(told) + links_told(told, err) + properties_told(told) + written_told(err, devices) + commands_told(told)

@@ -72,7 +72,7 @@ unfoldable pub revision_place : Text → Option ℕ
 revision_place text = if_revision text (first_place (codes "-usbv") text)
 
 -- a text without the `v` and the digit there
-abbrev pub without_revision : Text → ℕ → Text
+unfoldable pub without_revision : Text → ℕ → Text
 without_revision text place = take (place + 4) text ++ drop (place + 6) text
 
 -- the bytes that stay in a tag: letters and digits of ASCII, and `-`
@@ -94,13 +94,18 @@ cut_tag text = without_last (take 511 text)
 unfoldable pub tag : Text → Text
 tag text = cut_tag (underscored (map tag_byte text))
 
--- a path without and, where it has one, with the revision of USB
+-- a text without its revision of USB
+abbrev pub plain_path : Text → Option ℕ → Text
+plain_path text None = text
+plain_path text (Some place) = without_revision text place
+
+-- what is set of a text that tells a revision, and of one without it
+abbrev pub revision_pairs : Text → Option ℕ → List Pair
+revision_pairs text None = []
+revision_pairs text (Some place) = (codes "ID_PATH_WITH_USB_REVISION", text) ∷ []
+
 abbrev pub path_pairs : Text → List Pair
 path_pairs path = (codes "ID_PATH", path) ∷ (codes "ID_PATH_TAG", tag path) ∷ []
-
-abbrev pub revision_pairs : Text → Option ℕ → List Pair
-revision_pairs text None = path_pairs text
-revision_pairs text (Some place) = (codes "ID_PATH_WITH_USB_REVISION", text) ∷ path_pairs (without_revision text place)
 
 abbrev pub compatible_pairs : List Text → List Pair
 compatible_pairs [] = []
@@ -110,7 +115,8 @@ compatible_pairs (part ∷ parts) = (codes "ID_PATH_ATA_COMPAT", join_with_byte 
 unfoldable pub properties_of : List Stop → List Pair
 properties_of stops =
     let text = join_with_byte minus (parts stops) in
-    revision_pairs text (revision_place text) ++ compatible_pairs (compatible_parts stops)
+    let place = revision_place text in
+    revision_pairs text place ++ path_pairs (plain_path text place) ++ compatible_pairs (compatible_parts stops)
 
 -- each device of usb and scsi has a type
 abbrev pub lacks_type : DeviceValue → Bool

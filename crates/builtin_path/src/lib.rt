@@ -5,6 +5,7 @@ mod laws;
 mod members;
 mod nvme;
 mod path;
+mod sas;
 mod scsi;
 mod scsi_hosts;
 mod scsi_transports;
@@ -15,6 +16,7 @@ mod usb;
 mod way;
 
 pub use laws::{
-    each_part_tells_paths_apart, nothing_is_set_without_a_path, parts_tell_ports_apart, tags_are_short,
+    each_part_tells_paths_apart, nothing_is_set_without_a_path, parts_tell_ports_apart,
+    tags_are_short,
 };
 pub use path::path_id;

@@ -3,7 +3,7 @@ ghost use Rattle.std.specs.Prelude.{◌≡◌, ◌∷◌, ◌++◌, ◌+◌, [],
 ghost use Rattle.std.specs.List.{join_with_byte, list_any, prefix_len};
 ghost use Rattle.text_bytes.specs.Names.{minus};
 ghost use Rattle.text_tables.specs.Texts.{with_texts};
-ghost use Rattle.builtin_path.specs.Path.{compatible_pairs, compatible_parts, cut_tag, if_revision, is_ata, is_failing, is_revision, is_reached, is_whole, lacks_type, needs, parts, path_id, path_pairs, properties_of, revision_pairs, revision_place, shared, stays_in_tag, tag, tag_byte, type_needs, without_last, without_revision};
+ghost use Rattle.builtin_path.specs.Path.{compatible_pairs, compatible_parts, cut_tag, if_revision, is_ata, is_failing, is_revision, is_reached, is_whole, lacks_type, needs, parts, path_id, path_pairs, plain_path, properties_of, revision_pairs, revision_place, shared, stays_in_tag, tag, tag_byte, type_needs, without_last, without_revision};
 
 use crate::members::Member;
 use crate::stops::{Next, Share, Stop, needed};
@@ -177,7 +177,8 @@ fn is_revision(text: &[u8], place: usize) -> bool
 /// The first place of `-usbv` in a text, where a digit and `-` follow.
 #[tactic(auto, unfolding(crate::specs::Path::revision_place))]
 fn revision_place(text: &[u8]) -> Option<usize>
-    ensures { result ≡ revision_place text.now }
+    ensures value { result ≡ revision_place text.now }
+    ensures within { IfSome result (λ place. place < length text.now) }
 {
     let place = first_place(b"-usbv", text)?;
     if is_revision(text, place) {
@@ -188,6 +189,7 @@ fn revision_place(text: &[u8]) -> Option<usize>
 }
 
 /// A text without the `v` and the digit of a revision.
+#[tactic(auto, unfolding(crate::specs::Path::without_revision))]
 fn without_revision(alloc: Global, text: &[u8], place: usize) -> Result<Bytes, AllocError>
     requires { place < length text.now }
     ensures { IfOk result (λ plain. plain ≡ without_revision text.now place) }
@@ -259,21 +261,29 @@ fn add_path(
     add_property(alloc, b"ID_PATH_TAG", tag.as_slice(), properties)
 }
 
-/// Adds what is set of a text that may tell the revision of USB.
-fn add_revised(
+/// Adds what is set of a text that tells the revision of USB at a place, if at one.
+fn add_revision(
     alloc: Global,
     text: &[u8],
+    place: Option<usize>,
     properties: &mut Vec<(Bytes, Bytes)>,
 ) -> Result<(), AllocError>
-    ensures { OnOk result (properties.new.items ≡ properties.old.items ++ revision_pairs text.now (revision_place text.now)) }
+    ensures { OnOk result (properties.new.items ≡ properties.old.items ++ revision_pairs text.now place) }
 {
-    match revision_place(text) {
-        None => add_path(alloc, text, properties),
-        Some(place) => {
-            add_property(alloc, b"ID_PATH_WITH_USB_REVISION", text, properties)?;
-            let plain = without_revision(alloc, text, place)?;
-            add_path(alloc, plain.as_slice(), properties)
-        }
+    match place {
+        Some(_) => add_property(alloc, b"ID_PATH_WITH_USB_REVISION", text, properties),
+        None => Ok(()),
+    }
+}
+
+/// A text without its revision of USB, which stands at a place, if at one.
+fn plain_path(alloc: Global, text: &[u8], place: Option<usize>) -> Result<Bytes, AllocError>
+    requires { IfSome place (λ at. at < length text.now) }
+    ensures { IfOk result (λ path. path ≡ plain_path text.now place) }
+{
+    match place {
+        Some(place) => without_revision(alloc, text, place),
+        None => Bytes::copy_of(alloc, text),
     }
 }
 
@@ -293,15 +303,25 @@ fn add_compatible(
     add_property(alloc, b"ID_PATH_ATA_COMPAT", text.as_slice(), properties)
 }
 
+/// The parts that stops add, joined.
+fn path_text(alloc: Global, stops: &[Stop]) -> Result<Bytes, AllocError>
+    ensures { IfOk result (λ text. text ≡ join_with_byte minus (parts stops.now)) }
+{
+    let parts = parts(alloc, stops)?;
+    joined(alloc, &parts)
+}
+
 /// What path_id sets for stops.
 #[tactic(auto, unfolding(crate::specs::Path::properties_of))]
 fn properties_of(alloc: Global, stops: &[Stop]) -> Result<Vec<(Bytes, Bytes)>, AllocError>
     ensures { IfOk result (λ properties. properties.items ≡ properties_of stops.now) }
 {
     let mut properties = Vec::new(alloc);
-    let parts = parts(alloc, stops)?;
-    let text = joined(alloc, &parts)?;
-    add_revised(alloc, text.as_slice(), &mut properties)?;
+    let text = path_text(alloc, stops)?;
+    let place = revision_place(text.as_slice());
+    let path = plain_path(alloc, text.as_slice(), place)?;
+    add_revision(alloc, text.as_slice(), place, &mut properties)?;
+    add_path(alloc, path.as_slice(), &mut properties)?;
     add_compatible(alloc, stops, &mut properties)?;
     Ok(properties)
 }

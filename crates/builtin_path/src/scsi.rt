@@ -5,8 +5,9 @@ ghost use Rattle.builtin_path.specs.Members.{attribute};
 ghost use Rattle.builtin_path.specs.Scsi.{address, address_of, before_colon, firewire_stop, four_digits, hex_digit, numbered_unit, scsi_stop, told_by, transport_of, transport_stop, unit_number, unit_text};
 
 use crate::members::{Member, row};
+use crate::sas::sas_stop;
 use crate::scsi_hosts::other_stop;
-use crate::scsi_transports::{ata_stop, fibre_stop, guid_stop_above, iscsi_stop, sas_stop};
+use crate::scsi_transports::{ata_stop, fibre_stop, guid_stop_above, iscsi_stop};
 use crate::stops::Stop;
 use crate::texts::{concatenated, contains};
 use builtin_devices::{Base, is_text, name_number, number_in, type_of};

@@ -9,7 +9,7 @@ use crate::members::{Member, row};
 use crate::nvme::{nvme_stop, ways_stop};
 use crate::scsi::scsi_stop;
 use crate::stops::{Next, Stop};
-use crate::texts::concatenated;
+use crate::texts::{concatenated, is_among};
 use crate::usb::usb_stop;
 use builtin_devices::{Devices, name_number};
 use itoa::Buffer;
@@ -245,7 +245,7 @@ fn cciss_stop(alloc: Global, member: &Member<'_>, above: &[Member<'_>]) -> Resul
 }
 
 /// The first of some texts that a name begins with.
-fn first_begun<'t>(starts: &[&'t [u8]], name: &[u8]) -> Option<&'t [u8]>
+fn first_begun(starts: &[&'static [u8]], name: &[u8]) -> Option<&'static [u8]>
     ensures { option_map (λ t. t.now) result ≡ first_begun (map (λ t. t.now) starts.now) name.now }
 {
     for start in starts {
@@ -261,7 +261,7 @@ fn first_begun<'t>(starts: &[&'t [u8]], name: &[u8]) -> Option<&'t [u8]>
 fn tape_part(name: &[u8]) -> Option<&[u8]>
     ensures { option_map (λ t. t.now) result ≡ tape_part name.now }
 {
-    if WHOLE_TAPES.iter().any(|whole| *whole == name) {
+    if is_among(&WHOLE_TAPES, name) {
         return Some(name);
     }
     match first_begun(&BEGUN_TAPES, name) {

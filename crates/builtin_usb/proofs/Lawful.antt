@@ -1,5 +1,5 @@
 -- Why the laws hold.
-use Rattle.std.proofs.Common.{◌≡◌, ◌≢◌, ◌≤◌, ◌==◌, ◌&&◌, ℕ, suc, not, cond, nat_lt, Bool, true, false, List, [], ◌∷◌, ◌++◌, Option, None, Some, codes, drop, filter, flat_map, fold, length, map, nat_eq, slice_index, refl, ap, sym, ◌∙◌, append_assoc, arith}
+use Rattle.std.proofs.Common.{◌≡◌, ◌≢◌, ◌≤◌, ◌==◌, ◌&&◌, ℕ, suc, not, cond, nat_lt, Bool, true, false, List, [], ◌∷◌, ◌++◌, Option, None, Some, codes, filter, flat_map, fold, length, map, nat_eq, slice_index, refl, ap, sym, ◌∙◌, append_assoc, arith}
 use Rattle.std.proofs.Math.Seq.{get_or-append_seam}
 use Rattle.std.proofs.lemmas.Bool.Decides.{nat_tests}
 use Rattle.std.proofs.lemmas.List.{length-append, length-take}
@@ -11,7 +11,7 @@ use Rattle.text_bytes.specs.Texts.{begins_with, ends_in}
 use Rattle.text_tables.specs.Texts.{Text}
 use Rattle.text_tables.specs.Pairs.{Pair}
 use Rattle.device_core.specs.Values.{DeviceValue, EventValue}
-use Rattle.builtin_usb.specs.Interfaces.{Descriptors, descriptors_of, interface_of, interfaces, joined, packed, same_interface, with_interface, written}
+use Rattle.builtin_usb.specs.Interfaces.{descriptors_of, interface_of, interfaces, joined, packed, same_interface, with_interface, written}
 use Rattle.builtin_usb.specs.declared.interfaces.Interface.{Interface}
 use Rattle.builtin_usb.specs.Identities.{IdentityValue, all_texts, full_serial, named, rows}
 use Rattle.builtin_usb.specs.UsbId.{bus_properties, known, outcome, own_rows, properties, usb_id}
@@ -95,10 +95,12 @@ none_usb (row ∷ pairs) h =
     none_row row.0 row.1 (named (codes "ID_") pairs) parts.0 (none_usb pairs parts.1)
 
 bus_apart : (i : IdentityValue) → filter is_usb (bus_properties i) ≡ []
+unfolding rows
 bus_apart i = none_usb (rows i) refl
 
 same_properties : (event : EventValue) (interface device : Option DeviceValue) (i : IdentityValue)
     → filter is_usb (properties event interface device i true) ≡ filter is_usb (properties event interface device i false)
+unfolding properties
 same_properties event interface device i =
     let bus : List Pair = bus_properties i in
     let own : List Pair = named (codes "ID_USB_") (rows i) in

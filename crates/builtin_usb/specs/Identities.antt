@@ -96,7 +96,7 @@ abbrev pub unless_empty : Text → Option Text
 unless_empty text = if is_empty text then None else Some text
 
 -- names behind a prefix, and the values that are set, an empty one to take the property away
-abbrev pub rows : IdentityValue → List (Text × Option Text)
+unfoldable pub rows : IdentityValue → List (Text × Option Text)
 rows i =
     (codes "MODEL", Some (shown most_bytes i.model))
     ∷ (codes "MODEL_ENC", Some (encoded i.model))

@@ -1,5 +1,5 @@
 -- What laws.rt says of the definitions.
-use Rattle.std.specs.Prelude.{◌≡◌, ◌≢◌, ◌≤◌, ℕ, Bool, true, false, nat_eq, List, [], ◌++◌, length, drop, filter, map, codes}
+use Rattle.std.specs.Prelude.{◌≡◌, ◌≢◌, ℕ, Bool, true, false, nat_eq, List, [], ◌++◌, drop, filter, map, codes}
 use Rattle.std.specs.List.{starts_with}
 use Rattle.text_bytes.specs.Names.{colon}
 use Rattle.text_bytes.specs.Texts.{begins_with, ends_in}

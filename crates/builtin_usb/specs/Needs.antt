@@ -1,5 +1,5 @@
 -- What the block would have to tell for usb_id.
-use Rattle.std.specs.Prelude.{ℕ, Bool, true, false, not, ◌&&◌, ◌||◌, List, [], ◌∷◌, ◌++◌, Option, Some, None, is_some, is_none, codes, if◌then◌else◌}
+use Rattle.std.specs.Prelude.{ℕ, Bool, false, not, ◌&&◌, ◌||◌, List, [], ◌∷◌, ◌++◌, Option, Some, None, is_some, is_none, codes, if◌then◌else◌}
 use Rattle.std.specs.Option.{option_and_then, option_to_list}
 use Rattle.text_tables.specs.Texts.{Text}
 use Rattle.device_core.specs.Values.{DeviceValue, EventValue}
@@ -101,6 +101,6 @@ abbrev pub type_words : EventValue → (interface device : Option DeviceValue) �
 type_words event interface device = if lacks_type event interface device then codes "DEVTYPE" ∷ [] else []
 
 -- all that the block would have to tell
-abbrev pub words : EventValue → (interface device unit : Option DeviceValue) → List Text
+unfoldable pub words : EventValue → (interface device unit : Option DeviceValue) → List Text
 words event interface device unit =
     type_words event interface device ++ interface_words interface ++ unit_words unit ++ device_words event device (unit_texts unit)

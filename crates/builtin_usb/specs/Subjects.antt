@@ -1,7 +1,6 @@
 -- Which devices usb_id tells of.
-use Rattle.std.specs.Prelude.{Bool, ◌&&◌, Option, Some, None, is_some, codes, if◌then◌else◌}
+use Rattle.std.specs.Prelude.{Bool, Option, Some, None, is_some, codes, if◌then◌else◌}
 use Rattle.std.specs.Option.{option_and_then}
-use Rattle.text_tables.specs.Texts.{Text}
 use Rattle.device_core.specs.Values.{DeviceValue, EventValue}
 use Rattle.builtin_devices.specs.Devices.{above, is_text, type_of}
 use Rattle.builtin_usb.specs.Kinds.{class_of, takes_scsi}

@@ -132,8 +132,22 @@ fn need_subclass(
     Ok(())
 }
 
-/// Adds what an interface lacks.
+/// Adds the attributes that an interface lacks.
 #[tactic(auto, using(crate::proofs::Needed::three_more))]
+fn need_attributes(
+    alloc: Global,
+    interface: &Device<'_>,
+    needs: &mut OwnedTexts,
+) -> Result<(), AllocError>
+    ensures { OnOk result (needs.new ≡ with_texts needs.old (interface_words (Some interface.now))) }
+{
+    need(alloc, interface, b"bInterfaceNumber", needs)?;
+    need(alloc, interface, b"bInterfaceClass", needs)?;
+    need_subclass(alloc, interface, needs)?;
+    Ok(())
+}
+
+/// Adds what an interface lacks, where there is one.
 fn need_of_interface(
     alloc: Global,
     interface: Option<&Device<'_>>,
@@ -141,12 +155,10 @@ fn need_of_interface(
 ) -> Result<(), AllocError>
     ensures { OnOk result (needs.new ≡ with_texts needs.old (interface_words (option_copied interface.entry))) }
 {
-    let Some(interface) = interface else {
-        return Ok(());
-    };
-    need(alloc, interface, b"bInterfaceNumber", needs)?;
-    need(alloc, interface, b"bInterfaceClass", needs)?;
-    need_subclass(alloc, interface, needs)
+    match interface {
+        Some(interface) => need_attributes(alloc, interface, needs),
+        None => Ok(()),
+    }
 }
 
 /// The first of the texts of a SCSI device that is absent.
@@ -296,7 +308,7 @@ fn need_type(
 
 /// All that the block would have to tell, by the devices that the builtin looks at and the texts of the SCSI device. The
 /// error comes where memory is refused.
-#[tactic(auto, using(crate::proofs::Needed::four_more))]
+#[tactic(auto, using(crate::proofs::Needed::four_more), unfolding(crate::specs::Needs::words))]
 pub(crate) fn needs_by(
     alloc: Global,
     devices: &Devices<'_>,

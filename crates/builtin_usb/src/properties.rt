@@ -2,7 +2,7 @@
 ghost use Rattle.std.specs.Prelude.{◌≡◌, ◌++◌, ◌∷◌, [], IfOk, OnOk, codes, if◌then◌else◌, map, option_copied, option_map};
 ghost use Rattle.std.specs.Option.{option_and_then};
 ghost use Rattle.builtin_usb.specs.Identities.{named, rows, unless_empty};
-ghost use Rattle.builtin_usb.specs.UsbId.{bus_properties, driver_text, interfaces_text, number_text, own_rows, properties};
+ghost use Rattle.builtin_usb.specs.UsbId.{bus_properties, driver_text, interfaces_text, number_text, own_rows, properties, rows_apart};
 
 use crate::identities::{Identity, full_serial, shown, shown_serial};
 use crate::interfaces::packed;
@@ -77,6 +77,7 @@ fn set_rows(
 }
 
 /// Sets what is known of a device behind a prefix.
+#[tactic(auto, unfolding(crate::specs::Identities::rows))]
 fn set_identity(
     alloc: Global,
     prefix: &[u8],
@@ -112,8 +113,8 @@ fn set_identity(
     set_rows(alloc, prefix, &rows, properties)
 }
 
-/// The interfaces of a USB device.
-fn interfaces_text(
+/// The interfaces of a USB device whose file of descriptors the block may tell.
+fn interfaces_of(
     alloc: Global,
     event: &Event<'_>,
     device: &Device<'_>,
@@ -126,25 +127,18 @@ fn interfaces_text(
     }
 }
 
-/// Sets what stands only behind `ID_USB_`.
-fn set_own(
+/// The same where there is a USB device, and nothing where there is none.
+fn interfaces_text(
     alloc: Global,
     event: &Event<'_>,
-    interface: Option<&Device<'_>>,
-    device: &Device<'_>,
-    properties: &mut Vec<(Bytes, Bytes)>,
-) -> Result<(), AllocError>
-    ensures { OnOk result (properties.new.items ≡ properties.old.items ++ named (codes "ID_USB_") (own_rows event.now (option_copied interface.entry) (Some device.now))) }
+    device: Option<&Device<'_>>,
+) -> Result<Vec<u8>, AllocError>
+    ensures { IfOk result (λ text. text.items ≡ interfaces_text event.now (option_copied device.entry)) }
 {
-    let interfaces = interfaces_text(alloc, event, device)?;
-    let number = copy_of(alloc, number_of(interface))?;
-    let driver = copy_of(alloc, driver_of(interface))?;
-    let rows: [Row; 3] = [
-        (b"INTERFACES", unless_empty(interfaces)),
-        (b"INTERFACE_NUM", number),
-        (b"DRIVER", driver),
-    ];
-    set_rows(alloc, b"ID_USB_", &rows, properties)
+    match device {
+        Some(device) => interfaces_of(alloc, event, device),
+        None => Ok(Vec::new(alloc)),
+    }
 }
 
 /// The number of an interface, as it is told.
@@ -159,6 +153,42 @@ fn driver_of<'a>(interface: Option<&Device<'a>>) -> Option<&'a [u8]>
     ensures { option_map (λ t. t.now) result ≡ option_and_then driver_text (option_copied interface.entry) }
 {
     interface?.driver()
+}
+
+/// Sets what stands only behind `ID_USB_`.
+#[tactic(auto, unfolding(crate::specs::UsbId::rows_apart))]
+fn set_apart(
+    alloc: Global,
+    interfaces: Vec<u8>,
+    number: Option<Bytes>,
+    driver: Option<Bytes>,
+    properties: &mut Vec<(Bytes, Bytes)>,
+) -> Result<(), AllocError>
+    ensures { OnOk result (properties.new.items ≡ properties.old.items ++ named (codes "ID_USB_") (rows_apart interfaces.items number driver)) }
+{
+    let rows: [Row; 3] = [
+        (b"INTERFACES", unless_empty(interfaces)),
+        (b"INTERFACE_NUM", number),
+        (b"DRIVER", driver),
+    ];
+    set_rows(alloc, b"ID_USB_", &rows, properties)
+}
+
+/// Sets the interfaces, and the number and the driver of the interface.
+fn set_own(
+    alloc: Global,
+    event: &Event<'_>,
+    interface: Option<&Device<'_>>,
+    device: Option<&Device<'_>>,
+    properties: &mut Vec<(Bytes, Bytes)>,
+) -> Result<(), AllocError>
+    ensures { OnOk result (properties.new.items ≡ properties.old.items ++ named (codes "ID_USB_") (own_rows event.now (option_copied interface.entry) (option_copied device.entry))) }
+{
+    let interfaces = interfaces_text(alloc, event, device)?;
+    let number = copy_of(alloc, number_of(interface))?;
+    let driver = copy_of(alloc, driver_of(interface))?;
+    set_apart(alloc, interfaces, number, driver, properties)?;
+    Ok(())
 }
 
 /// Sets the bus and what is told behind `ID_`, unless a bus was told before.
@@ -178,15 +208,16 @@ fn set_bus(
 }
 
 /// The properties of a device that is known. The error comes where memory is refused.
+#[tactic(auto, unfolding(crate::specs::UsbId::properties))]
 pub(crate) fn properties_of(
     alloc: Global,
     event: &Event<'_>,
     interface: Option<&Device<'_>>,
-    device: &Device<'_>,
+    device: Option<&Device<'_>>,
     identity: &Identity<'_>,
     is_bus_set: bool,
 ) -> Result<Vec<(Bytes, Bytes)>, AllocError>
-    ensures { IfOk result (λ set. set.items ≡ properties event.now (option_copied interface.entry) (Some device.now) identity.now is_bus_set) }
+    ensures { IfOk result (λ set. set.items ≡ properties event.now (option_copied interface.entry) (option_copied device.entry) identity.now is_bus_set) }
 {
     let mut properties = Vec::new(alloc);
     set_bus(alloc, identity, is_bus_set, &mut properties)?;

@@ -1,5 +1,5 @@
 -- What an event says of itself stays, whatever rules do.
-use Rattle.std.proofs.Common.{◌==◌, ◌||◌, ℕ, Bool, true, false, cond, List, [], ◌∷◌, Option, Some, None, is_some, codes, refl, nat_le, ◌∙◌}
+use Rattle.std.proofs.Common.{◌==◌, ◌||◌, ℕ, Bool, true, false, cond, List, [], ◌∷◌, Option, Some, None, is_some, refl, nat_le, codes, ◌∙◌}
 use Rattle.std.specs.List.{fold}
 use Rattle.text_bytes.specs.Names.{slash}
 use Rattle.text_bytes.specs.Texts.{begins_with}
@@ -106,8 +106,8 @@ builtin_stays : (es : List Entry) (r : Rule) (t : Text) (b : Builtin) (s : Scene
 builtin_stays es r t (builtin.Hwdb h) s = refl
 builtin_stays es r t builtin.InputId s = outcome_stays r (builtin_name InputId) (input_id s.state.event) s
 builtin_stays es r t builtin.NetId s =
-    let text : Option Text = lookup s.state.event s.state.env in
-    outcome_stays r (builtin_name NetId) (net_id s.state.event s.state.env) (looked_up es text s) ∙ looked_up_stays es text s
+    let found : Scene = looked_up es (lookup s.state.event s.state.env) s in
+    outcome_stays r (builtin_name NetId) (net_id s.state.event s.state.env) found ∙ looked_up_stays es (lookup s.state.event s.state.env) s
 builtin_stays es r t builtin.PathId s = path_stays s.ran.path_id r s
 builtin_stays es r t builtin.UsbId s = usb_stays s.ran.usb_id r s
 builtin_stays es r t (builtin.Other name) s = refl

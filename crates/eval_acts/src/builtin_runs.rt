@@ -104,7 +104,13 @@ fn take_outcome(
         return Ok(false);
     }
     set_properties(alloc, outcome.properties(), &mut scene.state.env)?;
-    note_need(alloc, rule, builtin.name(), outcome.needs().as_slice(), scene)?;
+    note_need(
+        alloc,
+        rule,
+        builtin.name(),
+        outcome.needs().as_slice(),
+        scene,
+    )?;
     Ok(outcome.is_done())
 }
 

@@ -63,9 +63,9 @@ check-uses: $(PROGRAM)
 
 # Tries the wrong bodies that the prover has to refuse and that `make check` leaves out, those in crates/*/mutants: to
 # be run for each crate that a change touches, as `make mutants NAME="text_core hwdb_core"`, of what is committed.
-# Without NAME it tries those of all crates, which takes hours.
+# Without NAME it tries those of all crates, which takes an hour where their proofs are kept.
 mutants:
-	RT=$(RT) tests/mutants.sh $(NAME)
+	RT=$(RT) tests/mutants.py $(NAME)
 
 install: $(PROGRAM)
 	install -D -m 755 $(PROGRAM) $(DESTDIR)$(BINDIR)/devdry

@@ -24,14 +24,16 @@ MAKEFLAGS="" make --silent -C "$top" install PROGRAM="$program" DESTDIR="$root" 
     ZSHDIR=/usr/share/zsh/vendor-completions
 strip --remove-section=.comment --remove-section=.note "$root/usr/bin/devdry"
 gzip -9n "$root"/usr/share/man/man1/*
-mkdir -p "$doc"
+mkdir -p "$doc/docs"
 gzip -9nc "$top/CHANGELOG.md" > "$doc/CHANGELOG.md.gz"
-cp "$top/README.md" "$top/docs/behaviour.md" "$top/docs/writing-rules.md" "$top/docs/messages.md" "$top/docs/differences.md" "$doc"
+# (below docs/, as README.md links to them; the pages for those who change devdry are left out)
+cp "$top/README.md" "$doc"
+for page in behaviour writing-rules messages differences format measures proved; do cp "$top/docs/$page.md" "$doc/docs"; done
 cp -r --no-preserve=mode "$top/examples" "$doc"
 gzip -9nc > "$doc/changelog.gz" << END
 devdry ($version) unstable; urgency=low
 
-  * What this version brings stands in CHANGELOG.md.gz.
+  * See CHANGELOG.md.gz.
 
  -- $maintainer  $(LC_ALL=C date -u -R -d "@$SOURCE_DATE_EPOCH")
 END
@@ -65,9 +67,9 @@ Description: dry run of udev's rules and hardware database
  Answers events by udev's rules and hardware database: which name, links,
  tags, properties and commands a device would get. Checks rules files and the
  files of the database, and tells which properties the database has for a
- device, with the file and the line that each comes from. No device is touched
- and no program is started, so that it serves in builds and over images of
- other systems.
+ device, with the file and the line that each comes from. It touches no device
+ and starts no program, so it can be used in builds and on images of other
+ systems.
 END
 find "$root" -exec touch -h -d "@$SOURCE_DATE_EPOCH" {} +
 dpkg-deb --root-owner-group --build "$root" "$target/devdry_${version}_$architecture.deb"

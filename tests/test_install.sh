@@ -48,8 +48,8 @@ goes_well "packaging/deb.sh" "$top/packaging/deb.sh" "$program" "$work/debs"
 goes_well "packaging/deb.sh once more" "$top/packaging/deb.sh" "$program" "$work/again"
 deb=$(echo "$work"/debs/*.deb)
 goes_well "it gives the same package" cmp "$deb" "$work/again/${deb##*/}"
-docs=$(printf '/usr/share/doc/devdry/%s\n' README.md behaviour.md writing-rules.md messages.md differences.md CHANGELOG.md.gz changelog.gz copyright \
-    $(cd "$top" && find examples -type f))
+docs=$(printf '/usr/share/doc/devdry/%s\n' README.md CHANGELOG.md.gz changelog.gz copyright \
+    docs/{behaviour,writing-rules,messages,differences,format,measures,proved}.md $(cd "$top" && find examples -type f))
 same "its files" "$({ wanted /usr /usr/share/zsh/vendor-completions .gz; echo "$docs"; } | sorted)" \
     "$(dpkg-deb --fsys-tarfile "$deb" | tar -t | sed 's/^\.//' | grep -v '/$' | sorted)"
 

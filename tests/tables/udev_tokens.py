@@ -144,6 +144,9 @@ CASES = [
     ('pairs: ATTR, a blank behind the first part', 'ATTR{a}=="x |1", ATTR{a}=="y |2", TAG+="t"\n', 'bad', '1e', '1:V16'),
     ('pairs: ATTR, a blank behind the last part', 'ATTR{a}=="x|1 ", ATTR{a}=="y|2 ", TAG+="t"\n', 'good', '', ''),
     ('pairs: ATTR, an empty first part', 'ATTR{a}=="|x ", ATTR{a}!="x |", TAG+="t"\n', 'bad', '1e', '1:V16'),
+    ('pairs: ATTR, a bar before the first part', 'ATTR{a}=="|1", ATTR{a}=="1|", TAG+="t"\n', 'bad', '1w', '1:V17'),
+    ('pairs: ATTR, a bar before the first part, != and ==', 'ATTR{a}!="|1", ATTR{a}=="1|", TAG+="t"\n', 'bad', '1e', '1:V16'),
+    ('pairs: ATTR, bars before parts in another order', 'ATTR{a}=="|1|2 ", ATTR{a}=="|2 |1", TAG+="t"\n', 'good', '', ''),
     ('pairs: ATTR, parts in another order', 'ATTR{a}!="b|a ", ATTR{a}!="a |b", TAG+="t"\n', 'good', '', ''),
 ]
 

@@ -503,7 +503,7 @@ def make(kind, operator, value, data, blind):
             words = frozenset(p for p in parts if p)
             if b'' in parts and form in ('glob', 'plain'):
                 form += ' or empty'
-    first = (value or b'').split(b'|')[0]
+    first = next(filter(None, (value or b'').split(b'|')), b'')
     trims = kind in ('ATTR', 'ATTRS') and first != b'' and first[-1] not in LIBRARY_SPACES
     style = None
     if kind in ('ATTR', 'ATTRS'):

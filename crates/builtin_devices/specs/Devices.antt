@@ -1,5 +1,5 @@
 -- The devices of a block, and what stands above one.
-use Rattle.std.specs.Prelude.{ℕ, ◌-◌, ◌==◌, ◌&&◌, Bool, true, false, List, Option, Some, None, filter_map, length, take, slice_index, reverse, if◌then◌else◌, codes}
+use Rattle.std.specs.Prelude.{ℕ, nat_lt, ◌==◌, ◌&&◌, Bool, true, false, List, Option, Some, None, filter_map, length, take, slice_index, reverse, if◌then◌else◌, codes}
 use Rattle.std.specs.List.{find, range_with_len}
 use Rattle.std.specs.Option.{option_or}
 use Rattle.text_bytes.specs.Names.{slash}
@@ -25,13 +25,13 @@ outside event path = find (is_at path) (told_devices event)
 abbrev pub device_by : EventValue → (path : Text) → Option DeviceValue
 device_by event path = option_or (find (is_at path) (chain event)) (outside event path)
 
--- the device whose path ends before a slash at this place of a path
+-- the device whose path ends before a slash at this place of a path, if it is not the first
 unfoldable pub device_before : EventValue → Text → ℕ → Option DeviceValue
-device_before event path place = if slice_index path place == slash then device_by event (take place path) else None
+device_before event path place = if nat_lt 0 place && slice_index path place == slash then device_by event (take place path) else None
 
 -- the devices above a path, the nearest first
 unfoldable pub parents_of : EventValue → (path : Text) → List DeviceValue
-parents_of event path = filter_map (device_before event path) (reverse (range_with_len 1 (length path - 1)))
+parents_of event path = filter_map (device_before event path) (reverse (range_with_len 0 (length path)))
 
 -- whether a text is there, and the same
 abbrev pub is_text : Text → Option Text → Bool

@@ -1,8 +1,9 @@
 -- Files that a block tells of by constants: the name is a path below /sys, and the value what the file says.
-use Rattle.std.specs.Prelude.{◌+◌, ◌-◌, List, [], ◌∷◌, ◌++◌, Option, Some, None, filter_map, length, take, drop, nat_eq, if◌then◌else◌, codes}
+use Rattle.std.specs.Prelude.{◌-◌, ◌&&◌, List, [], Option, Some, None, filter_map, option_map, length, take, drop, nat_eq, if◌then◌else◌, codes}
 use Rattle.std.specs.List.{ends_with, starts_with}
 use Rattle.text_bytes.specs.Names.{slash}
-use Rattle.text_tables.specs.Texts.{Text, same_text}
+use Rattle.text_bytes.specs.Texts.{begins_with}
+use Rattle.text_tables.specs.Texts.{Text}
 use Rattle.text_tables.specs.Pairs.{Pair, value_of, with_values}
 use Rattle.device_core.specs.Values.{DeviceValue, EventValue, told}
 
@@ -10,9 +11,15 @@ use Rattle.device_core.specs.Values.{DeviceValue, EventValue, told}
 abbrev pub file_at : EventValue → (path : Text) → Option Text
 file_at event path = value_of event.constants path
 
+-- what stands in a path behind that of a folder and a slash
+unfoldable pub name_below : (folder path : Text) → Option Text
+name_below folder path =
+    let behind = drop (length folder) path in
+    if starts_with nat_eq path folder && begins_with slash behind then Some (drop 1 behind) else None
+
 -- a file below a folder, by what stands behind the folder's path
 abbrev pub file_below : (folder : Text) → Pair → Option Pair
-file_below folder file = if starts_with nat_eq file.0 (folder ++ slash ∷ []) then Some (drop (length folder + 1) file.0, file.1) else None
+file_below folder file = option_map (λ name. (name, file.1)) (name_below folder file.0)
 
 -- the files below a folder, by what stands behind its path, in the order of the block
 abbrev pub files_below : EventValue → (folder : Text) → List Pair

@@ -1,7 +1,9 @@
 -- Numbers as udev reads them in what the kernel tells, the number of a kernel's name, and bytes in hexadecimal digits.
-use Rattle.std.specs.Prelude.{ℕ, ◌+◌, ◌-◌, ◌*◌, ◌==◌, ◌&&◌, ◌||◌, not, nat_le, nat_lt, Bool, true, false, List, [], ◌∷◌, Option, Some, None, drop, length, option_map, if◌then◌else◌}
+use Rattle.std.specs.Prelude.{ℕ, ◌+◌, ◌-◌, ◌*◌, ◌==◌, ◌&&◌, ◌||◌, not, nat_le, nat_lt, Bool, false, List, [], ◌∷◌, Option, Some, None, drop, if◌then◌else◌}
 use Rattle.std.specs.List.{list_all}
 use Rattle.std.specs.Option.{option_and_then}
+use Rattle.std.specs.Result.{result_ok}
+use Rattle.hex.specs.Hex.{decode_of}
 use Rattle.text_bytes.specs.Names.{digit_zero, minus, plus, is_whitespace}
 use Rattle.text_bytes.specs.Numbers.{is_digit}
 use Rattle.text_bytes.specs.Texts.{begins_with, is_empty, skip_while}
@@ -99,14 +101,6 @@ name_number kernel =
     let digits = longest_end is_digit kernel in
     if is_empty digits || same_text digits kernel then None else Some digits
 
--- a byte before others
-abbrev pub before : ℕ → Option (List ℕ) → Option (List ℕ)
-before b None = None
-before b (Some bytes) = Some (b ∷ bytes)
-
--- the bytes that hexadecimal digits write, two for each
+-- the bytes that hexadecimal digits write, two for each; none where another byte stands among them, or a digit is alone
 abbrev pub bytes_of : Text → Option (List ℕ)
-bytes_of [] = Some []
-bytes_of (high ∷ []) = None
-bytes_of (high ∷ low ∷ text) =
-    if is_digit_in 16 high && is_digit_in 16 low then before (16 * digit_value high + digit_value low) (bytes_of text) else None
+bytes_of text = result_ok (decode_of text)

@@ -73,7 +73,7 @@ impl<'a> Devices<'a> {
         requires { place < length path.now }
         ensures { option_copied result ≡ device_before self.now path.now place }
     {
-        if path[place] == b'/' {
+        if place > 0 && path[place] == b'/' {
             self.device_by(path.split_at(place).0)
         } else {
             None
@@ -81,12 +81,12 @@ impl<'a> Devices<'a> {
     }
 
     /// The devices above a path, the nearest first. The error comes where memory is refused.
-    #[tactic(auto, unfolding(crate::specs::Devices::parents_of))]
+    #[tactic(auto, using(crate::proofs::Places::place_none, crate::proofs::Places::place_some), unfolding(crate::specs::Devices::parents_of))]
     pub fn parents_of(&self, alloc: Global, path: &[u8]) -> Result<Vec<&Device<'a>>, AllocError>
         ensures { IfOk result (λ parents. map (λ device. device.now) parents.items ≡ parents_of self.now path.now) }
     {
         let mut parents = Vec::new(alloc);
-        for place in (1..path.len()).rev() {
+        for place in (0..path.len()).rev() {
             if let Some(device) = self.device_before(path, place) {
                 parents.push(device)?;
             }

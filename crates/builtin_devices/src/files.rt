@@ -3,11 +3,10 @@ ghost use Rattle.std.specs.Prelude.{◌≡◌, ◌∷◌, ◌++◌, ◌≤◌, �
 ghost use Rattle.std.specs.List.{starts_with, ends_with};
 ghost use Rattle.text_bytes.specs.Names.{slash};
 ghost use Rattle.text_tables.specs.Pairs.{with_values};
-ghost use Rattle.builtin_devices.specs.Files.{file_at, file_below, files_below, subsystem_file, told_by, told_devices};
+ghost use Rattle.builtin_devices.specs.Files.{file_at, file_below, files_below, name_below, subsystem_file, told_by, told_devices};
 
 use device_core::{Device, Event, Pairs};
 use std::alloc::{AllocError, Global};
-use text_bytes::begins_with;
 
 /// What stands behind the path of a device in the name of the file that tells of its subsystem.
 const SUBSYSTEM_FILE: &[u8] = b"/subsystem";
@@ -20,19 +19,18 @@ pub fn file_at<'a>(event: &Event<'a>, path: &[u8]) -> Option<&'a [u8]>
     event.constants().get(path)
 }
 
-/// What stands behind the path of a folder and a slash in the path of a file below it.
+/// What stands in a path behind that of a folder and a slash.
+#[tactic(auto, unfolding(crate::specs::Files::name_below))]
 fn name_below<'a>(folder: &[u8], path: &'a [u8]) -> Option<&'a [u8]>
-    ensures { option_map (λ t. t.now) result ≡ option_map (λ file. file.0) (file_below folder.now (path.now, [])) }
+    ensures { option_map (λ t. t.now) result ≡ name_below folder.now path.now }
 {
     if !path.starts_with(folder) {
         return None;
     }
-    let (_, behind) = path.split_at(folder.len());
-    if !begins_with(b'/', behind) {
-        return None;
+    match path.split_at(folder.len()).1 {
+        [b'/', name @ ..] => Some(name),
+        _ => None,
     }
-    let (_, name) = behind.split_at(1);
-    Some(name)
 }
 
 /// The files below a folder, by what stands behind its path, in the order of the block. The error comes where memory

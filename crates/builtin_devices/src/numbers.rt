@@ -5,6 +5,7 @@ ghost use Rattle.text_bytes.specs.Names.{minus, is_whitespace};
 ghost use Rattle.text_bytes.specs.Texts.{begins_with, skip_while};
 ghost use Rattle.builtin_devices.specs.Numbers.{bytes_of, digit_value, digits_in, is_below_zero, is_marked, name_number, number_in, size_in, unsigned, written};
 
+use hex::{FromHexError, decode};
 use std::alloc::{AllocError, Global};
 use text_bytes::{begins_with, is_whitespace};
 use text_links::last_digits;
@@ -50,12 +51,11 @@ pub fn digits_in(base: u8, most: u64, text: &[u8]) -> Option<u64>
         if digit >= base {
             return None;
         }
-        number = number
-            .checked_mul(u64::from(base))?
-            .checked_add(u64::from(digit))?;
-        if number > most {
+        let next = u128::from(base) * u128::from(number) + u128::from(digit);
+        if next > u128::from(most) {
             return None;
         }
+        number = next as u64;
     }
     Some(number)
 }
@@ -75,6 +75,8 @@ fn is_marked(small: u8, large: u8, text: &[u8]) -> bool
 fn written(base: Base, text: &[u8]) -> (u8, &[u8])
     ensures base { result.0 ≡ (written base text.now).base }
     ensures digits { result.1.now ≡ (written base text.now).digits }
+    ensures some { 1 ≤ result.0 }
+    ensures few { result.0 ≤ 16 }
 {
     match base {
         Base::AsWritten if is_marked(b'x', b'X', text) => (16, &text[2..]),
@@ -163,19 +165,9 @@ pub fn name_number(kernel: &[u8]) -> Option<&[u8]>
 pub fn bytes_of(alloc: Global, text: &[u8]) -> Result<Option<Vec<u8>>, AllocError>
     ensures { IfOk result (λ bytes. option_map (λ b. b.items) bytes ≡ bytes_of text.now) }
 {
-    let mut bytes = Vec::with_capacity(alloc, text.len() / 2)?;
-    let mut rest = text;
-    while let [high, low, more @ ..] = rest {
-        let high = digit_value(*high);
-        let low = digit_value(*low);
-        if high > 15 || low > 15 {
-            return Ok(None);
-        }
-        bytes.push(16 * high + low)?;
-        rest = more;
+    match decode(alloc, text) {
+        Ok(bytes) => Ok(Some(bytes)),
+        Err(FromHexError::OutOfMemory) => Err(AllocError),
+        Err(_) => Ok(None),
     }
-    if !rest.is_empty() {
-        return Ok(None);
-    }
-    Ok(Some(bytes))
 }

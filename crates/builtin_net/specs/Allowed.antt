@@ -1,20 +1,20 @@
 -- The attributes that names of interfaces are made of, and which of them they may use.
-use Rattle.std.specs.Prelude.{ℕ, Bool, true, not, ◌&&◌, List, [], ◌∷◌, ◌++◌, codes, map, Option, None, option_and_then, if◌then◌else◌}
+use Rattle.std.specs.Prelude.{ℕ, Bool, true, not, ◌&&◌, List, [], ◌∷◌, ◌++◌, codes, map, Option, None, option_and_then, is_some, if◌then◌else◌}
 use Rattle.std.specs.Char.{to_ascii_lowercase, to_ascii_uppercase}
 use Rattle.std.specs.Option.{option_map_or, option_or}
 use Rattle.text_tables.specs.Texts.{Text, is_among}
-use Rattle.text_tables.specs.Pairs.{Pair, named, value_of}
+use Rattle.text_tables.specs.Pairs.{Pair, value_of}
 use Rattle.device_core.specs.Values.{DeviceValue, EventValue}
 use Rattle.builtin_devices.specs.Numbers.{number_in}
 use Rattle.builtin_devices.specs.declared.numbers.Base.TheVariants.{AsWritten}
 use Rattle.builtin_net.specs.Words.{most_number}
 use Rattle.builtin_net.specs.declared.allowed.Attribute.{Attribute}
-use Rattle.builtin_net.specs.declared.allowed.Attribute.TheVariants.{Iflink, Type, AddrAssignType, Address, PhysPortName, DevPort, DevId, AriEnabled, AcpiIndex, Index, Label, Sun, FunctionId, Modalias}
+use Rattle.builtin_net.specs.declared.allowed.Attribute.TheVariants.{Iflink, Hardware, AddrAssignType, Address, PhysPortName, DevPort, DevId, AriEnabled, AcpiIndex, Index, Label, Sun, FunctionId, Modalias}
 
 -- where an attribute stands below the folder of its device
 abbrev pub attribute_name : Attribute → Text
 attribute_name Iflink = codes "iflink"
-attribute_name Type = codes "type"
+attribute_name Hardware = codes "type"
 attribute_name AddrAssignType = codes "addr_assign_type"
 attribute_name Address = codes "address"
 attribute_name PhysPortName = codes "phys_port_name"
@@ -62,7 +62,7 @@ number device attribute = option_and_then (number_in AsWritten most_number) (rea
 
 -- whether a device lacks an attribute that names may use
 unfoldable pub lacks : DeviceValue → Attribute → Bool
-lacks device attribute = is_allowed device.env attribute && not (named device.attrs (attribute_name attribute))
+lacks device attribute = is_allowed device.env attribute && not (is_some (value_of device.attrs (attribute_name attribute)))
 
 -- the event device with its current properties, which say what names may use of it
 abbrev pub interface : EventValue → List Pair → DeviceValue

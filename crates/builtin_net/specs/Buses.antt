@@ -51,26 +51,34 @@ unfoldable pub vio_text : Text → Option Text
 vio_text name =
     if length name == 8 && list_all is_ascii_hexdigit name then option_map (λ n. codes "v" ++ decimal n) (number_in Hexadecimal most_number (drop 4 name)) else None
 
+-- whether a byte is a large letter or a digit
+abbrev pub is_vendor_byte : ℕ → Bool
+is_vendor_byte b = is_ascii_uppercase b || is_ascii_digit b
+
 -- whether a text names a maker of platform devices: three large letters, or four large letters and digits
 unfoldable pub is_vendor : Text → Bool
 is_vendor text =
-    length text == 3 && list_all is_ascii_uppercase text || length text == 4 && list_all (λ b. is_ascii_uppercase b || is_ascii_digit b) text
+    if length text == 3 then list_all is_ascii_uppercase text
+    else if length text == 4 then list_all is_vendor_byte text
+    else false
 
 -- maker, model and instance of a platform device: the model in small digits without zeros before it, the instance in decimal
 abbrev pub acpi_text : (vendor model : Text) → ℕ → Text
 acpi_text vendor model instance =
     codes "a" ++ map to_ascii_lowercase vendor ++ map to_ascii_lowercase (trimmed (λ b. b == digit_zero) model) ++ codes "i" ++ decimal instance
 
--- whether a maker with a model of four hexadecimal digits behind it, and an instance of two bytes
-unfoldable pub is_acpi : (front instance : Text) → Bool
-is_acpi front instance =
-    is_vendor (take (length front - 4) front) && list_all is_ascii_hexdigit (drop (length front - 4) front) && length instance == 2
+-- whether these are a maker, a model of hexadecimal digits and an instance of two bytes
+unfoldable pub is_acpi : (vendor model instance : Text) → Bool
+is_acpi vendor model instance = is_vendor vendor && list_all is_ascii_hexdigit model && length instance == 2
 
--- platform: a maker, a model, a colon and an instance in hexadecimal
+-- platform: a maker, a model of four bytes, a colon and an instance in hexadecimal
+abbrev pub with_instance : (vendor model instance : Text) → Option Text
+with_instance vendor model instance =
+    if is_acpi vendor model instance then option_map (acpi_text vendor model) (number_in Hexadecimal most_number instance) else None
+
 abbrev pub platform_parts : (front instance : Text) → Option Text
-platform_parts front instance =
-    if is_acpi front instance then option_map (acpi_text (take (length front - 4) front) (drop (length front - 4) front)) (number_in Hexadecimal most_number instance)
-    else None
+platform_parts front instance = with_instance (take (length front - 4) front) (drop (length front - 4) front) instance
+
 unfoldable pub platform_text : Text → Option Text
 platform_text name = option_and_then (λ parts. platform_parts parts.0 parts.1) (split_once colon name)
 
@@ -90,6 +98,7 @@ simulated _ _ = None
 -- the number of a kernel's name
 abbrev pub number_of_name : (kernel : Text) → Option ℕ
 number_of_name kernel = option_and_then (number_in AsWritten most_number) (name_number kernel)
+
 unfoldable pub netdevsim_text : (interface device : DeviceValue) → Option Text
 netdevsim_text interface device =
     simulated (number_of_name (kernel_of device)) (some_text (read interface PhysPortName))
@@ -102,12 +111,16 @@ of_ccw (Some device) = if is_of (codes "ccwgroup") None device || is_of (codes "
 -- the texts of an interface by each bus
 unfoldable pub by_ccw : EventValue → Option Text
 by_ccw event = of_ccw (parent_behind_virtio event)
+
 unfoldable pub by_vio : EventValue → Option Text
 by_vio event = if is_there (codes "vio") (parent event) then option_and_then vio_text (component (codes "/devices/vio/") event.device.path) else None
+
 unfoldable pub by_platform : EventValue → Option Text
 by_platform event =
     if is_there (codes "platform") (parent event) then option_and_then platform_text (component (codes "/devices/platform/") event.device.path) else None
+
 unfoldable pub by_xen : EventValue → Option Text
 by_xen event = if is_there (codes "xen") (parent event) then option_and_then xen_text (component (codes "/devices/") event.device.path) else None
+
 unfoldable pub by_netdevsim : EventValue → (interface : DeviceValue) → Option Text
 by_netdevsim event interface = option_and_then (netdevsim_text interface) (above event (codes "netdevsim") None event.device.path)

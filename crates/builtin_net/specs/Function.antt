@@ -23,7 +23,7 @@ with_numbers _ _ _ _ = None
 unfoldable pub in_bus : Text → Text → Text → Option Function
 in_bus domain bus place =
     option_and_then (λ parts.
-        with_numbers (number_in Hexadecimal most_number domain) (number_in Hexadecimal most_number bus) (number_in Hexadecimal most_number parts.0) (number_in Decimal most_number parts.1))
+    with_numbers (number_in Hexadecimal most_number domain) (number_in Hexadecimal most_number bus) (number_in Hexadecimal most_number parts.0) (number_in Decimal most_number parts.1))
     (split_once dot place)
 
 -- the function of a domain whose bus, slot and function stand in a text
@@ -53,6 +53,7 @@ config event pci = file_at event (pci.path ++ codes "/config")
 -- where the type of the header stands in a configuration, and the least type of a card with several functions
 abbrev pub header_place : ℕ
 header_place = 14
+
 abbrev pub several_type : ℕ
 several_type = 128
 

@@ -10,7 +10,7 @@ use Rattle.builtin_devices.specs.declared.numbers.Base.TheVariants.{AsWritten}
 use Rattle.builtin_net.specs.Allowed.{number, read}
 use Rattle.builtin_net.specs.Prefixes.{prefix_of}
 use Rattle.builtin_net.specs.Words.{is_number, positive}
-use Rattle.builtin_net.specs.declared.allowed.Attribute.TheVariants.{Iflink, Type}
+use Rattle.builtin_net.specs.declared.allowed.Attribute.TheVariants.{Iflink, Hardware}
 use Rattle.builtin_net.specs.declared.prefixes.Prefix.{Prefix}
 
 -- a number of 31 bits, which an index has
@@ -40,4 +40,4 @@ is_alone event interface = option_map_or (is_number (link interface)) (index eve
 -- how names of an interface begin, where it has some
 unfoldable pub naming : EventValue → (interface : DeviceValue) → Option Prefix
 naming event interface =
-    if is_alone event interface then option_and_then (λ hardware. prefix_of hardware (type_of event.device)) (number interface Type) else None
+    if is_alone event interface then option_and_then (λ hardware. prefix_of hardware (type_of event.device)) (number interface Hardware) else None

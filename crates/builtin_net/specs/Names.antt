@@ -23,9 +23,8 @@ use Rattle.builtin_net.specs.declared.functions.Function.{Function}
 use Rattle.builtin_net.specs.declared.prefixes.Prefix.{Prefix}
 use Rattle.builtin_net.specs.declared.slots.Slot.{Slot}
 
-
 -- a property of a prefix and a text behind it, where there is one, and both have at most 127 bytes
-abbrev pub given : (key prefix : Text) → Option Text → List Pair
+unfoldable pub given : (key prefix : Text) → Option Text → List Pair
 given key prefix None = []
 given key prefix (Some text) = if nat_le (length (prefix ++ text)) 127 then (key, prefix ++ text) ∷ [] else []
 
@@ -66,6 +65,7 @@ with_tail event prefix pci f (Some tail) =
 abbrev pub of_function : EventValue → Prefix → (interface pci : DeviceValue) → (suffix : Text) → Option Function → List Pair
 of_function event prefix interface pci suffix None = []
 of_function event prefix interface pci suffix (Some f) = with_tail event prefix pci f (tail event prefix interface pci suffix f)
+
 unfoldable pub by_function : EventValue → Prefix → (interface pci : DeviceValue) → (suffix : Text) → List Pair
 by_function event prefix interface pci suffix = of_function event prefix interface pci suffix (function pci)
 
@@ -94,6 +94,7 @@ of_own event prefix interface (Some own) =
     given (codes "ID_NET_LABEL_ONBOARD") [] (label_of own.0 own.1)
     ++ given (codes "ID_NET_NAME_ONBOARD") (prefix_text prefix) (board_text prefix interface own.0 own.1)
     ++ by_function event prefix interface own.0 own.1
+
 unfoldable pub by_pci : EventValue → Prefix → (interface : DeviceValue) → List Pair
 by_pci event prefix interface = of_own event prefix interface (own_function event)
 
@@ -110,6 +111,7 @@ usb_interface event = above event (codes "usb") (Some (codes "usb_interface")) e
 -- the function above it, and the end of names by it
 unfoldable pub usb_function : EventValue → Option DeviceValue
 usb_function event = option_and_then (pci_above event) (usb_interface event)
+
 unfoldable pub usb_end : EventValue → Option Text
 usb_end event = option_and_then (λ usb. usb_suffix (kernel_of usb)) (usb_interface event)
 
@@ -129,6 +131,7 @@ bcma_core event = above event (codes "bcma") None event.device.path
 -- the function above it, and the end of names by it
 unfoldable pub bcma_function : EventValue → Option DeviceValue
 bcma_function event = option_and_then (pci_above event) (bcma_core event)
+
 unfoldable pub bcma_end : EventValue → Option Text
 bcma_end event = option_and_then (λ core. bcma_suffix (kernel_of core)) (bcma_core event)
 
@@ -136,12 +139,17 @@ bcma_end event = option_and_then (λ core. bcma_suffix (kernel_of core)) (bcma_c
 unfoldable pub by_bcma : EventValue → Prefix → (interface : DeviceValue) → List Pair
 by_bcma event prefix interface = of_bcma event prefix interface (bcma_function event) (bcma_end event)
 
--- the names by buses whose devices have no functions of PCI
-unfoldable pub by_buses : EventValue → (prefix : Text) → (interface : DeviceValue) → List Pair
-by_buses event prefix interface =
+-- the names by what the device above is called
+unfoldable pub by_kernels : EventValue → (prefix : Text) → List Pair
+by_kernels event prefix =
     given (codes "ID_NET_NAME_PATH") prefix (by_ccw event)
     ++ given (codes "ID_NET_NAME_SLOT") prefix (by_vio event)
     ++ given (codes "ID_NET_NAME_PATH") prefix (by_platform event)
+
+-- the names by buses whose devices have no functions of PCI
+unfoldable pub by_buses : EventValue → (prefix : Text) → (interface : DeviceValue) → List Pair
+by_buses event prefix interface =
+    by_kernels event prefix
     ++ given (codes "ID_NET_NAME_PATH") prefix (by_netdevsim event interface)
     ++ given (codes "ID_NET_NAME_SLOT") prefix (by_xen event)
 

@@ -18,7 +18,7 @@ use Rattle.builtin_net.specs.Slots.{firmware_number, is_bridge, is_told, number_
 use Rattle.builtin_net.specs.Trees.{aliases_folder, node_link}
 use Rattle.builtin_net.specs.Virtual.{Named}
 use Rattle.builtin_net.specs.Words.{is_number}
-use Rattle.builtin_net.specs.declared.allowed.Attribute.TheVariants.{Iflink, Type, AddrAssignType, Address, PhysPortName, DevPort, DevId, FunctionId, Modalias}
+use Rattle.builtin_net.specs.declared.allowed.Attribute.TheVariants.{Iflink, Hardware, AddrAssignType, Address, PhysPortName, DevPort, DevId, FunctionId, Modalias}
 use Rattle.builtin_net.specs.declared.functions.Function.{Function}
 use Rattle.builtin_net.specs.declared.prefixes.Prefix.{Prefix}
 
@@ -31,7 +31,7 @@ abbrev pub own_needs : EventValue → (interface : DeviceValue) → List Text
 own_needs event interface =
     when (is_of (codes "net") None event.device && not (is_some (value_of event.device.env (codes "IFINDEX")))) (codes "IFINDEX")
     ++ when (is_some (index event) && lacks interface Iflink) (codes "iflink")
-    ++ when (is_alone event interface && lacks interface Type) (codes "type")
+    ++ when (is_alone event interface && lacks interface Hardware) (codes "type")
 
 -- of the address
 abbrev pub address_needs : Prefix → (interface : DeviceValue) → List Text
@@ -67,11 +67,16 @@ lacks_modalias device = option_map_or (λ d. lacks d Modalias) device false
 abbrev pub lacks_at_end : Option DeviceValue → Bool
 lacks_at_end device = option_map_or (λ d. lacks d Modalias && not (is_some (read d FunctionId))) device false
 
+-- whether a device lacks its modalias that is asked whether it is a bridge: the device above, or that at which the search ends
+abbrev pub lacks_a_modalias : EventValue → (pci : DeviceValue) → Bool
+lacks_a_modalias event pci =
+    not (is_some (firmware_number pci)) && lacks_modalias (pci_above event pci)
+    || not (is_some (number_by_firmware event pci)) && lacks_at_end (search_end event pci)
+
 -- of the slot
 abbrev pub slot_needs : EventValue → (pci : DeviceValue) → List Text
 slot_needs event pci =
-    when (not (is_some (firmware_number pci)) && lacks_modalias (pci_above event pci)
-          || not (is_some (number_by_firmware event pci)) && lacks_at_end (search_end event pci)) (codes "modalias")
+    when (lacks_a_modalias event pci) (codes "modalias")
     ++ when (not (is_some (number_by_firmware event pci)) && not (is_told event slots_folder)) (codes "slots")
 
 -- of a function
@@ -80,6 +85,7 @@ of_function event prefix interface pci None = []
 of_function event prefix interface pci (Some f) =
     let has_port = is_some (port_text prefix interface true) in
     config_needs event pci f has_port ++ port_needs prefix interface true ++ (if has_port then slot_needs event pci else [])
+
 unfoldable pub function_needs : EventValue → Prefix → (interface pci : DeviceValue) → List Text
 function_needs event prefix interface pci = of_function event prefix interface pci (function pci)
 

@@ -47,6 +47,7 @@ number_by_firmware event pci = option_or (firmware_number pci) (number_of_above 
 -- the folder of all slots, and the files in it
 abbrev pub slots_folder : Text
 slots_folder = codes "/bus/pci/slots"
+
 abbrev pub slot_files : EventValue → List Pair
 slot_files event = files_below event slots_folder
 
@@ -58,6 +59,7 @@ is_told event folder = is_some (file_at event folder) || not (is_empty (files_be
 abbrev pub addressed : Option Pair → Option Text
 addressed None = None
 addressed (Some parts) = if same_text parts.1 (codes "address") then Some parts.0 else None
+
 unfoldable pub slot_name : (path : Text) → Option Text
 slot_name path = addressed (split_once slash path)
 
@@ -76,7 +78,7 @@ number_by_place event pci = option_and_then (λ file. slot_number file.0) (find 
 -- whether a name is this number in eight hexadecimal digits with small letters
 unfoldable pub is_identity : ℕ → Text → Bool
 is_identity n name =
-    length name == 8 && (list_all is_ascii_hexdigit name && not (list_any is_ascii_uppercase name)) && is_number (number_in Hexadecimal most_number name) n
+    length name == 8 && list_all is_ascii_hexdigit name && not (list_any is_ascii_uppercase name) && is_number (number_in Hexadecimal most_number name) n
 
 -- whether a file is that of the slot of this number
 abbrev pub is_slot_of : ℕ → Pair → Bool

@@ -14,6 +14,7 @@ use Rattle.builtin_net.specs.Words.{behind, most_number}
 -- the root of the device tree, and the folder of its aliases
 abbrev pub tree_root : Text
 tree_root = codes "/firmware/devicetree/base"
+
 abbrev pub aliases_folder : Text
 aliases_folder = codes "/firmware/devicetree/base/aliases"
 

@@ -8,8 +8,11 @@ use Rattle.builtin_devices.specs.declared.numbers.Base.TheVariants.{Decimal}
 use Rattle.builtin_net.specs.Words.{behind, most_number}
 
 -- ports with `u` for each dot in between
+abbrev pub port_byte : ℕ → ℕ
+port_byte b = if b == dot then 117 else b
+
 abbrev pub ports_text : Text → Text
-ports_text ports = map (λ b. if b == dot then 117 else b) ports
+ports_text ports = map port_byte ports
 
 -- a number behind a letter, left out where it is the usual one
 abbrev pub unless_usual : (usual letter number : Text) → Text
@@ -23,6 +26,7 @@ usb_text ports configuration interface =
 -- ports with what stands behind them, and what stands before and behind the dot in that
 abbrev pub usb_numbers : Text → Text → Option Text
 usb_numbers ports numbers = option_map (λ parts. usb_text ports parts.0 parts.1) (split_once dot numbers)
+
 abbrev pub usb_ports : Text → Option Text
 usb_ports rest = option_and_then (λ parts. usb_numbers parts.0 parts.1) (split_once colon rest)
 

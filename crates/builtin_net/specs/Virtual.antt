@@ -1,5 +1,5 @@
 -- Virtual functions, whose names are those of the physical one.
-use Rattle.std.specs.Prelude.{◌&&◌, Bool, [], ◌++◌, codes, find, Option, Some, None, option_and_then}
+use Rattle.std.specs.Prelude.{◌&&◌, Bool, false, [], ◌++◌, codes, find, Option, Some, None, option_and_then}
 use Rattle.text_bytes.specs.Numbers.{is_decimal}
 use Rattle.std.specs.Option.{option_map_or}
 use Rattle.text_tables.specs.Texts.{Text, same_text}

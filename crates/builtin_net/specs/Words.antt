@@ -17,6 +17,7 @@ behind front text = if starts_with nat_eq text front then Some (drop (length fro
 -- the digits that a text begins with, and what stands behind them
 abbrev pub leading_digits : Text → Text
 leading_digits text = take (prefix_len is_digit text) text
+
 abbrev pub behind_digits : Text → Text
 behind_digits text = drop (prefix_len is_digit text) text
 
@@ -31,8 +32,7 @@ is_plain text = is_utf8 text && not (list_any is_control text)
 -- a number above 0
 abbrev pub positive : Option ℕ → Option ℕ
 positive None = None
-positive (Some zero) = None
-positive (Some (suc n)) = Some (suc n)
+positive (Some n) = if n == 0 then None else Some n
 
 -- whether a number is there, and this one
 abbrev pub is_number : Option ℕ → ℕ → Bool

@@ -1,9 +1,9 @@
 //! Names by the address of an interface.
-ghost use Rattle.std.specs.Prelude.{◌≡◌, ◌++◌, ◌-◌, ◌==◌, ◌<◌, ◌≤◌, ◌^◌, flat_map, length, map, option_map, IfOk, OnOk};
+ghost use Rattle.std.specs.Prelude.{◌≡◌, ◌==◌, flat_map, map, option_map, IfOk};
 ghost use Rattle.std.specs.List.{list_all, slice_split};
-ghost use Rattle.text_bytes.specs.Names.{digit_zero};
-ghost use Rattle.builtin_net.specs.Address.{address_digits, field_digits, is_field, is_marked, maker_lookup, marked_digits};
+ghost use Rattle.builtin_net.specs.Address.{address_digits, are_fields, field_digits, is_field, maker_lookup, marked_digits};
 
+use crate::words::{is_hexadecimal, joined, large, small};
 use std::alloc::{AllocError, Global};
 
 /// Whether a text is one hexadecimal digit or more, and at most so many.
@@ -11,58 +11,82 @@ use std::alloc::{AllocError, Global};
 fn is_field(width: usize, text: &[u8]) -> bool
     ensures { result ≡ is_field width text.now }
 {
-    !text.is_empty() && text.len() <= width && text.iter().all(|byte| byte.is_ascii_hexdigit())
+    !text.is_empty() && text.len() <= width && is_hexadecimal(text)
 }
 
-/// Whether a text is so many fields with this mark in between.
-#[tactic(auto, unfolding(crate::specs::Address::is_marked))]
-fn is_marked(mark: u8, fields: usize, width: usize, text: &[u8]) -> bool
-    ensures { result ≡ is_marked mark fields width text.now }
-{
-    text.split(|byte| *byte == mark).count() == fields
-        && text.split(|byte| *byte == mark).all(|field| is_field(width, field))
-}
-
-/// Puts a field behind digits, in so many small digits with zeros before it.
+/// A field in so many small digits, with zeros before it.
 #[tactic(auto, unfolding(crate::specs::Address::field_digits))]
-fn push_field(digits: &mut Vec<u8>, width: usize, field: &[u8]) -> Result<(), AllocError>
-    ensures { OnOk result (digits.new.items ≡ digits.old.items ++ field_digits width field.now) }
+fn field_digits(alloc: Global, width: usize, field: &[u8]) -> Result<Vec<u8>, AllocError>
+    ensures { IfOk result (λ digits. digits.items ≡ field_digits width field.now) }
 {
-    for _ in field.len()..width {
-        digits.push(b'0')?;
-    }
-    for byte in field {
-        digits.push(byte.to_ascii_lowercase())?;
-    }
-    Ok(())
+    let mut digits = vec![in alloc; b'0'; width.saturating_sub(field.len())]?;
+    digits.extend_from_slice(&small(alloc, field)?)?;
+    Ok(digits)
 }
 
-/// The digits of fields with a mark in between.
-fn fields_digits(alloc: Global, mark: u8, width: usize, text: &[u8]) -> Result<Vec<u8>, AllocError>
-    ensures { IfOk result (λ digits. digits.items ≡ flat_map (field_digits width) (slice_split (λ b. b == mark) text.now)) }
+/// The texts of a text with a mark in between.
+fn parts(alloc: Global, mark: u8, text: &[u8]) -> Result<Vec<&[u8]>, AllocError>
+    ensures { IfOk result (λ parts. map (λ t. t.now) parts.items ≡ slice_split (λ b. b == mark) text.now) }
+{
+    text.split(|byte| *byte == mark).collect(alloc)
+}
+
+/// Whether each of texts is a field.
+fn all_fields(width: usize, texts: &[&[u8]]) -> bool
+    ensures { result ≡ list_all (λ t. is_field width t.now) texts.now }
+{
+    texts.iter().all(|text| is_field(width, text))
+}
+
+/// Whether there are so many texts, each a field.
+#[tactic(auto, using(crate::proofs::Fields::fields_seen))]
+fn are_fields(count: usize, width: usize, texts: &[&[u8]]) -> bool
+    ensures { result ≡ are_fields count width (map (λ t. t.now) texts.now) }
+{
+    texts.len() == count && all_fields(width, texts)
+}
+
+/// The digits of all fields.
+fn all_digits(alloc: Global, width: usize, fields: &[&[u8]]) -> Result<Vec<u8>, AllocError>
+    ensures { IfOk result (λ digits. digits.items ≡ flat_map (field_digits width) (map (λ t. t.now) fields.now)) }
 {
     let mut digits = Vec::new(alloc);
-    for field in text.split(|byte| *byte == mark) {
-        push_field(&mut digits, width, field)?;
+    for field in fields {
+        digits.extend_from_slice(&field_digits(alloc, width, field)?)?;
     }
     Ok(digits)
 }
 
+/// The digits of so many fields with a mark in between.
+#[tactic(auto, unfolding(crate::specs::Address::marked_digits))]
+fn marked_digits(
+    alloc: Global,
+    mark: u8,
+    count: usize,
+    width: usize,
+    text: &[u8],
+) -> Result<Option<Vec<u8>>, AllocError>
+    ensures { IfOk result (λ digits. option_map (λ d. d.items) digits ≡ marked_digits mark count width text.now) }
+{
+    let parts = parts(alloc, mark, text)?;
+    if !are_fields(count, width, &parts) {
+        return Ok(None);
+    }
+    Ok(Some(all_digits(alloc, width, &parts)?))
+}
+
 /// The twelve small digits of an address of six bytes.
-#[tactic(auto, unfolding(crate::specs::Address::address_digits, crate::specs::Address::marked_digits))]
+#[tactic(auto, unfolding(crate::specs::Address::address_digits))]
 pub(crate) fn address_digits(alloc: Global, text: &[u8]) -> Result<Option<Vec<u8>>, AllocError>
     ensures { IfOk result (λ digits. option_map (λ d. d.items) digits ≡ address_digits text.now) }
 {
-    if is_marked(b':', 6, 2, text) {
-        return Ok(Some(fields_digits(alloc, b':', 2, text)?));
+    if let Some(digits) = marked_digits(alloc, b':', 6, 2, text)? {
+        return Ok(Some(digits));
     }
-    if is_marked(b'-', 6, 2, text) {
-        return Ok(Some(fields_digits(alloc, b'-', 2, text)?));
+    if let Some(digits) = marked_digits(alloc, b'-', 6, 2, text)? {
+        return Ok(Some(digits));
     }
-    if is_marked(b'.', 3, 4, text) {
-        return Ok(Some(fields_digits(alloc, b'.', 4, text)?));
-    }
-    Ok(None)
+    marked_digits(alloc, b'.', 3, 4, text)
 }
 
 /// What the database is asked for an address.
@@ -70,12 +94,9 @@ pub(crate) fn address_digits(alloc: Global, text: &[u8]) -> Result<Option<Vec<u8
 pub(crate) fn maker_lookup(alloc: Global, digits: &[u8]) -> Result<Option<Vec<u8>>, AllocError>
     ensures { IfOk result (λ text. option_map (λ t. t.items) text ≡ maker_lookup digits.now) }
 {
-    if digits.iter().take(6).all(|digit| *digit == b'0') {
+    if digits.starts_with(b"000000") {
         return Ok(None);
     }
-    let mut text = Vec::from_slice(alloc, b"OUI:")?;
-    for digit in digits {
-        text.push(digit.to_ascii_uppercase())?;
-    }
-    Ok(Some(text))
+    let digits = large(alloc, digits)?;
+    Ok(Some(joined(alloc, b"OUI:", &digits)?))
 }

@@ -1,5 +1,7 @@
 //! The attributes that names are made of, and which of them they may use.
-ghost use Rattle.std.specs.Prelude.{◌≡◌, option_map};
+ghost use Rattle.std.specs.Prelude.{◌≡◌, map, option_map};
+ghost use Rattle.std.specs.Char.{to_ascii_lowercase};
+ghost use Rattle.text_tables.specs.Texts.{same_text};
 ghost use Rattle.text_tables.specs.Pairs.{value_of};
 ghost use Rattle.builtin_net.specs.Allowed.{attribute_name, interface, is_allowed, is_yes, lacks, number, permission, permits, read};
 
@@ -14,7 +16,7 @@ pub enum Attribute {
     /// `iflink`, the index of the interface that this one stands upon.
     Iflink,
     /// `type`, the number of the hardware.
-    Type,
+    Hardware,
     /// `addr_assign_type`, where the address comes from.
     AddrAssignType,
     /// `address`, the address.
@@ -44,9 +46,6 @@ pub enum Attribute {
 /// The property that says whether names may use any attribute.
 const PERMISSION_OF_ALL: &[u8] = b"ID_NET_NAME_ALLOW";
 
-/// The words that mean yes, in small letters.
-const YES_WORDS: [&[u8]; 6] = [b"1", b"yes", b"y", b"true", b"t", b"on"];
-
 impl Attribute {
     /// Where it stands below the folder of its device.
     pub(crate) fn name(self) -> &'static [u8]
@@ -54,7 +53,7 @@ impl Attribute {
     {
         match self {
             Attribute::Iflink => b"iflink",
-            Attribute::Type => b"type",
+            Attribute::Hardware => b"type",
             Attribute::AddrAssignType => b"addr_assign_type",
             Attribute::Address => b"address",
             Attribute::PhysPortName => b"phys_port_name",
@@ -76,7 +75,7 @@ impl Attribute {
     {
         match self {
             Attribute::Iflink => b"ID_NET_NAME_ALLOW_IFLINK",
-            Attribute::Type => b"ID_NET_NAME_ALLOW_TYPE",
+            Attribute::Hardware => b"ID_NET_NAME_ALLOW_TYPE",
             Attribute::AddrAssignType => b"ID_NET_NAME_ALLOW_ADDR_ASSIGN_TYPE",
             Attribute::Address => b"ID_NET_NAME_ALLOW_ADDRESS",
             Attribute::PhysPortName => b"ID_NET_NAME_ALLOW_PHYS_PORT_NAME",
@@ -93,12 +92,24 @@ impl Attribute {
     }
 }
 
+/// Whether a word is another, in letters of any size.
+fn is_word(word: &[u8], other: &[u8]) -> bool
+    ensures { result ≡ same_text (map to_ascii_lowercase word.now) (map to_ascii_lowercase other.now) }
+{
+    word.eq_ignore_ascii_case(other)
+}
+
 /// Whether a word means yes, in letters of any size.
 #[tactic(auto, unfolding(crate::specs::Allowed::is_yes))]
 pub(crate) fn is_yes(word: &[u8]) -> bool
     ensures { result ≡ is_yes word.now }
 {
-    YES_WORDS.iter().any(|yes| word.eq_ignore_ascii_case(yes))
+    is_word(word, b"1")
+        || is_word(word, b"yes")
+        || is_word(word, b"y")
+        || is_word(word, b"true")
+        || is_word(word, b"t")
+        || is_word(word, b"on")
 }
 
 /// Whether a word of its own lets names use an attribute, or else one for all attributes.

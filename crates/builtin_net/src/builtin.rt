@@ -25,11 +25,7 @@ pub struct NetNames {
 
 /// What is asked of the hardware database.
 #[tactic(auto, unfolding(crate::specs::NetId::lookup))]
-fn lookup(
-    alloc: Global,
-    event: &Event<'_>,
-    env: &OwnedPairs,
-) -> Result<Option<Bytes>, AllocError>
+fn lookup(alloc: Global, event: &Event<'_>, env: &OwnedPairs) -> Result<Option<Bytes>, AllocError>
     ensures { IfOk result (λ text. text ≡ lookup event.now env.now) }
 {
     let Some(prefix) = naming(event, env) else {
@@ -60,11 +56,7 @@ fn properties(
 
 /// The outcome of net_id.
 #[tactic(auto, unfolding(crate::specs::NetId::net_id))]
-fn outcome(
-    alloc: Global,
-    devices: &Devices<'_>,
-    env: &OwnedPairs,
-) -> Result<Outcome, AllocError>
+fn outcome(alloc: Global, devices: &Devices<'_>, env: &OwnedPairs) -> Result<Outcome, AllocError>
     ensures { IfOk result (λ outcome. outcome ≡ net_id devices.now env.now) }
 {
     let needs = needs(alloc, devices, env)?;
@@ -80,11 +72,7 @@ fn outcome(
 ///
 /// It fails where IFINDEX is no number above 0, or `iflink` is no number. It sets nothing for an interface upon
 /// another and for hardware other than Ethernet, InfiniBand and SLIP. The error comes where memory is refused.
-pub fn net_id(
-    alloc: Global,
-    event: &Event<'_>,
-    env: &OwnedPairs,
-) -> Result<NetNames, AllocError>
+pub fn net_id(alloc: Global, event: &Event<'_>, env: &OwnedPairs) -> Result<NetNames, AllocError>
     ensures outcome { IfOk result (λ names. names.outcome ≡ net_id event.now env.now) }
     ensures lookup { IfOk result (λ names. names.lookup ≡ lookup event.now env.now) }
 {

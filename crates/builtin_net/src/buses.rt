@@ -1,14 +1,13 @@
 //! What names tell of buses other than PCI and USB.
-ghost use Rattle.std.specs.Prelude.{◌≡◌, ◌==◌, ◌||◌, ◌++◌, ◌≤◌, length, map, option_copied, option_map, IfOk, OnOk};
-ghost use Rattle.std.specs.Char.{is_ascii_hexdigit, to_ascii_lowercase};
-ghost use Rattle.std.specs.List.{before_first, list_all, prefix_len};
-ghost use Rattle.text_bytes.specs.Names.{digit_zero, dot};
+ghost use Rattle.std.specs.Prelude.{◌≡◌, ◌==◌, ◌||◌, ◌≤◌, length, not, option_copied, option_map, IfOk};
+ghost use Rattle.std.specs.List.{list_all, prefix_len};
+ghost use Rattle.text_bytes.specs.Names.{digit_zero, dot, slash};
 ghost use Rattle.builtin_net.specs.Allowed.{interface};
-ghost use Rattle.builtin_net.specs.Buses.{acpi_text, by_ccw, by_netdevsim, by_platform, by_vio, by_xen, ccw_text, component, is_acpi, is_there, is_vendor, is_written_number, netdevsim_text, number_of_name, parent, parent_behind_virtio, platform_parts, platform_text, simulated, vio_text, without_start, xen_text};
+ghost use Rattle.builtin_net.specs.Buses.{acpi_text, by_ccw, by_netdevsim, by_platform, by_vio, by_xen, ccw_text, component, is_acpi, is_there, is_vendor, is_vendor_byte, is_written_number, netdevsim_text, number_of_name, parent, parent_behind_virtio, platform_parts, platform_text, simulated, vio_text, with_instance, without_start, xen_text};
 
 use crate::allowed::{Attribute, read_own};
 use crate::ports::some_text;
-use crate::words::{MOST_NUMBER, behind, is_plain, joined, push_number};
+use crate::words::{MOST_NUMBER, behind, is_hexadecimal, is_plain, joined, push_number, small};
 use builtin_devices::{Base, Devices, is_of, name_number, number_in};
 use device_core::{Device, Event};
 use std::alloc::{AllocError, Global};
@@ -58,15 +57,15 @@ fn component<'a>(folder: &[u8], path: &'a [u8]) -> Option<&'a [u8]>
     ensures { option_map (λ t. t.now) result ≡ component folder.now path.now }
 {
     let rest = behind(folder, path)?;
-    Some(before_slash(rest))
+    Some(rest.split_at(slash_place(rest)).0)
 }
 
-/// What stands before the first slash of a text, or the whole text.
-fn before_slash(text: &[u8]) -> &[u8]
-    ensures { result.now ≡ before_first (λ b. b == 47) text.now }
+/// How many bytes a text has before its first slash.
+fn slash_place(text: &[u8]) -> usize
+    ensures value { result ≡ prefix_len (λ b. not (b == slash)) text.now }
+    ensures within { result ≤ length text.now }
 {
-    let before = text.iter().take_while(|byte| **byte != b'/').count();
-    text.split_at(before).0
+    text.iter().take_while(|byte| **byte != b'/').count()
 }
 
 /// How many zeros and dots a text begins with.
@@ -125,11 +124,18 @@ fn vio_text(alloc: Global, name: &[u8]) -> Result<Option<Vec<u8>>, AllocError>
     Ok(Some(text))
 }
 
-/// Whether a text has only hexadecimal digits.
-fn is_hexadecimal(text: &[u8]) -> bool
-    ensures { result ≡ list_all is_ascii_hexdigit text.now }
+/// Whether a byte is a large letter or a digit.
+fn is_vendor_byte(byte: u8) -> bool
+    ensures { result ≡ is_vendor_byte byte }
 {
-    text.iter().all(|byte| byte.is_ascii_hexdigit())
+    byte.is_ascii_uppercase() || byte.is_ascii_digit()
+}
+
+/// Whether a text has only large letters and digits.
+fn has_vendor_bytes(text: &[u8]) -> bool
+    ensures { result ≡ list_all is_vendor_byte text.now }
+{
+    text.iter().all(|byte| is_vendor_byte(*byte))
 }
 
 /// Whether a text names a maker of platform devices.
@@ -139,21 +145,9 @@ fn is_vendor(text: &[u8]) -> bool
 {
     match text.len() {
         3 => text.iter().all(|byte| byte.is_ascii_uppercase()),
-        4 => text
-            .iter()
-            .all(|byte| byte.is_ascii_uppercase() || byte.is_ascii_digit()),
+        4 => has_vendor_bytes(text),
         _ => false,
     }
-}
-
-/// Puts a text behind another, in small letters.
-fn push_small(text: &mut Vec<u8>, more: &[u8]) -> Result<(), AllocError>
-    ensures { OnOk result (text.new.items ≡ text.old.items ++ map to_ascii_lowercase more.now) }
-{
-    for byte in more {
-        text.push(byte.to_ascii_lowercase())?;
-    }
-    Ok(())
 }
 
 /// Maker, model and instance of a platform device as names of interfaces have them.
@@ -166,10 +160,37 @@ fn acpi_text(
     ensures { IfOk result (λ text. text.items ≡ acpi_text vendor.now model.now instance) }
 {
     let mut text = Vec::from_slice(alloc, b"a")?;
-    push_small(&mut text, vendor)?;
-    push_small(&mut text, without_start(model, leading_zeros(model)))?;
+    text.extend_from_slice(&small(alloc, vendor)?)?;
+    let model = without_start(model, leading_zeros(model));
+    text.extend_from_slice(&small(alloc, model)?)?;
     push_number(&mut text, b"i", instance)?;
     Ok(text)
+}
+
+/// Whether texts are a maker, a model and an instance of a platform device.
+#[tactic(auto, unfolding(crate::specs::Buses::is_acpi))]
+fn is_acpi(vendor: &[u8], model: &[u8], instance: &[u8]) -> bool
+    ensures { result ≡ is_acpi vendor.now model.now instance.now }
+{
+    is_vendor(vendor) && is_hexadecimal(model) && instance.len() == 2
+}
+
+/// A maker, a model and an instance as names of interfaces have them.
+fn with_instance(
+    alloc: Global,
+    vendor: &[u8],
+    model: &[u8],
+    instance: &[u8],
+) -> Result<Option<Vec<u8>>, AllocError>
+    ensures { IfOk result (λ text. option_map (λ t. t.items) text ≡ with_instance vendor.now model.now instance.now) }
+{
+    if !is_acpi(vendor, model, instance) {
+        return Ok(None);
+    }
+    match number_in(Base::Hexadecimal, MOST_NUMBER, instance) {
+        Some(instance) => Ok(Some(acpi_text(alloc, vendor, model, instance)?)),
+        None => Ok(None),
+    }
 }
 
 /// What stands before and behind the colon in the name of a platform device.
@@ -181,13 +202,7 @@ fn platform_parts(
     ensures { IfOk result (λ text. option_map (λ t. t.items) text ≡ platform_parts front.now instance.now) }
 {
     let (vendor, model) = front.split_at(front.len().saturating_sub(4));
-    if !is_vendor(vendor) || !is_hexadecimal(model) || instance.len() != 2 {
-        return Ok(None);
-    }
-    match number_in(Base::Hexadecimal, MOST_NUMBER, instance) {
-        Some(instance) => Ok(Some(acpi_text(alloc, vendor, model, instance)?)),
-        None => Ok(None),
-    }
+    with_instance(alloc, vendor, model, instance)
 }
 
 /// A name of a platform device as names of interfaces have it.

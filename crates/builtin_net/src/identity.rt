@@ -75,6 +75,6 @@ pub(crate) fn naming(event: &Event<'_>, env: &OwnedPairs) -> Option<Prefix>
     if !is_alone(event, env) {
         return None;
     }
-    let hardware = own_number(event, env, Attribute::Type)?;
+    let hardware = own_number(event, env, Attribute::Hardware)?;
     prefix_of(hardware, type_of(event.device()))
 }

@@ -7,9 +7,9 @@ mod builtin;
 mod buses;
 mod functions;
 mod identity;
+mod laws;
 mod names;
 mod needs;
-
 mod on_board;
 mod ports;
 mod prefixes;
@@ -20,3 +20,4 @@ mod virtual_functions;
 mod words;
 
 pub use builtin::{NetNames, net_id};
+pub use laws::{forbidden_interfaces_fail, names_are_short, stacked_interfaces_have_no_names};

@@ -1,12 +1,15 @@
 //! The names of an interface.
-ghost use Rattle.std.specs.Prelude.{◌≡◌, ◌++◌, option_copied, option_map, IfOk, OnOk, Some};
+ghost use Rattle.std.specs.Prelude.{◌≡◌, ◌++◌, [], codes, option_copied, option_map, IfOk, OnOk, Some};
 ghost use Rattle.builtin_net.specs.Allowed.{interface};
-ghost use Rattle.builtin_net.specs.Names.{bcma_core, bcma_end, bcma_function, board_text, by_address, by_bcma, by_buses, by_function, by_pci, by_tree, by_usb, given, label_of, lasting_address, names, own_function, path_text, slot_text, tail, usb_end, usb_function, usb_interface, with_tail};
+ghost use Rattle.builtin_net.specs.Names.{bcma_core, bcma_end, bcma_function, board_text, by_address, by_bcma, by_buses, by_function, by_kernels, by_pci, by_tree, by_usb, given, label_of, lasting_address, names, own_function, path_text, slot_text, tail, usb_end, usb_function, usb_interface, with_tail};
+ghost use Rattle.builtin_net.specs.Prefixes.{prefix_text};
 ghost use Rattle.builtin_net.specs.Slots.{slot_of};
 
 use crate::address::address_digits;
 use crate::allowed::{Attribute, own_number, read_own};
-use crate::buses::{by_ccw, by_netdevsim, by_platform, by_vio, by_xen, is_there, parent_behind_virtio};
+use crate::buses::{
+    by_ccw, by_netdevsim, by_platform, by_vio, by_xen, is_there, parent_behind_virtio,
+};
 use crate::functions::{Function, function_at, is_several, push_domain, push_function, push_place};
 use crate::on_board::{board_number, label};
 use crate::ports::port_text;
@@ -27,6 +30,7 @@ use text_tables::OwnedPairs;
 const MOST_NAME: usize = 127;
 
 /// Adds a property of a prefix and a text behind it, where there is one and both are not too long.
+#[tactic(auto, unfolding(crate::specs::Names::given))]
 fn give(
     alloc: Global,
     names: &mut Vec<(Bytes, Bytes)>,
@@ -158,6 +162,34 @@ fn by_slot<'a>(
     }
 }
 
+/// Gives a name by a path.
+fn give_path(
+    alloc: Global,
+    names: &mut Vec<(Bytes, Bytes)>,
+    prefix: Prefix,
+    text: Vec<u8>,
+) -> Result<(), AllocError>
+    ensures { OnOk result (names.new.items ≡ names.old.items ++ given (codes "ID_NET_NAME_PATH") (prefix_text prefix) (Some text.items)) }
+{
+    give(alloc, names, b"ID_NET_NAME_PATH", prefix.text(), Some(text))
+}
+
+/// Gives the name by the slot of a function, where it stands in one.
+fn give_slot<'a>(
+    alloc: Global,
+    names: &mut Vec<(Bytes, Bytes)>,
+    devices: &Devices<'a>,
+    prefix: Prefix,
+    pci: &Device<'a>,
+    f: Function,
+    tail: &[u8],
+) -> Result<(), AllocError>
+    ensures { OnOk result (names.new.items ≡ names.old.items ++ given (codes "ID_NET_NAME_SLOT") (prefix_text prefix) (option_map (slot_text f tail.now) (slot_of devices.now pci.now))) }
+{
+    let slot = by_slot(alloc, devices, pci, f, tail)?;
+    give(alloc, names, b"ID_NET_NAME_SLOT", prefix.text(), slot)
+}
+
 /// Gives both names of a function with what stands behind.
 fn give_with_tail<'a>(
     alloc: Global,
@@ -171,9 +203,8 @@ fn give_with_tail<'a>(
     ensures { OnOk result (names.new.items ≡ names.old.items ++ with_tail devices.now prefix pci.now f (Some tail.now)) }
 {
     let path = path_text(alloc, f, tail)?;
-    give(alloc, names, b"ID_NET_NAME_PATH", prefix.text(), Some(path))?;
-    let slot = by_slot(alloc, devices, pci, f, tail)?;
-    give(alloc, names, b"ID_NET_NAME_SLOT", prefix.text(), slot)
+    give_path(alloc, names, prefix, path)?;
+    give_slot(alloc, names, devices, prefix, pci, f, tail)
 }
 
 /// Gives both names of a device, where it is a function.
@@ -238,11 +269,7 @@ pub(crate) fn own_function<'d, 'a>(
 }
 
 /// The label of a function, unless it is a virtual one.
-fn label_of(
-    alloc: Global,
-    pci: &Device<'_>,
-    suffix: &[u8],
-) -> Result<Option<Vec<u8>>, AllocError>
+fn label_of(alloc: Global, pci: &Device<'_>, suffix: &[u8]) -> Result<Option<Vec<u8>>, AllocError>
     ensures { IfOk result (λ text. option_map (λ t. t.items) text ≡ label_of pci.now suffix.now) }
 {
     if !suffix.is_empty() {
@@ -252,6 +279,35 @@ fn label_of(
         Some(text) => Ok(Some(Vec::from_slice(alloc, text)?)),
         None => Ok(None),
     }
+}
+
+/// Gives the label of a function, unless it is a virtual one.
+fn give_label(
+    alloc: Global,
+    names: &mut Vec<(Bytes, Bytes)>,
+    pci: &Device<'_>,
+    suffix: &[u8],
+) -> Result<(), AllocError>
+    ensures { OnOk result (names.new.items ≡ names.old.items ++ given (codes "ID_NET_LABEL_ONBOARD") [] (label_of pci.now suffix.now)) }
+{
+    let label = label_of(alloc, pci, suffix)?;
+    give(alloc, names, b"ID_NET_LABEL_ONBOARD", b"", label)
+}
+
+/// Gives the name by the number of a function on board.
+fn give_board(
+    alloc: Global,
+    names: &mut Vec<(Bytes, Bytes)>,
+    prefix: Prefix,
+    event: &Event<'_>,
+    env: &OwnedPairs,
+    pci: &Device<'_>,
+    suffix: &[u8],
+) -> Result<(), AllocError>
+    ensures { OnOk result (names.new.items ≡ names.old.items ++ given (codes "ID_NET_NAME_ONBOARD") (prefix_text prefix) (board_text prefix (interface event.now env.now) pci.now suffix.now)) }
+{
+    let board = board_text(alloc, prefix, event, env, pci, suffix)?;
+    give(alloc, names, b"ID_NET_NAME_ONBOARD", prefix.text(), board)
 }
 
 /// Gives the names of an interface of PCI, and its label.
@@ -269,10 +325,8 @@ fn give_by_pci(
         return Ok(());
     };
     let NamedFunction { pci, suffix } = own;
-    let label = label_of(alloc, pci, &suffix)?;
-    give(alloc, names, b"ID_NET_LABEL_ONBOARD", b"", label)?;
-    let board = board_text(alloc, prefix, devices.event(), env, pci, &suffix)?;
-    give(alloc, names, b"ID_NET_NAME_ONBOARD", prefix.text(), board)?;
+    give_label(alloc, names, pci, &suffix)?;
+    give_board(alloc, names, prefix, devices.event(), env, pci, &suffix)?;
     give_by_function(alloc, names, devices, prefix, env, pci, &suffix)
 }
 
@@ -329,7 +383,7 @@ fn give_by_usb(
     };
     match usb_function(alloc, devices)? {
         Some(pci) => give_by_function(alloc, names, devices, prefix, env, pci, &suffix),
-        None => give(alloc, names, b"ID_NET_NAME_PATH", prefix.text(), Some(suffix)),
+        None => give_path(alloc, names, prefix, suffix),
     }
 }
 
@@ -390,6 +444,24 @@ fn give_by_bcma(
     }
 }
 
+/// Gives the names by what the device above is called.
+#[tactic(auto, unfolding(crate::specs::Names::by_kernels))]
+fn give_by_kernels(
+    alloc: Global,
+    names: &mut Vec<(Bytes, Bytes)>,
+    devices: &Devices<'_>,
+    prefix: &[u8],
+) -> Result<(), AllocError>
+    ensures { OnOk result (names.new.items ≡ names.old.items ++ by_kernels devices.now prefix.now) }
+{
+    let ccw = by_ccw(alloc, devices)?;
+    give(alloc, names, b"ID_NET_NAME_PATH", prefix, ccw)?;
+    let vio = by_vio(alloc, devices)?;
+    give(alloc, names, b"ID_NET_NAME_SLOT", prefix, vio)?;
+    let platform = by_platform(alloc, devices)?;
+    give(alloc, names, b"ID_NET_NAME_PATH", prefix, platform)
+}
+
 /// Gives the names by buses whose devices have no functions of PCI.
 #[tactic(auto, unfolding(crate::specs::Names::by_buses))]
 fn give_by_buses(
@@ -401,13 +473,11 @@ fn give_by_buses(
 ) -> Result<(), AllocError>
     ensures { OnOk result (names.new.items ≡ names.old.items ++ by_buses devices.now prefix.now (interface devices.now env.now)) }
 {
-    let path: &[u8] = b"ID_NET_NAME_PATH";
-    let slot: &[u8] = b"ID_NET_NAME_SLOT";
-    give(alloc, names, path, prefix, by_ccw(alloc, devices)?)?;
-    give(alloc, names, slot, prefix, by_vio(alloc, devices)?)?;
-    give(alloc, names, path, prefix, by_platform(alloc, devices)?)?;
-    give(alloc, names, path, prefix, by_netdevsim(alloc, devices, env)?)?;
-    give(alloc, names, slot, prefix, by_xen(alloc, devices)?)
+    give_by_kernels(alloc, names, devices, prefix)?;
+    let simulated = by_netdevsim(alloc, devices, env)?;
+    give(alloc, names, b"ID_NET_NAME_PATH", prefix, simulated)?;
+    let xen = by_xen(alloc, devices)?;
+    give(alloc, names, b"ID_NET_NAME_SLOT", prefix, xen)
 }
 
 /// All names in the order in which they are set.
@@ -423,9 +493,21 @@ pub(crate) fn names(
     let mut names = Vec::new(alloc);
     add_property(alloc, b"ID_NET_NAMING_SCHEME", b"v257", &mut names)?;
     let address = by_address(alloc, prefix, devices.event(), env)?;
-    give(alloc, &mut names, b"ID_NET_NAME_MAC", prefix.text(), address)?;
+    give(
+        alloc,
+        &mut names,
+        b"ID_NET_NAME_MAC",
+        prefix.text(),
+        address,
+    )?;
     let tree = by_tree(alloc, devices, prefix)?;
-    give(alloc, &mut names, b"ID_NET_NAME_ONBOARD", prefix.text(), tree)?;
+    give(
+        alloc,
+        &mut names,
+        b"ID_NET_NAME_ONBOARD",
+        prefix.text(),
+        tree,
+    )?;
     give_by_buses(alloc, &mut names, devices, prefix.text(), env)?;
     give_by_pci(alloc, &mut names, devices, prefix, env)?;
     give_by_usb(alloc, &mut names, devices, prefix, env)?;

@@ -3,7 +3,7 @@ ghost use Rattle.std.specs.Prelude.{◌≡◌, ◌++◌, is_some, option_copied,
 ghost use Rattle.text_tables.specs.Texts.{with_texts};
 ghost use Rattle.builtin_net.specs.Allowed.{interface};
 ghost use Rattle.builtin_net.specs.Names.{own_function};
-ghost use Rattle.builtin_net.specs.Needs.{address_needs, config_needs, function_needs, is_bridge_there, lacks_at_end, lacks_modalias, names_needs, needs, of_above, of_own, own_needs, port_needs, slot_needs, tree_needs, when};
+ghost use Rattle.builtin_net.specs.Needs.{address_needs, config_needs, function_needs, is_bridge_there, lacks_a_modalias, lacks_at_end, lacks_modalias, names_needs, needs, of_above, of_own, own_needs, port_needs, slot_needs, tree_needs, when};
 
 use crate::allowed::{Attribute, lacks, lacks_own, own_number, read, read_own};
 use crate::buses::{is_there, parent_behind_virtio};
@@ -13,7 +13,9 @@ use crate::names::{bcma_end, bcma_function, own_function, usb_end, usb_function}
 use crate::on_board::board_number;
 use crate::ports::{port_text, some_text};
 use crate::prefixes::Prefix;
-use crate::slots::{SLOTS_FOLDER, firmware_number, is_bridge, is_told, number_by_firmware, pci_above, search_end};
+use crate::slots::{
+    SLOTS_FOLDER, firmware_number, is_bridge, is_told, number_by_firmware, pci_above, search_end,
+};
 use crate::trees::{ALIASES_FOLDER, node_link};
 use crate::virtual_functions::NamedFunction;
 use crate::words::is_number;
@@ -23,15 +25,14 @@ use std::alloc::{AllocError, Global};
 use text_tables::{OwnedPairs, OwnedTexts};
 
 /// Adds a word to what is needed, under a condition.
-fn need(
-    alloc: Global,
-    needs: &mut OwnedTexts,
-    holds: bool,
-    word: &[u8],
-) -> Result<(), AllocError>
+fn need(alloc: Global, needs: &mut OwnedTexts, holds: bool, word: &[u8]) -> Result<(), AllocError>
     ensures { OnOk result (needs.new ≡ with_texts needs.old (when holds word.now)) }
 {
-    if holds { needs.add(alloc, word) } else { Ok(()) }
+    if holds {
+        needs.add(alloc, word)
+    } else {
+        Ok(())
+    }
 }
 
 /// Adds what is needed of the index and the hardware.
@@ -48,7 +49,7 @@ fn need_own(
     need(alloc, needs, lacks_index, b"IFINDEX")?;
     let lacks_link = index(event).is_some() && lacks_own(event, env, Attribute::Iflink);
     need(alloc, needs, lacks_link, b"iflink")?;
-    let lacks_type = is_alone(event, env) && lacks_own(event, env, Attribute::Type);
+    let lacks_type = is_alone(event, env) && lacks_own(event, env, Attribute::Hardware);
     need(alloc, needs, lacks_type, b"type")
 }
 
@@ -83,7 +84,12 @@ fn need_tree(
 {
     let has_node = node_link(alloc, devices)?.is_some();
     let is_told = is_told(alloc, devices.event(), ALIASES_FOLDER)?;
-    need(alloc, needs, prefix.is_ethernet() && has_node && !is_told, b"aliases")
+    need(
+        alloc,
+        needs,
+        prefix.is_ethernet() && has_node && !is_told,
+        b"aliases",
+    )
 }
 
 /// Adds what is needed of the port.
@@ -104,7 +110,12 @@ fn need_port(
     need(alloc, needs, lacks_port, b"dev_port")?;
     let is_first = is_number(own_number(event, env, Attribute::DevPort), 0);
     let asks_id = is_first && by_id && prefix.is_infiniband();
-    need(alloc, needs, asks_id && lacks_own(event, env, Attribute::DevId), b"dev_id")
+    need(
+        alloc,
+        needs,
+        asks_id && lacks_own(event, env, Attribute::DevId),
+        b"dev_id",
+    )
 }
 
 /// Whether there is a device, and it is a bridge.
@@ -156,6 +167,20 @@ fn lacks_at_end(device: Option<&Device<'_>>) -> bool
     }
 }
 
+/// Whether a device lacks its modalias that is asked whether it is a bridge.
+fn lacks_a_modalias<'a>(
+    alloc: Global,
+    devices: &Devices<'a>,
+    pci: &Device<'a>,
+) -> Result<bool, AllocError>
+    ensures { IfOk result (λ lacks. lacks ≡ lacks_a_modalias devices.now pci.now) }
+{
+    let lacks_above = lacks_modalias(pci_above(alloc, devices, pci)?);
+    let number = number_by_firmware(alloc, devices, pci)?;
+    let lacks_end = lacks_at_end(search_end(alloc, devices, pci)?);
+    Ok(firmware_number(pci).is_none() && lacks_above || number.is_none() && lacks_end)
+}
+
 /// Adds what is needed of the slot of a function.
 fn need_slot<'a>(
     alloc: Global,
@@ -165,12 +190,11 @@ fn need_slot<'a>(
 ) -> Result<(), AllocError>
     ensures { OnOk result (needs.new ≡ with_texts needs.old (slot_needs devices.now pci.now)) }
 {
-    let lacks_above = firmware_number(pci).is_none() && lacks_modalias(pci_above(alloc, devices, pci)?);
-    let asks_bus = number_by_firmware(alloc, devices, pci)?.is_none();
-    let lacks_end = asks_bus && lacks_at_end(search_end(alloc, devices, pci)?);
-    need(alloc, needs, lacks_above || lacks_end, b"modalias")?;
+    let lacks_modalias = lacks_a_modalias(alloc, devices, pci)?;
+    need(alloc, needs, lacks_modalias, b"modalias")?;
+    let number = number_by_firmware(alloc, devices, pci)?;
     let is_told = is_told(alloc, devices.event(), SLOTS_FOLDER)?;
-    need(alloc, needs, asks_bus && !is_told, b"slots")
+    need(alloc, needs, number.is_none() && !is_told, b"slots")
 }
 
 /// Adds what is needed of a function.
@@ -212,7 +236,10 @@ fn need_pci(
         let is_pci = is_there(b"pci", parent_behind_virtio(alloc, devices)?);
         return need(alloc, needs, is_pci, b"physfn");
     };
-    let NamedFunction { pci, suffix: _suffix } = own;
+    let NamedFunction {
+        pci,
+        suffix: _suffix,
+    } = own;
     if board_number(pci).is_some() {
         need_port(alloc, needs, prefix, devices.event(), env, false)?;
     }
@@ -254,9 +281,25 @@ fn need_names(
     need_tree(alloc, needs, devices, prefix)?;
     need_pci(alloc, needs, devices, prefix, env)?;
     let usb = usb_function(alloc, devices)?;
-    need_above(alloc, needs, devices, prefix, env, usb, usb_end(alloc, devices)?)?;
+    need_above(
+        alloc,
+        needs,
+        devices,
+        prefix,
+        env,
+        usb,
+        usb_end(alloc, devices)?,
+    )?;
     let bcma = bcma_function(alloc, devices)?;
-    need_above(alloc, needs, devices, prefix, env, bcma, bcma_end(alloc, devices)?)
+    need_above(
+        alloc,
+        needs,
+        devices,
+        prefix,
+        env,
+        bcma,
+        bcma_end(alloc, devices)?,
+    )
 }
 
 /// What a block would have to tell for the names of an interface, each once.

@@ -57,12 +57,7 @@ fn numbered_port(alloc: Global, number: u64) -> Result<Vec<u8>, AllocError>
 
 /// The number of a port.
 #[tactic(auto, unfolding(crate::specs::Port::port_number))]
-fn port_number(
-    prefix: Prefix,
-    event: &Event<'_>,
-    env: &OwnedPairs,
-    by_id: bool,
-) -> Option<u64>
+fn port_number(prefix: Prefix, event: &Event<'_>, env: &OwnedPairs, by_id: bool) -> Option<u64>
     ensures { result ≡ port_number prefix (interface event.now env.now) by_id }
 {
     let number = own_number(event, env, Attribute::DevPort)?;

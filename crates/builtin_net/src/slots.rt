@@ -1,6 +1,7 @@
 //! The slot that a function stands in.
-ghost use Rattle.std.specs.Prelude.{◌≡◌, ◌==◌, ◌&&◌, codes, find, is_some, length, map, option_copied, option_map, IfOk, None};
-ghost use Rattle.std.specs.List.{after_last, list_any};
+ghost use Rattle.std.specs.Prelude.{◌≡◌, ◌==◌, ◌≤◌, false, find, length, not, option_and_then, option_copied, option_map, IfOk};
+ghost use Rattle.std.specs.Char.{is_ascii_uppercase};
+ghost use Rattle.std.specs.List.{after_last, list_any, suffix_len};
 ghost use Rattle.std.specs.Option.{option_map_or};
 ghost use Rattle.builtin_devices.specs.Devices.{parents_of};
 ghost use Rattle.builtin_net.specs.Allowed.{read};
@@ -8,7 +9,7 @@ ghost use Rattle.builtin_net.specs.Slots.{ends_search, ends_search_in_pci, firmw
 
 use crate::allowed::{Attribute, number, read};
 use crate::functions::is_several;
-use crate::words::{MOST_NUMBER, is_number, positive};
+use crate::words::{MOST_NUMBER, is_hexadecimal, is_number, positive};
 use builtin_devices::{Base, Devices, file_at, files_below, is_of, number_in};
 use device_core::{Device, Event};
 use std::alloc::{AllocError, Global};
@@ -34,12 +35,19 @@ pub(crate) fn firmware_number(pci: &Device<'_>) -> Option<u64>
     positive(number(pci, Attribute::Sun))
 }
 
+/// How many bytes stand behind the last `s` of a text, all where it has none.
+fn bytes_behind_s(text: &[u8]) -> usize
+    ensures value { result ≡ suffix_len (λ b. not (b == 115)) text.now }
+    ensures within { result ≤ length text.now }
+{
+    text.iter().rev().take_while(|byte| **byte != b's').count()
+}
+
 /// What stands behind the last `s` of a text, or the whole text.
 fn behind_last_s(text: &[u8]) -> &[u8]
     ensures { result.now ≡ after_last (λ b. b == 115) text.now }
 {
-    let behind = text.iter().rev().take_while(|byte| **byte != b's').count();
-    text.split_at(text.len() - behind).1
+    text.split_at(text.len() - bytes_behind_s(text)).1
 }
 
 /// Whether a modalias is that of a bridge.
@@ -136,7 +144,27 @@ fn holds(kernel: &[u8], file: (&[u8], &[u8])) -> bool
     kernel.starts_with(file.1) && slot_number(file.0).is_some()
 }
 
-/// The number of the slot that holds the device with a name.
+/// The file of the slot among files that holds the device with a name.
+fn holding<'f, 'a>(
+    kernel: &[u8],
+    files: &'f [(&'a [u8], &'a [u8])],
+) -> Option<&'f (&'a [u8], &'a [u8])>
+    ensures { option_copied result ≡ find (λ file. holds kernel.now (file.0.now, file.1.now)) files.now }
+{
+    files.iter().find(|file| holds(kernel, **file))
+}
+
+/// The number of the slot among files that holds the device with a name.
+fn number_among(kernel: &[u8], files: &[(&[u8], &[u8])]) -> Option<u64>
+    ensures { result ≡ option_and_then (λ file. slot_number file.0.now) (find (λ file. holds kernel.now (file.0.now, file.1.now)) files.now) }
+{
+    match holding(kernel, files) {
+        Some(file) => slot_number(file.0),
+        None => None,
+    }
+}
+
+/// The number of the slot that holds a device.
 #[tactic(auto, unfolding(crate::specs::Slots::number_by_place))]
 fn number_by_place(
     alloc: Global,
@@ -147,10 +175,14 @@ fn number_by_place(
 {
     let kernel = kernel_name(alloc, pci.path())?;
     let files = files_below(alloc, event, SLOTS_FOLDER)?;
-    match files.iter().find(|file| holds(kernel.as_slice(), **file)) {
-        Some(file) => Ok(slot_number(file.0)),
-        None => Ok(None),
-    }
+    Ok(number_among(kernel.as_slice(), &files))
+}
+
+/// Whether a text has a large letter.
+fn has_large(text: &[u8]) -> bool
+    ensures { result ≡ list_any is_ascii_uppercase text.now }
+{
+    text.iter().any(|byte| byte.is_ascii_uppercase())
 }
 
 /// Whether a name is a number in eight hexadecimal digits with small letters.
@@ -159,17 +191,9 @@ fn is_identity(number: u64, name: &[u8]) -> bool
     ensures { result ≡ is_identity number name.now }
 {
     name.len() == 8
-        && name.iter().all(|byte| byte.is_ascii_hexdigit())
-        && !name.iter().any(|byte| byte.is_ascii_uppercase())
+        && is_hexadecimal(name)
+        && !has_large(name)
         && is_number(number_in(Base::Hexadecimal, MOST_NUMBER, name), number)
-}
-
-/// Whether there is a slot of a number of System z.
-fn has_slot_of(alloc: Global, event: &Event<'_>, number: u64) -> Result<bool, AllocError>
-    ensures { IfOk result (λ has. has ≡ list_any (is_slot_of number) (slot_files event.now)) }
-{
-    let files = files_below(alloc, event, SLOTS_FOLDER)?;
-    Ok(files.iter().any(|file| is_slot_of(number, file.0)))
 }
 
 /// Whether a file is that of the slot of a number of System z.
@@ -180,6 +204,21 @@ fn is_slot_of(number: u64, path: &[u8]) -> bool
         Some(name) => is_identity(number, name),
         None => false,
     }
+}
+
+/// Whether one of files is that of the slot of a number of System z.
+fn has_slot_among(number: u64, files: &[(&[u8], &[u8])]) -> bool
+    ensures { result ≡ list_any (λ file. is_slot_of number (file.0.now, file.1.now)) files.now }
+{
+    files.iter().any(|file| is_slot_of(number, file.0))
+}
+
+/// Whether there is a slot of a number of System z.
+fn has_slot_of(alloc: Global, event: &Event<'_>, number: u64) -> Result<bool, AllocError>
+    ensures { IfOk result (λ has. has ≡ list_any (is_slot_of number) (slot_files event.now)) }
+{
+    let files = files_below(alloc, event, SLOTS_FOLDER)?;
+    Ok(has_slot_among(number, &files))
 }
 
 /// The slot of a function of System z, whose number has a slot of its own.

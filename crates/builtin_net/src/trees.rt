@@ -1,6 +1,6 @@
 //! Names by the aliases of a device tree.
-ghost use Rattle.std.specs.Prelude.{◌≡◌, IfOk, option_map};
-ghost use Rattle.builtin_net.specs.Trees.{alias_number, clear_number, first_alias, is_alias, node_link, node_number, node_of, node_path, other_alias, tree_text};
+ghost use Rattle.std.specs.Prelude.{◌≡◌, IfOk, find, option_and_then, option_copied, option_map};
+ghost use Rattle.builtin_net.specs.Trees.{alias_end, alias_number, clear_number, first_alias, is_alias, node_link, node_number, node_of, node_path, other_alias, tree_text};
 
 use crate::buses::parent;
 use crate::words::{MOST_NUMBER, behind, joined, push_number};
@@ -92,6 +92,26 @@ fn clear_number(event: &Event<'_>, behind: &[u8]) -> Option<u64>
     Some(number)
 }
 
+/// The first alias of a node among files.
+fn calling<'f, 'a>(
+    node: &[u8],
+    files: &'f [(&'a [u8], &'a [u8])],
+) -> Option<&'f (&'a [u8], &'a [u8])>
+    ensures { option_copied result ≡ find (λ file. is_alias node.now (file.0.now, file.1.now)) files.now }
+{
+    files.iter().find(|file| is_alias(node, **file))
+}
+
+/// What stands behind `ethernet` in the name of the first alias of a node among files.
+fn alias_among<'a>(node: &[u8], files: &[(&'a [u8], &'a [u8])]) -> Option<&'a [u8]>
+    ensures { option_map (λ t. t.now) result ≡ option_and_then (λ file. alias_end (file.0.now, file.1.now)) (find (λ file. is_alias node.now (file.0.now, file.1.now)) files.now) }
+{
+    match calling(node, files) {
+        Some(file) => behind(b"ethernet", file.0),
+        None => None,
+    }
+}
+
 /// What stands behind `ethernet` in the name of the first alias of a node.
 fn first_alias<'a>(
     alloc: Global,
@@ -101,10 +121,7 @@ fn first_alias<'a>(
     ensures { IfOk result (λ behind. option_map (λ t. t.now) behind ≡ first_alias event.now node.now) }
 {
     let files = files_below(alloc, event, ALIASES_FOLDER)?;
-    match files.iter().find(|file| is_alias(node, **file)) {
-        Some(file) => Ok(behind(b"ethernet", file.0)),
-        None => Ok(None),
-    }
+    Ok(alias_among(node, &files))
 }
 
 /// The number of the first alias of a node.
@@ -120,10 +137,7 @@ fn node_number(alloc: Global, event: &Event<'_>, node: &[u8]) -> Result<Option<u
 
 /// What names tell of the node of an interface.
 #[tactic(auto, unfolding(crate::specs::Trees::tree_text))]
-pub(crate) fn tree_text(
-    alloc: Global,
-    devices: &Devices<'_>,
-) -> Result<Option<Vec<u8>>, AllocError>
+pub(crate) fn tree_text(alloc: Global, devices: &Devices<'_>) -> Result<Option<Vec<u8>>, AllocError>
     ensures { IfOk result (λ text. option_map (λ t. t.items) text ≡ tree_text devices.now) }
 {
     let Some(link) = node_link(alloc, devices)? else {

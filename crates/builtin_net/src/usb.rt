@@ -1,20 +1,24 @@
 //! What names tell of interfaces of USB.
 ghost use Rattle.std.specs.Prelude.{◌≡◌, ◌++◌, IfOk, OnOk, option_map};
-ghost use Rattle.builtin_net.specs.Usb.{bcma_suffix, core_in, core_of, ports_text, unless_usual, usb_numbers, usb_ports, usb_suffix, usb_text};
+ghost use Rattle.builtin_net.specs.Usb.{bcma_suffix, core_in, core_of, port_byte, ports_text, unless_usual, usb_numbers, usb_ports, usb_suffix, usb_text};
 
 use crate::words::{MOST_NUMBER, behind, push_number};
 use builtin_devices::{Base, number_in};
 use std::alloc::{AllocError, Global};
 use text_bytes::split_once;
 
-/// Puts ports behind a text, with `u` for each dot.
-fn push_ports(text: &mut Vec<u8>, ports: &[u8]) -> Result<(), AllocError>
-    ensures { OnOk result (text.new.items ≡ text.old.items ++ ports_text ports.now) }
+/// A byte of ports, where `u` stands for a dot.
+fn port_byte(byte: u8) -> u8
+    ensures { result ≡ port_byte byte }
 {
-    for byte in ports {
-        text.push(if *byte == b'.' { b'u' } else { *byte })?;
-    }
-    Ok(())
+    if byte == b'.' { b'u' } else { byte }
+}
+
+/// Ports with `u` for each dot in between.
+fn ports_text(alloc: Global, ports: &[u8]) -> Result<Vec<u8>, AllocError>
+    ensures { IfOk result (λ text. text.items ≡ ports_text ports.now) }
+{
+    ports.iter().map(|byte| port_byte(*byte)).collect(alloc)
 }
 
 /// Puts a number behind a text, with a letter before it, unless it is the usual one.
@@ -43,7 +47,7 @@ fn usb_text(
     ensures { IfOk result (λ text. text.items ≡ usb_text ports.now configuration.now interface.now) }
 {
     let mut text = Vec::from_slice(alloc, b"u")?;
-    push_ports(&mut text, ports)?;
+    text.extend_from_slice(&ports_text(alloc, ports)?)?;
     push_unless_usual(&mut text, b"1", b"c", configuration)?;
     push_unless_usual(&mut text, b"0", b"i", interface)?;
     Ok(text)

@@ -1,6 +1,8 @@
 //! Virtual functions, whose names are those of the physical one.
-ghost use Rattle.std.specs.Prelude.{◌≡◌, IfOk, option_map};
-ghost use Rattle.builtin_net.specs.Virtual.{leads_to, named_function, physical_path, virtual_number};
+ghost use Rattle.std.specs.Prelude.{◌≡◌, IfOk, find, option_and_then, option_copied, option_map};
+ghost use Rattle.std.specs.List.{list_all};
+ghost use Rattle.text_bytes.specs.Numbers.{is_decimal, is_digit};
+ghost use Rattle.builtin_net.specs.Virtual.{leads_to, named_function, physical_path, virtual_digits, virtual_number};
 
 use crate::words::{behind, joined};
 use builtin_devices::{Devices, file_at, files_below};
@@ -38,11 +40,18 @@ fn physical_path<'a>(
     Ok(file_at(event, &link))
 }
 
+/// Whether a text has only decimal digits.
+fn has_digits(text: &[u8]) -> bool
+    ensures { result ≡ list_all is_digit text.now }
+{
+    text.iter().all(|byte| is_digit(*byte))
+}
+
 /// Whether a text is one decimal digit or more.
 fn is_decimal(text: &[u8]) -> bool
     ensures { result ≡ is_decimal text.now }
 {
-    !text.is_empty() && text.iter().all(|byte| is_digit(*byte))
+    !text.is_empty() && has_digits(text)
 }
 
 /// Whether a link of a physical function leads to a virtual one.
@@ -53,6 +62,26 @@ fn leads_to(path: &[u8], file: (&[u8], &[u8])) -> bool
     match behind(b"virtfn", file.0) {
         Some(digits) => is_decimal(digits) && file.1 == path,
         None => false,
+    }
+}
+
+/// The link among others that leads to a virtual function.
+fn leading<'f, 'a>(
+    path: &[u8],
+    links: &'f [(&'a [u8], &'a [u8])],
+) -> Option<&'f (&'a [u8], &'a [u8])>
+    ensures { option_copied result ≡ find (λ link. leads_to path.now (link.0.now, link.1.now)) links.now }
+{
+    links.iter().find(|link| leads_to(path, **link))
+}
+
+/// What stands behind `virtfn` in the name of the link that leads to a virtual function.
+fn number_among<'a>(path: &[u8], links: &[(&'a [u8], &'a [u8])]) -> Option<&'a [u8]>
+    ensures { option_map (λ t. t.now) result ≡ option_and_then (λ link. virtual_digits (link.0.now, link.1.now)) (find (λ link. leads_to path.now (link.0.now, link.1.now)) links.now) }
+{
+    match leading(path, links) {
+        Some(link) => behind(b"virtfn", link.0),
+        None => None,
     }
 }
 
@@ -67,10 +96,7 @@ fn virtual_number<'a>(
     ensures { IfOk result (λ number. option_map (λ t. t.now) number ≡ virtual_number event.now physical.now path.now) }
 {
     let links = files_below(alloc, event, physical)?;
-    match links.iter().find(|link| leads_to(path, **link)) {
-        Some(link) => Ok(behind(b"virtfn", link.0)),
-        None => Ok(None),
-    }
+    Ok(number_among(path, &links))
 }
 
 /// By which function names are told; `None` where the block does not tell of the physical one.

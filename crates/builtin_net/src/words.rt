@@ -1,6 +1,7 @@
 //! Parts of texts that several names need.
-ghost use Rattle.std.specs.Prelude.{◌≡◌, ◌++◌, ◌<◌, ◌≤◌, ◌^◌, decimal, length, option_map, IfOk, IfSome, OnOk};
-ghost use Rattle.std.specs.List.{list_any, prefix_len};
+ghost use Rattle.std.specs.Prelude.{◌≡◌, ◌++◌, ◌<◌, ◌≤◌, ◌^◌, decimal, length, map, option_map, IfOk, IfSome, OnOk};
+ghost use Rattle.std.specs.Char.{is_ascii_hexdigit, to_ascii_lowercase, to_ascii_uppercase};
+ghost use Rattle.std.specs.List.{list_all, list_any, prefix_len};
 ghost use Rattle.std.specs.Str.{is_utf8};
 ghost use Rattle.text_bytes.specs.Escapes.{is_control};
 ghost use Rattle.text_bytes.specs.Numbers.{is_digit};
@@ -65,6 +66,31 @@ fn has_control(text: &[u8]) -> bool
     text.iter().any(|byte| is_control(*byte))
 }
 
+/// Whether a text has only hexadecimal digits.
+pub(crate) fn is_hexadecimal(text: &[u8]) -> bool
+    ensures { result ≡ list_all is_ascii_hexdigit text.now }
+{
+    text.iter().all(|byte| byte.is_ascii_hexdigit())
+}
+
+/// A text in small letters.
+pub(crate) fn small(alloc: Global, text: &[u8]) -> Result<Vec<u8>, AllocError>
+    ensures { IfOk result (λ letters. letters.items ≡ map to_ascii_lowercase text.now) }
+{
+    text.iter()
+        .map(|byte| byte.to_ascii_lowercase())
+        .collect(alloc)
+}
+
+/// A text in large letters.
+pub(crate) fn large(alloc: Global, text: &[u8]) -> Result<Vec<u8>, AllocError>
+    ensures { IfOk result (λ letters. letters.items ≡ map to_ascii_uppercase text.now) }
+{
+    text.iter()
+        .map(|byte| byte.to_ascii_uppercase())
+        .collect(alloc)
+}
+
 /// Whether a text is UTF-8.
 fn is_utf8(text: &[u8]) -> bool
     ensures { result ≡ is_utf8 text.now }
@@ -92,10 +118,11 @@ pub(crate) fn push_number(text: &mut Vec<u8>, letters: &[u8], number: u64) -> Re
 pub(crate) fn positive(number: Option<u64>) -> Option<u64>
     ensures { result ≡ positive number }
 {
-    match number {
-        Some(0) => None,
-        other => other,
+    let number = number?;
+    if number == 0 {
+        return None;
     }
+    Some(number)
 }
 
 /// A text with another behind it.

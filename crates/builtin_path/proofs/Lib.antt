@@ -1,1 +1,4 @@
-mod Joining
+pub mod Joining
+pub mod PathLaws
+pub mod Skipping
+pub mod Turning

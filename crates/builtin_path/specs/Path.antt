@@ -1,5 +1,5 @@
 -- path_id: what comes of the parts.
-use Rattle.std.specs.Prelude.{ℕ, ◌+◌, Bool, false, true, not, ◌&&◌, ◌||◌, ◌==◌, List, [], ◌∷◌, ◌++◌, codes, drop, filter_map, flat_map, if◌then◌else◌, is_none, is_some, map, Option, Some, None, position, reverse, slice_index, take}
+use Rattle.std.specs.Prelude.{ℕ, ◌+◌, ◌-◌, Bool, false, true, not, ◌&&◌, ◌||◌, ◌==◌, List, [], ◌∷◌, ◌++◌, codes, drop, filter_map, flat_map, if◌then◌else◌, is_none, is_some, length, map, Option, Some, None, position, reverse, slice_index, take}
 use Rattle.std.specs.Char.{is_ascii_alphanumeric}
 use Rattle.std.specs.List.{join_with_byte, list_any, prefix_len, suffix_len}
 use Rattle.text_bytes.specs.Names.{minus, space, underscore}
@@ -30,6 +30,9 @@ share_of Apart part = None
 share_of Both part = part
 share_of (Ata port) part = Some port
 
+abbrev pub shared : Stop → Option Text
+shared s = share_of s.share s.part
+
 abbrev pub is_ata : Share → Bool
 is_ata (Ata port) = true
 is_ata Both = false
@@ -37,7 +40,7 @@ is_ata Apart = false
 
 -- the parts of the compatible path, the highest first: it begins at the first port of ATA
 abbrev pub compatible_parts : List Stop → List Text
-compatible_parts stops = reverse (filter_map (λ s. share_of s.share s.part) (drop (prefix_len (λ s. not (is_ata s.share)) stops) stops))
+compatible_parts stops = reverse (filter_map shared (drop (prefix_len (λ s. not (is_ata s.share)) stops) stops))
 
 -- whether a stop makes path_id fail
 abbrev pub is_failing : Next → Bool
@@ -46,12 +49,15 @@ is_failing Ends = false
 is_failing Fails = true
 
 -- whether stops are a path: one of them adds a part, one is of a parent that is known, and of a block device one is of a transport that is known
+abbrev pub is_reached : EventValue → List Stop → Bool
+is_reached event stops = not (is_text (codes "block") event.device.subsystem) || list_any (λ s. s.transport) stops
+
 unfoldable pub is_whole : EventValue → List Stop → Bool
 is_whole event stops =
     not (list_any (λ s. is_failing s.next) stops)
-    && list_any (λ s. is_some s.part) stops
-    && list_any (λ s. s.parent) stops
-    && (not (is_text (codes "block") event.device.subsystem) || list_any (λ s. s.transport) stops)
+    && (list_any (λ s. is_some s.part) stops
+    && (list_any (λ s. s.parent) stops
+    && is_reached event stops))
 
 -- whether behind the place where `-usbv` stands a digit and `-` follow
 abbrev pub is_revision : Text → ℕ → Bool
@@ -66,7 +72,7 @@ unfoldable pub revision_place : Text → Option ℕ
 revision_place text = if_revision text (first_place (codes "-usbv") text)
 
 -- a text without the `v` and the digit there
-abbrev pub without_revision : Text → ℕ → Text
+unfoldable pub without_revision : Text → ℕ → Text
 without_revision text place = take (place + 4) text ++ drop (place + 6) text
 
 -- the bytes that stay in a tag: letters and digits of ASCII, and `-`
@@ -80,17 +86,26 @@ tag_byte b = if stays_in_tag b then b else space
 abbrev pub without_last : Text → Text
 without_last text = if ends_in underscore text then take (length text - 1) text else text
 
+-- the first 511 bytes of a text, without a `_` at their end
+abbrev pub cut_tag : Text → Text
+cut_tag text = without_last (take 511 text)
+
 -- a text as a tag: runs of other bytes are one `_` each, with none at the ends, of at most 511 bytes
 unfoldable pub tag : Text → Text
-tag text = without_last (take 511 (underscored (map tag_byte text)))
+tag text = cut_tag (underscored (map tag_byte text))
 
--- a path without and, where it has one, with the revision of USB
+-- a text without its revision of USB
+abbrev pub plain_path : Text → Option ℕ → Text
+plain_path text None = text
+plain_path text (Some place) = without_revision text place
+
+-- what is set of a text that tells a revision, and of one without it
+abbrev pub revision_pairs : Text → Option ℕ → List Pair
+revision_pairs text None = []
+revision_pairs text (Some place) = (codes "ID_PATH_WITH_USB_REVISION", text) ∷ []
+
 abbrev pub path_pairs : Text → List Pair
 path_pairs path = (codes "ID_PATH", path) ∷ (codes "ID_PATH_TAG", tag path) ∷ []
-
-abbrev pub revision_pairs : Text → Option ℕ → List Pair
-revision_pairs text None = path_pairs text
-revision_pairs text (Some place) = (codes "ID_PATH_WITH_USB_REVISION", text) ∷ path_pairs (without_revision text place)
 
 abbrev pub compatible_pairs : List Text → List Pair
 compatible_pairs [] = []
@@ -100,7 +115,8 @@ compatible_pairs (part ∷ parts) = (codes "ID_PATH_ATA_COMPAT", join_with_byte 
 unfoldable pub properties_of : List Stop → List Pair
 properties_of stops =
     let text = join_with_byte minus (parts stops) in
-    revision_pairs text (revision_place text) ++ compatible_pairs (compatible_parts stops)
+    let place = revision_place text in
+    revision_pairs text place ++ path_pairs (plain_path text place) ++ compatible_pairs (compatible_parts stops)
 
 -- each device of usb and scsi has a type
 abbrev pub lacks_type : DeviceValue → Bool

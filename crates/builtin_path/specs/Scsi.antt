@@ -4,7 +4,7 @@ use Rattle.std.specs.List.{concat, list_any, prefix_len}
 use Rattle.text_bytes.specs.Names.{close_brace, colon, minus, open_brace, slash}
 use Rattle.text_bytes.specs.Numbers.{decimal_below}
 use Rattle.text_bytes.specs.Texts.{begins_with, split_once}
-use Rattle.text_tables.specs.Texts.{Text, same_text}
+use Rattle.text_tables.specs.Texts.{Text, is_among, same_text}
 use Rattle.text_links.specs.Kernels.{last_component}
 use Rattle.device_core.specs.Values.{DeviceValue}
 use Rattle.builtin_devices.specs.Devices.{is_of, is_text, type_of}
@@ -32,8 +32,12 @@ transports =
     ∷ []
 
 -- the transport that a path tells of: that of the first of these texts that stands in it
-unfoldable pub transport_of : Text → Option Transport
-transport_of path = option_map (λ r. r.1) (find (λ r. contains r.0 path) transports)
+abbrev pub told_by : List (Text × Transport) → (path : Text) → Option Transport
+told_by [] path = None
+told_by (r ∷ rows) path = if contains r.0 path then Some r.1 else told_by rows path
+
+unfoldable pub transport_of : (path : Text) → Option Transport
+transport_of path = told_by transports path
 
 -- the number before the first colon of a text, and what stands behind the colon
 unfoldable pub before_colon : Text → Option (ℕ × Text)
@@ -104,11 +108,15 @@ expander_start (Some sas) = concat (codes "sas-exp" ∷ sas ∷ codes "-" ∷ []
 abbrev pub expander_needs : DeviceValue → Option Text → List Text
 expander_needs expander sas = if begins (codes "expander") (last_component expander.path) then absent (codes "sas_address") sas else []
 
+abbrev pub phy_part : DeviceValue → (phy : Text) → (sas : Option Text) → Text
+phy_part m phy sas = concat (expander_start sas ∷ codes "phy" ∷ phy ∷ codes "-" ∷ unit_text m ∷ [])
+
+abbrev pub expander_stop : DeviceValue → (phy : Text) → (expander : DeviceValue) → (sas : Option Text) → Stop
+expander_stop m phy expander sas = record (adding (phy_part m phy sas) true true 0) { needs = expander_needs expander sas }
+
 abbrev pub phy_stop : DeviceValue → (phy : Text) → (above_port : Option DeviceValue) → Stop
 phy_stop m phy None = ending true true []
-phy_stop m phy (Some expander) =
-    let sas = class_attribute (codes "sas_device") (codes "sas_address") expander in
-    record (adding (concat (expander_start sas ∷ codes "phy" ∷ phy ∷ codes "-" ∷ unit_text m ∷ [])) true true 0) { needs = expander_needs expander sas }
+phy_stop m phy (Some expander) = expander_stop m phy expander (class_attribute (codes "sas_device") (codes "sas_address") expander)
 
 abbrev pub narrow_stop : DeviceValue → (phy : Option Text) → (above_port : Option DeviceValue) → Stop
 narrow_stop m None above_port = ending true true (codes "phy_identifier" ∷ [])
@@ -124,13 +132,13 @@ abbrev pub sas_by : DeviceValue → List DeviceValue → (phys : Option Text) �
 sas_by m devices phys None = ending true true (absent (codes "num_phys") phys)
 sas_by m devices phys (Some count) = counted_stop m devices count
 
-abbrev pub sas_at : DeviceValue → List DeviceValue → Stop
-sas_at m devices =
-    let phys = class_attribute_at devices 2 (codes "sas_port") (codes "num_phys") in
-    sas_by m devices phys (option_and_then (number_in AsWritten (2 ^ 32 - 1)) phys)
+unfoldable pub phys_stop : DeviceValue → List DeviceValue → (phys : Option Text) → Stop
+phys_stop m devices phys = sas_by m devices phys (option_and_then (number_in AsWritten (2 ^ 32 - 1)) phys)
 
 unfoldable pub sas_stop : DeviceValue → List DeviceValue → Stop
-sas_stop m above = sas_at m (from_target above)
+sas_stop m above =
+    let devices = from_target above in
+    phys_stop m devices (class_attribute_at devices 2 (codes "sas_port") (codes "num_phys"))
 
 -- an attribute of the connection 0 of a session
 abbrev pub portal_attribute : (name : Text) → DeviceValue → Option Text
@@ -231,7 +239,7 @@ numbered_host_stop place count (Some first) = adding (host_part place first) tru
 -- where the block does not tell of the host's own folder, it tells of none, and nothing is found out
 abbrev pub hosts_stop : Address → ℕ → (host : Text) → (hosts : List Text) → Stop
 hosts_stop place count host hosts =
-    if list_any (same_text host) hosts then numbered_host_stop place count (lowest hosts)
+    if is_among hosts host then numbered_host_stop place count (lowest hosts)
     else record (ending true false (codes "host*" ∷ [])) { next = Fails }
 
 -- the folders of hosts beside a host: those in its folder, where this is that of the device above it

@@ -1,8 +1,7 @@
 -- What one device of the way adds to a path.
-use Rattle.std.specs.Prelude.{ℕ, Bool, true, false, List, [], ◌∷◌, length, Option, Some, None, concat, codes}
+use Rattle.std.specs.Prelude.{ℕ, Bool, true, false, List, [], ◌∷◌, length, Option, Some, None}
 use Rattle.text_tables.specs.Texts.{Text}
 use Rattle.device_core.specs.Values.{DeviceValue}
-use Rattle.builtin_path.specs.Members.{row, kernel_name}
 use Rattle.builtin_path.specs.declared.stops.Next.{Next}
 use Rattle.builtin_path.specs.declared.stops.Next.TheVariants.{On, Ends, Fails}
 use Rattle.builtin_path.specs.declared.stops.Share.TheVariants.{Apart, Both}

@@ -43,9 +43,14 @@ manners =
     ∷ (codes "scsi_tape", manner.ScsiTape)
     ∷ []
 
+-- what stands beside a subsystem in such a table
+abbrev pub beside : List (Text × Manner) → Text → Option Manner
+beside [] subsystem = None
+beside (r ∷ rows) subsystem = if same_text r.0 subsystem then Some r.1 else beside rows subsystem
+
 -- how a subsystem adds
 unfoldable pub manner_of : Text → Option Manner
-manner_of subsystem = option_map (λ r. r.1) (find (λ r. same_text r.0 subsystem) manners)
+manner_of subsystem = beside manners subsystem
 
 -- a device by its subsystem and its name; the row of its subsystem is passed over
 abbrev pub named_stop : Text → (transport : Bool) → DeviceValue → List DeviceValue → Stop
@@ -109,8 +114,13 @@ whole_tapes = codes "nst" ∷ codes "st" ∷ []
 abbrev pub begun_tapes : List Text
 begun_tapes = codes "nstl" ∷ codes "nstm" ∷ codes "nsta" ∷ codes "stl" ∷ codes "stm" ∷ codes "sta" ∷ []
 
+-- the first of some texts that a name begins with
+abbrev pub first_begun : List Text → (name : Text) → Option Text
+first_begun [] name = None
+first_begun (start ∷ starts) name = if begins start name then Some start else first_begun starts name
+
 unfoldable pub tape_part : (name : Text) → Option Text
-tape_part name = if is_among whole_tapes name then Some name else find (λ start. begins start name) begun_tapes
+tape_part name = if is_among whole_tapes name then Some name else first_begun begun_tapes name
 
 -- a tape adds a part only where no device below has added one
 abbrev pub tape_by : Option Text → Stop

@@ -1,6 +1,5 @@
 -- USB: the port of a device or an interface, and the revision of its root hub.
-use Rattle.std.specs.Prelude.{ℕ, ◌==◌, ◌||◌, Bool, false, true, List, [], ◌∷◌, codes, if◌then◌else◌, is_some, Option, Some, None, option_map, unwrap_or, slice_get}
-use Rattle.std.specs.List.{concat}
+use Rattle.std.specs.Prelude.{ℕ, ◌==◌, ◌||◌, Bool, false, true, List, [], ◌∷◌, ◌++◌, codes, if◌then◌else◌, is_some, Option, Some, None, option_map, unwrap_or, slice_get}
 use Rattle.std.specs.Option.{option_and_then}
 use Rattle.text_bytes.specs.Names.{minus}
 use Rattle.text_bytes.specs.Texts.{split_once}
@@ -70,7 +69,7 @@ port_start (Some Three) = codes "usbv3-0:"
 -- what a device with a port adds
 abbrev pub port_stop : Text → (root : DeviceValue) → ℕ → Stop
 port_stop port root count = record {
-  part = Some (concat (port_start (revision_of root) ∷ port ∷ []));
+  part = Some (port_start (revision_of root) ++ port);
   share = Apart;
   transport = true;
   parent = false;
@@ -78,9 +77,10 @@ port_stop port root count = record {
   next = On count;
 }
 
+abbrev pub usb_by : Option Text → DeviceValue → List DeviceValue → Stop
+usb_by None m above = passing true
+usb_by (Some port) m above = port_stop port (root m above) (row (codes "usb") above)
+
 -- what a device of subsystem usb adds
 unfoldable pub usb_stop : DeviceValue → List DeviceValue → Stop
-usb_stop m above = elim (port_of m) [
-  None ↦ passing true
-| Some port ↦ port_stop port (root m above) (row (codes "usb") above)
-]
+usb_stop m above = usb_by (port_of m) m above

@@ -1,9 +1,11 @@
 //! The builtin path_id of udev: the path by which a device is reached, told by what stands above it.
 #![tactic(auto)]
 
+mod laws;
 mod members;
 mod nvme;
 mod path;
+mod sas;
 mod scsi;
 mod scsi_hosts;
 mod scsi_transports;
@@ -13,4 +15,8 @@ mod texts;
 mod usb;
 mod way;
 
+pub use laws::{
+    each_part_tells_paths_apart, nothing_is_set_without_a_path, parts_tell_ports_apart,
+    tags_are_short,
+};
 pub use path::path_id;

@@ -54,7 +54,7 @@ fn link_told<'a>(
 #[tactic(auto, unfolding(crate::specs::Nvme::controller_told))]
 fn controller_told<'d>(
     alloc: Global,
-    devices: &'d Devices<'_>,
+    devices: &'d Devices<'d>,
     subsystem: &Member<'_>,
 ) -> Result<Option<&'d Device<'d>>, AllocError>
     ensures { IfOk result (λ device. option_copied device ≡ controller_told devices.now subsystem.now) }
@@ -72,7 +72,7 @@ fn controller_told<'d>(
 /// The controller of the disk, where it is told and no virtual device.
 pub(crate) fn controller<'d>(
     alloc: Global,
-    devices: &'d Devices<'_>,
+    devices: &'d Devices<'d>,
     subsystem: &Member<'_>,
 ) -> Result<Option<&'d Device<'d>>, AllocError>
     ensures { IfOk result (λ device. option_copied device ≡ controller devices.now subsystem.now) }

@@ -1,12 +1,12 @@
 //! path_id: what comes of the parts.
-ghost use Rattle.std.specs.Prelude.{◌≡◌, ◌∷◌, ◌++◌, ◌+◌, [], IfOk, IfSome, OnOk, codes, filter_map, flat_map, length, map, option_map, is_some, ◌<◌};
+ghost use Rattle.std.specs.Prelude.{◌≡◌, ◌∷◌, ◌++◌, ◌+◌, [], ◌≤◌, IfOk, IfSome, OnOk, codes, not, filter_map, flat_map, length, map, option_map, is_some, reverse, ◌<◌};
 ghost use Rattle.std.specs.List.{join_with_byte, list_any, prefix_len};
 ghost use Rattle.text_bytes.specs.Names.{minus};
 ghost use Rattle.text_tables.specs.Texts.{with_texts};
-ghost use Rattle.builtin_path.specs.Path.{compatible_pairs, compatible_parts, if_revision, is_ata, is_failing, is_revision, is_whole, lacks_type, needs, parts, path_id, path_pairs, properties_of, revision_pairs, revision_place, share_of, stays_in_tag, tag, tag_byte, type_needs, without_last, without_revision};
+ghost use Rattle.builtin_path.specs.Path.{compatible_pairs, compatible_parts, cut_tag, if_revision, is_ata, is_failing, is_revision, is_reached, is_whole, lacks_type, needs, parts, path_id, path_pairs, plain_path, properties_of, revision_pairs, revision_place, shared, stays_in_tag, tag, tag_byte, type_needs, without_last, without_revision};
 
 use crate::members::Member;
-use crate::stops::{Next, Share, Stop};
+use crate::stops::{Next, Share, Stop, needed};
 use crate::texts::{behind_first, first_bytes, first_place, joined};
 use crate::way::{members_of, stops_from};
 use builtin_devices::{Devices, Outcome, add_property, is_text, type_of};
@@ -30,8 +30,8 @@ fn part_of(stop: &Stop) -> Option<&[u8]>
 }
 
 /// What a stop adds to the compatible path.
-fn share_of(stop: &Stop) -> Option<&[u8]>
-    ensures { option_map (λ t. t.now) result ≡ share_of stop.now.share stop.now.part }
+fn shared(stop: &Stop) -> Option<&[u8]>
+    ensures { option_map (λ t. t.now) result ≡ shared stop.now }
 {
     match &stop.share {
         Share::Apart => None,
@@ -51,9 +51,9 @@ fn is_ata(share: &Share) -> bool
     }
 }
 
-/// The parts that stops add, the highest first.
-fn parts(alloc: Global, stops: &[Stop]) -> Result<Vec<&[u8]>, AllocError>
-    ensures { IfOk result (λ found. map (λ t. t.now) found.items ≡ parts stops.now) }
+/// The parts that stops add, the lowest first.
+fn parts_up(alloc: Global, stops: &[Stop]) -> Result<Vec<&[u8]>, AllocError>
+    ensures { IfOk result (λ found. map (λ t. t.now) found.items ≡ filter_map (λ s. s.part) stops.now) }
 {
     let mut parts = Vec::new(alloc);
     for stop in stops {
@@ -61,8 +61,36 @@ fn parts(alloc: Global, stops: &[Stop]) -> Result<Vec<&[u8]>, AllocError>
             parts.push(part)?;
         }
     }
-    parts.reverse();
     Ok(parts)
+}
+
+/// What stops add to the compatible path, the lowest first.
+fn shares_up(alloc: Global, stops: &[Stop]) -> Result<Vec<&[u8]>, AllocError>
+    ensures { IfOk result (λ found. map (λ t. t.now) found.items ≡ filter_map shared stops.now) }
+{
+    let mut parts = Vec::new(alloc);
+    for stop in stops {
+        if let Some(part) = shared(stop) {
+            parts.push(part)?;
+        }
+    }
+    Ok(parts)
+}
+
+/// Texts turned round.
+#[tactic(auto, using(crate::proofs::Turning::turned))]
+fn turned<'t>(mut texts: Vec<&'t [u8]>) -> Vec<&'t [u8]>
+    ensures { map (λ t. t.now) result.items ≡ reverse (map (λ t. t.now) texts.entry.items) }
+{
+    texts.reverse();
+    texts
+}
+
+/// The parts that stops add, the highest first.
+fn parts(alloc: Global, stops: &[Stop]) -> Result<Vec<&[u8]>, AllocError>
+    ensures { IfOk result (λ found. map (λ t. t.now) found.items ≡ parts stops.now) }
+{
+    Ok(turned(parts_up(alloc, stops)?))
 }
 
 /// How many stops a list begins with that are no port of ATA.
@@ -77,15 +105,8 @@ fn below_ata(stops: &[Stop]) -> usize
 fn compatible_parts(alloc: Global, stops: &[Stop]) -> Result<Vec<&[u8]>, AllocError>
     ensures { IfOk result (λ found. map (λ t. t.now) found.items ≡ compatible_parts stops.now) }
 {
-    let mut parts = Vec::new(alloc);
     let (_, begun) = stops.split_at(below_ata(stops));
-    for stop in begun {
-        if let Some(part) = share_of(stop) {
-            parts.push(part)?;
-        }
-    }
-    parts.reverse();
-    Ok(parts)
+    Ok(turned(shares_up(alloc, begun)?))
 }
 
 /// Whether path_id fails where the way goes on so.
@@ -99,18 +120,47 @@ fn is_failing(next: Next) -> bool
     }
 }
 
+/// Whether a stop makes path_id fail.
+fn has_failing(stops: &[Stop]) -> bool
+    ensures { result ≡ list_any (λ s. is_failing s.next) stops.now }
+{
+    stops.iter().any(|stop| is_failing(stop.next))
+}
+
+/// Whether a stop adds a part.
+fn has_part(stops: &[Stop]) -> bool
+    ensures { result ≡ list_any (λ s. is_some s.part) stops.now }
+{
+    stops.iter().any(|stop| stop.part.is_some())
+}
+
+/// Whether a stop is of a parent that is known.
+fn has_parent(stops: &[Stop]) -> bool
+    ensures { result ≡ list_any (λ s. s.parent) stops.now }
+{
+    stops.iter().any(|stop| stop.parent)
+}
+
+/// Whether a stop is of a transport that is known.
+fn has_transport(stops: &[Stop]) -> bool
+    ensures { result ≡ list_any (λ s. s.transport) stops.now }
+{
+    stops.iter().any(|stop| stop.transport)
+}
+
+/// Whether the event device is no block device, or is reached by a transport that is known.
+fn is_reached(event: &Event<'_>, stops: &[Stop]) -> bool
+    ensures { result ≡ is_reached event.now stops.now }
+{
+    !is_text(b"block", event.device().subsystem()) || has_transport(stops)
+}
+
 /// Whether stops are a path.
 #[tactic(auto, unfolding(crate::specs::Path::is_whole))]
 fn is_whole(event: &Event<'_>, stops: &[Stop]) -> bool
     ensures { result ≡ is_whole event.now stops.now }
 {
-    if stops.iter().any(|stop| is_failing(stop.next)) {
-        return false;
-    }
-    stops.iter().any(|stop| stop.part.is_some())
-        && stops.iter().any(|stop| stop.parent)
-        && (!is_text(b"block", event.device().subsystem())
-            || stops.iter().any(|stop| stop.transport))
+    !has_failing(stops) && has_part(stops) && has_parent(stops) && is_reached(event, stops)
 }
 
 /// Whether a digit and `-` stand behind the place where `-usbv` stands.
@@ -127,7 +177,8 @@ fn is_revision(text: &[u8], place: usize) -> bool
 /// The first place of `-usbv` in a text, where a digit and `-` follow.
 #[tactic(auto, unfolding(crate::specs::Path::revision_place))]
 fn revision_place(text: &[u8]) -> Option<usize>
-    ensures { result ≡ revision_place text.now }
+    ensures value { result ≡ revision_place text.now }
+    ensures within { IfSome result (λ place. place < length text.now) }
 {
     let place = first_place(b"-usbv", text)?;
     if is_revision(text, place) {
@@ -138,6 +189,7 @@ fn revision_place(text: &[u8]) -> Option<usize>
 }
 
 /// A text without the `v` and the digit of a revision.
+#[tactic(auto, unfolding(crate::specs::Path::without_revision))]
 fn without_revision(alloc: Global, text: &[u8], place: usize) -> Result<Bytes, AllocError>
     requires { place < length text.now }
     ensures { IfOk result (λ plain. plain ≡ without_revision text.now place) }
@@ -172,14 +224,28 @@ fn without_last(text: &[u8]) -> &[u8]
     }
 }
 
+/// The first bytes of a tag, so many as it may have, without a `_` at their end.
+fn cut_tag(text: &[u8]) -> &[u8]
+    ensures { result.now ≡ cut_tag text.now }
+{
+    without_last(first_bytes(MOST_TAG, text))
+}
+
+/// A text in which each byte that does not stay in a tag is a space.
+fn spaced(alloc: Global, text: &[u8]) -> Result<Vec<u8>, AllocError>
+    ensures { IfOk result (λ bytes. bytes.items ≡ map tag_byte text.now) }
+{
+    text.iter().map(|byte| tag_byte(*byte)).collect(alloc)
+}
+
 /// A text as a tag.
 #[tactic(auto, unfolding(crate::specs::Path::tag))]
 fn tag(alloc: Global, text: &[u8]) -> Result<Bytes, AllocError>
     ensures { IfOk result (λ word. word ≡ tag text.now) }
 {
-    let bytes: Vec<u8> = text.iter().map(|byte| tag_byte(*byte)).collect(alloc)?;
+    let bytes = spaced(alloc, text)?;
     let word = underscored(alloc, &bytes)?;
-    Bytes::copy_of(alloc, without_last(first_bytes(MOST_TAG, &word)))
+    Bytes::copy_of(alloc, cut_tag(&word))
 }
 
 /// Adds what is set of a path without a revision.
@@ -195,21 +261,29 @@ fn add_path(
     add_property(alloc, b"ID_PATH_TAG", tag.as_slice(), properties)
 }
 
-/// Adds what is set of a text that may tell the revision of USB.
-fn add_revised(
+/// Adds what is set of a text that tells the revision of USB at a place, if at one.
+fn add_revision(
     alloc: Global,
     text: &[u8],
+    place: Option<usize>,
     properties: &mut Vec<(Bytes, Bytes)>,
 ) -> Result<(), AllocError>
-    ensures { OnOk result (properties.new.items ≡ properties.old.items ++ revision_pairs text.now (revision_place text.now)) }
+    ensures { OnOk result (properties.new.items ≡ properties.old.items ++ revision_pairs text.now place) }
 {
-    match revision_place(text) {
-        None => add_path(alloc, text, properties),
-        Some(place) => {
-            add_property(alloc, b"ID_PATH_WITH_USB_REVISION", text, properties)?;
-            let plain = without_revision(alloc, text, place)?;
-            add_path(alloc, plain.as_slice(), properties)
-        }
+    match place {
+        Some(_) => add_property(alloc, b"ID_PATH_WITH_USB_REVISION", text, properties),
+        None => Ok(()),
+    }
+}
+
+/// A text without its revision of USB, which stands at a place, if at one.
+fn plain_path(alloc: Global, text: &[u8], place: Option<usize>) -> Result<Bytes, AllocError>
+    requires { IfSome place (λ at. at < length text.now) }
+    ensures { IfOk result (λ path. path ≡ plain_path text.now place) }
+{
+    match place {
+        Some(place) => without_revision(alloc, text, place),
+        None => Bytes::copy_of(alloc, text),
     }
 }
 
@@ -229,15 +303,25 @@ fn add_compatible(
     add_property(alloc, b"ID_PATH_ATA_COMPAT", text.as_slice(), properties)
 }
 
+/// The parts that stops add, joined.
+fn path_text(alloc: Global, stops: &[Stop]) -> Result<Bytes, AllocError>
+    ensures { IfOk result (λ text. text ≡ join_with_byte minus (parts stops.now)) }
+{
+    let parts = parts(alloc, stops)?;
+    joined(alloc, &parts)
+}
+
 /// What path_id sets for stops.
 #[tactic(auto, unfolding(crate::specs::Path::properties_of))]
 fn properties_of(alloc: Global, stops: &[Stop]) -> Result<Vec<(Bytes, Bytes)>, AllocError>
     ensures { IfOk result (λ properties. properties.items ≡ properties_of stops.now) }
 {
     let mut properties = Vec::new(alloc);
-    let parts = parts(alloc, stops)?;
-    let text = joined(alloc, &parts)?;
-    add_revised(alloc, text.as_slice(), &mut properties)?;
+    let text = path_text(alloc, stops)?;
+    let place = revision_place(text.as_slice());
+    let path = plain_path(alloc, text.as_slice(), place)?;
+    add_revision(alloc, text.as_slice(), place, &mut properties)?;
+    add_path(alloc, path.as_slice(), &mut properties)?;
     add_compatible(alloc, stops, &mut properties)?;
     Ok(properties)
 }
@@ -249,15 +333,22 @@ fn lacks_type(member: &Member<'_>) -> bool
     (member.is_in(b"usb") || member.is_in(b"scsi")) && type_of(member.device).is_none()
 }
 
+/// Whether a device has no type, though each of its subsystem has one.
+fn has_untyped(members: &[Member<'_>]) -> bool
+    ensures { result ≡ list_any lacks_type members.now }
+{
+    members.iter().any(|member| lacks_type(member))
+}
+
 /// What a block would have to tell of types.
 fn type_needs(alloc: Global, members: &[Member<'_>]) -> Result<OwnedTexts, AllocError>
     ensures { IfOk result (λ needs. needs ≡ type_needs members.now) }
 {
-    let mut needs = OwnedTexts::new(alloc);
-    if members.iter().any(lacks_type) {
-        needs.add(alloc, b"DEVTYPE")?;
+    if has_untyped(members) {
+        needed(alloc, b"DEVTYPE")
+    } else {
+        Ok(OwnedTexts::new(alloc))
     }
-    Ok(needs)
 }
 
 /// What a block would have to tell.
@@ -291,15 +382,22 @@ fn add_needs(alloc: Global, more: &[Vec<u8>], needs: &mut OwnedTexts) -> Result<
 ///
 /// `ID_PATH_WITH_USB_REVISION` is set where a port of USB tells its revision, then `ID_PATH` and `ID_PATH_TAG`, and
 /// `ID_PATH_ATA_COMPAT` behind a port of ATA. The error comes where memory is refused.
-#[tactic(auto, unfolding(crate::specs::Path::path_id, crate::specs::Way::stops_of))]
 pub fn path_id(alloc: Global, event: &Event<'_>) -> Result<Outcome, AllocError>
     ensures { IfOk result (λ outcome. outcome ≡ path_id event.now) }
 {
     let devices = Devices::new(alloc, event)?;
-    let members = members_of(alloc, &devices)?;
-    let stops = stops_from(alloc, &devices, &members)?;
+    outcome_of(alloc, &devices)
+}
+
+/// What path_id makes of the devices of an event.
+#[tactic(auto, unfolding(crate::specs::Path::path_id, crate::specs::Way::stops_of))]
+fn outcome_of(alloc: Global, devices: &Devices<'_>) -> Result<Outcome, AllocError>
+    ensures { IfOk result (λ outcome. outcome ≡ path_id devices.now) }
+{
+    let members = members_of(alloc, devices)?;
+    let stops = stops_from(alloc, devices, &members)?;
     let missing = needs(alloc, &members, &stops)?;
-    if !is_whole(event, &stops) {
+    if !is_whole(devices.event(), &stops) {
         return Ok(Outcome::failing(alloc, missing));
     }
     Ok(Outcome::succeeding(properties_of(alloc, &stops)?, missing))

@@ -1,12 +1,13 @@
 //! SCSI: the transport that the path of a device tells of, its address and its unit, and what the device adds.
-ghost use Rattle.std.specs.Prelude.{◌≡◌, ◌∷◌, ◌<◌, ◌^◌, [], codes, decimal, IfOk, IfSome, length, option_map};
+ghost use Rattle.std.specs.Prelude.{◌≡◌, ◌∷◌, ◌<◌, ◌^◌, [], codes, decimal, IfOk, IfSome, length, map, option_map};
 ghost use Rattle.std.specs.List.{concat};
 ghost use Rattle.builtin_path.specs.Members.{attribute};
-ghost use Rattle.builtin_path.specs.Scsi.{address, address_of, before_colon, firewire_stop, four_digits, hex_digit, numbered_unit, scsi_stop, transport_of, transport_stop, unit_number, unit_text};
+ghost use Rattle.builtin_path.specs.Scsi.{address, address_of, before_colon, firewire_stop, four_digits, hex_digit, numbered_unit, scsi_stop, told_by, transport_of, transport_stop, unit_number, unit_text};
 
 use crate::members::{Member, row};
+use crate::sas::sas_stop;
 use crate::scsi_hosts::other_stop;
-use crate::scsi_transports::{ata_stop, fibre_stop, guid_stop_above, iscsi_stop, sas_stop};
+use crate::scsi_transports::{ata_stop, fibre_stop, guid_stop_above, iscsi_stop};
 use crate::stops::Stop;
 use crate::texts::{concatenated, contains};
 use builtin_devices::{Base, is_text, name_number, number_in, type_of};
@@ -60,15 +61,24 @@ pub struct Address {
     pub unit: u64,
 }
 
+/// What stands in a table beside the first text that stands in a path.
+fn told_by(rows: &[(&[u8], Transport)], path: &[u8]) -> Option<Transport>
+    ensures { result ≡ told_by (map (λ row. (row.0.now, row.1)) rows.now) path.now }
+{
+    for row in rows {
+        if contains(row.0, path) {
+            return Some(row.1);
+        }
+    }
+    None
+}
+
 /// The transport that a path tells of.
 #[tactic(auto, unfolding(crate::specs::Scsi::transport_of))]
 fn transport_of(path: &[u8]) -> Option<Transport>
     ensures { result ≡ transport_of path.now }
 {
-    TRANSPORTS
-        .iter()
-        .find(|row| contains(row.0, path))
-        .map(|row| row.1)
+    told_by(&TRANSPORTS, path)
 }
 
 /// The number before the first colon of a text, and what stands behind the colon.

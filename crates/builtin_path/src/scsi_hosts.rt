@@ -7,7 +7,7 @@ ghost use Rattle.builtin_path.specs.Scsi.{beside_host, host_name, host_names, ho
 use crate::members::{Member, below_first, folder};
 use crate::scsi::{Address, place_of};
 use crate::stops::{Next, Stop, needed};
-use crate::texts::{behind_first, concatenated};
+use crate::texts::{behind_first, concatenated, is_among};
 use builtin_devices::{Base, number_in};
 use itoa::Buffer;
 use std::alloc::{AllocError, Global};
@@ -122,7 +122,7 @@ fn hosts_stop(
 ) -> Result<Stop, AllocError>
     ensures { IfOk result (λ stop. stop ≡ hosts_stop place count host.now (map (λ t. t.now) hosts.now)) }
 {
-    if hosts.iter().any(|name| *name == host) {
+    if is_among(hosts, host) {
         return numbered_host_stop(alloc, place, count, lowest(hosts));
     }
     let mut stop = Stop::ending(true, false, needed(alloc, b"host*")?);

@@ -1,28 +1,18 @@
 //! What a SCSI device adds by its transport.
-ghost use Rattle.std.specs.Prelude.{◌≡◌, ◌∷◌, [], ◌-◌, IfOk, codes, find, length, map, option_and_then, option_copied, option_map, ◌≤◌, ◌^◌};
+ghost use Rattle.std.specs.Prelude.{◌≡◌, ◌∷◌, [], ◌-◌, IfOk, codes, find, length, map, option_and_then, option_copied, option_map, true, ◌≤◌, ◌^◌};
 ghost use Rattle.std.specs.List.{concat};
-ghost use Rattle.builtin_devices.specs.Numbers.{number_in};
-ghost use Rattle.builtin_devices.specs.declared.numbers.Base.TheVariants.{AsWritten};
 ghost use Rattle.builtin_path.specs.Members.{class_attribute};
-ghost use Rattle.builtin_path.specs.Stops.{ending};
-ghost use Rattle.builtin_path.specs.Scsi.{ata_by, ata_place, ata_port_stop, ata_stop, braced, expander_needs, expander_start, fibre_by, fibre_stop, guid_by, guid_stop, has_braces, is_session, iscsi_by, iscsi_stop, narrow_stop, counted_stop, phy_stop, portal_needs, portal_attribute, portal_stop, sas_at, sas_by, sas_stop, session_stop, wide_stop};
+ghost use Rattle.builtin_path.specs.Scsi.{ata_by, ata_place, ata_port_stop, ata_stop, braced, fibre_by, fibre_stop, guid_by, guid_stop, has_braces, is_session, iscsi_by, iscsi_stop, portal_attribute, portal_needs, portal_stop, session_stop};
 
 use crate::members::{Member, attribute_at, class_attribute_at, from_first};
 use crate::scsi::{Address, place_of, unit_text};
-use crate::stops::{Share, Stop, absent, needed};
+use crate::stops::{Share, Stop, lost};
 use crate::texts::{behind_first, concatenated, first_bytes};
-use builtin_devices::{Base, name_number, number_in};
+use builtin_devices::name_number;
 use itoa::Buffer;
 use std::alloc::{AllocError, Global};
 use text_bytes::{Bytes, begins_with};
 use text_tables::OwnedTexts;
-
-/// The way ends at a device behind a transport whose parent is known, as a name is not told.
-fn lost(alloc: Global, name: &[u8], parent: bool) -> Result<Stop, AllocError>
-    ensures { IfOk result (λ stop. stop ≡ ending true parent (name.now ∷ [])) }
-{
-    Ok(Stop::ending(true, parent, needed(alloc, name)?))
-}
 
 /// What a disk of Fibre Channel adds: the port of its target.
 #[tactic(auto, unfolding(crate::specs::Scsi::fibre_stop))]
@@ -41,126 +31,6 @@ pub(crate) fn fibre_stop(
             let part = concatenated(alloc, &[b"fc-", port, b"-", unit.as_slice()])?;
             Ok(Stop::adding(alloc, part, true, true, 0))
         }
-    }
-}
-
-/// What a disk of SAS at a port of several phys adds.
-fn wide_stop(alloc: Global, member: &Member<'_>, sas: Option<&[u8]>) -> Result<Stop, AllocError>
-    ensures { IfOk result (λ stop. stop ≡ wide_stop member.now (option_map (λ t. t.now) sas.entry)) }
-{
-    match sas {
-        None => lost(alloc, b"sas_address", true),
-        Some(sas) => {
-            let unit = unit_text(alloc, member)?;
-            let part = concatenated(alloc, &[b"sas-", sas, b"-", unit.as_slice()])?;
-            Ok(Stop::adding(alloc, part, true, true, 0))
-        }
-    }
-}
-
-/// How the part of a disk at one phy begins.
-fn expander_start(alloc: Global, sas: Option<&[u8]>) -> Result<Bytes, AllocError>
-    ensures { IfOk result (λ start. start ≡ expander_start (option_map (λ t. t.now) sas.entry)) }
-{
-    match sas {
-        None => Bytes::copy_of(alloc, b"sas-"),
-        Some(sas) => concatenated(alloc, &[b"sas-exp", sas, b"-"]),
-    }
-}
-
-/// What the block would have to tell of an expander.
-fn expander_needs(
-    alloc: Global,
-    expander: &Member<'_>,
-    sas: Option<&[u8]>,
-) -> Result<OwnedTexts, AllocError>
-    ensures { IfOk result (λ needs. needs ≡ expander_needs expander.now (option_map (λ t. t.now) sas.entry)) }
-{
-    if expander.component().starts_with(b"expander") {
-        absent(alloc, b"sas_address", sas)
-    } else {
-        Ok(OwnedTexts::new(alloc))
-    }
-}
-
-/// What a disk of SAS at one phy adds, by what stands above its port.
-fn phy_stop(
-    alloc: Global,
-    member: &Member<'_>,
-    phy: &[u8],
-    above_port: Option<&Member<'_>>,
-) -> Result<Stop, AllocError>
-    ensures { IfOk result (λ stop. stop ≡ phy_stop member.now phy.now (option_copied above_port.entry)) }
-{
-    let Some(expander) = above_port else {
-        return Ok(Stop::ending(true, true, OwnedTexts::new(alloc)));
-    };
-    let sas = expander.class_attribute(alloc, b"sas_device", b"sas_address")?;
-    let start = expander_start(alloc, sas)?;
-    let unit = unit_text(alloc, member)?;
-    let part = concatenated(
-        alloc,
-        &[start.as_slice(), b"phy", phy, b"-", unit.as_slice()],
-    )?;
-    let mut stop = Stop::adding(alloc, part, true, true, 0);
-    stop.needs = expander_needs(alloc, expander, sas)?;
-    Ok(stop)
-}
-
-/// What a disk of SAS at one phy adds.
-fn narrow_stop(
-    alloc: Global,
-    member: &Member<'_>,
-    phy: Option<&[u8]>,
-    above_port: Option<&Member<'_>>,
-) -> Result<Stop, AllocError>
-    ensures { IfOk result (λ stop. stop ≡ narrow_stop member.now (option_map (λ t. t.now) phy.entry) (option_copied above_port.entry)) }
-{
-    match phy {
-        None => lost(alloc, b"phy_identifier", true),
-        Some(phy) => phy_stop(alloc, member, phy, above_port),
-    }
-}
-
-/// What a disk of SAS adds, by the devices from the target on and how many phys its port has.
-fn counted_stop(
-    alloc: Global,
-    member: &Member<'_>,
-    devices: &[Member<'_>],
-    count: u64,
-) -> Result<Stop, AllocError>
-    ensures { IfOk result (λ stop. stop ≡ counted_stop member.now devices.now count) }
-{
-    if count > 1 {
-        let sas = class_attribute_at(alloc, devices, 1, b"sas_device", b"sas_address")?;
-        wide_stop(alloc, member, sas)
-    } else {
-        let phy = class_attribute_at(alloc, devices, 1, b"sas_device", b"phy_identifier")?;
-        narrow_stop(alloc, member, phy, devices.get(3))
-    }
-}
-
-/// The number that an attribute is, as it is written.
-fn number_of(value: Option<&[u8]>) -> Option<u64>
-    ensures { result ≡ option_and_then (number_in AsWritten (2 ^ 32 - 1)) (option_map (λ t. t.now) value.entry) }
-{
-    number_in(Base::AsWritten, (1 << 32) - 1, value?)
-}
-
-/// What a disk of SAS adds.
-#[tactic(auto, unfolding(crate::specs::Scsi::sas_stop))]
-pub(crate) fn sas_stop(
-    alloc: Global,
-    member: &Member<'_>,
-    above: &[Member<'_>],
-) -> Result<Stop, AllocError>
-    ensures { IfOk result (λ stop. stop ≡ sas_stop member.now above.now) }
-{
-    let devices = from_first(b"scsi", b"scsi_target", above);
-    let phys = class_attribute_at(alloc, devices, 2, b"sas_port", b"num_phys")?;
-    match number_of(phys) {
-        None => Ok(Stop::ending(true, true, absent(alloc, b"num_phys", phys)?)),
-        Some(count) => counted_stop(alloc, member, devices, count),
     }
 }
 
@@ -208,35 +78,50 @@ fn portal_needs(
 }
 
 /// What a disk of iSCSI adds, by the portal and the target of its session.
-fn portal_stop(
+fn portal_stop<'t>(
     alloc: Global,
     member: &Member<'_>,
-    target: &[u8],
-    address: Option<&[u8]>,
-    port: Option<&[u8]>,
+    target: &'t [u8],
+    address: Option<&'t [u8]>,
+    port: Option<&'t [u8]>,
 ) -> Result<Stop, AllocError>
     ensures { IfOk result (λ stop. stop ≡ portal_stop member.now target.now (option_map (λ t. t.now) address.entry) (option_map (λ t. t.now) port.entry)) }
 {
-    match (address, port) {
-        (Some(address), Some(port)) => {
-            let unit = unit_text(alloc, member)?;
-            let part = concatenated(
-                alloc,
-                &[
-                    b"ip-",
-                    address,
-                    b":",
-                    port,
-                    b"-iscsi-",
-                    target,
-                    b"-",
-                    unit.as_slice(),
-                ],
-            )?;
-            Ok(Stop::adding(alloc, part, true, true, 0))
-        }
-        _ => Ok(Stop::ending(true, true, portal_needs(alloc, address, port)?)),
-    }
+    let Some(portal) = address else {
+        return Ok(Stop::ending(true, true, portal_needs(alloc, address, port)?));
+    };
+    let Some(number) = port else {
+        return Ok(Stop::ending(true, true, portal_needs(alloc, address, port)?));
+    };
+    let unit = unit_text(alloc, member)?;
+    let part = concatenated(
+        alloc,
+        &[
+            b"ip-",
+            portal,
+            b":",
+            number,
+            b"-iscsi-",
+            target,
+            b"-",
+            unit.as_slice(),
+        ],
+    )?;
+    Ok(Stop::adding(alloc, part, true, true, 0))
+}
+
+/// What a disk of iSCSI adds, by its session and the target there.
+fn target_stop(
+    alloc: Global,
+    member: &Member<'_>,
+    session: &Member<'_>,
+    target: &[u8],
+) -> Result<Stop, AllocError>
+    ensures { IfOk result (λ stop. stop ≡ session_stop member.now session.now (Some target.now)) }
+{
+    let address = portal_attribute(alloc, b"persistent_address", session)?;
+    let port = portal_attribute(alloc, b"persistent_port", session)?;
+    portal_stop(alloc, member, target, address, port)
 }
 
 /// What a disk of iSCSI adds, by its session.
@@ -248,12 +133,8 @@ fn session_stop(
     ensures { IfOk result (λ stop. stop ≡ session_stop member.now session.now (class_attribute (codes "iscsi_session") (codes "targetname") session.now)) }
 {
     match session.class_attribute(alloc, b"iscsi_session", b"targetname")? {
+        Some(target) => target_stop(alloc, member, session, target),
         None => lost(alloc, b"targetname", true),
-        Some(target) => {
-            let address = portal_attribute(alloc, b"persistent_address", session)?;
-            let port = portal_attribute(alloc, b"persistent_port", session)?;
-            portal_stop(alloc, member, target, address, port)
-        }
     }
 }
 
@@ -312,6 +193,15 @@ fn ata_port_stop(alloc: Global, place: Address, port: Option<&[u8]>) -> Result<S
     Ok(stop)
 }
 
+/// What a disk of ATA adds, by its address.
+fn placed_ata_stop(alloc: Global, place: Address, above: &[Member<'_>]) -> Result<Stop, AllocError>
+    ensures { IfOk result (λ stop. stop ≡ ata_by (Some place) above.now) }
+{
+    let devices = from_first(b"scsi", b"scsi_host", above);
+    let port = class_attribute_at(alloc, devices, 1, b"ata_port", b"port_no")?;
+    ata_port_stop(alloc, place, port)
+}
+
 /// What a disk of ATA adds.
 #[tactic(auto, unfolding(crate::specs::Scsi::ata_stop))]
 pub(crate) fn ata_stop(
@@ -321,12 +211,10 @@ pub(crate) fn ata_stop(
 ) -> Result<Stop, AllocError>
     ensures { IfOk result (λ stop. stop ≡ ata_stop member.now above.now) }
 {
-    let Some(place) = place_of(member) else {
-        return Ok(Stop::ending(true, false, OwnedTexts::new(alloc)));
-    };
-    let devices = from_first(b"scsi", b"scsi_host", above);
-    let port = class_attribute_at(alloc, devices, 1, b"ata_port", b"port_no")?;
-    ata_port_stop(alloc, place, port)
+    match place_of(member) {
+        Some(place) => placed_ata_stop(alloc, place, above),
+        None => Ok(Stop::ending(true, false, OwnedTexts::new(alloc))),
+    }
 }
 
 /// Whether a text has braces at its start and at the end of so many bytes.

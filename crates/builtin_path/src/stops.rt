@@ -1,5 +1,5 @@
 //! What one device of the way adds to a path.
-ghost use Rattle.std.specs.Prelude.{◌≡◌, ◌∷◌, [], IfOk, length, drop, option_map};
+ghost use Rattle.std.specs.Prelude.{◌≡◌, ◌∷◌, [], IfOk, length, drop, option_map, true};
 ghost use Rattle.builtin_path.specs.Stops.{absent, adding, adding_both, ending, passed, passing};
 
 use crate::members::Member;
@@ -67,6 +67,13 @@ pub(crate) fn needed(alloc: Global, name: &[u8]) -> Result<OwnedTexts, AllocErro
     let mut needs = OwnedTexts::new(alloc);
     needs.add(alloc, name)?;
     Ok(needs)
+}
+
+/// The way ends at a device behind a transport whose parent is known, as a name is not told.
+pub(crate) fn lost(alloc: Global, name: &[u8], parent: bool) -> Result<Stop, AllocError>
+    ensures { IfOk result (λ stop. stop ≡ ending true parent (name.now ∷ [])) }
+{
+    Ok(Stop::ending(true, parent, needed(alloc, name)?))
 }
 
 impl Stop {

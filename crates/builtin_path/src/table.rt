@@ -1,15 +1,15 @@
 //! What devices of each subsystem add to a path.
-ghost use Rattle.std.specs.Prelude.{◌≡◌, ◌∷◌, ◌≤◌, [], IfOk, codes, decimal, drop, length, option_map};
+ghost use Rattle.std.specs.Prelude.{◌≡◌, ◌∷◌, ◌≤◌, [], IfOk, codes, decimal, drop, length, map, option_map};
 ghost use Rattle.std.specs.List.{concat, prefix_len};
 ghost use Rattle.text_bytes.specs.Numbers.{is_digit};
-ghost use Rattle.builtin_path.specs.Members.{attribute, row};
-ghost use Rattle.builtin_path.specs.Table.{ap_part, ap_stop, bcma_stop, behind, cciss_stop, leading_number, manner_of, named_stop, numbered_by, numbered_stop, second_by, second_number, stop, stop_as, stop_by, tape_by, tape_part, tape_stop, virtio_stop};
+ghost use Rattle.builtin_path.specs.Members.{attribute, begins, row};
+ghost use Rattle.builtin_path.specs.Table.{ap_part, ap_stop, bcma_stop, begun_tapes, beside, first_begun, behind, cciss_stop, leading_number, manner_of, named_stop, numbered_by, numbered_stop, second_by, second_number, stop, stop_as, stop_by, tape_by, tape_part, tape_stop, virtio_stop};
 
 use crate::members::{Member, row};
 use crate::nvme::{nvme_stop, ways_stop};
 use crate::scsi::scsi_stop;
 use crate::stops::{Next, Stop};
-use crate::texts::concatenated;
+use crate::texts::{concatenated, is_among};
 use crate::usb::usb_stop;
 use builtin_devices::{Devices, name_number};
 use itoa::Buffer;
@@ -82,15 +82,24 @@ const BEGUN_TAPES: [&[u8]; 6] = [b"nstl", b"nstm", b"nsta", b"stl", b"stm", b"st
 /// What the numbers of a name are below.
 const NUMBERS: u64 = 1 << 32;
 
+/// What stands beside a subsystem in a table.
+fn beside(rows: &[(&[u8], Manner)], subsystem: &[u8]) -> Option<Manner>
+    ensures { result ≡ beside (map (λ row. (row.0.now, row.1)) rows.now) subsystem.now }
+{
+    for row in rows {
+        if row.0 == subsystem {
+            return Some(row.1);
+        }
+    }
+    None
+}
+
 /// How devices of a subsystem add.
 #[tactic(auto, unfolding(crate::specs::Table::manner_of))]
 fn manner_of(subsystem: &[u8]) -> Option<Manner>
     ensures { result ≡ manner_of subsystem.now }
 {
-    MANNERS
-        .iter()
-        .find(|row| row.0 == subsystem)
-        .map(|row| row.1)
+    beside(&MANNERS, subsystem)
 }
 
 /// A device by its subsystem and its name.
@@ -235,18 +244,30 @@ fn cciss_stop(alloc: Global, member: &Member<'_>, above: &[Member<'_>]) -> Resul
     second_by(alloc, b"cciss-disk", number, row(b"cciss", above))
 }
 
+/// The first of some texts that a name begins with.
+fn first_begun(starts: &[&'static [u8]], name: &[u8]) -> Option<&'static [u8]>
+    ensures { option_map (λ t. t.now) result ≡ first_begun (map (λ t. t.now) starts.now) name.now }
+{
+    for start in starts {
+        if name.starts_with(start) {
+            return Some(start);
+        }
+    }
+    None
+}
+
 /// What the name of a tape gives.
 #[tactic(auto, unfolding(crate::specs::Table::tape_part))]
 fn tape_part(name: &[u8]) -> Option<&[u8]>
     ensures { option_map (λ t. t.now) result ≡ tape_part name.now }
 {
-    if WHOLE_TAPES.iter().any(|whole| *whole == name) {
+    if is_among(&WHOLE_TAPES, name) {
         return Some(name);
     }
-    BEGUN_TAPES
-        .iter()
-        .copied()
-        .find(|start| name.starts_with(start))
+    match first_begun(&BEGUN_TAPES, name) {
+        Some(start) => Some(start),
+        None => None,
+    }
 }
 
 /// What a tape adds, where no device below has added a part.

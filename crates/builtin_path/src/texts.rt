@@ -2,6 +2,7 @@
 ghost use Rattle.std.specs.Prelude.{◌≡◌, ◌<◌, IfOk, IfSome, drop, length, map, take};
 ghost use Rattle.std.specs.List.{concat, join_with_byte};
 ghost use Rattle.text_bytes.specs.Names.{minus};
+ghost use Rattle.text_tables.specs.Texts.{is_among};
 ghost use Rattle.builtin_path.specs.Texts.{contains, first_place, stands_at};
 
 use std::alloc::{AllocError, Global};
@@ -43,6 +44,18 @@ pub(crate) fn contains(wanted: &[u8], text: &[u8]) -> bool
     ensures { result ≡ contains wanted.now text.now }
 {
     (0..text.len()).any(|place| stands_at(wanted, text, place))
+}
+
+/// Whether a text is one of these.
+pub(crate) fn is_among(texts: &[&[u8]], text: &[u8]) -> bool
+    ensures { result ≡ is_among (map (λ t. t.now) texts.now) text.now }
+{
+    for other in texts {
+        if text == *other {
+            return true;
+        }
+    }
+    false
 }
 
 /// Texts one behind another.

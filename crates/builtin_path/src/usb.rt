@@ -7,7 +7,6 @@ ghost use Rattle.builtin_path.specs.Members.{attribute, row};
 
 use crate::members::{Member, row};
 use crate::stops::{Next, Share, Stop, absent, needed};
-use crate::texts::concatenated;
 use builtin_devices::{Base, is_text, number_in, type_of};
 use std::alloc::{AllocError, Global};
 use text_bytes::{Bytes, split_once};
@@ -144,9 +143,10 @@ fn port_stop(
 ) -> Result<Stop, AllocError>
     ensures { IfOk result (λ stop. stop ≡ port_stop port.now root.now count) }
 {
-    let part = concatenated(alloc, &[port_start(revision_of(root)), port])?;
+    let mut part = Vec::from_slice(alloc, port_start(revision_of(root)))?;
+    part.extend_from_slice(port)?;
     Ok(Stop {
-        part: Some(part),
+        part: Some(Bytes::new(part)),
         share: Share::Apart,
         transport: true,
         parent: false,

@@ -1,5 +1,5 @@
 //! The way up from the event device: which devices it passes, and what they add.
-ghost use Rattle.std.specs.Prelude.{◌≡◌, ◌++◌, ◌≤◌, IfOk, OnOk, codes, length, map, not, option_copied};
+ghost use Rattle.std.specs.Prelude.{◌≡◌, ◌++◌, ◌+◌, ◌≤◌, ◌||◌, IfOk, codes, false, is_some, length, map, not, option_copied, take};
 ghost use Rattle.std.specs.List.{prefix_len};
 ghost use Rattle.builtin_path.specs.Members.{is_in};
 ghost use Rattle.builtin_path.specs.Nvme.{namespace};
@@ -13,20 +13,20 @@ use builtin_devices::Devices;
 use device_core::Device;
 use std::alloc::{AllocError, Global};
 
-/// Adds a device and those above it.
-fn add_from<'d>(
+/// A device and those above it.
+fn from_device<'d>(
     alloc: Global,
-    devices: &'d Devices<'_>,
+    devices: &'d Devices<'d>,
     device: &'d Device<'d>,
-    members: &mut Vec<Member<'d>>,
-) -> Result<(), AllocError>
-    ensures { OnOk result (members.new.items ≡ members.old.items ++ from_device devices.now device.now) }
+) -> Result<Vec<Member<'d>>, AllocError>
+    ensures { IfOk result (λ members. members.items ≡ from_device devices.now device.now) }
 {
+    let mut members = Vec::new(alloc);
     members.push(Member { device })?;
-    for device in devices.parents_of(alloc, device.path())? {
-        members.push(Member { device })?;
+    for parent in devices.parents_of(alloc, device.path())? {
+        members.push(Member { device: parent })?;
     }
-    Ok(())
+    Ok(members)
 }
 
 /// How many devices a list begins with that are no NVMe subsystem.
@@ -43,7 +43,7 @@ fn below_subsystem(members: &[Member<'_>]) -> usize
 /// The controller by which a disk of several ways is reached.
 fn way_by<'d>(
     alloc: Global,
-    devices: &'d Devices<'_>,
+    devices: &'d Devices<'d>,
     members: &[Member<'_>],
 ) -> Result<Option<&'d Device<'d>>, AllocError>
     ensures { IfOk result (λ device. option_copied device ≡ way_by devices.now members.now (namespace devices.now)) }
@@ -57,25 +57,45 @@ fn way_by<'d>(
     }
 }
 
-/// The devices of the way.
-#[tactic(auto, unfolding(crate::specs::Way::members_of))]
-pub(crate) fn members_of<'d>(
-    alloc: Global,
-    devices: &'d Devices<'_>,
+/// The devices up to the first NVMe subsystem, and others behind them.
+fn going_on<'d>(
+    mut members: Vec<Member<'d>>,
+    others: Vec<Member<'d>>,
 ) -> Result<Vec<Member<'d>>, AllocError>
-    ensures { IfOk result (λ members. members.items ≡ members_of devices.now) }
+    ensures { IfOk result (λ all. all.items ≡ take (below_subsystem members.entry.items + 1) members.entry.items ++ others.entry.items) }
 {
-    let mut members = Vec::new(alloc);
-    add_from(alloc, devices, devices.event().device(), &mut members)?;
-    if let Some(controller) = way_by(alloc, devices, &members)? {
-        let below = below_subsystem(&members);
-        members.truncate(below + 1);
-        add_from(alloc, devices, controller, &mut members)?;
+    let below = below_subsystem(&members);
+    members.truncate(below + 1);
+    for other in others {
+        members.push(other)?;
     }
     Ok(members)
 }
 
+/// The devices of the way.
+#[tactic(auto, unfolding(crate::specs::Way::members_of))]
+pub(crate) fn members_of<'d>(
+    alloc: Global,
+    devices: &'d Devices<'d>,
+) -> Result<Vec<Member<'d>>, AllocError>
+    ensures { IfOk result (λ members. members.items ≡ members_of devices.now) }
+{
+    let members = from_device(alloc, devices, devices.event().device())?;
+    match way_by(alloc, devices, &members)? {
+        Some(controller) => going_on(members, from_device(alloc, devices, controller)?),
+        None => Ok(members),
+    }
+}
+
+/// Whether a device has added a part, one of those below or this one.
+fn is_begun_above(is_begun: bool, stop: &Stop) -> bool
+    ensures { result ≡ (is_begun || is_some stop.now.part) }
+{
+    is_begun || stop.part.is_some()
+}
+
 /// What devices add, from the first up.
+#[tactic(auto, using(crate::proofs::Skipping::skipped))]
 pub(crate) fn stops_from(
     alloc: Global,
     devices: &Devices<'_>,
@@ -88,7 +108,7 @@ pub(crate) fn stops_from(
     let mut left = members;
     while let Some((member, above)) = left.split_first() {
         let here = stop(alloc, devices, is_begun, member, above)?;
-        is_begun = is_begun || here.part.is_some();
+        is_begun = is_begun_above(is_begun, &here);
         left = behind(here.next, above);
         stops.push(here)?;
     }

@@ -1,7 +1,10 @@
 -- What the descriptors of a text are, by its first byte.
-use Rattle.std.proofs.Common.{◌≡◌, ℕ, ◌+◌, ◌-◌, ◌<◌, ◌≤◌, zero, suc, true, false, List, [], ◌∷◌, length, drop, get_or, refl, ap, sym, ◌∙◌, arith}
+use Rattle.std.proofs.Common.{◌≡◌, ℕ, ◌-◌, ◌<◌, ◌≤◌, zero, suc, Bool, true, false, List, [], ◌∷◌, ◌++◌, Option, None, Some, length, drop, get_or, refl, ap, sym, ◌∙◌, append_assoc, append-nil, arith}
 use Rattle.std.proofs.lemmas.Bool.Decides.{nat_tests}
-use Rattle.builtin_usb.specs.Interfaces.{Descriptors, descriptors, ending, in_front}
+use Rattle.std.specs.List.{cons_option, filter_map}
+use Rattle.std.specs.Option.{option_to_list}
+use Rattle.builtin_usb.specs.Interfaces.{Descriptors, descriptors, ending, in_front, interface_of}
+use Rattle.builtin_usb.specs.declared.interfaces.Interface.{Interface}
 
 -- bytes that are passed over are left out
 pub passed_over : (longest n : ℕ) (text : List ℕ) → descriptors longest n text ≡ descriptors longest 0 (drop n text)
@@ -32,4 +35,34 @@ next longest [] more some fits = grind arith
 next longest (zero ∷ text) more some fits = grind arith
 next longest (suc b ∷ text) more some fits =
     let here : descriptors longest 0 (suc b ∷ text) ≡ in_front (suc b ∷ text) (descriptors longest (suc b - 1) text) = grind (arith, nat_tests) in
-    here ∙ ap (in_front (suc b ∷ text)) (passed_over longest b text)
+    let one : suc b - 1 ≡ b = omega arith in
+    here ∙ ap (λ (n : ℕ). in_front (suc b ∷ text) (descriptors longest n text)) one ∙ ap (in_front (suc b ∷ text)) (passed_over longest b text)
+
+-- an element in front, if there is one
+pub consed : {X : Type 0} (o : Option X) (xs : List X) → cons_option o xs ≡ option_to_list o ++ xs
+consed None xs = refl
+consed (Some x) xs = refl
+
+-- the interfaces of what is left, and of what is left behind the first descriptor
+pub told_first : (longest : ℕ) (text left : List ℕ) (held new whole : List Interface) → 9 < length text → 3 ≤ get_or text 0 0 → get_or text 0 0 ≤ longest
+    → left ≡ drop (get_or text 0 0) text → new ≡ held ++ option_to_list (interface_of text)
+    → held ++ filter_map interface_of (descriptors longest 0 text).from ≡ whole → new ++ filter_map interface_of (descriptors longest 0 left).from ≡ whole
+told_first longest text left held new whole more some fits cut e due =
+    let told : List ℕ → List Interface = λ rest. filter_map interface_of (descriptors longest 0 rest).from in
+    let one : List Interface = option_to_list (interface_of text) in
+    let first : told text ≡ one ++ told (drop (get_or text 0 0) text) =
+    ap (λ (d : Descriptors). filter_map interface_of d.from) (next longest text more some fits) ∙ consed (interface_of text) (told (drop (get_or text 0 0) text)) in
+    let same : told text ≡ one ++ told left = first ∙ ap (λ (rest : List ℕ). one ++ told rest) (sym cut) in
+    ap (λ (l : List Interface). l ++ told left) e ∙ append_assoc held one (told left) ∙ ap (λ (l : List Interface). held ++ l) (sym same) ∙ due
+
+-- how what is left ends, and what is left behind the first descriptor
+pub ends_alike : (longest : ℕ) (text left : List ℕ) (whole : Bool) → 9 < length text → 3 ≤ get_or text 0 0 → get_or text 0 0 ≤ longest
+    → left ≡ drop (get_or text 0 0) text → (descriptors longest 0 text).is_closed ≡ whole → (descriptors longest 0 left).is_closed ≡ whole
+ends_alike longest text left whole more some fits cut due =
+    ap (λ (rest : List ℕ). (descriptors longest 0 rest).is_closed) cut ∙ sym (ap (λ (d : Descriptors). d.is_closed) (next longest text more some fits)) ∙ due
+
+-- where no descriptor counts, all interfaces are told, and they end as `is_closed` says
+pub all_told : (longest : ℕ) (text : List ℕ) (held whole : List Interface) (is_closed : Bool) → descriptors longest 0 text ≡ ending is_closed
+    → held ++ filter_map interface_of (descriptors longest 0 text).from ≡ whole → held ≡ whole
+all_told longest text held whole is_closed ends due =
+    sym (append-nil held) ∙ ap (λ (d : Descriptors). held ++ filter_map interface_of d.from) (sym ends) ∙ due

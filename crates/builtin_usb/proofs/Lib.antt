@@ -1,1 +1,4 @@
 pub mod Cutting
+pub mod Knowing
+pub mod Lawful
+pub mod Needed

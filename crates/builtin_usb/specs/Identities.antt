@@ -1,5 +1,5 @@
 -- What a USB device says of itself, and the properties that tell of it.
-use Rattle.std.specs.Prelude.{ℕ, Bool, not, ◌&&◌, nat_le, ◌==◌, List, [], ◌∷◌, ◌++◌, take, Option, Some, None, unwrap_or, option_map, filter_map, codes, if◌then◌else◌}
+use Rattle.std.specs.Prelude.{ℕ, Bool, true, not, ◌&&◌, nat_le, ◌==◌, List, [], ◌∷◌, ◌++◌, take, Option, Some, None, unwrap_or, option_map, filter_map, codes, if◌then◌else◌}
 use Rattle.std.specs.List.{list_all}
 use Rattle.text_bytes.specs.Names.{comma, delete, minus, space, underscore}
 use Rattle.text_bytes.specs.Texts.{is_empty}
@@ -38,6 +38,11 @@ shown most text = safe value_marks (underscored (take most text))
 abbrev pub from_first : Option Text → Text → Text
 from_first None other = other
 from_first (Some text) other = if is_empty (shown most_bytes text) then other else text
+
+-- whether nothing is told of a text, or there is none
+abbrev pub says_nothing : Option Text → Bool
+says_nothing None = true
+says_nothing (Some text) = is_empty (shown most_bytes text)
 
 -- whether a serial number may have a byte: a space, a letter, a digit or a sign of ASCII, or the byte behind these, but no comma
 abbrev pub may_number : ℕ → Bool
@@ -91,7 +96,7 @@ abbrev pub unless_empty : Text → Option Text
 unless_empty text = if is_empty text then None else Some text
 
 -- names behind a prefix, and the values that are set, an empty one to take the property away
-abbrev pub rows : IdentityValue → List (Text × Option Text)
+unfoldable pub rows : IdentityValue → List (Text × Option Text)
 rows i =
     (codes "MODEL", Some (shown most_bytes i.model))
     ∷ (codes "MODEL_ENC", Some (encoded i.model))

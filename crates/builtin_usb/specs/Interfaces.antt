@@ -1,5 +1,5 @@
 -- The interfaces of a USB device, as its file of descriptors has them.
-use Rattle.std.specs.Prelude.{ℕ, ◌-◌, ◌/◌, ◌%◌, Bool, true, false, not, ◌&&◌, ◌||◌, ◌==◌, nat_le, nat_lt, zero, suc, List, [], ◌∷◌, ◌++◌, length, slice_index, fold, flat_map, Option, Some, None, if◌then◌else◌}
+use Rattle.std.specs.Prelude.{ℕ, ◌-◌, ◌/◌, ◌%◌, Bool, true, false, not, ◌&&◌, ◌||◌, ◌==◌, nat_lt, zero, suc, List, [], ◌∷◌, ◌++◌, length, slice_index, fold, flat_map, Option, Some, None, if◌then◌else◌}
 use Rattle.std.specs.List.{list_any, filter_map}
 use Rattle.text_bytes.specs.Names.{colon}
 use Rattle.text_bytes.specs.Texts.{is_empty}

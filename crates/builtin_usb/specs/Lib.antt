@@ -5,3 +5,4 @@ pub mod Units
 pub mod Identities
 pub mod Needs
 pub mod UsbId
+pub mod Laws

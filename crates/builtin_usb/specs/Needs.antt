@@ -1,15 +1,13 @@
 -- What the block would have to tell for usb_id.
-use Rattle.std.specs.Prelude.{ℕ, Bool, true, false, not, ◌&&◌, ◌||◌, unwrap_or, List, [], ◌∷◌, ◌++◌, Option, Some, None, is_some, is_none, take_while, codes, if◌then◌else◌}
-use Rattle.std.specs.List.{list_any}
+use Rattle.std.specs.Prelude.{ℕ, Bool, false, not, ◌&&◌, ◌||◌, List, [], ◌∷◌, ◌++◌, Option, Some, None, is_some, is_none, codes, if◌then◌else◌}
 use Rattle.std.specs.Option.{option_and_then, option_to_list}
-use Rattle.text_bytes.specs.Texts.{is_empty}
 use Rattle.text_tables.specs.Texts.{Text}
 use Rattle.device_core.specs.Values.{DeviceValue, EventValue}
 use Rattle.builtin_devices.specs.Devices.{is_of, is_text, kernel_of, parents_of, type_of}
 use Rattle.builtin_devices.specs.Files.{file_at}
 use Rattle.builtin_devices.specs.Numbers.{bytes_of}
 use Rattle.builtin_devices.specs.Outcomes.{lacking}
-use Rattle.builtin_usb.specs.Identities.{most_bytes, shown}
+use Rattle.builtin_usb.specs.Identities.{says_nothing}
 use Rattle.builtin_usb.specs.Kinds.{attribute, class_of, is_storage, takes_scsi}
 use Rattle.builtin_usb.specs.Subjects.{is_usb_device}
 use Rattle.builtin_usb.specs.Units.{UnitValue, target_and_unit, unit_texts}
@@ -20,7 +18,9 @@ is_untyped subsystem device = is_text subsystem device.subsystem && is_none (typ
 
 -- whether one of these devices that is of a subsystem and tells no type stands before the first of that subsystem and a type
 abbrev pub untyped_among : (subsystem kind : Text) → List DeviceValue → Bool
-untyped_among subsystem kind devices = list_any (is_untyped subsystem) (take_while (λ device. not (is_of subsystem (Some kind) device)) devices)
+untyped_among subsystem kind [] = false
+untyped_among subsystem kind (device ∷ devices) =
+    if is_of subsystem (Some kind) device then false else is_untyped subsystem device || untyped_among subsystem kind devices
 
 -- whether the search for the nearest device above a path of a subsystem and a type meets one of the subsystem that tells no type
 abbrev pub meets_untyped : EventValue → (subsystem kind path : Text) → Bool
@@ -43,13 +43,17 @@ lacks_type event interface device =
     || not (is_usb_device event.device)
     && (meets_untyped event (codes "usb") (codes "usb_interface") event.device.path || meets_above event interface || meets_unit event interface device)
 
+-- the word for the subclass, which is asked for of storage
+abbrev pub subclass_words : (interface : DeviceValue) → List Text
+subclass_words interface = if is_storage interface then lacking interface (codes "bInterfaceSubClass") (codes "bInterfaceSubClass") else []
+
 -- words of an interface
 abbrev pub interface_words : Option DeviceValue → List Text
 interface_words None = []
 interface_words (Some interface) =
     lacking interface (codes "bInterfaceNumber") (codes "bInterfaceNumber")
     ++ lacking interface (codes "bInterfaceClass") (codes "bInterfaceClass")
-    ++ (if is_storage interface then lacking interface (codes "bInterfaceSubClass") (codes "bInterfaceSubClass") else [])
+    ++ subclass_words interface
 
 -- the first of the texts of a SCSI device that is absent, if one is
 abbrev pub first_absent : UnitValue → Option Text
@@ -69,24 +73,34 @@ unit_words (Some unit) = if is_some (target_and_unit (kernel_of unit)) then opti
 abbrev pub descriptors_at : EventValue → DeviceValue → Option (List ℕ)
 descriptors_at event device = option_and_then bytes_of (file_at event (device.path ++ codes "/descriptors"))
 
+-- the word for the file of descriptors
+abbrev pub descriptors_words : EventValue → DeviceValue → List Text
+descriptors_words event device = if is_none (descriptors_at event device) then codes "descriptors" ∷ [] else []
+
+-- the word for the number of the product, which is asked for where that of the vendor is there
+abbrev pub product_words : DeviceValue → List Text
+product_words device = if is_some (attribute device (codes "idVendor")) then lacking device (codes "idProduct") (codes "idProduct") else []
+
 -- whether a USB device is asked for its revision: where both numbers are there, and the SCSI device tells none
 abbrev pub asks_revision : DeviceValue → UnitValue → Bool
 asks_revision device texts =
-    is_some (attribute device (codes "idVendor")) && is_some (attribute device (codes "idProduct")) && is_empty (shown most_bytes (unwrap_or texts.revision []))
+    is_some (attribute device (codes "idVendor")) && is_some (attribute device (codes "idProduct")) && says_nothing texts.revision
 
--- words of a USB device: each attribute is asked for where those before it are there
+-- the word for the revision
+abbrev pub revision_words : DeviceValue → UnitValue → List Text
+revision_words device texts = if asks_revision device texts then lacking device (codes "bcdDevice") (codes "bcdDevice") else []
+
+-- words of a USB device
 abbrev pub device_words : EventValue → (device : Option DeviceValue) → UnitValue → List Text
 device_words event None texts = []
 device_words event (Some device) texts =
-    (if is_none (descriptors_at event device) then codes "descriptors" ∷ [] else [])
-    ++ lacking device (codes "idVendor") (codes "idVendor")
-    ++ (if is_some (attribute device (codes "idVendor")) then lacking device (codes "idProduct") (codes "idProduct") else [])
-    ++ (if asks_revision device texts then lacking device (codes "bcdDevice") (codes "bcdDevice") else [])
+    descriptors_words event device ++ lacking device (codes "idVendor") (codes "idVendor") ++ product_words device ++ revision_words device texts
+
+-- the word for a type
+abbrev pub type_words : EventValue → (interface device : Option DeviceValue) → List Text
+type_words event interface device = if lacks_type event interface device then codes "DEVTYPE" ∷ [] else []
 
 -- all that the block would have to tell
-abbrev pub words : EventValue → (interface device unit : Option DeviceValue) → List Text
+unfoldable pub words : EventValue → (interface device unit : Option DeviceValue) → List Text
 words event interface device unit =
-    (if lacks_type event interface device then codes "DEVTYPE" ∷ [] else [])
-    ++ interface_words interface
-    ++ unit_words unit
-    ++ device_words event device (unit_texts unit)
+    type_words event interface device ++ interface_words interface ++ unit_words unit ++ device_words event device (unit_texts unit)

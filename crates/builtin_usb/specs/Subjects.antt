@@ -1,7 +1,6 @@
 -- Which devices usb_id tells of.
-use Rattle.std.specs.Prelude.{Bool, ◌&&◌, Option, Some, None, is_some, codes, if◌then◌else◌}
+use Rattle.std.specs.Prelude.{Bool, Option, Some, None, is_some, codes, if◌then◌else◌}
 use Rattle.std.specs.Option.{option_and_then}
-use Rattle.text_tables.specs.Texts.{Text}
 use Rattle.device_core.specs.Values.{DeviceValue, EventValue}
 use Rattle.builtin_devices.specs.Devices.{above, is_text, type_of}
 use Rattle.builtin_usb.specs.Kinds.{class_of, takes_scsi}
@@ -10,9 +9,13 @@ use Rattle.builtin_usb.specs.Kinds.{class_of, takes_scsi}
 abbrev pub is_usb_device : DeviceValue → Bool
 is_usb_device device = is_text (codes "usb_device") (type_of device)
 
--- the interface: the nearest above an event device that is no USB device itself
+-- the nearest interface above the event device
+abbrev pub interface_above : EventValue → Option DeviceValue
+interface_above event = above event (codes "usb") (Some (codes "usb_interface")) event.device.path
+
+-- the interface of an event device that is no USB device itself
 abbrev pub interface_of : EventValue → Option DeviceValue
-interface_of event = if is_usb_device event.device then None else above event (codes "usb") (Some (codes "usb_interface")) event.device.path
+interface_of event = if is_usb_device event.device then None else interface_above event
 
 -- the USB device of an interface whose class is a number
 abbrev pub device_above : EventValue → (interface : DeviceValue) → Option DeviceValue

@@ -1,5 +1,5 @@
 -- What a SCSI device says of itself.
-use Rattle.std.specs.Prelude.{ℕ, ◌^◌, List, [], ◌∷◌, ◌++◌, Option, Some, None, option_map, decimal, codes}
+use Rattle.std.specs.Prelude.{ℕ, ◌^◌, ◌∷◌, ◌++◌, Option, Some, None, option_map, decimal, codes}
 use Rattle.std.specs.Option.{option_and, option_and_then}
 use Rattle.text_bytes.specs.Names.{colon}
 use Rattle.text_bytes.specs.Numbers.{decimal_below}

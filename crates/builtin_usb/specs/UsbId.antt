@@ -1,5 +1,5 @@
 -- What the builtin usb_id of udev 257 comes to.
-use Rattle.std.specs.Prelude.{ℕ, Bool, List, [], ◌∷◌, ◌++◌, Option, Some, None, unwrap_or, codes, if◌then◌else◌}
+use Rattle.std.specs.Prelude.{Bool, List, [], ◌∷◌, ◌++◌, Option, Some, None, unwrap_or, codes, if◌then◌else◌}
 use Rattle.std.specs.Option.{option_and_then}
 use Rattle.text_tables.specs.Texts.{Text}
 use Rattle.text_tables.specs.Pairs.{Pair}
@@ -31,19 +31,23 @@ abbrev pub driver_text : (interface : DeviceValue) → Option Text
 driver_text interface = interface.driver
 
 -- what stands only behind ID_USB_
-abbrev pub own_rows : EventValue → (interface device : Option DeviceValue) → List (Text × Option Text)
-own_rows event interface device =
-    (codes "INTERFACES", unless_empty (interfaces_text event device))
-    ∷ (codes "INTERFACE_NUM", option_and_then number_text interface)
-    ∷ (codes "DRIVER", option_and_then driver_text interface)
+unfoldable pub rows_apart : (interfaces : Text) → (number driver : Option Text) → List (Text × Option Text)
+rows_apart interfaces number driver =
+    (codes "INTERFACES", unless_empty interfaces)
+    ∷ (codes "INTERFACE_NUM", number)
+    ∷ (codes "DRIVER", driver)
     ∷ []
+
+-- the same of an interface and a USB device, as far as there are such
+abbrev pub own_rows : EventValue → (interface device : Option DeviceValue) → List (Text × Option Text)
+own_rows event interface device = rows_apart (interfaces_text event device) (option_and_then number_text interface) (option_and_then driver_text interface)
 
 -- the bus, and what is told behind ID_ where no bus was told before
 abbrev pub bus_properties : IdentityValue → List Pair
 bus_properties i = (codes "ID_BUS", codes "usb") ∷ named (codes "ID_") (rows i)
 
 -- the properties of a device that is known
-abbrev pub properties : EventValue → (interface device : Option DeviceValue) → IdentityValue → (is_bus_set : Bool) → List Pair
+unfoldable pub properties : EventValue → (interface device : Option DeviceValue) → IdentityValue → (is_bus_set : Bool) → List Pair
 properties event interface device i is_bus_set =
     (if is_bus_set then [] else bus_properties i) ++ named (codes "ID_USB_") (rows i) ++ named (codes "ID_USB_") (own_rows event interface device)
 

@@ -1,7 +1,8 @@
 //! What a USB device says of itself.
-ghost use Rattle.std.specs.Prelude.{◌≡◌, ◌++◌, [], IfOk, OnOk, option_map, unwrap_or};
+ghost use Rattle.std.specs.Prelude.{◌≡◌, ◌++◌, [], IfOk, OnOk, codes, option_map, unwrap_or};
 ghost use Rattle.std.specs.List.{list_all};
-ghost use Rattle.builtin_usb.specs.Identities.{all_texts, from_first, full_serial, identity_of, marked, may_number, most_bytes, most_serial_bytes, serial_of, shown};
+ghost use Rattle.builtin_usb.specs.Kinds.{attribute};
+ghost use Rattle.builtin_usb.specs.Identities.{all_texts, from_first, full_serial, identity_of, known_as, marked, may_number, most_bytes, most_serial_bytes, says_nothing, serial_of, shown};
 
 use crate::kinds::attribute;
 use crate::units::Unit;
@@ -34,6 +35,7 @@ pub(crate) struct Identity<'a> {
 }
 
 impl<'a> Model for Identity<'a> {
+    ghost use Rattle.builtin_usb.specs.Kinds.{attribute};
     ghost use Rattle.builtin_usb.specs.Identities.{IdentityValue};
 
     ghost Value = { IdentityValue };
@@ -83,6 +85,26 @@ fn from_first<'a>(
     }
 }
 
+/// A text, or another where there is none.
+fn text_or<'a>(text: Option<&'a [u8]>, other: &'a [u8]) -> &'a [u8]
+    ensures { result.now ≡ unwrap_or (option_map (λ t. t.now) text.entry) other.now }
+{
+    match text {
+        Some(text) => text,
+        None => other,
+    }
+}
+
+/// Whether nothing is told of a text, or there is none. The error comes where memory is refused.
+pub(crate) fn says_nothing(alloc: Global, text: Option<&[u8]>) -> Result<bool, AllocError>
+    ensures { IfOk result (λ nothing. nothing ≡ says_nothing (option_map (λ t. t.now) text.entry)) }
+{
+    match text {
+        Some(text) => Ok(shown(alloc, text)?.is_empty()),
+        None => Ok(true),
+    }
+}
+
 /// Whether a serial number may have a byte.
 fn may_number(byte: u8) -> bool
     ensures { result ≡ may_number byte }
@@ -107,11 +129,58 @@ fn serial_of<'a>(text: Option<&'a [u8]>) -> &'a [u8]
     }
 }
 
-/// The bytes of an instance, none where there is no instance.
-fn instance_of(alloc: Global, instance: Option<Bytes>) -> Bytes
-    ensures { result ≡ unwrap_or instance [] }
+/// The instance of a SCSI device, empty where there is none. The error comes where memory is refused.
+fn instance_of(alloc: Global, unit: &Unit<'_>) -> Result<Bytes, AllocError>
+    ensures { IfOk result (λ instance. instance ≡ unwrap_or unit.now.instance []) }
 {
-    instance.unwrap_or(Bytes::new(Vec::new(alloc)))
+    match &unit.instance {
+        Some(instance) => Bytes::copy_of(alloc, instance.as_slice()),
+        None => Ok(Bytes::new(Vec::new(alloc))),
+    }
+}
+
+/// The serial number of a USB device, empty where there is none that counts.
+fn device_serial<'a>(device: &Device<'a>) -> &'a [u8]
+    ensures { result.now ≡ serial_of (attribute device.now (codes "serial")) }
+{
+    serial_of(attribute(device, b"serial"))
+}
+
+/// An attribute of a device, or another text where there is none.
+fn attribute_or<'a>(device: &Device<'a>, name: &[u8], other: &'a [u8]) -> &'a [u8]
+    ensures { result.now ≡ unwrap_or (attribute device.now name.now) other.now }
+{
+    text_or(attribute(device, name), other)
+}
+
+/// What is known of a USB device whose vendor and product have numbers.
+fn known_as<'a>(
+    alloc: Global,
+    device: &Device<'a>,
+    unit: &Unit<'a>,
+    kind: &'static [u8],
+    vendor_id: &'a [u8],
+    model_id: &'a [u8],
+) -> Result<Identity<'a>, AllocError>
+    ensures { IfOk result (λ known. known ≡ known_as device.now unit.now kind.now vendor_id.now model_id.now) }
+{
+    let vendor = attribute_or(device, b"manufacturer", vendor_id);
+    let vendor = from_first(alloc, unit.vendor, vendor)?;
+    let model = attribute_or(device, b"product", model_id);
+    let model = from_first(alloc, unit.model, model)?;
+    let revision = attribute_or(device, b"bcdDevice", b"");
+    let revision = from_first(alloc, unit.revision, revision)?;
+    let instance = instance_of(alloc, unit)?;
+    Ok(Identity {
+        vendor,
+        vendor_id,
+        model,
+        model_id,
+        revision,
+        serial: device_serial(device),
+        kind,
+        instance,
+    })
 }
 
 /// What is known of a USB device with a SCSI device that is asked: `None` where its vendor or its product has no number. The
@@ -119,10 +188,10 @@ fn instance_of(alloc: Global, instance: Option<Bytes>) -> Bytes
 pub(crate) fn identity_of<'a>(
     alloc: Global,
     device: &Device<'a>,
-    unit: Unit<'a>,
+    unit: &Unit<'a>,
     kind: &'static [u8],
 ) -> Result<Option<Identity<'a>>, AllocError>
-    ensures { IfOk result (λ known. known ≡ identity_of device.now unit.entry kind.now) }
+    ensures { IfOk result (λ known. known ≡ identity_of device.now unit.now kind.now) }
 {
     let Some(vendor_id) = attribute(device, b"idVendor") else {
         return Ok(None);
@@ -130,19 +199,8 @@ pub(crate) fn identity_of<'a>(
     let Some(model_id) = attribute(device, b"idProduct") else {
         return Ok(None);
     };
-    let vendor = attribute(device, b"manufacturer").unwrap_or(vendor_id);
-    let model = attribute(device, b"product").unwrap_or(model_id);
-    let revision = attribute(device, b"bcdDevice").unwrap_or(b"");
-    Ok(Some(Identity {
-        vendor: from_first(alloc, unit.vendor, vendor)?,
-        vendor_id,
-        model: from_first(alloc, unit.model, model)?,
-        model_id,
-        revision: from_first(alloc, unit.revision, revision)?,
-        serial: serial_of(attribute(device, b"serial")),
-        kind,
-        instance: instance_of(alloc, unit.instance),
-    }))
+    let identity = known_as(alloc, device, unit, kind, vendor_id, model_id)?;
+    Ok(Some(identity))
 }
 
 /// Puts a text that is not empty behind another, with a mark in between.

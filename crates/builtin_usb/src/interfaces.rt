@@ -1,5 +1,5 @@
 //! The interfaces of a USB device, by its file of descriptors.
-ghost use Rattle.std.specs.Prelude.{◌≡◌, ◌≤◌, ◌++◌, ◌∷◌, [], ◌-◌, flat_map, IfOk, OnOk, length, fold};
+ghost use Rattle.std.specs.Prelude.{◌≡◌, ◌≤◌, ◌++◌, [], drop, flat_map, IfOk, OnOk, length, fold, option_to_list};
 ghost use Rattle.std.specs.List.{filter_map};
 ghost use Rattle.builtin_usb.specs.Interfaces.{descriptors_of, interface_of, interfaces, joined, packed, two_digits, with_interface, written};
 
@@ -50,6 +50,25 @@ fn interface_of(descriptor: &[u8]) -> Option<Interface>
     })
 }
 
+/// Puts the interface that a descriptor tells of behind others, if it is of that kind.
+fn push_told(interfaces: &mut Vec<Interface>, descriptor: &[u8]) -> Result<(), AllocError>
+    requires { 8 ≤ length descriptor.now }
+    ensures { OnOk result (interfaces.new.items ≡ interfaces.old.items ++ option_to_list (interface_of descriptor.now)) }
+{
+    if let Some(interface) = interface_of(descriptor) {
+        interfaces.push(interface)?;
+    }
+    Ok(())
+}
+
+/// What stands behind so many bytes of a text, nothing where it has no more.
+#[tactic(auto, using(std::proofs::lemmas::List::drop_min))]
+fn behind(text: &[u8], size: usize) -> &[u8]
+    ensures { result.now ≡ drop size text.now }
+{
+    text.split_at(size.min(text.len())).1
+}
+
 /// All interfaces of a file.
 fn read(alloc: Global, file: &[u8]) -> Result<Found, AllocError>
     requires { 9 ≤ length file.now }
@@ -70,10 +89,8 @@ fn read(alloc: Global, file: &[u8]) -> Result<Found, AllocError>
                 is_closed: false,
             });
         }
-        if let Some(interface) = interface_of(rest) {
-            interfaces.push(interface)?;
-        }
-        rest = &rest[size.min(rest.len())..];
+        push_told(&mut interfaces, rest)?;
+        rest = behind(rest, size);
     }
     Ok(Found {
         interfaces,
@@ -142,7 +159,7 @@ fn joined(alloc: Global, found: &[Interface], is_closed: bool) -> Result<Vec<u8>
 ///
 /// The error comes where memory is refused. So udev of systemd 257 has it.
 #[tactic(auto, unfolding(crate::specs::Interfaces::packed))]
-pub fn packed(alloc: Global, file: &[u8]) -> Result<Vec<u8>, AllocError>
+pub(crate) fn packed(alloc: Global, file: &[u8]) -> Result<Vec<u8>, AllocError>
     ensures { IfOk result (λ text. text.items ≡ packed file.now) }
 {
     if file.len() < DEVICE_BYTES {

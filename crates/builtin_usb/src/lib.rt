@@ -4,11 +4,15 @@
 mod identities;
 mod interfaces;
 mod kinds;
+mod laws;
 mod needs;
 mod properties;
+mod running;
 mod subjects;
 mod units;
-mod usb_id;
 
-pub use interfaces::packed;
-pub use usb_id::usb_id;
+pub use laws::{
+    bus_does_not_matter, interfaces_are_few, interfaces_stand_in_colons, properties_are_told_twice,
+    serials_are_short,
+};
+pub use running::usb_id;

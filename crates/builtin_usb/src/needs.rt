@@ -3,9 +3,9 @@ ghost use Rattle.std.specs.Prelude.{◌≡◌, IfOk, OnOk, map, option_copied, o
 ghost use Rattle.text_tables.specs.Texts.{with_texts};
 ghost use Rattle.builtin_devices.specs.Outcomes.{lacking, needs_of};
 ghost use Rattle.builtin_usb.specs.Units.{unit_texts};
-ghost use Rattle.builtin_usb.specs.Needs.{descriptors_at, asks_revision, device_words, first_absent, interface_words, is_untyped, lacks_type, meets_above, meets_unit, meets_untyped, unit_words, untyped_among, words};
+ghost use Rattle.builtin_usb.specs.Needs.{asks_revision, descriptors_at, descriptors_words, device_words, first_absent, interface_words, is_untyped, lacks_type, meets_above, meets_unit, meets_untyped, product_words, revision_words, subclass_words, type_words, unit_words, untyped_among, words};
 
-use crate::identities::shown;
+use crate::identities::says_nothing;
 use crate::kinds::{attribute, class_of, is_storage, takes_scsi};
 use crate::subjects::is_usb_device;
 use crate::units::{Unit, has_instance, unit_texts};
@@ -106,25 +106,6 @@ fn lacks_type(
     Ok(below || above || unit)
 }
 
-/// Adds what an interface lacks.
-fn need_of_interface(
-    alloc: Global,
-    interface: Option<&Device<'_>>,
-    needs: &mut OwnedTexts,
-) -> Result<(), AllocError>
-    ensures { OnOk result (needs.new ≡ with_texts needs.old (interface_words (option_copied interface.entry))) }
-{
-    let Some(interface) = interface else {
-        return Ok(());
-    };
-    need(alloc, interface, b"bInterfaceNumber", needs)?;
-    need(alloc, interface, b"bInterfaceClass", needs)?;
-    if is_storage(interface) {
-        need(alloc, interface, b"bInterfaceSubClass", needs)?;
-    }
-    Ok(())
-}
-
 /// Adds an attribute that a device lacks.
 fn need(
     alloc: Global,
@@ -135,6 +116,49 @@ fn need(
     ensures { OnOk result (needs.new ≡ with_texts needs.old (lacking device.now name.now name.now)) }
 {
     need_attribute(alloc, device, name, name, needs)
+}
+
+/// Adds the subclass, where an interface is storage and lacks it.
+fn need_subclass(
+    alloc: Global,
+    interface: &Device<'_>,
+    needs: &mut OwnedTexts,
+) -> Result<(), AllocError>
+    ensures { OnOk result (needs.new ≡ with_texts needs.old (subclass_words interface.now)) }
+{
+    if is_storage(interface) {
+        need(alloc, interface, b"bInterfaceSubClass", needs)?;
+    }
+    Ok(())
+}
+
+/// Adds the attributes that an interface lacks.
+#[tactic(auto, using(crate::proofs::Needed::three_more))]
+fn need_attributes(
+    alloc: Global,
+    interface: &Device<'_>,
+    needs: &mut OwnedTexts,
+) -> Result<(), AllocError>
+    ensures { OnOk result (needs.new ≡ with_texts needs.old (interface_words (Some interface.now))) }
+{
+    need(alloc, interface, b"bInterfaceNumber", needs)?;
+    need(alloc, interface, b"bInterfaceClass", needs)?;
+    need_subclass(alloc, interface, needs)?;
+    Ok(())
+}
+
+/// Adds what an interface lacks, where there is one.
+fn need_of_interface(
+    alloc: Global,
+    interface: Option<&Device<'_>>,
+    needs: &mut OwnedTexts,
+) -> Result<(), AllocError>
+    ensures { OnOk result (needs.new ≡ with_texts needs.old (interface_words (option_copied interface.entry))) }
+{
+    match interface {
+        Some(interface) => need_attributes(alloc, interface, needs),
+        None => Ok(()),
+    }
 }
 
 /// The first of the texts of a SCSI device that is absent.
@@ -161,7 +185,7 @@ fn need_of_unit(
     texts: &Unit<'_>,
     needs: &mut OwnedTexts,
 ) -> Result<(), AllocError>
-    requires { texts.now ≡ unit_texts (option_copied unit.entry) }
+    requires { texts.now ≡ unit_texts (option_copied unit) }
     ensures { OnOk result (needs.new ≡ with_texts needs.old (unit_words (option_copied unit.entry))) }
 {
     let Some(unit) = unit else {
@@ -192,20 +216,62 @@ pub(crate) fn descriptors_at(
     }
 }
 
-/// Whether the revision is asked for of the USB device.
+/// Adds the file of descriptors, where the block does not tell it.
+fn need_descriptors(
+    alloc: Global,
+    event: &Event<'_>,
+    device: &Device<'_>,
+    needs: &mut OwnedTexts,
+) -> Result<(), AllocError>
+    ensures { OnOk result (needs.new ≡ with_texts needs.old (descriptors_words event.now device.now)) }
+{
+    if descriptors_at(alloc, event, device)?.is_none() {
+        needs.add(alloc, b"descriptors")?;
+    }
+    Ok(())
+}
+
+/// Adds the number of the product, where that of the vendor is there and it is not.
+fn need_product(
+    alloc: Global,
+    device: &Device<'_>,
+    needs: &mut OwnedTexts,
+) -> Result<(), AllocError>
+    ensures { OnOk result (needs.new ≡ with_texts needs.old (product_words device.now)) }
+{
+    if attribute(device, b"idVendor").is_some() {
+        need(alloc, device, b"idProduct", needs)?;
+    }
+    Ok(())
+}
+
+/// Whether a USB device is asked for its revision.
 fn asks_revision(alloc: Global, device: &Device<'_>, texts: &Unit<'_>) -> Result<bool, AllocError>
     ensures { IfOk result (λ asks. asks ≡ asks_revision device.now texts.now) }
 {
-    if attribute(device, b"idVendor").is_none() || attribute(device, b"idProduct").is_none() {
-        return Ok(false);
+    let nothing = says_nothing(alloc, texts.revision)?;
+    let is_known = attribute(device, b"idVendor").is_some()
+        && attribute(device, b"idProduct").is_some();
+    Ok(is_known && nothing)
+}
+
+/// Adds the revision, where a USB device is asked for it and lacks it.
+fn need_revision(
+    alloc: Global,
+    device: &Device<'_>,
+    texts: &Unit<'_>,
+    needs: &mut OwnedTexts,
+) -> Result<(), AllocError>
+    ensures { OnOk result (needs.new ≡ with_texts needs.old (revision_words device.now texts.now)) }
+{
+    if asks_revision(alloc, device, texts)? {
+        need(alloc, device, b"bcdDevice", needs)?;
     }
-    match texts.revision {
-        Some(text) => Ok(shown(alloc, text)?.is_empty()),
-        None => Ok(true),
-    }
+    Ok(())
 }
 
 /// Adds what a USB device lacks.
+#[tactic(auto, using(crate::proofs::Needed::four_more))]
 fn need_of_device(
     alloc: Global,
     event: &Event<'_>,
@@ -218,21 +284,31 @@ fn need_of_device(
     let Some(device) = device else {
         return Ok(());
     };
-    if descriptors_at(alloc, event, device)?.is_none() {
-        needs.add(alloc, b"descriptors")?;
-    }
+    need_descriptors(alloc, event, device, needs)?;
     need(alloc, device, b"idVendor", needs)?;
-    if attribute(device, b"idVendor").is_some() {
-        need(alloc, device, b"idProduct", needs)?;
-    }
-    if asks_revision(alloc, device, texts)? {
-        need(alloc, device, b"bcdDevice", needs)?;
+    need_product(alloc, device, needs)?;
+    need_revision(alloc, device, texts, needs)
+}
+
+/// Adds a type, where a device is asked for one that it does not tell.
+fn need_type(
+    alloc: Global,
+    devices: &Devices<'_>,
+    interface: Option<&Device<'_>>,
+    device: Option<&Device<'_>>,
+    needs: &mut OwnedTexts,
+) -> Result<(), AllocError>
+    ensures { OnOk result (needs.new ≡ with_texts needs.old (type_words devices.now (option_copied interface.entry) (option_copied device.entry))) }
+{
+    if lacks_type(alloc, devices, interface, device)? {
+        needs.add(alloc, b"DEVTYPE")?;
     }
     Ok(())
 }
 
 /// All that the block would have to tell, by the devices that the builtin looks at and the texts of the SCSI device. The
 /// error comes where memory is refused.
+#[tactic(auto, using(crate::proofs::Needed::four_more), unfolding(crate::specs::Needs::words))]
 pub(crate) fn needs_by(
     alloc: Global,
     devices: &Devices<'_>,
@@ -241,13 +317,11 @@ pub(crate) fn needs_by(
     unit: Option<&Device<'_>>,
     texts: &Unit<'_>,
 ) -> Result<OwnedTexts, AllocError>
-    requires { texts.now ≡ unit_texts (option_copied unit.entry) }
+    requires { texts.now ≡ unit_texts (option_copied unit) }
     ensures { IfOk result (λ needs. needs ≡ needs_of (words devices.now (option_copied interface.entry) (option_copied device.entry) (option_copied unit.entry))) }
 {
     let mut needs = OwnedTexts::new(alloc);
-    if lacks_type(alloc, devices, interface, device)? {
-        needs.add(alloc, b"DEVTYPE")?;
-    }
+    need_type(alloc, devices, interface, device, &mut needs)?;
     need_of_interface(alloc, interface, &mut needs)?;
     need_of_unit(alloc, unit, texts, &mut needs)?;
     need_of_device(alloc, devices.event(), device, texts, &mut needs)?;

@@ -2,7 +2,7 @@
 ghost use Rattle.std.specs.Prelude.{◌≡◌, ◌++◌, ◌∷◌, [], IfOk, OnOk, codes, if◌then◌else◌, map, option_copied, option_map};
 ghost use Rattle.std.specs.Option.{option_and_then};
 ghost use Rattle.builtin_usb.specs.Identities.{named, rows, unless_empty};
-ghost use Rattle.builtin_usb.specs.UsbId.{bus_properties, driver_text, interfaces_text, number_text, own_rows, properties};
+ghost use Rattle.builtin_usb.specs.UsbId.{bus_properties, driver_text, interfaces_text, number_text, own_rows, properties, rows_apart};
 
 use crate::identities::{Identity, full_serial, shown, shown_serial};
 use crate::interfaces::packed;
@@ -15,13 +15,33 @@ use text_bytes::Bytes;
 use text_links::encoded;
 
 /// A name, and the value that it is set to, if it is.
-type Row<'a> = (&'static [u8], Option<&'a [u8]>);
+type Row = (&'static [u8], Option<Bytes>);
+
+/// A text that is set whatever it is.
+fn always(text: Vec<u8>) -> Option<Bytes>
+    ensures { result ≡ Some text.items }
+{
+    Some(Bytes::new(text))
+}
 
 /// A text that is set only where it is not empty.
-fn unless_empty(text: &[u8]) -> Option<&[u8]>
-    ensures { option_map (λ t. t.now) result ≡ unless_empty text.now }
+fn unless_empty(text: Vec<u8>) -> Option<Bytes>
+    ensures { result ≡ unless_empty text.items }
 {
-    if text.is_empty() { None } else { Some(text) }
+    if text.is_empty() {
+        return None;
+    }
+    Some(Bytes::new(text))
+}
+
+/// A copy of a text that is there.
+fn copy_of(alloc: Global, text: Option<&[u8]>) -> Result<Option<Bytes>, AllocError>
+    ensures { IfOk result (λ copy. copy ≡ option_map (λ t. t.now) text.entry) }
+{
+    match text {
+        Some(text) => Ok(Some(Bytes::copy_of(alloc, text)?)),
+        None => Ok(None),
+    }
 }
 
 /// Sets a name behind a prefix.
@@ -43,20 +63,21 @@ fn set(
 fn set_rows(
     alloc: Global,
     prefix: &[u8],
-    rows: &[Row<'_>],
+    rows: &[Row],
     properties: &mut Vec<(Bytes, Bytes)>,
 ) -> Result<(), AllocError>
-    ensures { OnOk result (properties.new.items ≡ properties.old.items ++ named prefix.now (map (λ row. (row.0.now, option_map (λ t. t.now) row.1)) rows.now)) }
+    ensures { OnOk result (properties.new.items ≡ properties.old.items ++ named prefix.now (map (λ row. (row.0.now, row.1)) rows.now)) }
 {
     for (name, value) in rows {
         if let Some(value) = value {
-            set(alloc, prefix, name, value, properties)?;
+            set(alloc, prefix, name, value.as_slice(), properties)?;
         }
     }
     Ok(())
 }
 
 /// Sets what is known of a device behind a prefix.
+#[tactic(auto, unfolding(crate::specs::Identities::rows))]
 fn set_identity(
     alloc: Global,
     prefix: &[u8],
@@ -67,29 +88,33 @@ fn set_identity(
 {
     let model = shown(alloc, identity.model)?;
     let model_encoded = encoded(alloc, identity.model)?;
+    let model_id = Vec::from_slice(alloc, identity.model_id)?;
+    let full = full_serial(alloc, identity)?;
+    let serial = shown_serial(alloc, identity.serial)?;
     let vendor = shown(alloc, identity.vendor)?;
     let vendor_encoded = encoded(alloc, identity.vendor)?;
+    let vendor_id = Vec::from_slice(alloc, identity.vendor_id)?;
     let revision = shown(alloc, identity.revision)?;
-    let serial = shown_serial(alloc, identity.serial)?;
-    let full = full_serial(alloc, identity)?;
-    let rows: [Row<'_>; 11] = [
-        (b"MODEL", Some(&model)),
-        (b"MODEL_ENC", Some(&model_encoded)),
-        (b"MODEL_ID", Some(identity.model_id)),
-        (b"SERIAL", Some(&full)),
-        (b"SERIAL_SHORT", unless_empty(&serial)),
-        (b"VENDOR", Some(&vendor)),
-        (b"VENDOR_ENC", Some(&vendor_encoded)),
-        (b"VENDOR_ID", Some(identity.vendor_id)),
-        (b"REVISION", Some(&revision)),
-        (b"TYPE", unless_empty(identity.kind)),
-        (b"INSTANCE", unless_empty(identity.instance.as_slice())),
+    let kind = Vec::from_slice(alloc, identity.kind)?;
+    let instance = Vec::from_slice(alloc, identity.instance.as_slice())?;
+    let rows: [Row; 11] = [
+        (b"MODEL", always(model)),
+        (b"MODEL_ENC", always(model_encoded)),
+        (b"MODEL_ID", always(model_id)),
+        (b"SERIAL", always(full)),
+        (b"SERIAL_SHORT", unless_empty(serial)),
+        (b"VENDOR", always(vendor)),
+        (b"VENDOR_ENC", always(vendor_encoded)),
+        (b"VENDOR_ID", always(vendor_id)),
+        (b"REVISION", always(revision)),
+        (b"TYPE", unless_empty(kind)),
+        (b"INSTANCE", unless_empty(instance)),
     ];
     set_rows(alloc, prefix, &rows, properties)
 }
 
-/// The interfaces of a USB device.
-fn interfaces_text(
+/// The interfaces of a USB device whose file of descriptors the block may tell.
+fn interfaces_of(
     alloc: Global,
     event: &Event<'_>,
     device: &Device<'_>,
@@ -102,23 +127,18 @@ fn interfaces_text(
     }
 }
 
-/// Sets what stands only behind `ID_USB_`.
-fn set_own(
+/// The same where there is a USB device, and nothing where there is none.
+fn interfaces_text(
     alloc: Global,
     event: &Event<'_>,
-    interface: Option<&Device<'_>>,
-    device: &Device<'_>,
-    properties: &mut Vec<(Bytes, Bytes)>,
-) -> Result<(), AllocError>
-    ensures { OnOk result (properties.new.items ≡ properties.old.items ++ named (codes "ID_USB_") (own_rows event.now (option_copied interface.entry) (Some device.now))) }
+    device: Option<&Device<'_>>,
+) -> Result<Vec<u8>, AllocError>
+    ensures { IfOk result (λ text. text.items ≡ interfaces_text event.now (option_copied device.entry)) }
 {
-    let interfaces = interfaces_text(alloc, event, device)?;
-    let rows: [Row<'_>; 3] = [
-        (b"INTERFACES", unless_empty(&interfaces)),
-        (b"INTERFACE_NUM", number_of(interface)),
-        (b"DRIVER", driver_of(interface)),
-    ];
-    set_rows(alloc, b"ID_USB_", &rows, properties)
+    match device {
+        Some(device) => interfaces_of(alloc, event, device),
+        None => Ok(Vec::new(alloc)),
+    }
 }
 
 /// The number of an interface, as it is told.
@@ -133,6 +153,42 @@ fn driver_of<'a>(interface: Option<&Device<'a>>) -> Option<&'a [u8]>
     ensures { option_map (λ t. t.now) result ≡ option_and_then driver_text (option_copied interface.entry) }
 {
     interface?.driver()
+}
+
+/// Sets what stands only behind `ID_USB_`.
+#[tactic(auto, unfolding(crate::specs::UsbId::rows_apart))]
+fn set_apart(
+    alloc: Global,
+    interfaces: Vec<u8>,
+    number: Option<Bytes>,
+    driver: Option<Bytes>,
+    properties: &mut Vec<(Bytes, Bytes)>,
+) -> Result<(), AllocError>
+    ensures { OnOk result (properties.new.items ≡ properties.old.items ++ named (codes "ID_USB_") (rows_apart interfaces.items number driver)) }
+{
+    let rows: [Row; 3] = [
+        (b"INTERFACES", unless_empty(interfaces)),
+        (b"INTERFACE_NUM", number),
+        (b"DRIVER", driver),
+    ];
+    set_rows(alloc, b"ID_USB_", &rows, properties)
+}
+
+/// Sets the interfaces, and the number and the driver of the interface.
+fn set_own(
+    alloc: Global,
+    event: &Event<'_>,
+    interface: Option<&Device<'_>>,
+    device: Option<&Device<'_>>,
+    properties: &mut Vec<(Bytes, Bytes)>,
+) -> Result<(), AllocError>
+    ensures { OnOk result (properties.new.items ≡ properties.old.items ++ named (codes "ID_USB_") (own_rows event.now (option_copied interface.entry) (option_copied device.entry))) }
+{
+    let interfaces = interfaces_text(alloc, event, device)?;
+    let number = copy_of(alloc, number_of(interface))?;
+    let driver = copy_of(alloc, driver_of(interface))?;
+    set_apart(alloc, interfaces, number, driver, properties)?;
+    Ok(())
 }
 
 /// Sets the bus and what is told behind `ID_`, unless a bus was told before.
@@ -152,15 +208,16 @@ fn set_bus(
 }
 
 /// The properties of a device that is known. The error comes where memory is refused.
+#[tactic(auto, unfolding(crate::specs::UsbId::properties))]
 pub(crate) fn properties_of(
     alloc: Global,
     event: &Event<'_>,
     interface: Option<&Device<'_>>,
-    device: &Device<'_>,
+    device: Option<&Device<'_>>,
     identity: &Identity<'_>,
     is_bus_set: bool,
 ) -> Result<Vec<(Bytes, Bytes)>, AllocError>
-    ensures { IfOk result (λ set. set.items ≡ properties event.now (option_copied interface.entry) (Some device.now) identity.now is_bus_set) }
+    ensures { IfOk result (λ set. set.items ≡ properties event.now (option_copied interface.entry) (option_copied device.entry) identity.now is_bus_set) }
 {
     let mut properties = Vec::new(alloc);
     set_bus(alloc, identity, is_bus_set, &mut properties)?;

@@ -1,6 +1,6 @@
 //! Which devices usb_id tells of.
 ghost use Rattle.std.specs.Prelude.{◌≡◌, IfOk, option_copied};
-ghost use Rattle.builtin_usb.specs.Subjects.{device_above, device_of, interface_of, is_usb_device, unit_above, unit_of};
+ghost use Rattle.builtin_usb.specs.Subjects.{device_above, device_of, interface_above, interface_of, is_usb_device, unit_above, unit_of};
 
 use crate::kinds::{class_of, takes_scsi};
 use builtin_devices::{Devices, is_text, type_of};
@@ -14,18 +14,28 @@ pub(crate) fn is_usb_device(device: &Device<'_>) -> bool
     is_text(b"usb_device", type_of(device))
 }
 
-/// The interface above an event device that is no USB device itself.
+/// The nearest interface above the event device.
+fn interface_above<'d, 'a>(
+    alloc: Global,
+    devices: &'d Devices<'a>,
+) -> Result<Option<&'d Device<'a>>, AllocError>
+    ensures { IfOk result (λ interface. option_copied interface ≡ interface_above devices.now) }
+{
+    let path = devices.event().device().path();
+    devices.above(alloc, b"usb", Some(b"usb_interface"), path)
+}
+
+/// The interface of an event device that is no USB device itself.
 pub(crate) fn interface_of<'d, 'a>(
     alloc: Global,
     devices: &'d Devices<'a>,
 ) -> Result<Option<&'d Device<'a>>, AllocError>
     ensures { IfOk result (λ interface. option_copied interface ≡ interface_of devices.now) }
 {
-    let device = devices.event().device();
-    if is_usb_device(device) {
+    if is_usb_device(devices.event().device()) {
         return Ok(None);
     }
-    devices.above(alloc, b"usb", Some(b"usb_interface"), device.path())
+    interface_above(alloc, devices)
 }
 
 /// The USB device of an interface.

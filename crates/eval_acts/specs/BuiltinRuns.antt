@@ -1,8 +1,8 @@
 -- What the builtins of udev that look at the devices of an event come to. Each comes to the scene after it, and whether it was done.
-use Rattle.std.specs.Prelude.{ℕ, ◌+◌, nat_le, Bool, false, List, [], ◌∷◌, ◌++◌, length, Option, Some, None, codes, if◌then◌else◌}
+use Rattle.std.specs.Prelude.{ℕ, ◌+◌, nat_le, Bool, false, List, [], ◌∷◌, ◌++◌, length, Option, Some, None, is_some, codes, if◌then◌else◌}
 use Rattle.std.specs.List.{sum_by}
 use Rattle.text_tables.specs.Texts.{Text}
-use Rattle.text_tables.specs.Pairs.{Pair, named}
+use Rattle.text_tables.specs.Pairs.{Pair, value_of}
 use Rattle.hwdb_lookup.specs.Query.{query}
 use Rattle.hwdb_lookup.specs.declared.entry.Entry.{Entry}
 use Rattle.rule_parts.specs.Builtins.{builtin_name}
@@ -57,7 +57,7 @@ path_id_ran after = (record after.0 { ran = record after.0.ran { path_id = Some 
 -- usb_id, by whether it has run before: then it does nothing, and was done where it was the first time
 abbrev pub usb_id_run : (ran : Option Bool) → Rule → Scene → Scene × Bool
 usb_id_run (Some done) r s = (s, done)
-usb_id_run None r s = usb_id_ran (outcome_taken r (builtin_name UsbId) (usb_id s.state.event (named s.state.env (codes "ID_BUS"))) s)
+usb_id_run None r s = usb_id_ran (outcome_taken r (builtin_name UsbId) (usb_id s.state.event (is_some (value_of s.state.env (codes "ID_BUS")))) s)
 
 -- path_id, by whether it has run before
 abbrev pub path_id_run : (ran : Option Bool) → Rule → Scene → Scene × Bool

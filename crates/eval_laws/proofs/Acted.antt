@@ -8,7 +8,6 @@ use Rattle.text_bytes.specs.Texts.{begins_with}
 use Rattle.text_bytes.specs.declared.profile.Profile.{Profile}
 use Rattle.text_bytes.specs.declared.profile.Profile.TheVariants.{Manual, Udev}
 use Rattle.text_tables.specs.Texts.{Text, same_text}
-use Rattle.text_tables.specs.Pairs as pairs
 use Rattle.text_tables.specs.Pairs.{Pair, value_of}
 use Rattle.text_core.specs.Choices.{choice_fits}
 use Rattle.text_core.specs.Fnmatch.{fnmatch_items}
@@ -207,7 +206,7 @@ module _ (event : EventValue) where
     unfolding scene_weight
     usb_within (Some done) light = stays
     usb_within None light =
-        let after = taken_within (builtin_name UsbId) (usb_id s.state.event (pairs.named s.state.env (codes "ID_BUS"))) light in
+        let after = taken_within (builtin_name UsbId) (usb_id s.state.event (is_some (value_of s.state.env (codes "ID_BUS")))) light in
         record { same = after.same; light = after.light }
 
     path_within : (ran : Option Bool) → most_set + (length r.file + 56) ≤ most → Within event (n + most) (path_id_run ran r s).0

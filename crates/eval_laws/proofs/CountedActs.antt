@@ -5,7 +5,6 @@ use Rattle.text_bytes.specs.Texts.{begins_with}
 use Rattle.text_bytes.specs.declared.profile.Profile.{Profile}
 use Rattle.text_bytes.specs.declared.profile.Profile.TheVariants.{Manual, Udev}
 use Rattle.text_tables.specs.Texts.{Text}
-use Rattle.text_tables.specs.Pairs as pairs
 use Rattle.text_tables.specs.Pairs.{value_of}
 use Rattle.text_core.specs.Fnmatch.{fnmatch_items}
 use Rattle.text_core.specs.declared.item.Item.{Item}
@@ -75,7 +74,7 @@ module _ (w : Note → ℕ) (v : RunValue → ℕ) (c : Rule → ℕ) (light : (
 
   usb_counts : (r : Rule) (ran : Option Bool) (s : Scene) → counted (usb_id_run ran r s).0 ≤ counted s + c r
   usb_counts r (Some done) s = omega arith
-  usb_counts r None s = outcome_counts r (builtin_name UsbId) (usb_id s.state.event (pairs.named s.state.env (codes "ID_BUS"))) s
+  usb_counts r None s = outcome_counts r (builtin_name UsbId) (usb_id s.state.event (is_some (value_of s.state.env (codes "ID_BUS")))) s
 
   path_counts : (r : Rule) (ran : Option Bool) (s : Scene) → counted (path_id_run ran r s).0 ≤ counted s + c r
   path_counts r (Some done) s = omega arith

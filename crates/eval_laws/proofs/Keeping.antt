@@ -6,7 +6,6 @@ use Rattle.text_bytes.specs.Texts.{begins_with}
 use Rattle.text_bytes.specs.declared.profile.Profile.{Profile}
 use Rattle.text_bytes.specs.declared.profile.Profile.TheVariants.{Manual, Udev}
 use Rattle.text_tables.specs.Texts.{Text}
-use Rattle.text_tables.specs.Pairs as pairs
 use Rattle.text_tables.specs.Pairs.{value_of}
 use Rattle.text_core.specs.Fnmatch.{fnmatch_items}
 use Rattle.text_core.specs.declared.item.Item.{Item}
@@ -132,7 +131,7 @@ outcome_same r name o s = by (nat_le (properties_size o.properties) most_set)
     by false = refl
 
 usb_same : (ran : Option Bool) (r : Rule) (s : Scene) → Same s (usb_id_run ran r s).0
-usb_same None r s = through s _ _ (outcome_same r (builtin_name UsbId) (usb_id s.state.event (pairs.named s.state.env (codes "ID_BUS"))) s) refl
+usb_same None r s = through s _ _ (outcome_same r (builtin_name UsbId) (usb_id s.state.event (is_some (value_of s.state.env (codes "ID_BUS")))) s) refl
 usb_same (Some done) r s = refl
 
 path_same : (ran : Option Bool) (r : Rule) (s : Scene) → Same s (path_id_run ran r s).0

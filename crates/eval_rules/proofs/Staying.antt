@@ -1,5 +1,5 @@
 -- What an event says of itself stays, whatever rules do.
-use Rattle.std.proofs.Common.{◌==◌, ◌||◌, ℕ, Bool, true, false, cond, List, [], ◌∷◌, Option, Some, None, is_some, refl, nat_le, ◌∙◌}
+use Rattle.std.proofs.Common.{◌==◌, ◌||◌, ℕ, Bool, true, false, cond, List, [], ◌∷◌, Option, Some, None, is_some, refl, nat_le, codes, ◌∙◌}
 use Rattle.std.specs.List.{fold}
 use Rattle.text_bytes.specs.Names.{slash}
 use Rattle.text_bytes.specs.Texts.{begins_with}
@@ -26,7 +26,12 @@ use Rattle.rule_types.specs.Rules.{Rule}
 use Rattle.eval_rendering.specs.declared.rendered.Rendered.{Rendered}
 use Rattle.eval_rendering.specs.declared.rendered.Rendered.TheVariants as rendered
 use Rattle.builtin_devices.specs.Outcomes.{OutcomeValue}
-use Rattle.builtin_net.specs.NetId.{lookup}
+use Rattle.builtin_input.specs.Input.{input_id}
+use Rattle.builtin_net.specs.NetId.{lookup, net_id}
+use Rattle.builtin_path.specs.Path.{path_id}
+use Rattle.builtin_usb.specs.UsbId.{usb_id}
+use Rattle.rule_parts.specs.Builtins.{builtin_name}
+use Rattle.rule_parts.specs.declared.builtins.Builtin.TheVariants.{InputId, NetId, PathId, UsbId}
 use Rattle.eval_acts.specs.declared.builtin.Builtin.{Builtin}
 use Rattle.eval_acts.specs.declared.builtin.Builtin.TheVariants as builtin
 use Rattle.eval_matching.specs.Attributes.{is_not_read}
@@ -86,11 +91,11 @@ outcome_stays r name o s =
     either s (nat_le (properties_size o.properties) most_set) (need_noted r name o.needs set, o.is_done) (noted r TextTooLong name s, false) (need_stays r name o.needs set) refl
 
 usb_stays : (ran : Option Bool) (r : Rule) (s : Scene) → Stays s (usb_id_run ran r s).0
-usb_stays None r s = outcome_stays r _ _ s
+usb_stays None r s = outcome_stays r (builtin_name UsbId) (usb_id s.state.event (is_some (value_of s.state.env (codes "ID_BUS")))) s
 usb_stays (Some done) r s = refl
 
 path_stays : (ran : Option Bool) (r : Rule) (s : Scene) → Stays s (path_id_run ran r s).0
-path_stays None r s = outcome_stays r _ _ s
+path_stays None r s = outcome_stays r (builtin_name PathId) (path_id s.state.event) s
 path_stays (Some done) r s = refl
 
 looked_up_stays : (es : List Entry) (text : Option Text) (s : Scene) → Stays s (looked_up es text s)
@@ -99,8 +104,10 @@ looked_up_stays es (Some text) s = refl
 
 builtin_stays : (es : List Entry) (r : Rule) (t : Text) (b : Builtin) (s : Scene) → Stays s (builtin_run es r t b s).0
 builtin_stays es r t (builtin.Hwdb h) s = refl
-builtin_stays es r t builtin.InputId s = outcome_stays r _ _ s
-builtin_stays es r t builtin.NetId s = looked_up_stays es (lookup s.state.event s.state.env) s ∙ outcome_stays r _ _ (looked_up es (lookup s.state.event s.state.env) s)
+builtin_stays es r t builtin.InputId s = outcome_stays r (builtin_name InputId) (input_id s.state.event) s
+builtin_stays es r t builtin.NetId s =
+    let found : Scene = looked_up es (lookup s.state.event s.state.env) s in
+    outcome_stays r (builtin_name NetId) (net_id s.state.event s.state.env) found ∙ looked_up_stays es (lookup s.state.event s.state.env) s
 builtin_stays es r t builtin.PathId s = path_stays s.ran.path_id r s
 builtin_stays es r t builtin.UsbId s = usb_stays s.ran.usb_id r s
 builtin_stays es r t (builtin.Other name) s = refl

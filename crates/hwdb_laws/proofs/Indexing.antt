@@ -1,9 +1,9 @@
 -- The index of files that are not too many.
-use Rattle.std.proofs.Common.{◌≡◌, ℕ, ◌≤◌, List, length, arith}
+use Rattle.std.proofs.Common.{◌≡◌, ℕ, ◌≤◌, List, None, length, arith}
 use Rattle.std.specs.List.Sorted.{IsPermutation}
 use Rattle.text_bytes.specs.declared.SourceFile.{SourceFile}
 use Rattle.hwdb_core.specs.Sources.{WithinBounds, entries_of}
-use Rattle.hwdb_core.proofs.Orders.{rising_entries}
+use Rattle.hwdb_core.proofs.Orders.{rising_counting}
 use Rattle.hwdb_lookup.specs.Orders.{Rising}
 use Rattle.hwdb_lookup.specs.Query.{query, sourced}
 use Rattle.hwdb_lookup.specs.declared.entry.Entry.{Entry}
@@ -27,7 +27,7 @@ module _ (files : List SourceFile) (within : WithinBounds files) where
   told = listed (contents (image es)).nodes (contents (image es)).values
 
   rising : Rising es
-  rising = rising_entries files
+  rising = rising_counting None files
 
   bounds : KeepsBounds es
   bounds = never_too_large files within

@@ -1,8 +1,7 @@
 -- A token of a rule as it is compared with the others of its rule.
-use Rattle.std.specs.Prelude.{ℕ, ℤ, ◌-◌, Bool, true, false, not, ◌&&◌, if◌then◌else◌, List, length, Option, Some, None, option_map}
+use Rattle.std.specs.Prelude.{ℕ, ℤ, ◌-◌, Bool, true, false, not, ◌&&◌, if◌then◌else◌, List, [], ◌∷◌, length, Option, Some, None, option_map}
 use Rattle.std.specs.List.{slice_get}
-use Rattle.text_bytes.specs.Names.{bar, is_whitespace}
-use Rattle.text_bytes.specs.Texts.{split_once}
+use Rattle.text_bytes.specs.Names.{is_whitespace}
 use Rattle.rule_tokens.specs.Grammar.{Placed, compares}
 use Rattle.rule_tokens.specs.declared.kinds.Operator.{Operator}
 use Rattle.rule_tokens.specs.declared.kinds.Operator.TheVariants as op
@@ -69,18 +68,14 @@ is_dark (Some b) = not (is_whitespace b)
 abbrev pub ends_dark : List ℕ → Bool
 ends_dark text = is_dark (slice_get text (length text - 1))
 
--- the part of a text before a bar, or the whole where it has none
-abbrev pub front_or : List ℕ → Option (List ℕ × List ℕ) → List ℕ
-front_or text None = text
-front_or text (Some cut) = cut.0
+-- whether there is a first word, and it ends in a byte that is no white space
+abbrev pub first_ends_dark : List (List ℕ) → Bool
+first_ends_dark [] = false
+first_ends_dark (word ∷ words) = ends_dark word
 
--- the first of the parts of a text that stand between bars
-abbrev pub first_part : List ℕ → List ℕ
-first_part text = front_or text (split_once bar text)
-
--- whether a token trims what it compares: it asks for an attribute, and the first part of its value is not empty and has no white space at its end
-abbrev pub trims : Key → Operator → List ℕ → Bool
-trims k o text = is_attribute k && (compares o && ends_dark (first_part text))
+-- whether a token with these words trims what it compares: it asks for an attribute, and its first word has no white space at its end
+abbrev pub trims : Key → Operator → List (List ℕ) → Bool
+trims k o words = is_attribute k && (compares o && first_ends_dark words)
 
 -- a token of a key by its matter, the operator as it is read, its value, and whether case is ignored
 abbrev pub said_by : Key → Operator → List ℕ → Bool → Matter → Said
@@ -93,7 +88,7 @@ said_by k o text blind matter = record {
   form = form_of k o text;
   words = words_of (is_choice k o) matter.text;
   blind = blind;
-  trims = trims k o text;
+  trims = trims k o (words_of (is_choice k o) matter.text);
 }
 
 -- a token with a key, if it is compared with others

@@ -11,6 +11,8 @@ pub fn some_matches()
     ensures blank { told (asks_of (codes "ATTR") (codes "a") (codes "1 ") ∷ asks_of (codes "ATTR") (codes "a") (codes "2 ") ∷ []) ≡ record { kind = Against; token = 1 } ∷ [] }
     ensures blank_first { told (asks_of (codes "ATTR") (codes "a") (codes "x |1") ∷ asks_of (codes "ATTR") (codes "a") (codes "y |2") ∷ []) ≡ record { kind = Against; token = 1 } ∷ [] }
     ensures blank_last { told (asks_of (codes "ATTR") (codes "a") (codes "x|1 ") ∷ asks_of (codes "ATTR") (codes "a") (codes "y|2 ") ∷ []) ≡ [] }
+    ensures bar_first { told (asks_of (codes "ATTR") (codes "a") (codes "|1") ∷ asks_of (codes "ATTR") (codes "a") (codes "1|") ∷ []) ≡ record { kind = Same; token = 1 } ∷ [] }
+    ensures bars_first { told (asks_of (codes "ATTR") (codes "a") (codes "|1|2 ") ∷ asks_of (codes "ATTR") (codes "a") (codes "|2 |1") ∷ []) ≡ [] }
     ensures unequal { told (asks_of (codes "ATTR") (codes "a") (codes "1") ∷ asks_not_of (codes "ATTR") (codes "a") (codes "1") ∷ []) ≡ record { kind = Against; token = 1 } ∷ [] }
     ensures turned { told (asks (codes "KERNEL") (codes "") ∷ asks (codes "KERNEL") (codes "?*") ∷ []) ≡ record { kind = Against; token = 1 } ∷ [] }
     ensures order { told (asks (codes "KERNEL") (codes "a|b") ∷ asks (codes "KERNEL") (codes "b|a") ∷ []) ≡ record { kind = Same; token = 1 } ∷ [] }

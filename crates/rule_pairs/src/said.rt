@@ -1,6 +1,6 @@
 //! A token of a rule as it is compared with the others of its rule.
-ghost use Rattle.std.specs.Prelude.{◌≡◌, IfOk};
-ghost use Rattle.rule_pairs.specs.Said.{as_assign, as_equal, ends_dark, first_part, is_attribute, operator_of, said_by, said_of, said_with, trims, turned, turned_by};
+ghost use Rattle.std.specs.Prelude.{◌≡◌, IfOk, map};
+ghost use Rattle.rule_pairs.specs.Said.{as_assign, as_equal, ends_dark, first_ends_dark, is_attribute, operator_of, said_by, said_of, said_with, trims, turned, turned_by};
 
 use crate::accounts::Accounts;
 use crate::form::{Form, form_of, is_choice, is_something};
@@ -10,7 +10,7 @@ use rule_tokens::{Quote, Token, unquote};
 use rule_types::{Key, Operator, key_of, read_as};
 use std::alloc::{AllocError, Global};
 use std::marker::Model;
-use text_bytes::{Bytes, is_whitespace, split_once};
+use text_bytes::{Bytes, is_whitespace};
 use text_tables::OwnedTexts;
 
 /// A token as it is compared with others.
@@ -101,6 +101,8 @@ fn said_by(
 ) -> Result<Said, AllocError>
     ensures { IfOk result (λ said. said ≡ said_by key operator text.now blind matter.now) }
 {
+    let words = words_of(alloc, is_choice(key, operator), matter.text)?;
+    let trims = trims(key, operator, &words);
     Ok(Said {
         key: key.name(),
         kind: matter.kind,
@@ -108,9 +110,9 @@ fn said_by(
         number: matter.number,
         operator: turned_by(text, operator),
         form: form_of(key, operator, text),
-        words: words_of(alloc, is_choice(key, operator), matter.text)?,
+        words,
         blind,
-        trims: trims(key, operator, text),
+        trims,
     })
 }
 
@@ -168,20 +170,20 @@ fn turned(operator: Operator) -> Operator
     }
 }
 
-/// Whether a token trims what it compares.
-fn trims(key: Key, operator: Operator, text: &[u8]) -> bool
-    ensures { result ≡ trims key operator text.now }
+/// Whether a token with these words trims what it compares.
+fn trims(key: Key, operator: Operator, words: &OwnedTexts) -> bool
+    ensures { result ≡ trims key operator words.now }
 {
-    is_attribute(key) && operator.compares() && ends_dark(first_part(text))
+    is_attribute(key) && operator.compares() && first_ends_dark(words.as_slice())
 }
 
-/// The first of the parts of a text that stand between bars.
-fn first_part(text: &[u8]) -> &[u8]
-    ensures { result.now ≡ first_part text.now }
+/// Whether there is a first word, and it ends in a byte that is no white space.
+fn first_ends_dark(words: &[Vec<u8>]) -> bool
+    ensures { result ≡ first_ends_dark (map (λ word. word.items) words.now) }
 {
-    match split_once(b'|', text) {
-        Some((front, _)) => front,
-        None => text,
+    match words.first() {
+        None => false,
+        Some(word) => ends_dark(word),
     }
 }
 

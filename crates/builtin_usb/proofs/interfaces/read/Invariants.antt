@@ -1,4 +1,4 @@
-use Rattle.std.proofs.Common.{◌≡◌, ◌≤◌, ◌++◌, ◌-◌, length}
+use Rattle.std.proofs.Common.{◌≡◌, ◌++◌, length}
 use Rattle.std.specs.List.{filter_map}
 use Rattle.builtin_usb.specs.Interfaces.{descriptors, interface_of}
 use Rattle.builtin_usb.proofs.interfaces.read.Given as goal

@@ -17,9 +17,9 @@ fn known<'a>(
     alloc: Global,
     interface: Option<&Device<'_>>,
     device: Option<&Device<'a>>,
-    texts: Unit<'a>,
+    texts: &Unit<'a>,
 ) -> Result<Option<Identity<'a>>, AllocError>
-    ensures { IfOk result (λ identity. identity ≡ known (option_copied interface.entry) (option_copied device.entry) texts.entry) }
+    ensures { IfOk result (λ identity. identity ≡ known (option_copied interface.entry) (option_copied device.entry) texts.now) }
 {
     let Some(device) = device else {
         return Ok(None);
@@ -43,11 +43,11 @@ pub fn usb_id(alloc: Global, event: &Event<'_>, is_bus_set: bool) -> Result<Outc
     let unit = unit_of(alloc, &devices, interface, device)?;
     let texts = unit_texts(alloc, unit)?;
     let needs = needs_by(alloc, &devices, interface, device, unit, &texts)?;
-    match (device, known(alloc, interface, device, texts)?) {
-        (Some(device), Some(identity)) => {
+    match known(alloc, interface, device, &texts)? {
+        Some(identity) => {
             let properties = properties_of(alloc, event, interface, device, &identity, is_bus_set)?;
             Ok(Outcome::succeeding(properties, needs))
         }
-        _ => Ok(Outcome::failing(alloc, needs)),
+        None => Ok(Outcome::failing(alloc, needs)),
     }
 }

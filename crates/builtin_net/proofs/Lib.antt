@@ -1,0 +1,7 @@
+mod Utf8
+mod Seen
+mod LentFiles
+mod Bounds
+mod ShortNames
+mod Standing
+mod Fields

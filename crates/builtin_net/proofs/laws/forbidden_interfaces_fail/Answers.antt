@@ -1,0 +1,5 @@
+use Rattle.builtin_net.proofs.Standing.{forbidden}
+use Rattle.builtin_net.proofs.laws.forbidden_interfaces_fail.Goals as goal
+
+pub returns : goal.returns
+returns c = forbidden

@@ -1,0 +1,5 @@
+use Rattle.builtin_net.proofs.Standing.{stacked}
+use Rattle.builtin_net.proofs.laws.stacked_interfaces_have_no_names.Goals as goal
+
+pub returns : goal.returns
+returns c = stacked

@@ -1,0 +1,10 @@
+#!/usr/bin/env bash
+# The lines that docs/architecture.md counts of what a reader has to believe are those of the files, and no file is left out.
+set -uo pipefail
+# shellcheck source=lib.sh
+. "$(dirname "$0")/lib.sh"
+if has python3; then
+    goes_well "docs/architecture.md counts what is to be believed" python3 "$top/bench/believe.py"
+else
+    skipped "what docs/architecture.md counts" "there is no python3"
+fi

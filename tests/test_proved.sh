@@ -1,0 +1,10 @@
+#!/usr/bin/env bash
+# What docs/proved.md and docs/architecture.md name and quote is in the source: functions with their contracts, each law, clauses.
+set -uo pipefail
+# shellcheck source=lib.sh
+. "$(dirname "$0")/lib.sh"
+if has python3; then
+    PYTHONDONTWRITEBYTECODE=1 python3 "$top/tests/proved.py"
+else
+    skipped "what docs/proved.md names" "there is no python3"
+fi

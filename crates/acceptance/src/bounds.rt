@@ -8,7 +8,7 @@ use std::alloc::Global;
 use std::process::Abort;
 use std::test::Fail;
 
-/// Hands an input to a session in pieces of so many bytes, and puts the answers behind a text.
+/// Hands an input to a session in pieces of so many bytes, and puts the answers after a text.
 fn feed_in_pieces(
     alloc: Global,
     session: &mut Session<'_, Tables<PlainDb>>,
@@ -25,7 +25,7 @@ fn feed_in_pieces(
     Ok(())
 }
 
-/// A block with a property `X` of so many letters, and the empty line behind it.
+/// A block with a property `X` of so many letters, and the empty line after it.
 fn whole_block(alloc: Global, letters: usize) -> Result<Vec<u8>, Fail> {
     let mut block = block_with(alloc, b'v', letters)?;
     block.push(b'\n')?;
@@ -142,7 +142,7 @@ fn chain_of(alloc: Global, count: usize) -> Result<Vec<u8>, Fail> {
     Ok(block)
 }
 
-/// Asserts how much a chain of so many devices is answered, what is told of it, and the status.
+/// Asserts how much a chain of so many devices is answered, what is reported it, and the status.
 fn assert_chain(
     rt: &(impl Abort + AllocGlobal),
     count: usize,

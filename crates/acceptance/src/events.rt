@@ -279,7 +279,7 @@ fn answers_are_written_whole(rt: HostRuntime) -> Result<(), Fail> {
     Ok(())
 }
 
-/// A file of rules whose assignment of links is final, and one behind it that adds a link.
+/// A file of rules whose assignment of links is final, and one after it that adds a link.
 const FINAL_LINKS: [Given<'static>; 2] = [
     (FileKind::Rules, 0, "10-a.rules", "SYMLINK:=\"a\"\n"),
     (FileKind::Rules, 0, "20-b.rules", "SYMLINK+=\"b\"\n"),

@@ -169,7 +169,7 @@ fn what_is_no_index_is_refused(rt: HostRuntime) -> Result<(), Fail> {
 fn values_out_of_order_are_refused(rt: HostRuntime) -> Result<(), Fail> {
     let given = [(FileKind::Hwdb, 1, "t.hwdb", "a*\n K=V\n L=W\n")];
     let two = index_of(rt.alloc(), &given)?;
-    // The order of the second value, behind the header, three nodes, the first value and four numbers.
+    // The order of the second value, after the header, three nodes, the first value and four numbers.
     assert_change_refused(
         &rt,
         &two,
@@ -214,7 +214,7 @@ fn an_index_answers_as_its_files(rt: HostRuntime) -> Result<(), Fail> {
 fn events_are_answered_from_an_index(rt: HostRuntime) -> Result<(), Fail> {
     let text = "usb:v1D6B*\n ID_VENDOR=Linux\n";
     let index = index_of(rt.alloc(), &[(FileKind::Hwdb, 1, "u.hwdb", text)])?;
-    // A database beside the index is not read: its mistake is not told.
+    // A database beside the index is not read: its mistake is not reported.
     let given = [
         (FileKind::Rules, 0, "r.rules", ASKS),
         (FileKind::Hwdb, 0, "bad.hwdb", " A=1\n"),
@@ -239,7 +239,7 @@ fn visits(alloc: Global, bytes: &[u8], modalias: &[u8]) -> Result<(Vec<u32>, u12
 
 /// Asserts how many nodes an index has.
 fn assert_nodes(rt: &impl Abort, index: &[u8], count: u32) {
-    // The number of nodes stands behind the header's mark and version.
+    // The number of nodes follows the header's mark and version.
     assert!(rt; index.get(12..16) == Some(count.to_le_bytes().as_slice()));
 }
 

@@ -18,7 +18,7 @@ const RULE: &str = "SUBSYSTEM==\"block\", KERNEL==\"sd[a-z]\", SYMLINK+=\"disk/%
 /// A disk.
 const DISK: &[u8] = b"C: add\nP: /devices/pci0/block/sda\nU: block\nN: sda\nD: 8:0\n";
 
-/// The same, with the empty line behind its block.
+/// The same, with the empty line after its block.
 const BLOCK: &[u8] = b"C: add\nP: /devices/pci0/block/sda\nU: block\nN: sda\nD: 8:0\n\n";
 
 /// The answer to it.
@@ -167,7 +167,7 @@ fn each_block_is_answered(alloc: Global, tables: &Tables<PlainDb>) -> Result<boo
     Ok(answered)
 }
 
-/// Whether a block without the empty line behind it is answered at the end, and not before.
+/// Whether a block without the empty line after it is answered at the end, and not before.
 fn the_last_block_is_answered(alloc: Global, tables: &Tables<PlainDb>) -> Result<bool, Fail> {
     let mut session = Session::new(alloc, tables)?;
     let answered = takes(alloc, &mut session, DISK, 57, None)
@@ -184,7 +184,7 @@ fn is_stopped(alloc: Global, session: &mut Session<'_, Tables<PlainDb>>, piece: 
     }
 }
 
-/// Whether the block before a faulty one is answered, and the one behind it is not.
+/// Whether the block before a faulty one is answered, and the one after it is not.
 fn a_faulty_block_is_the_last(alloc: Global, tables: &Tables<PlainDb>) -> Result<bool, Fail> {
     let mut session = Session::new(alloc, tables)?;
     let (_, behind) = FAULTY.split_at(58);
@@ -195,7 +195,7 @@ fn a_faulty_block_is_the_last(alloc: Global, tables: &Tables<PlainDb>) -> Result
     Ok(ended)
 }
 
-/// Whether sessions answer a block where it is whole, and nothing behind a faulty one.
+/// Whether sessions answer a block where it is whole, and nothing after a faulty one.
 fn sessions_answer(alloc: Global, tables: &Tables<PlainDb>) -> Result<bool, Fail> {
     Ok(
         each_block_is_answered(alloc, tables)?

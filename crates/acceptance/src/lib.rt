@@ -1,7 +1,9 @@
-//! Worked runs of the whole program, over devices in memory.
+//! Whole runs of the program on worked examples, over devices in memory.
 //!
-//! They show what no contract says: that a run with ample memory does succeed, and that the
-//! definitions mean what their readers take them to mean. Expected texts are written by hand.
+//! They show what no contract states: that a run with ample memory succeeds, and that the definitions mean what their
+//! readers think they mean. The expected texts were written by hand.
+//!
+//! Functions that allocate return `AllocError` when memory runs out.
 #![tactic(auto)]
 
 #[cfg(test)]

@@ -1,6 +1,6 @@
 //! Runs over devices in memory.
 //!
-//! What owns the devices and what they took stands here alone: a test that owns none of them, and only
+//! What owns the devices and what they took is here alone: a test that owns none of them, and only
 //! says what is to come of a run, is quick to check.
 use engine_core::{Format, Line, MemorySink, MemorySource, Verb, serve};
 use std::alloc::{AllocError, Global};

@@ -20,7 +20,7 @@ pub(crate) fn tables_of(alloc: Global, given: &[Given<'_>]) -> Result<Tables<Pla
     }
 }
 
-/// Hands a piece to a session, call by call, and puts the answers behind a text.
+/// Hands a piece to a session, call by call, and puts the answers after a text.
 ///
 /// A call that says it used more than it was given ends here too.
 pub(crate) fn take_all(

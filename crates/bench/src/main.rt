@@ -1,9 +1,12 @@
-//! Evaluates event blocks by rules as they are read or by their program, and prints what the events come to together.
+//! Evaluates event blocks by rules as they were read or by their compiled program, and prints the total effect of the
+//! events.
 //!
-//! The first line of the input says how: `plain`, by the rules as they are read, or `compiled`, by their program. The
-//! second says how often each block that was read is evaluated, in decimal digits, so that evaluations can be timed
-//! alone. The rest are parts with the byte 0x1E between them: a part that begins with `C:` is a block, each other one is
-//! a file of rules. `bench/event.sh` runs it, since `devdry` has no way to evaluate by the rules as they are read.
+//! The first line of the input selects how: `plain`, by the rules as they were read, or `compiled`, by their program.
+//! The second line says how many times each block that was read is evaluated, in decimal, so that evaluation can be
+//! timed alone. The rest are parts separated by the byte 0x1E: a part that begins with `C:` is a block, any other part
+//! is a rules file. `bench/event.sh` runs this program, since `devdry` cannot evaluate rules as they were read.
+//!
+//! Functions that allocate return `AllocError` when memory runs out.
 #![tactic(auto)]
 
 use device_core::{Event, read_block};

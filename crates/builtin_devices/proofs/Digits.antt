@@ -6,7 +6,7 @@ use Rattle.std.specs.List.{list_all}
 use Rattle.text_bytes.specs.Texts.{is_empty}
 use Rattle.builtin_devices.specs.Numbers.{digit_value, digits_in, is_digit_in, number_behind}
 
--- a number with the digits from a place on is that with the digit there, and then those behind it
+-- a number with the digits from a place on is that with the digit there, and then those after it
 pub number_on : (base : ℕ) (text : List ℕ) (i n : ℕ) → i < length text → number_behind base n (drop i text) ≡ number_behind base (base * n + digit_value (get_or text i 0)) (drop (i + 1) text)
 number_on base text i n here = rw (drop-cons text i 0, add-one i) refl
 

@@ -1,4 +1,4 @@
--- The devices of a block, and what stands above one.
+-- The devices of a block, and what is above one.
 use Rattle.std.specs.Prelude.{ℕ, nat_lt, ◌==◌, ◌&&◌, Bool, true, false, List, Option, Some, None, filter_map, length, take, slice_index, reverse, if◌then◌else◌, codes}
 use Rattle.std.specs.List.{find, range_with_len}
 use Rattle.std.specs.Option.{option_or}
@@ -17,7 +17,7 @@ kernel_of device = kernel_name device.path
 abbrev pub is_at : (path : Text) → DeviceValue → Bool
 is_at path device = same_text path device.path
 
--- a device that is not of the chain, and that the block tells of by its path
+-- a device that is not of the chain, and that the block says about by its path
 abbrev pub outside : EventValue → (path : Text) → Option DeviceValue
 outside event path = find (is_at path) (told_devices event)
 

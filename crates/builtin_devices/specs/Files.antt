@@ -1,4 +1,4 @@
--- Files that a block tells of by constants: the name is a path below /sys, and the value what the file says.
+-- Files that a block says about by constants: the name is a path below /sys, and the value what the file says.
 use Rattle.std.specs.Prelude.{◌-◌, ◌&&◌, List, [], Option, Some, None, filter_map, option_map, length, take, drop, nat_eq, if◌then◌else◌, codes}
 use Rattle.std.specs.List.{ends_with, starts_with}
 use Rattle.text_bytes.specs.Names.{slash}
@@ -11,21 +11,21 @@ use Rattle.device_core.specs.Values.{DeviceValue, EventValue, told}
 abbrev pub file_at : EventValue → (path : Text) → Option Text
 file_at event path = value_of event.constants path
 
--- what stands in a path behind that of a folder and a slash
+-- what is in a path after that of a folder and a slash
 unfoldable pub name_below : (folder path : Text) → Option Text
 name_below folder path =
     let behind = drop (length folder) path in
     if starts_with nat_eq path folder && begins_with slash behind then Some (drop 1 behind) else None
 
--- a file below a folder, by what stands behind the folder's path
+-- a file below a folder, by what follows the folder's path
 abbrev pub file_below : (folder : Text) → Pair → Option Pair
 file_below folder file = option_map (λ name. (name, file.1)) (name_below folder file.0)
 
--- the files below a folder, by what stands behind its path, in the order of the block
+-- the files below a folder, by what follows its path, in the order of the block
 abbrev pub files_below : EventValue → (folder : Text) → List Pair
 files_below event folder = filter_map (file_below folder) event.constants
 
--- what stands behind the path of a device in the name of the file that tells of its subsystem
+-- what follows the path of a device in the name of the file that says about its subsystem
 abbrev pub subsystem_file : Text
 subsystem_file = codes "/subsystem"
 
@@ -37,6 +37,6 @@ told_at event path subsystem = told path subsystem (with_values [] (files_below 
 abbrev pub told_by : EventValue → Pair → Option DeviceValue
 told_by event file = if ends_with nat_eq file.0 subsystem_file then Some (told_at event (take (length file.0 - length subsystem_file) file.0) file.1) else None
 
--- the devices that the block tells of by paths, in its order
+-- the devices that the block says about by paths, in its order
 unfoldable pub told_devices : EventValue → List DeviceValue
 told_devices event = filter_map (told_by event) event.constants

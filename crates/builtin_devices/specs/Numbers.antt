@@ -28,7 +28,7 @@ digit_value b =
 abbrev pub is_digit_in : (base : ℕ) → ℕ → Bool
 is_digit_in base b = nat_lt (digit_value b) base
 
--- the number that digits write behind those of n
+-- the number that digits write after those of n
 abbrev pub number_behind : (base n : ℕ) → Text → ℕ
 number_behind base n [] = n
 number_behind base n (b ∷ text) = number_behind base (base * n + digit_value b) text
@@ -78,7 +78,7 @@ size_in base most text = digits_in (written base (unsigned text)).base most (wri
 abbrev pub natural : (is_negative : Bool) → ℕ → Option ℕ
 natural is_negative size = if is_negative && not (size == 0) then None else Some size
 
--- the number that a text is, where it is not below zero and not above `most`: blanks may stand before it, and a sign
+-- the number that a text is, where it is not below zero and not above `most`: blanks may come before it, and a sign
 unfoldable pub number_in : Base → (most : ℕ) → Text → Option ℕ
 number_in base most text =
     let bare = skip_while is_whitespace text in

@@ -1,4 +1,4 @@
-//! The devices of a block, and what stands above one.
+//! The devices of a block, and what is above one.
 ghost use Rattle.std.specs.Prelude.{◌≡◌, ◌<◌, IfOk, length, map, option_copied, option_map};
 ghost use Rattle.std.specs.List.{find};
 ghost use Rattle.device_core.specs.Values.{chain};
@@ -9,7 +9,7 @@ use device_core::{Device, Event};
 use std::alloc::{AllocError, Global};
 use std::marker::Model;
 
-/// An event that is borrowed, with the devices that its block tells of by paths made ready.
+/// An event that is borrowed, with the devices that its block says about by paths made ready.
 #[derive(Drop)]
 pub struct Devices<'a> {
     event: &'a Event<'a>,
@@ -36,7 +36,7 @@ fn find_at<'d, 'a>(devices: &'d [Device<'a>], path: &[u8]) -> Option<&'d Device<
 }
 
 impl<'a> Devices<'a> {
-    /// The devices of an event. The error comes where memory is refused.
+    /// The devices of an event.
     pub fn new(alloc: Global, event: &'a Event<'_>) -> Result<Devices<'a>, AllocError>
         ensures { IfOk result (λ devices. devices ≡ event.now) }
     {
@@ -46,14 +46,14 @@ impl<'a> Devices<'a> {
         })
     }
 
-    /// Lends the event.
+    /// Returns the event.
     pub fn event(&self) -> &'a Event<'a>
         ensures { result.now ≡ self.now }
     {
         self.event
     }
 
-    /// The device with a path: of the chain, or else one that the block tells of by its path.
+    /// The device with a path: of the chain, or else one that the block says about by its path.
     pub fn device_by(&self, path: &[u8]) -> Option<&Device<'a>>
         ensures { option_copied result ≡ device_by self.now path.now }
     {
@@ -80,7 +80,7 @@ impl<'a> Devices<'a> {
         }
     }
 
-    /// The devices above a path, the nearest first. The error comes where memory is refused.
+    /// The devices above a path, the nearest first.
     #[tactic(auto, using(crate::proofs::Places::place_none, crate::proofs::Places::place_some), unfolding(crate::specs::Devices::parents_of))]
     pub fn parents_of(&self, alloc: Global, path: &[u8]) -> Result<Vec<&Device<'a>>, AllocError>
         ensures { IfOk result (λ parents. map (λ device. device.now) parents.items ≡ parents_of self.now path.now) }
@@ -94,8 +94,7 @@ impl<'a> Devices<'a> {
         Ok(parents)
     }
 
-    /// The nearest device above a path that is of a subsystem and, if one is asked for, a type. The error comes where
-    /// memory is refused.
+    /// The nearest device above a path that is of a subsystem and, if one is asked for, a type.
     pub fn above(
         &self,
         alloc: Global,

@@ -1,4 +1,4 @@
-//! Files that a block tells of by constants.
+//! Files that a block says about by constants.
 ghost use Rattle.std.specs.Prelude.{◌≡◌, ◌∷◌, ◌++◌, ◌≤◌, ◌+◌, [], IfOk, OnOk, filter_map, length, map, option_map, nat_eq, drop};
 ghost use Rattle.std.specs.List.{starts_with, ends_with};
 ghost use Rattle.text_bytes.specs.Names.{slash};
@@ -8,10 +8,10 @@ ghost use Rattle.builtin_devices.specs.Files.{file_at, file_below, files_below, 
 use device_core::{Device, Event, Pairs};
 use std::alloc::{AllocError, Global};
 
-/// What stands behind the path of a device in the name of the file that tells of its subsystem.
+/// What follows the path of a device in the name of the file that says about its subsystem.
 const SUBSYSTEM_FILE: &[u8] = b"/subsystem";
 
-/// What the file with a path below `/sys` says, where a constant of the block tells of it; of a link, the path to
+/// What the file with a path below `/sys` says, where a constant of the block says about it; of a link, the path to
 /// which it leads.
 pub fn file_at<'a>(event: &Event<'a>, path: &[u8]) -> Option<&'a [u8]>
     ensures { option_map (λ t. t.now) result ≡ file_at event.now path.now }
@@ -19,7 +19,7 @@ pub fn file_at<'a>(event: &Event<'a>, path: &[u8]) -> Option<&'a [u8]>
     event.constants().get(path)
 }
 
-/// What stands in a path behind that of a folder and a slash.
+/// What is in a path after that of a folder and a slash.
 #[tactic(auto, unfolding(crate::specs::Files::name_below))]
 fn name_below<'a>(folder: &[u8], path: &'a [u8]) -> Option<&'a [u8]>
     ensures { option_map (λ t. t.now) result ≡ name_below folder.now path.now }
@@ -33,8 +33,7 @@ fn name_below<'a>(folder: &[u8], path: &'a [u8]) -> Option<&'a [u8]>
     }
 }
 
-/// The files below a folder, by what stands behind its path, in the order of the block. The error comes where memory
-/// is refused.
+/// The files below a folder, by what follows its path, in the order of the block.
 pub fn files_below<'a>(
     alloc: Global,
     event: &Event<'a>,
@@ -83,7 +82,7 @@ fn told_by<'a>(
     Ok(Some(Device::told(alloc, path, text, attrs)))
 }
 
-/// The devices that a block tells of by paths, in its order.
+/// The devices that a block says about by paths, in its order.
 #[tactic(auto, unfolding(crate::specs::Files::told_devices))]
 pub(crate) fn told_devices<'a>(
     alloc: Global,

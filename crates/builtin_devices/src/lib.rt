@@ -1,4 +1,7 @@
-//! What the builtins usb_id, path_id, input_id and net_id of udev share: the devices and files that a block tells of, numbers, and what a builtin comes to.
+//! What udev's builtins usb_id, path_id, input_id and net_id share: the devices and files that a block describes,
+//! numbers, and the outcome of a builtin.
+//!
+//! Functions that allocate return `AllocError` when memory runs out.
 #![tactic(auto)]
 
 mod devices;

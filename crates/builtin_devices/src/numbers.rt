@@ -17,7 +17,7 @@ pub enum Base {
     AsWritten,
     /// Ten.
     Decimal,
-    /// Sixteen; `0x` may stand before the digits.
+    /// Sixteen; `0x` may come before the digits.
     Hexadecimal,
 }
 
@@ -122,8 +122,8 @@ fn size_in(base: Base, most: u64, text: &[u8]) -> Option<u64>
     digits_in(base, most, digits)
 }
 
-/// The number that a text is, where it is not below zero and not above `most`. Blanks may stand before it, and a sign;
-/// behind its digits nothing may. So udev of systemd 257 reads numbers of sysfs.
+/// The number that a text is, where it is not below zero and not above `most`. Blanks may come before it, and a sign;
+/// after its digits nothing may. So udev of systemd 257 reads numbers of sysfs.
 #[tactic(auto, unfolding(crate::specs::Numbers::number_in))]
 pub fn number_in(base: Base, most: u64, text: &[u8]) -> Option<u64>
     ensures { result ≡ number_in base most text.now }
@@ -161,7 +161,7 @@ pub fn name_number(kernel: &[u8]) -> Option<&[u8]>
 }
 
 /// The bytes that hexadecimal digits write, two for each; `None` where another byte stands among them, or a digit is
-/// alone. The error comes where memory is refused.
+/// alone.
 pub fn bytes_of(alloc: Global, text: &[u8]) -> Result<Option<Vec<u8>>, AllocError>
     ensures { IfOk result (λ bytes. option_map (λ b. b.items) bytes ≡ bytes_of text.now) }
 {

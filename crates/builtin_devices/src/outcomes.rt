@@ -56,14 +56,14 @@ impl Outcome {
         self.is_done
     }
 
-    /// Lends the names and values of the properties, in the order in which they are set.
+    /// Returns the names and values of the properties, in the order in which they are set.
     pub fn properties(&self) -> &[(Bytes, Bytes)]
         ensures { result.now ≡ self.now.properties }
     {
         &self.properties
     }
 
-    /// Lends the names of what the block would have to tell.
+    /// Returns the names of what the block would have to tell.
     pub fn needs(&self) -> &OwnedTexts
         ensures { result.now ≡ self.now.needs }
     {
@@ -71,7 +71,7 @@ impl Outcome {
     }
 }
 
-/// Adds a copy of a name and its value behind the properties so far. The error comes where memory is refused.
+/// Adds a copy of a name and its value after the properties so far.
 pub fn add_property(
     alloc: Global,
     name: &[u8],
@@ -85,8 +85,7 @@ pub fn add_property(
     Ok(properties.push((name, value))?)
 }
 
-/// Adds the word for an attribute to what is needed, where a device lacks it. The error comes where memory is
-/// refused.
+/// Adds the word for an attribute to what is needed, where a device lacks it.
 pub fn need_attribute(
     alloc: Global,
     device: &Device<'_>,

@@ -13,7 +13,7 @@ uncut : (p : ℕ → Bool) (xs : List ℕ) → list_any p xs ≡ false → slice
 uncut p [] h = refl
 uncut p (x ∷ xs) h = let parts = or_parts (p x) (list_any p xs) h in rw (parts.0, uncut p xs parts.1) refl
 
--- more parts behind those of a list change nothing at their front
+-- more parts after those of a list change nothing at their front
 onto-append : (x : ℕ) (p : ℕ → Bool) (xs : List ℕ) (more : List (List ℕ)) → onto_first x (slice_split p xs ++ more) ≡ onto_first x (slice_split p xs) ++ more
 onto-append x p [] more = refl
 onto-append x p (y ∷ ys) more =
@@ -22,7 +22,7 @@ onto-append x p (y ∷ ys) more =
       | false ↦ elim (slice_split p ys) as (λ parts. onto_first x (onto_first y parts ++ more) ≡ onto_first x (onto_first y parts) ++ more) [ [] ↦ refl | part ∷ parts ↦ refl ]
     ]
 
--- the parts of a list that is cut at an element are those before it and those behind it
+-- the parts of a list that is cut at an element are those before it and those after it
 split-append : (p : ℕ → Bool) (xs : List ℕ) (y : ℕ) (ys : List ℕ) → p y ≡ true → slice_split p (xs ++ y ∷ ys) ≡ slice_split p xs ++ slice_split p ys
 split-append p [] y ys h = rw h refl
 split-append p (x ∷ xs) y ys h =
@@ -41,7 +41,7 @@ pub last_word : (most : ℕ) (text last : Text) → list_any is_space last ≡ f
 unfolding bitmap
 last_word most text last h = rw (split-append is_space text space last refl, uncut is_space last h, map-append word (slice_split is_space text) (last ∷ []), reverse-append (map word (slice_split is_space text)) (word last ∷ [])) refl
 
--- a word that is 0 behind all others has no number
+-- a word that is 0 after all others has no number
 zero_behind : (most : ℕ) (words : List ℕ) (place : ℕ) → slice_index (take most (words ++ 0 ∷ [])) place ≡ slice_index (take most words) place
 zero_behind zero words place = refl
 zero_behind (suc most) [] zero = refl

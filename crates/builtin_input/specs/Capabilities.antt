@@ -1,4 +1,4 @@
--- What an input device tells of itself.
+-- What an input device says about itself.
 use Rattle.std.specs.Prelude.{ℕ, ◌^◌, ◌-◌, [], unwrap_or, codes}
 use Rattle.text_tables.specs.Texts.{Text}
 use Rattle.text_tables.specs.Pairs.{value_of}
@@ -28,7 +28,7 @@ text_of device name = unwrap_or (value_of device.attrs name) []
 unfoldable pub bus_number : Text → ℕ
 bus_number text = unwrap_or (number_in Hexadecimal (2 ^ 16 - 1) text) 0
 
--- what a device tells of itself; of each bitmap but that of keys one word counts
+-- what a device says about itself; of each bitmap but that of keys one word counts
 unfoldable pub capabilities : DeviceValue → CapabilitiesValue
 capabilities device = record {
   events = bitmap 1 (text_of device (codes "capabilities/ev"));

@@ -21,7 +21,7 @@ tells device = is_some (value_of device.attrs (codes "capabilities/ev"))
 abbrev pub is_input : DeviceValue → Bool
 is_input device = is_text (codes "input") device.subsystem
 
--- the device that tells of itself: the event device, or else its nearest parent of the subsystem that does
+-- the device that says about itself: the event device, or else its nearest parent of the subsystem that does
 abbrev pub input_device : EventValue → Option DeviceValue
 input_device event = if tells event.device then Some event.device else find (λ device. is_input device && tells device) event.parents
 
@@ -49,7 +49,7 @@ size_needs event c = if asks_size event c then codes "absolute axes" ∷ [] else
 abbrev pub attribute_needs : DeviceValue → List Text → List Text
 attribute_needs device names = flat_map (λ name. lacking device name name) names
 
--- what the block would have to tell of a device and of its node
+-- what the block would have to say about a device and of its node
 unfoldable pub device_needs : EventValue → DeviceValue → List Text
 device_needs event device = attribute_needs device expected ++ size_needs event (capabilities device)
 
@@ -59,15 +59,15 @@ is_input_path path =
     let digits = longest_end is_digit path in
     not (is_empty digits) && ends_with nat_eq (take (length path - length digits) path) (codes "/input")
 
--- whether a device is an input device by its subsystem and its name, which the kernel lets tell of itself
+-- whether a device is an input device by its subsystem and its name, which the kernel lets say about itself
 abbrev pub is_input_device : DeviceValue → Bool
 is_input_device device = is_input device && is_input_path device.path
 
--- what is needed where no device tells of itself: of an input device its kinds of events
+-- what is needed where no device says about itself: of an input device its kinds of events
 unfoldable pub chain_needs : EventValue → List Text
 chain_needs event = if list_any is_input_device (chain event) then codes "capabilities/ev" ∷ [] else []
 
--- what comes of the device that tells of itself, if there is one
+-- what comes of the device that says about itself, if there is one
 abbrev pub outcome_of : EventValue → Option DeviceValue → OutcomeValue
 outcome_of event None = succeeding [] (needs_of (chain_needs event))
 outcome_of event (Some device) = succeeding (kind_properties (capabilities device)) (needs_of (device_needs event device))

@@ -75,7 +75,7 @@ is_of kind.Key c = has_keys c || not (is_pointer c) && has_wheel c
 is_of kind.Keyboard c = is_keyboard c
 is_of kind.Switch c = has c.events switch_event
 
--- the kinds in the order in which they are told
+-- the kinds in the order in which they are reported
 abbrev pub all_kinds : List Kind
 all_kinds = kind.Accelerometer ∷ kind.PointingStick ∷ kind.Mouse ∷ kind.Touchpad ∷ kind.Touchscreen ∷ kind.Joystick ∷ kind.Tablet ∷ kind.TabletPad ∷ kind.Key ∷ kind.Keyboard ∷ kind.Switch ∷ []
 

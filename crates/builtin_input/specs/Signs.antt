@@ -1,4 +1,4 @@
--- Conditions on what an input device tells of itself, by which its kinds are known. The numbers are those of the kernel's input codes.
+-- Conditions on what an input device says about itself, by which its kinds are known. The numbers are those of the kernel's input codes.
 use Rattle.std.specs.Prelude.{ℕ, ◌+◌, Bool, not, ◌&&◌, ◌||◌, nat_le, if◌then◌else◌}
 use Rattle.builtin_input.specs.Bitmaps.{has, count_of}
 use Rattle.builtin_input.specs.Groups.{is_in}
@@ -32,7 +32,7 @@ side_wheel = 6
 abbrev pub wheel : ℕ
 wheel = 8
 
--- absolute axes: the position of each finger, the number of the finger that is told of, and the axis before that
+-- absolute axes: the position of each finger, the number of the finger that is reported, and the axis before that
 abbrev pub multitouch_x : ℕ
 multitouch_x = 0x35
 
@@ -105,7 +105,7 @@ takes_pen c = has c.keys pen || has c.keys stylus
 unfoldable pub takes_finger : CapabilitiesValue → Bool
 takes_finger c = not (takes_pen c) && has c.keys finger && not (has c.properties direct)
 
--- it is a screen, or tells of touches
+-- it is a screen, or says about touches
 unfoldable pub takes_touch : CapabilitiesValue → Bool
 takes_touch c = has c.keys touch || has c.properties direct
 
@@ -117,7 +117,7 @@ has_mouse_buttons c = nat_le 1 (count_of (is_in MouseButton) c.keys)
 unfoldable pub has_pad_buttons : CapabilitiesValue → Bool
 has_pad_buttons c = has c.keys button_0 && has c.keys button_1 && not (has c.keys pen)
 
--- how many buttons of joysticks it has; behind the last button of a mouse, they are more buttons of that mouse
+-- how many buttons of joysticks it has; after the last button of a mouse, they are more buttons of that mouse
 unfoldable pub joystick_buttons : CapabilitiesValue → ℕ
 joystick_buttons c = if has c.keys last_mouse_button then 0 else count_of (is_in JoystickButton) c.keys
 

@@ -1,4 +1,4 @@
-//! What an input device tells of itself.
+//! What an input device says about itself.
 ghost use Rattle.std.specs.Prelude.{◌≡◌, ◌≤◌, IfOk};
 ghost use Rattle.builtin_input.specs.Bitmaps.{bitmap, most_words};
 ghost use Rattle.builtin_input.specs.Capabilities.{bus_number, capabilities, text_of};
@@ -60,7 +60,7 @@ fn bus_number(text: &[u8]) -> u64
 }
 
 impl Capabilities {
-    /// What a device tells of itself.
+    /// What a device says about itself.
     #[tactic(auto, unfolding(crate::specs::Capabilities::capabilities))]
     pub(crate) fn read(alloc: Global, device: &Device<'_>) -> Result<Capabilities, AllocError>
         ensures { IfOk result (λ c. c ≡ capabilities device.now) }

@@ -11,7 +11,7 @@ pub(crate) enum Group {
     JoystickButton,
     /// The absolute axes of a joystick but the first three.
     JoystickAxis,
-    /// Keys that keyboards have, by which they are told from joysticks.
+    /// Keys that keyboards have, by which they are reported from joysticks.
     UsualKey,
     /// The keys from 1 to 31.
     FirstKey,

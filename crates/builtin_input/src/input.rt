@@ -40,7 +40,7 @@ fn is_input(device: &Device<'_>) -> bool
     is_text(b"input", device.subsystem())
 }
 
-/// The nearest of these devices that is of the subsystem and tells of itself.
+/// The nearest of these devices that is of the subsystem and says about itself.
 fn nearest<'d, 'a>(devices: &'d [Device<'a>]) -> Option<&'d Device<'a>>
     ensures { option_copied result ≡ find (λ device. is_input device && tells device) devices.now }
 {
@@ -49,7 +49,7 @@ fn nearest<'d, 'a>(devices: &'d [Device<'a>]) -> Option<&'d Device<'a>>
         .find(|device| is_input(device) && tells(device))
 }
 
-/// The device that tells of itself.
+/// The device that says about itself.
 fn input_device<'d, 'a>(event: &'d Event<'a>) -> Option<&'d Device<'a>>
     ensures { option_copied result ≡ input_device event.now }
 {
@@ -117,7 +117,7 @@ fn add_lacking(
     Ok(())
 }
 
-/// What the block would have to tell of a device and of its node.
+/// What the block would have to say about a device and of its node.
 #[tactic(auto, using(crate::proofs::Needs::in_two), unfolding(crate::specs::Input::device_needs))]
 fn device_needs(
     alloc: Global,
@@ -164,7 +164,7 @@ fn has_input_device(event: &Event<'_>) -> bool
     is_input_device(event.device()) || some_input_device(event.parents())
 }
 
-/// What is needed where no device tells of itself.
+/// What is needed where no device says about itself.
 #[tactic(auto, unfolding(crate::specs::Input::chain_needs))]
 fn chain_needs(alloc: Global, event: &Event<'_>) -> Result<OwnedTexts, AllocError>
     ensures { IfOk result (λ needs. needs ≡ needs_of (chain_needs event.now)) }
@@ -176,7 +176,7 @@ fn chain_needs(alloc: Global, event: &Event<'_>) -> Result<OwnedTexts, AllocErro
     Ok(needs)
 }
 
-/// What comes of a device that tells of itself.
+/// What comes of a device that says about itself.
 fn outcome_of(alloc: Global, event: &Event<'_>, device: &Device<'_>) -> Result<Outcome, AllocError>
     ensures { IfOk result (λ outcome. outcome ≡ outcome_of event.now (Some device.now)) }
 {
@@ -190,11 +190,10 @@ fn outcome_of(alloc: Global, event: &Event<'_>, device: &Device<'_>) -> Result<O
 /// What input_id of udev of systemd 257 makes of an event: `ID_INPUT=1`, then a property for each kind of input device
 /// that the device is, as `ID_INPUT_MOUSE=1`.
 ///
-/// The kinds follow from the attributes `capabilities/*`, `properties` and `id/bustype` of the event device where it
-/// has `capabilities/ev`, or else of its nearest parent of the subsystem `input` that has. It always succeeds, and sets
+/// The kinds follow from the attributes `capabilities/*`, `properties` and `id/bustype` of the event device where it has
+/// `capabilities/ev`, or else of its nearest parent of the subsystem `input` that has. It always succeeds, and sets
 /// nothing where no device has them. Needed are the attributes that an input device lacks, and `absolute axes` where
-/// udev would ask the node of a touchpad or a screen for its size, which is never set here. The error comes where memory
-/// is refused.
+/// udev would ask the node of a touchpad or a screen for its size, which is never set here.
 #[tactic(auto, unfolding(crate::specs::Input::input_id))]
 pub fn input_id(alloc: Global, event: &Event<'_>) -> Result<Outcome, AllocError>
     ensures { IfOk result (λ outcome. outcome ≡ input_id event.now) }

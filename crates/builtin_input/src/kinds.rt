@@ -23,7 +23,7 @@ pub(crate) enum Kind {
     Switch,
 }
 
-/// The kinds in the order in which they are told.
+/// The kinds in the order in which they are reported.
 const KINDS: [Kind; 11] = [
     Kind::Accelerometer,
     Kind::PointingStick,
@@ -175,7 +175,7 @@ impl Capabilities {
         self.events.has(KEY_EVENT) && self.keys.count(Group::FirstKey) == 31
     }
 
-    /// The kinds of a device, in the order in which they are told.
+    /// The kinds of a device, in the order in which they are reported.
     #[tactic(auto, unfolding(crate::specs::Kinds::kinds))]
     pub(crate) fn kinds(&self, alloc: Global) -> Result<Vec<Kind>, AllocError>
         ensures { IfOk result (λ k. k.items ≡ kinds self.now) }

@@ -1,4 +1,4 @@
-//! What is true of bitmaps and of the kinds of input devices, said without how they are told.
+//! What is true of bitmaps and of the kinds of input devices, said without how they are reported.
 //!
 //! Each function here is empty: its contract is the law.
 ghost use Rattle.std.specs.Prelude.{◌≡◌, ℕ, suc, ◌∷◌, ◌++◌, [], true, false};
@@ -10,7 +10,7 @@ ghost use Rattle.builtin_input.specs.Capabilities.{CapabilitiesValue, nothing};
 ghost use Rattle.builtin_input.specs.Kinds.{is_of, is_plain_mouse, kinds};
 ghost use Rattle.builtin_input.specs.declared.kinds.Kind.TheVariants as kind;
 
-/// The last word of a bitmap is its lowest, and what stands before it is the bitmap of the others.
+/// The last word of a bitmap is its lowest, and what comes before it is the bitmap of the others.
 pub fn the_last_word_is_the_lowest()
     ensures one { (most : ℕ) (last : Text) → list_any is_space last ≡ false → bitmap (suc most) last ≡ word last ∷ [] }
     ensures more { (most : ℕ) (text last : Text) → list_any is_space last ≡ false → bitmap (suc most) (text ++ space ∷ last) ≡ word last ∷ bitmap most text }

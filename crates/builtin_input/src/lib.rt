@@ -1,5 +1,6 @@
-//! The builtin input_id of udev of systemd 257: which kinds of input device a device is, by the attributes in which it
-//! tells of itself.
+//! The builtin input_id of udev (systemd 257): the kinds of an input device, by the bitmaps of what it can do.
+//!
+//! Functions that allocate return `AllocError` when memory runs out.
 #![tactic(auto)]
 
 mod bitmaps;

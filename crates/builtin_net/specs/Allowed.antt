@@ -11,7 +11,7 @@ use Rattle.builtin_net.specs.Words.{most_number}
 use Rattle.builtin_net.specs.declared.allowed.Attribute.{Attribute}
 use Rattle.builtin_net.specs.declared.allowed.Attribute.TheVariants.{Iflink, Hardware, AddrAssignType, Address, PhysPortName, DevPort, DevId, AriEnabled, AcpiIndex, Index, Label, Sun, FunctionId, Modalias}
 
--- where an attribute stands below the folder of its device
+-- where an attribute is below the folder of its device
 abbrev pub attribute_name : Attribute → Text
 attribute_name Iflink = codes "iflink"
 attribute_name Hardware = codes "type"

@@ -1,4 +1,4 @@
--- What names tell of buses other than PCI and USB.
+-- What names say about buses other than PCI and USB.
 use Rattle.std.specs.Prelude.{ℕ, ◌^◌, ◌-◌, ◌==◌, ◌&&◌, ◌||◌, not, Bool, true, false, [], ◌++◌, codes, decimal, drop, find, length, map, nat_le, slice_get, take, Option, Some, None, option_map, option_and_then, is_some, if◌then◌else◌}
 use Rattle.std.specs.Bool.{then_some}
 use Rattle.std.specs.Char.{is_ascii_digit, is_ascii_hexdigit, is_ascii_uppercase, to_ascii_lowercase}
@@ -29,7 +29,7 @@ abbrev pub is_there : (subsystem : Text) → Option DeviceValue → Bool
 is_there subsystem None = false
 is_there subsystem (Some device) = is_of subsystem None device
 
--- the component of a path behind a folder
+-- the component of a path after a folder
 unfoldable pub component : (folder path : Text) → Option Text
 component folder path = option_map (before_first (λ b. b == slash)) (behind folder path)
 

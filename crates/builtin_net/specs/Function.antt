@@ -19,14 +19,14 @@ abbrev pub with_numbers : Option ℕ → Option ℕ → Option ℕ → Option �
 with_numbers (Some domain) (Some bus) (Some slot) (Some function) = Some (record { domain = domain; bus = bus; slot = slot; function = function })
 with_numbers _ _ _ _ = None
 
--- the function of a domain and a bus whose slot and function stand in a text with a dot in between
+-- the function of a domain and a bus whose slot and function are in a text with a dot in between
 unfoldable pub in_bus : Text → Text → Text → Option Function
 in_bus domain bus place =
     option_and_then (λ parts.
     with_numbers (number_in Hexadecimal most_number domain) (number_in Hexadecimal most_number bus) (number_in Hexadecimal most_number parts.0) (number_in Decimal most_number parts.1))
     (split_once dot place)
 
--- the function of a domain whose bus, slot and function stand in a text
+-- the function of a domain whose bus, slot and function are in a text
 unfoldable pub in_domain : Text → Text → Option Function
 in_domain domain rest = option_and_then (λ parts. in_bus domain parts.0 parts.1) (split_once colon rest)
 
@@ -50,7 +50,7 @@ function pci = if has_ari pci then option_map with_ari (function_of (kernel_of p
 abbrev pub config : EventValue → DeviceValue → Option Text
 config event pci = file_at event (pci.path ++ codes "/config")
 
--- where the type of the header stands in a configuration, and the least type of a card with several functions
+-- where the type of the header is in a configuration, and the least type of a card with several functions
 abbrev pub header_place : ℕ
 header_place = 14
 

@@ -23,7 +23,7 @@ use Rattle.builtin_net.specs.declared.functions.Function.{Function}
 use Rattle.builtin_net.specs.declared.prefixes.Prefix.{Prefix}
 use Rattle.builtin_net.specs.declared.slots.Slot.{Slot}
 
--- a property of a prefix and a text behind it, where there is one, and both have at most 127 bytes
+-- a property of a prefix and a text after it, where there is one, and both have at most 127 bytes
 unfoldable pub given : (key prefix : Text) → Option Text → List Pair
 given key prefix None = []
 given key prefix (Some text) = if nat_le (length (prefix ++ text)) 127 then (key, prefix ++ text) ∷ [] else []
@@ -42,7 +42,7 @@ by_address prefix interface = option_map (λ digits. codes "x" ++ digits) (lasti
 abbrev pub by_tree : EventValue → Prefix → Option Text
 by_tree event prefix = if is_ethernet prefix then tree_text event else None
 
--- what stands behind the place or the slot of a function: the function, the port and a suffix
+-- what follows the place or the slot of a function: the function, the port and a suffix
 abbrev pub tail : EventValue → Prefix → (interface pci : DeviceValue) → (suffix : Text) → Function → Option Text
 tail event prefix interface pci suffix f = option_map (λ port. function_text f (is_several event pci) ++ port ++ suffix) (port_text prefix interface true)
 
@@ -54,7 +54,7 @@ path_text f tail = domain_text f ++ place_text f ++ tail
 abbrev pub slot_text : Function → (tail : Text) → Slot → Text
 slot_text f tail slot = (if slot.drops_domain then [] else domain_text f) ++ codes "s" ++ decimal slot.number ++ tail
 
--- both names of a function with what stands behind, where that can be told
+-- both names of a function with what follows, where that can be reported
 abbrev pub with_tail : EventValue → Prefix → (pci : DeviceValue) → Function → (tail : Option Text) → List Pair
 with_tail event prefix pci f None = []
 with_tail event prefix pci f (Some tail) =

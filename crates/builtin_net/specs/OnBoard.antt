@@ -8,7 +8,7 @@ use Rattle.builtin_net.specs.Allowed.{number, read}
 use Rattle.builtin_net.specs.Words.{is_plain}
 use Rattle.builtin_net.specs.declared.allowed.Attribute.TheVariants.{Label, AcpiIndex, Index}
 
--- the label of a function, where it may be told
+-- the label of a function, where it may be reported
 unfoldable pub label : DeviceValue → Option Text
 label pci = option_and_then (λ text. then_some (is_plain text) text) (read pci Label)
 

@@ -11,7 +11,7 @@ use Rattle.builtin_net.specs.Words.{behind, behind_digits, leading_number, is_pl
 use Rattle.builtin_net.specs.declared.allowed.Attribute.TheVariants.{PhysPortName, DevPort, DevId}
 use Rattle.builtin_net.specs.declared.prefixes.Prefix.{Prefix}
 
--- the number of the virtual function behind that of a physical one, as in `0vf3`
+-- the number of the virtual function after that of a physical one, as in `0vf3`
 unfoldable pub virtual_of : Text → Option ℕ
 virtual_of text = option_and_then (λ physical. option_and_then leading_number (behind (codes "vf") (behind_digits text))) (leading_number text)
 
@@ -23,7 +23,7 @@ represented name = option_and_then virtual_of (behind (codes "pf") name)
 unfoldable pub named_port : Text → Option Text
 named_port name = option_or (option_map (λ n. codes "r" ++ decimal n) (represented name)) (then_some (is_plain name) (codes "n" ++ name))
 
--- a port by its number, the first of which is not told
+-- a port by its number, the first of which is not reported
 abbrev pub numbered_port : ℕ → Text
 numbered_port n = if n == 0 then [] else codes "d" ++ decimal n
 
@@ -37,11 +37,11 @@ abbrev pub some_text : Option Text → Option Text
 some_text None = None
 some_text (Some text) = if is_empty text then None else Some text
 
--- a port by its name where it has one, else by its number; none where it can't be told
+-- a port by its name where it has one, else by its number; none where it can't be reported
 abbrev pub port_by : (name : Option Text) → (number : Option ℕ) → Option Text
 port_by None number = option_map numbered_port number
 port_by (Some name) number = named_port name
 
--- what names of an interface tell of its port; none where no name can be given
+-- what names of an interface say about its port; none where no name can be given
 unfoldable pub port_text : Prefix → DeviceValue → (by_id : Bool) → Option Text
 port_text prefix interface by_id = port_by (some_text (read interface PhysPortName)) (port_number prefix interface by_id)

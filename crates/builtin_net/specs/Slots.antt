@@ -1,4 +1,4 @@
--- The slot that a function stands in.
+-- The slot that a function is in.
 use Rattle.std.specs.Prelude.{ℕ, ◌==◌, ◌&&◌, ◌||◌, not, Bool, false, true, List, length, find, nat_eq, codes, Option, Some, None, option_map, option_and_then, is_some, if◌then◌else◌}
 use Rattle.std.specs.Bool.{then_some}
 use Rattle.std.specs.Char.{is_ascii_hexdigit, is_ascii_uppercase}
@@ -19,11 +19,11 @@ use Rattle.builtin_net.specs.Words.{is_number, most_number, positive}
 use Rattle.builtin_net.specs.declared.allowed.Attribute.TheVariants.{Sun, FunctionId, Modalias}
 use Rattle.builtin_net.specs.declared.slots.Slot.{Slot}
 
--- the number of a slot that the firmware tells of a device
+-- the number of a slot that the firmware says about a device
 abbrev pub firmware_number : DeviceValue → Option ℕ
 firmware_number pci = positive (number pci Sun)
 
--- whether a modalias is that of a bridge: it is of PCI, and behind the last `s` in it stands `c04`
+-- whether a modalias is that of a bridge: it is of PCI, and after the last `s` in it stands `c04`
 unfoldable pub is_bridge_alias : Text → Bool
 is_bridge_alias alias = starts_with nat_eq alias (codes "pci:") && starts_with nat_eq (after_last (λ b. b == 115) alias) (codes "c04")
 
@@ -35,12 +35,12 @@ is_bridge pci = option_map_or is_bridge_alias (read pci Modalias) false
 abbrev pub pci_above : EventValue → DeviceValue → Option DeviceValue
 pci_above event device = above event (codes "pci") None device.path
 
--- what the firmware tells of the device above a function: that of a bridge counts only for a function that is one of several
+-- what the firmware says about the device above a function: that of a bridge counts only for a function that is one of several
 abbrev pub number_of_above : (several : Bool) → Option DeviceValue → Option ℕ
 number_of_above several None = None
 number_of_above several (Some pci) = if is_bridge pci && not several then None else firmware_number pci
 
--- the number that the firmware tells of a function, or else of the device above
+-- the number that the firmware says about a function, or else of the device above
 unfoldable pub number_by_firmware : EventValue → DeviceValue → Option ℕ
 number_by_firmware event pci = option_or (firmware_number pci) (number_of_above (is_several event pci) (pci_above event pci))
 
@@ -51,11 +51,11 @@ slots_folder = codes "/bus/pci/slots"
 abbrev pub slot_files : EventValue → List Pair
 slot_files event = files_below event slots_folder
 
--- whether a block tells of a folder, perhaps that it is empty
+-- whether a block says about a folder, perhaps that it is empty
 unfoldable pub is_told : EventValue → (folder : Text) → Bool
 is_told event folder = is_some (file_at event folder) || not (is_empty (files_below event folder))
 
--- the name of the slot whose file `NAME/address` tells what stands in it
+-- the name of the slot whose file `NAME/address` tells what is in it
 abbrev pub addressed : Option Pair → Option Text
 addressed None = None
 addressed (Some parts) = if same_text parts.1 (codes "address") then Some parts.0 else None

@@ -30,7 +30,7 @@ node_link event = option_or (node_of event event.device) (option_and_then (node_
 abbrev pub node_path : Text → Text
 node_path link = unwrap_or (behind tree_root link) link
 
--- what stands behind `ethernet` in the name of an alias
+-- what follows `ethernet` in the name of an alias
 abbrev pub alias_end : Pair → Option Text
 alias_end file = behind (codes "ethernet") file.0
 
@@ -51,7 +51,7 @@ unfoldable pub clear_number : EventValue → (behind : Text) → Option ℕ
 clear_number event behind =
     option_and_then (λ n. if n == 0 && is_some (file_at event (other_alias behind)) then None else Some n) (alias_number behind)
 
--- what stands behind `ethernet` in the name of the first alias of a node
+-- what follows `ethernet` in the name of the first alias of a node
 abbrev pub first_alias : EventValue → (node : Text) → Option Text
 first_alias event node = option_and_then alias_end (find (is_alias node) (files_below event aliases_folder))
 
@@ -59,6 +59,6 @@ first_alias event node = option_and_then alias_end (find (is_alias node) (files_
 unfoldable pub node_number : EventValue → (node : Text) → Option ℕ
 node_number event node = option_and_then (clear_number event) (first_alias event node)
 
--- what names tell of the node of an interface
+-- what names say about the node of an interface
 unfoldable pub tree_text : EventValue → Option Text
 tree_text event = option_map (λ n. codes "d" ++ decimal n) (option_and_then (λ link. node_number event (node_path link)) (node_link event))

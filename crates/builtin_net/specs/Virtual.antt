@@ -9,7 +9,7 @@ use Rattle.builtin_devices.specs.Devices.{device_by}
 use Rattle.builtin_devices.specs.Files.{file_at, files_below}
 use Rattle.builtin_net.specs.Words.{behind}
 
--- a function by which names are told, and what stands behind them: the number of the virtual function
+-- a function by which names are reported, and what follows them: the number of the virtual function
 abbrev pub Named : Type 0
 Named = DeviceValue × Text
 
@@ -17,7 +17,7 @@ Named = DeviceValue × Text
 abbrev pub physical_path : EventValue → DeviceValue → Option Text
 physical_path event pci = file_at event (pci.path ++ codes "/physfn")
 
--- what stands behind `virtfn` in the name of a link
+-- what follows `virtfn` in the name of a link
 abbrev pub virtual_digits : Pair → Option Text
 virtual_digits file = behind (codes "virtfn") file.0
 
@@ -34,7 +34,7 @@ abbrev pub by_number : (pci physical : DeviceValue) → (number : Option Text) �
 by_number pci physical None = (pci, [])
 by_number pci physical (Some digits) = (physical, codes "v" ++ digits)
 
--- a function with a link to a physical one; nothing where the block does not tell of that
+-- a function with a link to a physical one; nothing where the block does not say about that
 abbrev pub by_physical : EventValue → DeviceValue → Option DeviceValue → Option Named
 by_physical event pci None = None
 by_physical event pci (Some physical) = Some (by_number pci physical (virtual_number event physical.path pci.path))
@@ -44,6 +44,6 @@ abbrev pub by_link : EventValue → DeviceValue → Option Text → Option Named
 by_link event pci None = Some (pci, [])
 by_link event pci (Some path) = by_physical event pci (device_by event path)
 
--- by which function names are told
+-- by which function names are reported
 unfoldable pub named_function : EventValue → DeviceValue → Option Named
 named_function event pci = by_link event pci (physical_path event pci)

@@ -10,11 +10,11 @@ use Rattle.text_tables.specs.Texts.{Text}
 abbrev pub most_number : ℕ
 most_number = 2 ^ 32 - 1
 
--- what stands behind a beginning, where a text begins with it
+-- what follows a beginning, where a text begins with it
 unfoldable pub behind : (front : Text) → Text → Option Text
 behind front text = if starts_with nat_eq text front then Some (drop (length front) text) else None
 
--- the digits that a text begins with, and what stands behind them
+-- the digits that a text begins with, and what follows them
 abbrev pub leading_digits : Text → Text
 leading_digits text = take (prefix_len is_digit text) text
 

@@ -47,7 +47,7 @@ pub enum Attribute {
 const PERMISSION_OF_ALL: &[u8] = b"ID_NET_NAME_ALLOW";
 
 impl Attribute {
-    /// Where it stands below the folder of its device.
+    /// Where it is below the folder of its device.
     pub(crate) fn name(self) -> &'static [u8]
         ensures { result.now ≡ attribute_name self }
     {
@@ -130,7 +130,7 @@ fn is_allowed(env: &Pairs<'_>, attribute: Attribute) -> bool
     permits(env.get(attribute.permission()), env.get(PERMISSION_OF_ALL))
 }
 
-/// Lends the current value of a property.
+/// Returns the current value of a property.
 fn property<'e>(env: &'e OwnedPairs, name: &[u8]) -> Option<&'e [u8]>
     ensures { option_map (λ t. t.now) result ≡ value_of env.now name.now }
 {

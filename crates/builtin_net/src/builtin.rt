@@ -18,7 +18,7 @@ use text_tables::OwnedPairs;
 pub struct NetNames {
     /// Whether it succeeds, the names and what the block would have to tell.
     pub outcome: Outcome,
-    /// What is asked of the hardware database: who made the interface. Its properties are set behind the name by the
+    /// What is asked of the hardware database: who made the interface. Its properties are set after the name by the
     /// address.
     pub lookup: Option<Bytes>,
 }
@@ -71,7 +71,7 @@ fn outcome(alloc: Global, devices: &Devices<'_>, env: &OwnedPairs) -> Result<Out
 /// the event device, which say what names may use of it; the kernel's own count for IFINDEX and DEVTYPE.
 ///
 /// It fails where IFINDEX is no number above 0, or `iflink` is no number. It sets nothing for an interface upon
-/// another and for hardware other than Ethernet, InfiniBand and SLIP. The error comes where memory is refused.
+/// another and for hardware other than Ethernet, InfiniBand and SLIP.
 pub fn net_id(alloc: Global, event: &Event<'_>, env: &OwnedPairs) -> Result<NetNames, AllocError>
     ensures outcome { IfOk result (λ names. names.outcome ≡ net_id event.now env.now) }
     ensures lookup { IfOk result (λ names. names.lookup ≡ lookup event.now env.now) }

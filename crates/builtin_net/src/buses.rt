@@ -1,4 +1,4 @@
-//! What names tell of buses other than PCI and USB.
+//! What names say about buses other than PCI and USB.
 ghost use Rattle.std.specs.Prelude.{◌≡◌, ◌==◌, ◌||◌, ◌≤◌, length, not, option_copied, option_map, IfOk};
 ghost use Rattle.std.specs.List.{list_all, prefix_len};
 ghost use Rattle.text_bytes.specs.Names.{digit_zero, dot, slash};
@@ -51,7 +51,7 @@ pub(crate) fn is_there(subsystem: &[u8], device: Option<&Device<'_>>) -> bool
     }
 }
 
-/// The component of a path behind a folder.
+/// The component of a path after a folder.
 #[tactic(auto, unfolding(crate::specs::Buses::component))]
 fn component<'a>(folder: &[u8], path: &'a [u8]) -> Option<&'a [u8]>
     ensures { option_map (λ t. t.now) result ≡ component folder.now path.now }
@@ -193,7 +193,7 @@ fn with_instance(
     }
 }
 
-/// What stands before and behind the colon in the name of a platform device.
+/// What comes before and after the colon in the name of a platform device.
 fn platform_parts(
     alloc: Global,
     front: &[u8],
@@ -265,7 +265,7 @@ fn number_of_name(kernel: &[u8]) -> Option<u64>
     number_in(Base::AsWritten, MOST_NUMBER, name_number(kernel)?)
 }
 
-/// What names tell of a device of netdevsim and of the port.
+/// What names say about a device of netdevsim and of the port.
 #[tactic(auto, unfolding(crate::specs::Buses::netdevsim_text))]
 fn netdevsim_text(
     alloc: Global,
@@ -281,7 +281,7 @@ fn netdevsim_text(
     simulated(alloc, number, port)
 }
 
-/// What names tell of the device of ccw above an interface.
+/// What names say about the device of ccw above an interface.
 #[tactic(auto, unfolding(crate::specs::Buses::by_ccw))]
 pub(crate) fn by_ccw(alloc: Global, devices: &Devices<'_>) -> Result<Option<Vec<u8>>, AllocError>
     ensures { IfOk result (λ text. option_map (λ t. t.items) text ≡ by_ccw devices.now) }
@@ -296,7 +296,7 @@ pub(crate) fn by_ccw(alloc: Global, devices: &Devices<'_>) -> Result<Option<Vec<
     ccw_text(alloc, kernel.as_slice())
 }
 
-/// What names tell of the device of vio above an interface.
+/// What names say about the device of vio above an interface.
 #[tactic(auto, unfolding(crate::specs::Buses::by_vio))]
 pub(crate) fn by_vio(alloc: Global, devices: &Devices<'_>) -> Result<Option<Vec<u8>>, AllocError>
     ensures { IfOk result (λ text. option_map (λ t. t.items) text ≡ by_vio devices.now) }
@@ -310,7 +310,7 @@ pub(crate) fn by_vio(alloc: Global, devices: &Devices<'_>) -> Result<Option<Vec<
     }
 }
 
-/// What names tell of the platform device above an interface.
+/// What names say about the platform device above an interface.
 #[tactic(auto, unfolding(crate::specs::Buses::by_platform))]
 pub(crate) fn by_platform(
     alloc: Global,
@@ -327,7 +327,7 @@ pub(crate) fn by_platform(
     }
 }
 
-/// What names tell of the device of Xen above an interface.
+/// What names say about the device of Xen above an interface.
 #[tactic(auto, unfolding(crate::specs::Buses::by_xen))]
 pub(crate) fn by_xen(alloc: Global, devices: &Devices<'_>) -> Result<Option<Vec<u8>>, AllocError>
     ensures { IfOk result (λ text. option_map (λ t. t.items) text ≡ by_xen devices.now) }
@@ -341,7 +341,7 @@ pub(crate) fn by_xen(alloc: Global, devices: &Devices<'_>) -> Result<Option<Vec<
     }
 }
 
-/// What names tell of the device of netdevsim above an interface.
+/// What names say about the device of netdevsim above an interface.
 #[tactic(auto, unfolding(crate::specs::Buses::by_netdevsim))]
 pub(crate) fn by_netdevsim(
     alloc: Global,

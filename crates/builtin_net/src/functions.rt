@@ -33,7 +33,7 @@ fn small_number(base: Base, text: &[u8]) -> Option<u64>
     number_in(base, MOST_NUMBER, text)
 }
 
-/// The function of a domain and a bus, whose slot and function stand in a text.
+/// The function of a domain and a bus, whose slot and function are in a text.
 #[tactic(auto, unfolding(crate::specs::Function::in_bus))]
 fn in_bus(domain: &[u8], bus: &[u8], place: &[u8]) -> Option<Function>
     ensures value { result ≡ in_bus domain.now bus.now place.now }
@@ -49,7 +49,7 @@ fn in_bus(domain: &[u8], bus: &[u8], place: &[u8]) -> Option<Function>
     })
 }
 
-/// The function of a domain, whose bus, slot and function stand in a text.
+/// The function of a domain, whose bus, slot and function are in a text.
 #[tactic(auto, unfolding(crate::specs::Function::in_domain))]
 fn in_domain(domain: &[u8], rest: &[u8]) -> Option<Function>
     ensures value { result ≡ in_domain domain.now rest.now }
@@ -148,7 +148,7 @@ pub(crate) fn is_several(
     }
 }
 
-/// Puts the domain behind a text, unless it is the first.
+/// Puts the domain after a text, unless it is the first.
 pub(crate) fn push_domain(text: &mut Vec<u8>, f: Function) -> Result<(), AllocError>
     ensures { OnOk result (text.new.items ≡ text.old.items ++ domain_text f) }
 {
@@ -158,7 +158,7 @@ pub(crate) fn push_domain(text: &mut Vec<u8>, f: Function) -> Result<(), AllocEr
     push_number(text, b"P", f.domain)
 }
 
-/// Puts bus and slot behind a text.
+/// Puts bus and slot after a text.
 pub(crate) fn push_place(text: &mut Vec<u8>, f: Function) -> Result<(), AllocError>
     ensures { OnOk result (text.new.items ≡ text.old.items ++ place_text f) }
 {
@@ -166,7 +166,7 @@ pub(crate) fn push_place(text: &mut Vec<u8>, f: Function) -> Result<(), AllocErr
     push_number(text, b"s", f.slot)
 }
 
-/// Puts the function behind a text, unless it is the first and the only one.
+/// Puts the function after a text, unless it is the first and the only one.
 pub(crate) fn push_function(
     text: &mut Vec<u8>,
     f: Function,

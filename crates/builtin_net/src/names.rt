@@ -29,7 +29,7 @@ use text_tables::OwnedPairs;
 /// The most bytes of a name.
 const MOST_NAME: usize = 127;
 
-/// Adds a property of a prefix and a text behind it, where there is one and both are not too long.
+/// Adds a property of a prefix and a text after it, where there is one and both are not too long.
 #[tactic(auto, unfolding(crate::specs::Names::given))]
 fn give(
     alloc: Global,
@@ -69,7 +69,7 @@ pub(crate) fn lasting_address(
     }
 }
 
-/// What names tell of the address.
+/// What names say about the address.
 fn by_address(
     alloc: Global,
     prefix: Prefix,
@@ -84,7 +84,7 @@ fn by_address(
     }
 }
 
-/// What names tell of the device tree.
+/// What names say about the device tree.
 fn by_tree(
     alloc: Global,
     devices: &Devices<'_>,
@@ -99,7 +99,7 @@ fn by_tree(
     }
 }
 
-/// What stands behind the place or the slot of a function.
+/// What follows the place or the slot of a function.
 fn tail(
     alloc: Global,
     devices: &Devices<'_>,
@@ -146,7 +146,7 @@ fn slot_text(alloc: Global, f: Function, tail: &[u8], slot: Slot) -> Result<Vec<
     Ok(text)
 }
 
-/// The name by the slot of a function, where it stands in one.
+/// The name by the slot of a function, where it is in one.
 fn by_slot<'a>(
     alloc: Global,
     devices: &Devices<'a>,
@@ -174,7 +174,7 @@ fn give_path(
     give(alloc, names, b"ID_NET_NAME_PATH", prefix.text(), Some(text))
 }
 
-/// Gives the name by the slot of a function, where it stands in one.
+/// Gives the name by the slot of a function, where it is in one.
 fn give_slot<'a>(
     alloc: Global,
     names: &mut Vec<(Bytes, Bytes)>,
@@ -190,7 +190,7 @@ fn give_slot<'a>(
     give(alloc, names, b"ID_NET_NAME_SLOT", prefix.text(), slot)
 }
 
-/// Gives both names of a function with what stands behind.
+/// Gives both names of a function with what follows.
 fn give_with_tail<'a>(
     alloc: Global,
     names: &mut Vec<(Bytes, Bytes)>,

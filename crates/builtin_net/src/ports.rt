@@ -10,7 +10,7 @@ use device_core::Event;
 use std::alloc::{AllocError, Global};
 use text_tables::OwnedPairs;
 
-/// The number of the virtual function behind that of a physical one.
+/// The number of the virtual function after that of a physical one.
 #[tactic(auto, unfolding(crate::specs::Port::virtual_of))]
 fn virtual_of(text: &[u8]) -> Option<u64>
     ensures { result ≡ virtual_of text.now }
@@ -44,7 +44,7 @@ fn named_port(alloc: Global, name: &[u8]) -> Result<Option<Vec<u8>>, AllocError>
     Ok(Some(joined(alloc, b"n", name)?))
 }
 
-/// A port by its number, the first of which is not told.
+/// A port by its number, the first of which is not reported.
 fn numbered_port(alloc: Global, number: u64) -> Result<Vec<u8>, AllocError>
     ensures { IfOk result (λ text. text.items ≡ numbered_port number) }
 {
@@ -77,7 +77,7 @@ pub(crate) fn some_text(text: Option<&[u8]>) -> Option<&[u8]>
     }
 }
 
-/// What names of an interface tell of its port; `None` where no name can be given. The number of the
+/// What names of an interface say about its port; `None` where no name can be given. The number of the
 /// port of InfiniBand counts where `by_id` says so.
 #[tactic(auto, unfolding(crate::specs::Port::port_text))]
 pub(crate) fn port_text(

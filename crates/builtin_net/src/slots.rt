@@ -1,4 +1,4 @@
-//! The slot that a function stands in.
+//! The slot that a function is in.
 ghost use Rattle.std.specs.Prelude.{◌≡◌, ◌==◌, ◌≤◌, false, find, length, not, option_and_then, option_copied, option_map, IfOk};
 ghost use Rattle.std.specs.Char.{is_ascii_uppercase};
 ghost use Rattle.std.specs.List.{after_last, list_any, suffix_len};
@@ -28,14 +28,14 @@ pub struct Slot {
     pub drops_domain: bool,
 }
 
-/// The number of a slot that the firmware tells of a device.
+/// The number of a slot that the firmware says about a device.
 pub(crate) fn firmware_number(pci: &Device<'_>) -> Option<u64>
     ensures { result ≡ firmware_number pci.now }
 {
     positive(number(pci, Attribute::Sun))
 }
 
-/// How many bytes stand behind the last `s` of a text, all where it has none.
+/// How many bytes follow the last `s` of a text, all where it has none.
 fn bytes_behind_s(text: &[u8]) -> usize
     ensures value { result ≡ suffix_len (λ b. not (b == 115)) text.now }
     ensures within { result ≤ length text.now }
@@ -43,7 +43,7 @@ fn bytes_behind_s(text: &[u8]) -> usize
     text.iter().rev().take_while(|byte| **byte != b's').count()
 }
 
-/// What stands behind the last `s` of a text, or the whole text.
+/// What follows the last `s` of a text, or the whole text.
 fn behind_last_s(text: &[u8]) -> &[u8]
     ensures { result.now ≡ after_last (λ b. b == 115) text.now }
 {
@@ -80,7 +80,7 @@ pub(crate) fn pci_above<'d, 'a>(
     devices.above(alloc, b"pci", None, device.path())
 }
 
-/// What the firmware tells of the device above a function.
+/// What the firmware says about the device above a function.
 fn number_of_above(several: bool, above: Option<&Device<'_>>) -> Option<u64>
     ensures { result ≡ number_of_above several (option_copied above.entry) }
 {
@@ -91,7 +91,7 @@ fn number_of_above(several: bool, above: Option<&Device<'_>>) -> Option<u64>
     firmware_number(pci)
 }
 
-/// The number that the firmware tells of a function, or else of the device above.
+/// The number that the firmware says about a function, or else of the device above.
 #[tactic(auto, unfolding(crate::specs::Slots::number_by_firmware))]
 pub(crate) fn number_by_firmware(
     alloc: Global,
@@ -108,7 +108,7 @@ pub(crate) fn number_by_firmware(
     Ok(number_of_above(several, above))
 }
 
-/// Whether a block tells of a folder, perhaps that it is empty.
+/// Whether a block says about a folder, perhaps that it is empty.
 #[tactic(auto, unfolding(crate::specs::Slots::is_told))]
 pub(crate) fn is_told(alloc: Global, event: &Event<'_>, folder: &[u8]) -> Result<bool, AllocError>
     ensures { IfOk result (λ told. told ≡ is_told event.now folder.now) }
@@ -117,7 +117,7 @@ pub(crate) fn is_told(alloc: Global, event: &Event<'_>, folder: &[u8]) -> Result
     Ok(file_at(event, folder).is_some() || !files.is_empty())
 }
 
-/// The name of the slot whose file tells what stands in it.
+/// The name of the slot whose file tells what is in it.
 #[tactic(auto, unfolding(crate::specs::Slots::slot_name))]
 fn slot_name(path: &[u8]) -> Option<&[u8]>
     ensures { option_map (λ t. t.now) result ≡ slot_name path.now }

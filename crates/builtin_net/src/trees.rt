@@ -102,7 +102,7 @@ fn calling<'f, 'a>(
     files.iter().find(|file| is_alias(node, **file))
 }
 
-/// What stands behind `ethernet` in the name of the first alias of a node among files.
+/// What follows `ethernet` in the name of the first alias of a node among files.
 fn alias_among<'a>(node: &[u8], files: &[(&'a [u8], &'a [u8])]) -> Option<&'a [u8]>
     ensures { option_map (λ t. t.now) result ≡ option_and_then (λ file. alias_end (file.0.now, file.1.now)) (find (λ file. is_alias node.now (file.0.now, file.1.now)) files.now) }
 {
@@ -112,7 +112,7 @@ fn alias_among<'a>(node: &[u8], files: &[(&'a [u8], &'a [u8])]) -> Option<&'a [u
     }
 }
 
-/// What stands behind `ethernet` in the name of the first alias of a node.
+/// What follows `ethernet` in the name of the first alias of a node.
 fn first_alias<'a>(
     alloc: Global,
     event: &Event<'a>,
@@ -135,7 +135,7 @@ fn node_number(alloc: Global, event: &Event<'_>, node: &[u8]) -> Result<Option<u
     }
 }
 
-/// What names tell of the node of an interface.
+/// What names say about the node of an interface.
 #[tactic(auto, unfolding(crate::specs::Trees::tree_text))]
 pub(crate) fn tree_text(alloc: Global, devices: &Devices<'_>) -> Result<Option<Vec<u8>>, AllocError>
     ensures { IfOk result (λ text. option_map (λ t. t.items) text ≡ tree_text devices.now) }

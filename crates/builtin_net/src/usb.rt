@@ -1,4 +1,4 @@
-//! What names tell of interfaces of USB.
+//! What names say about interfaces of USB.
 ghost use Rattle.std.specs.Prelude.{◌≡◌, ◌++◌, IfOk, OnOk, option_map};
 ghost use Rattle.builtin_net.specs.Usb.{bcma_suffix, core_in, core_of, port_byte, ports_text, unless_usual, usb_numbers, usb_ports, usb_suffix, usb_text};
 
@@ -21,7 +21,7 @@ fn ports_text(alloc: Global, ports: &[u8]) -> Result<Vec<u8>, AllocError>
     ports.iter().map(|byte| port_byte(*byte)).collect(alloc)
 }
 
-/// Puts a number behind a text, with a letter before it, unless it is the usual one.
+/// Puts a number after a text, with a letter before it, unless it is the usual one.
 fn push_unless_usual(
     text: &mut Vec<u8>,
     usual: &[u8],
@@ -53,7 +53,7 @@ fn usb_text(
     Ok(text)
 }
 
-/// Ports with what stands behind them.
+/// Ports with what follows them.
 fn usb_numbers(alloc: Global, ports: &[u8], numbers: &[u8]) -> Result<Option<Vec<u8>>, AllocError>
     ensures { IfOk result (λ text. option_map (λ t. t.items) text ≡ usb_numbers ports.now numbers.now) }
 {
@@ -65,7 +65,7 @@ fn usb_numbers(alloc: Global, ports: &[u8], numbers: &[u8]) -> Result<Option<Vec
     }
 }
 
-/// What stands behind the bus in the name of an interface of USB.
+/// What follows the bus in the name of an interface of USB.
 fn usb_ports(alloc: Global, rest: &[u8]) -> Result<Option<Vec<u8>>, AllocError>
     ensures { IfOk result (λ text. option_map (λ t. t.items) text ≡ usb_ports rest.now) }
 {
@@ -86,7 +86,7 @@ pub(crate) fn usb_suffix(alloc: Global, name: &[u8]) -> Result<Option<Vec<u8>>, 
     }
 }
 
-/// The core behind a bus, where both are numbers.
+/// The core after a bus, where both are numbers.
 fn core_of(bus: &[u8], core: &[u8]) -> Option<u64>
     ensures { result ≡ core_of bus.now core.now }
 {

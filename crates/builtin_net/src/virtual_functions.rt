@@ -11,12 +11,12 @@ use std::alloc::{AllocError, Global};
 use std::marker::Model;
 use text_bytes::is_digit;
 
-/// A function by which names are told.
+/// A function by which names are reported.
 #[derive(Drop)]
 pub(crate) struct NamedFunction<'d, 'a> {
     /// The device.
     pub(crate) pci: &'d Device<'a>,
-    /// What stands behind its names: the number of the virtual function, or nothing.
+    /// What follows its names: the number of the virtual function, or nothing.
     pub(crate) suffix: Vec<u8>,
 }
 
@@ -75,7 +75,7 @@ fn leading<'f, 'a>(
     links.iter().find(|link| leads_to(path, **link))
 }
 
-/// What stands behind `virtfn` in the name of the link that leads to a virtual function.
+/// What follows `virtfn` in the name of the link that leads to a virtual function.
 fn number_among<'a>(path: &[u8], links: &[(&'a [u8], &'a [u8])]) -> Option<&'a [u8]>
     ensures { option_map (λ t. t.now) result ≡ option_and_then (λ link. virtual_digits (link.0.now, link.1.now)) (find (λ link. leads_to path.now (link.0.now, link.1.now)) links.now) }
 {
@@ -99,7 +99,7 @@ fn virtual_number<'a>(
     Ok(number_among(path, &links))
 }
 
-/// By which function names are told; `None` where the block does not tell of the physical one.
+/// By which function names are reported; `None` where the block does not say about the physical one.
 #[tactic(auto, unfolding(crate::specs::Virtual::named_function))]
 pub(crate) fn named_function<'d, 'a>(
     alloc: Global,

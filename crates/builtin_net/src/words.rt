@@ -14,7 +14,7 @@ use text_bytes::{decimal_below, is_digit};
 /// The greatest number of 32 bits.
 pub(crate) const MOST_NUMBER: u64 = u32::MAX as u64;
 
-/// What stands behind a beginning, where a text begins with it.
+/// What follows a beginning, where a text begins with it.
 #[tactic(auto, unfolding(crate::specs::Words::behind))]
 pub(crate) fn behind<'a>(front: &[u8], text: &'a [u8]) -> Option<&'a [u8]>
     ensures { option_map (λ t. t.now) result ≡ behind front.now text.now }
@@ -34,7 +34,7 @@ fn digit_count(text: &[u8]) -> usize
     text.iter().take_while(|byte| is_digit(**byte)).count()
 }
 
-/// What stands behind the digits that a text begins with.
+/// What follows the digits that a text begins with.
 pub(crate) fn behind_digits(text: &[u8]) -> &[u8]
     ensures { result.now ≡ behind_digits text.now }
 {
@@ -106,7 +106,7 @@ pub(crate) fn is_plain(text: &[u8]) -> bool
     is_utf8(text) && !has_control(text)
 }
 
-/// Puts a number behind a text, with letters before it.
+/// Puts a number after a text, with letters before it.
 pub(crate) fn push_number(text: &mut Vec<u8>, letters: &[u8], number: u64) -> Result<(), AllocError>
     ensures { OnOk result (text.new.items ≡ text.old.items ++ letters.now ++ decimal number) }
 {
@@ -125,7 +125,7 @@ pub(crate) fn positive(number: Option<u64>) -> Option<u64>
     Some(number)
 }
 
-/// A text with another behind it.
+/// A text with another after it.
 pub(crate) fn joined(alloc: Global, front: &[u8], behind: &[u8]) -> Result<Vec<u8>, AllocError>
     ensures { IfOk result (λ text. text.items ≡ front.now ++ behind.now) }
 {

@@ -13,7 +13,7 @@ use Rattle.builtin_devices.specs.Outcomes.{failing, succeeding}
 use Rattle.builtin_path.specs.Path.{is_whole, needs, path_id, properties_of, tag, tag_byte}
 use Rattle.builtin_path.specs.Way.{members_of, stops_of}
 
--- a text behind another one and the byte is told by the whole
+-- a text after another one and the byte is reported by the whole
 behind_byte : (c : ℕ) (text : List ℕ) (rest others : List ℕ) → text ++ c ∷ rest ≡ text ++ c ∷ others → rest ≡ others
 behind_byte c text rest others h = append_cancel_left (c ∷ []) rest others (append_cancel_left text (c ∷ rest) (c ∷ others) h)
 

@@ -13,7 +13,7 @@ skipped event is_begun (suc n) [] = refl
 skipped event is_begun zero (m ∷ above) = refl
 skipped event is_begun (suc n) (m ∷ above) = skipped event is_begun n above
 
--- one device more, behind which those are left that are not passed over
+-- one device more, after which those are left that are not passed over
 pub one_more : (event : EventValue) (is_begun begun : Bool) (m : DeviceValue) (above left : List DeviceValue) (before now : List Stop) (here : Stop)
     → here ≡ stop event is_begun m above → begun ≡ (is_begun || is_some here.part) → left ≡ drop (passed here.next above) above → now ≡ before ++ here ∷ []
     → now ++ stops_from event begun 0 left ≡ before ++ stops_from event is_begun 0 (m ∷ above)

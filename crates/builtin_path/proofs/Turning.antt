@@ -3,7 +3,7 @@ use Rattle.std.proofs.Common.{◌≡◌, List, [], ◌∷◌, ◌++◌, ◌∙�
 use Rattle.std.proofs.lemmas.Grind.{reverse_onto}
 use Rattle.std.proofs.lemmas.List.{map-append}
 
--- what stands at each place may be changed before a list is turned round, or after
+-- what is at each place may be changed before a list is turned round, or after
 pub turned : {A B : Type 0} (f : A → B) (xs : List A) → map f (reverse xs) ≡ reverse (map f xs)
 turned f [] = refl
 turned f (x ∷ xs) =

@@ -20,7 +20,7 @@ row subsystem members = prefix_len (is_in subsystem) members
 abbrev pub from_first : (DeviceValue → Bool) → List DeviceValue → List DeviceValue
 from_first test members = drop (prefix_len (λ m. not (test m)) members) members
 
--- the folder that a path stands in
+-- the folder that a path is in
 abbrev pub folder : Text → Text
 folder path = take (length path - (length (last_component path) + 1)) path
 

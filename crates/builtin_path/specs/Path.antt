@@ -59,7 +59,7 @@ is_whole event stops =
     && (list_any (λ s. s.parent) stops
     && is_reached event stops))
 
--- whether behind the place where `-usbv` stands a digit and `-` follow
+-- whether after the place where `-usbv` stands a digit and `-` follow
 abbrev pub is_revision : Text → ℕ → Bool
 is_revision text place = is_digit (slice_index text (place + 5)) && slice_index text (place + 6) == minus
 

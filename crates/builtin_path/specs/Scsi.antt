@@ -1,4 +1,4 @@
--- SCSI: the transport that the path of a device tells of, and what the device adds by it.
+-- SCSI: the transport that the path of a device says about, and what the device adds by it.
 use Rattle.std.specs.Prelude.{ℕ, ◌+◌, ◌-◌, ◌^◌, ◌==◌, ◌/◌, ◌%◌, Bool, false, true, not, ◌&&◌, nat_lt, List, [], ◌∷◌, ◌++◌, codes, decimal, drop, filter, filter_map, find, fold, if◌then◌else◌, is_some, length, min, Option, Some, None, option_and_then, option_map, slice_get, slice_index, take}
 use Rattle.std.specs.List.{concat, list_any, prefix_len}
 use Rattle.text_bytes.specs.Names.{close_brace, colon, minus, open_brace, slash}
@@ -20,7 +20,7 @@ use Rattle.builtin_path.specs.declared.stops.Next.TheVariants.{Fails, On}
 use Rattle.builtin_path.specs.declared.stops.Share.TheVariants.{Apart, Ata}
 use Rattle.builtin_path.specs.declared.stops.Stop.{Stop}
 
--- texts that stand in the path of a device, each with the transport that it tells of
+-- texts that are in the path of a device, each with the transport that it says about
 abbrev pub transports : List (Text × Transport)
 transports =
     (codes "/rport-", transport.FibreChannel)
@@ -31,7 +31,7 @@ transports =
     ∷ (codes "/VMBUS", transport.HyperVByAcpi)
     ∷ []
 
--- the transport that a path tells of: that of the first of these texts that stands in it
+-- the transport that a path says about: that of the first of these texts that is in it
 abbrev pub told_by : List (Text × Transport) → (path : Text) → Option Transport
 told_by [] path = None
 told_by (r ∷ rows) path = if contains r.0 path then Some r.1 else told_by rows path
@@ -39,7 +39,7 @@ told_by (r ∷ rows) path = if contains r.0 path then Some r.1 else told_by rows
 unfoldable pub transport_of : (path : Text) → Option Transport
 transport_of path = told_by transports path
 
--- the number before the first colon of a text, and what stands behind the colon
+-- the number before the first colon of a text, and what follows the colon
 unfoldable pub before_colon : Text → Option (ℕ × Text)
 before_colon text = option_and_then (λ cut. option_map (λ n. (n, cut.1)) (decimal_below (2 ^ 32) cut.0)) (split_once colon text)
 
@@ -100,7 +100,7 @@ abbrev pub wide_stop : DeviceValue → Option Text → Stop
 wide_stop m None = ending true true (codes "sas_address" ∷ [])
 wide_stop m (Some sas) = adding (concat (codes "sas-" ∷ sas ∷ codes "-" ∷ unit_text m ∷ [])) true true 0
 
--- SAS, at one phy: the number of the phy, behind an expander also its address
+-- SAS, at one phy: the number of the phy, after an expander also its address
 abbrev pub expander_start : Option Text → Text
 expander_start None = codes "sas-"
 expander_start (Some sas) = concat (codes "sas-exp" ∷ sas ∷ codes "-" ∷ [])
@@ -171,7 +171,7 @@ is_session m = begins (codes "session") (last_component m.path)
 unfoldable pub iscsi_stop : DeviceValue → List DeviceValue → Stop
 iscsi_stop m above = iscsi_by m (find is_session above)
 
--- ATA: the port above the host, and the target; with a bus that is not 0 the bus in its place, behind a multiplier
+-- ATA: the port above the host, and the target; with a bus that is not 0 the bus in its place, after a multiplier
 abbrev pub ata_place : Address → Text
 ata_place place = if place.bus == 0 then decimal place.target else concat (decimal place.bus ∷ codes ".0" ∷ [])
 
@@ -187,7 +187,7 @@ ata_by (Some place) above = ata_port_stop place (class_attribute_at (from_host a
 unfoldable pub ata_stop : DeviceValue → List DeviceValue → Stop
 ata_stop m above = ata_by (address m) above
 
--- what stands between braces at the start of a text of at least so many bytes, the braces among them, without `-`
+-- what is between braces at the start of a text of at least so many bytes, the braces among them, without `-`
 abbrev pub has_braces : ℕ → Text → Bool
 has_braces size text = begins_with open_brace text && slice_index text (size - 1) == close_brace
 
@@ -236,7 +236,7 @@ abbrev pub numbered_host_stop : Address → ℕ → Option ℕ → Stop
 numbered_host_stop place count None = record (passing true) { next = On count }
 numbered_host_stop place count (Some first) = adding (host_part place first) true false count
 
--- where the block does not tell of the host's own folder, it tells of none, and nothing is found out
+-- where the block does not say about the host's own folder, it says about none, and nothing is found out
 abbrev pub hosts_stop : Address → ℕ → (host : Text) → (hosts : List Text) → Stop
 hosts_stop place count host hosts =
     if is_among hosts host then numbered_host_stop place count (lowest hosts)

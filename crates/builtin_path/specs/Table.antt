@@ -43,7 +43,7 @@ manners =
     ∷ (codes "scsi_tape", manner.ScsiTape)
     ∷ []
 
--- what stands beside a subsystem in such a table
+-- what is beside a subsystem in such a table
 abbrev pub beside : List (Text × Manner) → Text → Option Manner
 beside [] subsystem = None
 beside (r ∷ rows) subsystem = if same_text r.0 subsystem then Some r.1 else beside rows subsystem
@@ -76,17 +76,17 @@ numbered_by subsystem start (Some digits) above = adding (concat (start ∷ digi
 abbrev pub numbered_stop : (subsystem start : Text) → DeviceValue → List DeviceValue → Stop
 numbered_stop subsystem start m above = numbered_by subsystem start (name_number (last_component m.path)) above
 
--- the number that a text begins with, and what stands behind it
+-- the number that a text begins with, and what follows it
 unfoldable pub leading_number : Text → Option (ℕ × Text)
 leading_number text =
     let digits = prefix_len is_digit text in
     option_map (λ n. (n, drop digits text)) (decimal_below (2 ^ 32) (take digits text))
 
--- what stands behind a start, where a text begins with it
+-- what follows a start, where a text begins with it
 abbrev pub behind : (start text : Text) → Option Text
 behind start text = if begins start text then Some (drop (length start) text) else None
 
--- the second number of a name that is a start, a number, a mark, and a number; what stands behind that does not count
+-- the second number of a name that is a start, a number, a mark, and a number; what follows that does not count
 unfoldable pub second_number : (start mark : Text) → (name : Text) → Option ℕ
 second_number start mark name =
     option_and_then (λ text.
@@ -107,7 +107,7 @@ bcma_stop m = second_by (codes "bcma-") (second_number (codes "bcma") (codes ":"
 abbrev pub cciss_stop : DeviceValue → List DeviceValue → Stop
 cciss_stop m above = second_by (codes "cciss-disk") (second_number (codes "c") (codes "d") (kernel_name m.path)) (row (codes "cciss") above)
 
--- names of tapes: one of the first two whole, or one of the others with anything behind it
+-- names of tapes: one of the first two whole, or one of the others with anything after it
 abbrev pub whole_tapes : List Text
 whole_tapes = codes "nst" ∷ codes "st" ∷ []
 

@@ -21,11 +21,11 @@ use Rattle.builtin_path.specs.declared.usb.Revision.TheVariants.{One, Two, Three
 abbrev pub is_at_port : DeviceValue → Bool
 is_at_port m = is_text (codes "usb_device") (type_of m) || is_text (codes "usb_interface") (type_of m)
 
--- the ports of a device, which its name has behind the number of the bus and a `-`; a root hub has none
+-- the ports of a device, which its name has after the number of the bus and a `-`; a root hub has none
 abbrev pub port_of : DeviceValue → Option Text
 port_of m = if is_at_port m then option_map (λ cut. cut.1) (split_once minus (kernel_name m.path)) else None
 
--- the last of the devices of USB that stand above one another: the root hub
+-- the last of the devices of USB that are above one another: the root hub
 abbrev pub root : DeviceValue → List DeviceValue → DeviceValue
 root m above = unwrap_or (slice_get (m ∷ above) (row (codes "usb") above)) m
 

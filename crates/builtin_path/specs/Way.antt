@@ -28,12 +28,12 @@ abbrev pub with_controller : EventValue → List DeviceValue → Option DeviceVa
 with_controller event members None = members
 with_controller event members (Some device) = take (below_subsystem members + 1) members ++ from_device event device
 
--- the devices of the way: the event device and those above it; of a disk of several ways what stands above its NVMe subsystem are the controller and
+-- the devices of the way: the event device and those above it; of a disk of several ways what is above its NVMe subsystem are the controller and
 -- the devices above that
 unfoldable pub members_of : EventValue → List DeviceValue
 members_of event = let members = from_device event event.device in with_controller event members (way_by event members (namespace event))
 
--- what the devices add, from the first on behind so many that are passed over
+-- what the devices add, from the first on after so many that are passed over
 abbrev pub stops_from : EventValue → (is_begun : Bool) → ℕ → List DeviceValue → List Stop
 stops_from event is_begun n [] = []
 stops_from event is_begun zero (m ∷ above) =

@@ -1,4 +1,6 @@
-//! The builtin path_id of udev: the path by which a device is reached, told by what stands above it.
+//! The builtin path_id of udev (systemd 257): the path of buses and ports that leads to a device.
+//!
+//! Functions that allocate return `AllocError` when memory runs out.
 #![tactic(auto)]
 
 mod laws;

@@ -28,7 +28,7 @@ impl<'d> Model for Member<'d> {
     ghost view = { λ m. m.device.now };
 }
 
-/// How many bytes stand behind the last slash of a path.
+/// How many bytes follow the last slash of a path.
 fn last_component_len(path: &[u8]) -> usize
     ensures value { result ≡ suffix_len (λ b. not (b == slash)) path.now }
     ensures within { result ≤ length path.now }
@@ -36,7 +36,7 @@ fn last_component_len(path: &[u8]) -> usize
     path.iter().rev().take_while(|byte| **byte != b'/').count()
 }
 
-/// What stands behind the last slash of a path.
+/// What follows the last slash of a path.
 pub(crate) fn last_component(path: &[u8]) -> &[u8]
     ensures value { result.now ≡ last_component path.now }
     ensures within { length result.now ≤ length path.now }
@@ -44,7 +44,7 @@ pub(crate) fn last_component(path: &[u8]) -> &[u8]
     path.split_at(path.len() - last_component_len(path)).1
 }
 
-/// The folder that a path stands in.
+/// The folder that a path is in.
 pub(crate) fn folder(path: &[u8]) -> &[u8]
     ensures { result.now ≡ folder path.now }
 {
@@ -68,7 +68,7 @@ impl<'d> Member<'d> {
         is_of(subsystem, Some(kind), self.device)
     }
 
-    /// What stands behind the last slash of its path: its name, as the kernel writes it in paths.
+    /// What follows the last slash of its path: its name, as the kernel writes it in paths.
     pub(crate) fn component(&self) -> &'d [u8]
         ensures { result.now ≡ last_component self.now.path }
     {

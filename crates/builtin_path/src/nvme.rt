@@ -50,7 +50,7 @@ fn link_told<'a>(
     Ok(file_at(event, link.as_slice()))
 }
 
-/// The controller of the disk among the links of its NVMe subsystem, where it is told.
+/// The controller of the disk among the links of its NVMe subsystem, where it is reported.
 #[tactic(auto, unfolding(crate::specs::Nvme::controller_told))]
 fn controller_told<'d>(
     alloc: Global,
@@ -69,7 +69,7 @@ fn controller_told<'d>(
     }
 }
 
-/// The controller of the disk, where it is told and no virtual device.
+/// The controller of the disk, where it is reported and no virtual device.
 pub(crate) fn controller<'d>(
     alloc: Global,
     devices: &'d Devices<'d>,
@@ -94,7 +94,7 @@ fn if_real<'d>(device: &'d Device<'d>) -> Option<&'d Device<'d>>
     }
 }
 
-/// What the block would have to tell of the controller: its name, if the disk has the name of one.
+/// What the block would have to say about the controller: its name, if the disk has the name of one.
 fn name_needed(alloc: Global, name: Option<&[u8]>) -> Result<OwnedTexts, AllocError>
     ensures { IfOk result (λ needs. needs ≡ name_needed (option_map (λ t. t.now) name.entry)) }
 {
@@ -104,7 +104,7 @@ fn name_needed(alloc: Global, name: Option<&[u8]>) -> Result<OwnedTexts, AllocEr
     }
 }
 
-/// What the block would have to tell of the controller.
+/// What the block would have to say about the controller.
 fn controller_needs(
     alloc: Global,
     devices: &Devices<'_>,

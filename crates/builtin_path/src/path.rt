@@ -163,7 +163,7 @@ fn is_whole(event: &Event<'_>, stops: &[Stop]) -> bool
     !has_failing(stops) && has_part(stops) && has_parent(stops) && is_reached(event, stops)
 }
 
-/// Whether a digit and `-` stand behind the place where `-usbv` stands.
+/// Whether a digit and `-` follow the place where `-usbv` stands.
 fn is_revision(text: &[u8], place: usize) -> bool
     requires { place < length text.now }
     ensures { result ≡ is_revision text.now place }
@@ -276,7 +276,7 @@ fn add_revision(
     }
 }
 
-/// A text without its revision of USB, which stands at a place, if at one.
+/// A text without its revision of USB, which is at a place, if at one.
 fn plain_path(alloc: Global, text: &[u8], place: Option<usize>) -> Result<Bytes, AllocError>
     requires { IfSome place (λ at. at < length text.now) }
     ensures { IfOk result (λ path. path ≡ plain_path text.now place) }
@@ -340,7 +340,7 @@ fn has_untyped(members: &[Member<'_>]) -> bool
     members.iter().any(|member| lacks_type(member))
 }
 
-/// What a block would have to tell of types.
+/// What a block would have to say about types.
 fn type_needs(alloc: Global, members: &[Member<'_>]) -> Result<OwnedTexts, AllocError>
     ensures { IfOk result (λ needs. needs ≡ type_needs members.now) }
 {
@@ -375,13 +375,14 @@ fn add_needs(alloc: Global, more: &[Vec<u8>], needs: &mut OwnedTexts) -> Result<
 
 /// What the builtin path_id of udev (systemd 257) makes of an event: the path by which its device is reached.
 ///
-/// It goes up from the event device, by the devices that the block tells of. Each device adds a part by its subsystem,
+/// It goes up from the event device, by the devices that the block says about. Each device adds a part by its
+/// subsystem,
 /// and the parts are joined by `-`, the highest first. It fails where no device adds a part, where none is a parent that
 /// is known, where a block device has no transport that is known, where the folders of hosts beside a SCSI host are not
-/// told, and where the controller of an NVMe disk of several ways is not told, or virtual.
+/// told, and where the controller of an NVMe disk of several ways is not reported, or virtual.
 ///
 /// `ID_PATH_WITH_USB_REVISION` is set where a port of USB tells its revision, then `ID_PATH` and `ID_PATH_TAG`, and
-/// `ID_PATH_ATA_COMPAT` behind a port of ATA. The error comes where memory is refused.
+/// `ID_PATH_ATA_COMPAT` after a port of ATA.
 pub fn path_id(alloc: Global, event: &Event<'_>) -> Result<Outcome, AllocError>
     ensures { IfOk result (λ outcome. outcome ≡ path_id event.now) }
 {

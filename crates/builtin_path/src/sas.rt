@@ -37,7 +37,7 @@ fn expander_start(alloc: Global, sas: Option<&[u8]>) -> Result<Bytes, AllocError
     }
 }
 
-/// What the block would have to tell of an expander.
+/// What the block would have to say about an expander.
 fn expander_needs(
     alloc: Global,
     expander: &Member<'_>,
@@ -69,7 +69,7 @@ fn phy_part(
     )
 }
 
-/// What a disk of SAS at one phy adds, by what stands above its port and the address of that, if it is an expander.
+/// What a disk of SAS at one phy adds, by what is above its port and the address of that, if it is an expander.
 fn expander_stop(
     alloc: Global,
     member: &Member<'_>,
@@ -86,7 +86,7 @@ fn expander_stop(
     Ok(stop)
 }
 
-/// What a disk of SAS at one phy adds, by what stands above its port.
+/// What a disk of SAS at one phy adds, by what is above its port.
 fn phy_stop(
     alloc: Global,
     member: &Member<'_>,

@@ -1,4 +1,4 @@
-//! SCSI: the transport that the path of a device tells of, its address and its unit, and what the device adds.
+//! SCSI: the transport that the path of a device says about, its address and its unit, and what the device adds.
 ghost use Rattle.std.specs.Prelude.{◌≡◌, ◌∷◌, ◌<◌, ◌^◌, [], codes, decimal, IfOk, IfSome, length, map, option_map};
 ghost use Rattle.std.specs.List.{concat};
 ghost use Rattle.builtin_path.specs.Members.{attribute};
@@ -32,7 +32,7 @@ pub enum Transport {
     HyperVByAcpi,
 }
 
-/// Texts that stand in the path of a device, each with the transport that it tells of.
+/// Texts that are in the path of a device, each with the transport that it says about.
 const TRANSPORTS: [(&[u8], Transport); 6] = [
     (b"/rport-", Transport::FibreChannel),
     (b"/end_device-", Transport::Sas),
@@ -61,7 +61,7 @@ pub struct Address {
     pub unit: u64,
 }
 
-/// What stands in a table beside the first text that stands in a path.
+/// What is in a table beside the first text that is in a path.
 fn told_by(rows: &[(&[u8], Transport)], path: &[u8]) -> Option<Transport>
     ensures { result ≡ told_by (map (λ row. (row.0.now, row.1)) rows.now) path.now }
 {
@@ -73,7 +73,7 @@ fn told_by(rows: &[(&[u8], Transport)], path: &[u8]) -> Option<Transport>
     None
 }
 
-/// The transport that a path tells of.
+/// The transport that a path says about.
 #[tactic(auto, unfolding(crate::specs::Scsi::transport_of))]
 fn transport_of(path: &[u8]) -> Option<Transport>
     ensures { result ≡ transport_of path.now }
@@ -81,7 +81,7 @@ fn transport_of(path: &[u8]) -> Option<Transport>
     told_by(&TRANSPORTS, path)
 }
 
-/// The number before the first colon of a text, and what stands behind the colon.
+/// The number before the first colon of a text, and what follows the colon.
 #[tactic(auto, unfolding(crate::specs::Scsi::before_colon))]
 fn before_colon(text: &[u8]) -> Option<(u64, &[u8])>
     ensures { option_map (λ p. (p.0, p.1.now)) result ≡ before_colon text.now }

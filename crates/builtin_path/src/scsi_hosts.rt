@@ -164,7 +164,7 @@ fn host_stop(
     hosts_stop(alloc, place, count, host.component(), &hosts)
 }
 
-/// What a device adds whose path tells of no transport.
+/// What a device adds whose path says about no transport.
 #[tactic(auto, unfolding(crate::specs::Scsi::other_stop))]
 pub(crate) fn other_stop(
     alloc: Global,

@@ -59,7 +59,7 @@ fn portal_attribute<'d>(
     Ok(session.attribute(path.as_slice()))
 }
 
-/// What the block would have to tell of a portal.
+/// What the block would have to say about a portal.
 fn portal_needs(
     alloc: Global,
     address: Option<&[u8]>,
@@ -225,7 +225,7 @@ fn has_braces(size: usize, text: &[u8]) -> bool
     begins_with(b'{', text) && text.get(size - 1) == Some(&b'}')
 }
 
-/// What stands between the braces, without `-`.
+/// What is between the braces, without `-`.
 fn braced(alloc: Global, size: usize, text: &[u8]) -> Result<Bytes, AllocError>
     ensures { IfOk result (λ bytes. bytes ≡ braced size text.now) }
 {

@@ -69,7 +69,7 @@ pub(crate) fn needed(alloc: Global, name: &[u8]) -> Result<OwnedTexts, AllocErro
     Ok(needs)
 }
 
-/// The way ends at a device behind a transport whose parent is known, as a name is not told.
+/// The way ends at a device after a transport whose parent is known, as a name is not reported.
 pub(crate) fn lost(alloc: Global, name: &[u8], parent: bool) -> Result<Stop, AllocError>
     ensures { IfOk result (λ stop. stop ≡ ending true parent (name.now ∷ [])) }
 {

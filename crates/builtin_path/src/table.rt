@@ -82,7 +82,7 @@ const BEGUN_TAPES: [&[u8]; 6] = [b"nstl", b"nstm", b"nsta", b"stl", b"stm", b"st
 /// What the numbers of a name are below.
 const NUMBERS: u64 = 1 << 32;
 
-/// What stands beside a subsystem in a table.
+/// What is beside a subsystem in a table.
 fn beside(rows: &[(&[u8], Manner)], subsystem: &[u8]) -> Option<Manner>
     ensures { result ≡ beside (map (λ row. (row.0.now, row.1)) rows.now) subsystem.now }
 {
@@ -179,7 +179,7 @@ fn leading_digits(text: &[u8]) -> usize
     text.iter().take_while(|byte| is_digit(**byte)).count()
 }
 
-/// The number that a text begins with, and what stands behind it.
+/// The number that a text begins with, and what follows it.
 #[tactic(auto, unfolding(crate::specs::Table::leading_number))]
 fn leading_number(text: &[u8]) -> Option<(u64, &[u8])>
     ensures { option_map (λ p. (p.0, p.1.now)) result ≡ leading_number text.now }
@@ -188,7 +188,7 @@ fn leading_number(text: &[u8]) -> Option<(u64, &[u8])>
     Some((decimal_below(NUMBERS, digits)?, behind))
 }
 
-/// What stands behind a start, where a text begins with it.
+/// What follows a start, where a text begins with it.
 fn behind<'t>(start: &[u8], text: &'t [u8]) -> Option<&'t [u8]>
     ensures { option_map (λ t. t.now) result ≡ behind start.now text.now }
 {

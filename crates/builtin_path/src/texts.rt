@@ -22,7 +22,7 @@ pub(crate) fn first_bytes(count: usize, text: &[u8]) -> &[u8]
     text.get(..count).unwrap_or(text)
 }
 
-/// Whether a text stands at a place of another one.
+/// Whether a text is at a place of another one.
 fn stands_at(wanted: &[u8], text: &[u8], place: usize) -> bool
     ensures { result ≡ stands_at wanted.now text.now place }
 {
@@ -38,7 +38,7 @@ pub(crate) fn first_place(wanted: &[u8], text: &[u8]) -> Option<usize>
     (0..text.len()).position(|place| stands_at(wanted, text, place))
 }
 
-/// Whether a text stands in another one.
+/// Whether a text is in another one.
 #[tactic(auto, unfolding(crate::specs::Texts::contains))]
 pub(crate) fn contains(wanted: &[u8], text: &[u8]) -> bool
     ensures { result ≡ contains wanted.now text.now }
@@ -58,7 +58,7 @@ pub(crate) fn is_among(texts: &[&[u8]], text: &[u8]) -> bool
     false
 }
 
-/// Texts one behind another.
+/// Texts one after another.
 pub(crate) fn concatenated(alloc: Global, texts: &[&[u8]]) -> Result<Bytes, AllocError>
     ensures { IfOk result (λ whole. whole ≡ concat (map (λ t. t.now) texts.now)) }
 {

@@ -32,7 +32,7 @@ fn is_at_port(member: &Member<'_>) -> bool
     is_text(b"usb_device", kind) || is_text(b"usb_interface", kind)
 }
 
-/// What stands behind the first `-` of a name.
+/// What follows the first `-` of a name.
 fn behind_bus(alloc: Global, name: &[u8]) -> Result<Option<Bytes>, AllocError>
     ensures { IfOk result (λ port. port ≡ option_map (λ cut. cut.1) (split_once minus name.now)) }
 {
@@ -42,7 +42,7 @@ fn behind_bus(alloc: Global, name: &[u8]) -> Result<Option<Bytes>, AllocError>
     }
 }
 
-/// The ports of a device, which its name has behind the number of the bus and a `-`.
+/// The ports of a device, which its name has after the number of the bus and a `-`.
 fn port_of(alloc: Global, member: &Member<'_>) -> Result<Option<Bytes>, AllocError>
     ensures { IfOk result (λ port. port ≡ port_of member.now) }
 {
@@ -53,7 +53,7 @@ fn port_of(alloc: Global, member: &Member<'_>) -> Result<Option<Bytes>, AllocErr
     behind_bus(alloc, name.as_slice())
 }
 
-/// The last of the devices of USB that stand above one another, the first of which is given: the root hub.
+/// The last of the devices of USB that are above one another, the first of which is given: the root hub.
 fn root<'m, 'd>(member: &'m Member<'d>, above: &'m [Member<'d>]) -> &'m Member<'d>
     ensures { result.now ≡ root member.now above.now }
 {

@@ -57,7 +57,7 @@ fn way_by<'d>(
     }
 }
 
-/// The devices up to the first NVMe subsystem, and others behind them.
+/// The devices up to the first NVMe subsystem, and others after them.
 fn going_on<'d>(
     mut members: Vec<Member<'d>>,
     others: Vec<Member<'d>>,

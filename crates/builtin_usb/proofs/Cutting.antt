@@ -43,7 +43,7 @@ pub consed : {X : Type 0} (o : Option X) (xs : List X) → cons_option o xs ≡ 
 consed None xs = refl
 consed (Some x) xs = refl
 
--- the interfaces of what is left, and of what is left behind the first descriptor
+-- the interfaces of what is left, and of what is left after the first descriptor
 pub told_first : (longest : ℕ) (text left : List ℕ) (held new whole : List Interface) → 9 < length text → 3 ≤ get_or text 0 0 → get_or text 0 0 ≤ longest
     → left ≡ drop (get_or text 0 0) text → new ≡ held ++ option_to_list (interface_of text)
     → held ++ filter_map interface_of (descriptors longest 0 text).from ≡ whole → new ++ filter_map interface_of (descriptors longest 0 left).from ≡ whole
@@ -55,13 +55,13 @@ told_first longest text left held new whole more some fits cut e due =
     let same : told text ≡ one ++ told left = first ∙ ap (λ (rest : List ℕ). one ++ told rest) (sym cut) in
     ap (λ (l : List Interface). l ++ told left) e ∙ append_assoc held one (told left) ∙ ap (λ (l : List Interface). held ++ l) (sym same) ∙ due
 
--- how what is left ends, and what is left behind the first descriptor
+-- how what is left ends, and what is left after the first descriptor
 pub ends_alike : (longest : ℕ) (text left : List ℕ) (whole : Bool) → 9 < length text → 3 ≤ get_or text 0 0 → get_or text 0 0 ≤ longest
     → left ≡ drop (get_or text 0 0) text → (descriptors longest 0 text).is_closed ≡ whole → (descriptors longest 0 left).is_closed ≡ whole
 ends_alike longest text left whole more some fits cut due =
     ap (λ (rest : List ℕ). (descriptors longest 0 rest).is_closed) cut ∙ sym (ap (λ (d : Descriptors). d.is_closed) (next longest text more some fits)) ∙ due
 
--- where no descriptor counts, all interfaces are told, and they end as `is_closed` says
+-- where no descriptor counts, all interfaces are reported, and they end as `is_closed` says
 pub all_told : (longest : ℕ) (text : List ℕ) (held whole : List Interface) (is_closed : Bool) → descriptors longest 0 text ≡ ending is_closed
     → held ++ filter_map interface_of (descriptors longest 0 text).from ≡ whole → held ≡ whole
 all_told longest text held whole is_closed ends due =

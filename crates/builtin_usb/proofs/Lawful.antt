@@ -33,7 +33,7 @@ few_more (i ∷ more) found few = few_more more (with_interface found i) (few_by
 pub few_told : (file : List ℕ) → length (interfaces file) ≤ 72
 few_told file = few_more (filter_map interface_of (descriptors_of file).from) [] (omega arith)
 
--- a text ends in a colon that stands behind it
+-- a text ends in a colon that follows it
 ends_so : (xs : List ℕ) → ends_in colon (xs ++ colon ∷ []) ≡ true
 ends_so [] = refl
 ends_so (x ∷ xs) =
@@ -57,7 +57,7 @@ pub stands_in_colons : (file : List ℕ) → StandsInColons file
 unfolding packed
 stands_in_colons file = within (nat_lt (length file) 18) (interfaces file) (descriptors_of file).is_closed
 
--- the same properties behind both prefixes, by rows
+-- the same properties after both prefixes, by rows
 twice_row : (name : Text) (value : Option Text) (usb own : List Pair) → usb ≡ map as_usb own
     → cons_option (option_map (λ v. (codes "ID_USB_" ++ name, v)) value) usb ≡ map as_usb (cons_option (option_map (λ v. (codes "ID_" ++ name, v)) value) own)
 twice_row name None usb own e = e
@@ -70,7 +70,7 @@ twice (row ∷ pairs) = twice_row row.0 row.1 (named (codes "ID_USB_") pairs) (n
 pub told_twice : (i : IdentityValue) → ToldTwice i
 told_twice i = twice (rows i)
 
--- a name that behind ID_ does not begin with ID_USB_
+-- a name that after ID_ does not begin with ID_USB_
 abbrev other_name : Text × Option Text → Bool
 other_name row = not (starts_with nat_eq (codes "ID_" ++ row.0) (codes "ID_USB_"))
 
@@ -87,7 +87,7 @@ none_row : (name : Text) (value : Option Text) (own : List Pair) → not (starts
 none_row name None own other e = e
 none_row name (Some v) own other e = passed (starts_with nat_eq (codes "ID_" ++ name) (codes "ID_USB_")) (codes "ID_" ++ name, v) (filter is_usb own) other e
 
--- rows with other names tell nothing behind ID_USB_
+-- rows with other names tell nothing after ID_USB_
 none_usb : (pairs : List (Text × Option Text)) → list_all other_name pairs ≡ true → filter is_usb (named (codes "ID_") pairs) ≡ []
 none_usb [] h = refl
 none_usb (row ∷ pairs) h =

@@ -1,4 +1,4 @@
--- What a USB device says of itself, and the properties that tell of it.
+-- What a USB device says of itself, and the properties that say about it.
 use Rattle.std.specs.Prelude.{ℕ, Bool, true, not, ◌&&◌, nat_le, ◌==◌, List, [], ◌∷◌, ◌++◌, take, Option, Some, None, unwrap_or, option_map, filter_map, codes, if◌then◌else◌}
 use Rattle.std.specs.List.{list_all}
 use Rattle.text_bytes.specs.Names.{comma, delete, minus, space, underscore}
@@ -23,28 +23,28 @@ pub record IdentityValue : Type 0 where
   pub kind : Text
   pub instance : Text
 
--- the most bytes of a vendor, a model or a revision that are told, and of a serial number
+-- the most bytes of a vendor, a model or a revision that are reported, and of a serial number
 abbrev pub most_bytes : ℕ
 most_bytes = 63
 
 abbrev pub most_serial_bytes : ℕ
 most_serial_bytes = 511
 
--- a text as it is told: of so many bytes at its start, the words with `_` between them, without the bytes that a link may not have
+-- a text as it is reported: of so many bytes at its start, the words with `_` between them, without the bytes that a link may not have
 unfoldable pub shown : (most : ℕ) → Text → Text
 shown most text = safe value_marks (underscored (take most text))
 
--- the first of two texts where something of it is told, else the second
+-- the first of two texts where something of it is reported, else the second
 abbrev pub from_first : Option Text → Text → Text
 from_first None other = other
 from_first (Some text) other = if is_empty (shown most_bytes text) then other else text
 
--- whether nothing is told of a text, or there is none
+-- whether nothing is reported for a text, or there is none
 abbrev pub says_nothing : Option Text → Bool
 says_nothing None = true
 says_nothing (Some text) = is_empty (shown most_bytes text)
 
--- whether a serial number may have a byte: a space, a letter, a digit or a sign of ASCII, or the byte behind these, but no comma
+-- whether a serial number may have a byte: a space, a letter, a digit or a sign of ASCII, or the byte after these, but no comma
 abbrev pub may_number : ℕ → Bool
 may_number b = nat_le space b && nat_le b delete && not (b == comma)
 
@@ -73,11 +73,11 @@ known_by device unit kind (Some vendor_id) None = None
 known_by device unit kind (Some vendor_id) (Some model_id) = Some (known_as device unit kind vendor_id model_id)
 
 -- What is known of a USB device, with a SCSI device that is asked and the kind that ID_TYPE tells. Texts of the SCSI device go before its own, and
--- the numbers stand in for texts that are absent. Without either number nothing is known.
+-- the numbers are in for texts that are absent. Without either number nothing is known.
 abbrev pub identity_of : DeviceValue → UnitValue → (kind : Text) → Option IdentityValue
 identity_of device unit kind = known_by device unit kind (attribute device (codes "idVendor")) (attribute device (codes "idProduct"))
 
--- a text behind a mark, and nothing where it is empty
+-- a text after a mark, and nothing where it is empty
 abbrev pub marked : (mark : ℕ) → Text → Text
 marked mark text = if is_empty text then [] else mark ∷ text
 
@@ -87,7 +87,7 @@ all_texts i =
     shown most_bytes i.vendor ++ underscore ∷ shown most_bytes i.model ++ marked underscore (shown most_serial_bytes i.serial)
     ++ marked minus i.instance
 
--- ID_SERIAL: that text, of which 255 bytes are told
+-- ID_SERIAL: that text, of which 255 bytes are reported
 unfoldable pub full_serial : IdentityValue → Text
 full_serial i = take 255 (all_texts i)
 
@@ -95,7 +95,7 @@ full_serial i = take 255 (all_texts i)
 abbrev pub unless_empty : Text → Option Text
 unless_empty text = if is_empty text then None else Some text
 
--- names behind a prefix, and the values that are set, an empty one to take the property away
+-- names after a prefix, and the values that are set, an empty one to take the property away
 unfoldable pub rows : IdentityValue → List (Text × Option Text)
 rows i =
     (codes "MODEL", Some (shown most_bytes i.model))
@@ -111,10 +111,10 @@ rows i =
     ∷ (codes "INSTANCE", unless_empty i.instance)
     ∷ []
 
--- a row as a property behind a prefix, if it has a value
+-- a row as a property after a prefix, if it has a value
 abbrev pub row_named : (prefix : Text) → Text × Option Text → Option Pair
 row_named prefix row = option_map (λ value. (prefix ++ row.0, value)) row.1
 
--- rows as properties behind a prefix
+-- rows as properties after a prefix
 abbrev pub named : (prefix : Text) → List (Text × Option Text) → List Pair
 named prefix pairs = filter_map (row_named prefix) pairs

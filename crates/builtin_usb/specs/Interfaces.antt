@@ -15,11 +15,11 @@ device_bytes = 18
 abbrev pub interface_bytes : ℕ
 interface_bytes = 9
 
--- the most interfaces that are told
+-- the most interfaces that are reported
 abbrev pub most_interfaces : ℕ
 most_interfaces = 72
 
--- the descriptors of a file, each with all that stands behind it, and whether they end as they should
+-- the descriptors of a file, each with all that follows it, and whether they end as they should
 pub record Descriptors : Type 0 where
   pub from : List Text
   pub is_closed : Bool
@@ -32,7 +32,7 @@ ending is_closed = record { from = []; is_closed = is_closed }
 abbrev pub in_front : Text → Descriptors → Descriptors
 in_front text others = record { from = text ∷ others.from; is_closed = others.is_closed }
 
--- The descriptors of a text behind its first bytes, so many as are passed over. The first byte of a descriptor is its length. One counts where more
+-- The descriptors of a text after its first bytes, so many as are passed over. The first byte of a descriptor is its length. One counts where more
 -- bytes are left, from its start on, than an interface has. A length below 3 ends them, and so does one over the longest, which is no good end.
 abbrev pub descriptors : (longest passed : ℕ) → Text → Descriptors
 descriptors longest passed [] = ending true
@@ -46,7 +46,7 @@ descriptors longest zero (b ∷ text) =
 abbrev pub descriptors_of : Text → Descriptors
 descriptors_of file = descriptors (length file - interface_bytes) 0 file
 
--- the interface that a descriptor tells of: that of kind 4, by the bytes 5 to 7 from its start on, which need not be its own
+-- the interface that a descriptor says about: that of kind 4, by the bytes 5 to 7 from its start on, which need not be its own
 abbrev pub interface_of : Text → Option Interface
 interface_of text = if slice_index text 1 == 4 then Some (record { class = slice_index text 5; subclass = slice_index text 6; protocol = slice_index text 7 }) else None
 
@@ -54,11 +54,11 @@ interface_of text = if slice_index text 1 == 4 then Some (record { class = slice
 abbrev pub same_interface : Interface → Interface → Bool
 same_interface a b = a.class == b.class && (a.subclass == b.subclass && a.protocol == b.protocol)
 
--- one more interface, unless there is one of its kind, or there are as many as are told
+-- one more interface, unless there is one of its kind, or there are as many as are reported
 abbrev pub with_interface : List Interface → Interface → List Interface
 with_interface found interface = if nat_lt (length found) most_interfaces && not (list_any (same_interface interface) found) then found ++ interface ∷ [] else found
 
--- the interfaces of a file that are told, each once
+-- the interfaces of a file that are reported, each once
 abbrev pub interfaces : Text → List Interface
 interfaces file = fold with_interface [] (filter_map interface_of (descriptors_of file).from)
 
@@ -66,15 +66,15 @@ interfaces file = fold with_interface [] (filter_map interface_of (descriptors_o
 abbrev pub two_digits : ℕ → Text
 two_digits b = slice_index small_digits (b / 16) ∷ slice_index small_digits (b % 16) ∷ []
 
--- an interface as it is told: a colon and six digits
+-- an interface as it is reported: a colon and six digits
 abbrev pub written : Interface → Text
 written interface = colon ∷ two_digits interface.class ++ two_digits interface.subclass ++ two_digits interface.protocol
 
--- a colon behind interfaces, where there are some and they end as they should
+-- a colon after interfaces, where there are some and they end as they should
 abbrev pub closing : List Interface → Bool → Text
 closing found is_closed = if not (is_empty found) && is_closed then colon ∷ [] else []
 
--- Interfaces in one text, with a colon behind where all descriptors were read or as many interfaces were found as are told.
+-- Interfaces in one text, with a colon after where all descriptors were read or as many interfaces were found as are reported.
 abbrev pub joined : List Interface → Bool → Text
 joined found is_closed = flat_map written found ++ closing found (is_closed || length found == most_interfaces)
 

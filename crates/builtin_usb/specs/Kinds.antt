@@ -44,7 +44,7 @@ unit_kinds =
     ∷ (15, codes "optical")
     ∷ []
 
--- the kind that stands beside a number, and `generic` for a number that has none
+-- the kind that is beside a number, and `generic` for a number that has none
 abbrev pub kind_beside : List (ℕ × Text) → ℕ → Text
 kind_beside [] number = codes "generic"
 kind_beside (row ∷ rows) number = if row.0 == number then row.1 else kind_beside rows number
@@ -79,7 +79,7 @@ is_storage interface = is_number 8 (class_of interface)
 abbrev pub takes_scsi : (interface : DeviceValue) → Bool
 takes_scsi interface = is_storage interface && (is_number 2 (subclass_of interface) || is_number 6 (subclass_of interface))
 
--- the kind of storage, by the text of the subclass; empty where it is not told
+-- the kind of storage, by the text of the subclass; empty where it is not reported
 abbrev pub storage_kind : Option Text → Text
 storage_kind None = []
 storage_kind (Some text) = kind_in storage_kinds (subclass_number text)
@@ -90,7 +90,7 @@ interface_kind interface =
     if is_storage interface then storage_kind (attribute interface (codes "bInterfaceSubClass"))
     else kind_in class_kinds (class_of interface)
 
--- what ID_TYPE says: by the type of the SCSI device where it is told, else by the interface; empty where there is neither
+-- what ID_TYPE says: by the type of the SCSI device where it is reported, else by the interface; empty where there is neither
 abbrev pub told_kind : (interface : Option DeviceValue) → (unit_type : Option Text) → Text
 told_kind interface (Some text) = kind_in unit_kinds (number_in AsWritten (2 ^ 32 - 1) text)
 told_kind None None = []

@@ -17,7 +17,7 @@ as_usb pair = (codes "ID_USB_" ++ drop 3 pair.0, pair.1)
 abbrev pub is_usb : Pair → Bool
 is_usb pair = starts_with nat_eq pair.0 (codes "ID_USB_")
 
--- what is told behind ID_ is told behind ID_USB_, too, with the same values in the same order
+-- what is reported after ID_ is reported after ID_USB_, too, with the same values in the same order
 abbrev pub ToldTwice : IdentityValue → Type 0
 ToldTwice i = named (codes "ID_USB_") (rows i) ≡ map as_usb (named (codes "ID_") (rows i))
 

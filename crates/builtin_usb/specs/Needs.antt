@@ -16,7 +16,7 @@ use Rattle.builtin_usb.specs.Units.{UnitValue, target_and_unit, unit_texts}
 abbrev pub is_untyped : (subsystem : Text) → DeviceValue → Bool
 is_untyped subsystem device = is_text subsystem device.subsystem && is_none (type_of device)
 
--- whether one of these devices that is of a subsystem and tells no type stands before the first of that subsystem and a type
+-- whether one of these devices that is of a subsystem and tells no type comes before the first of that subsystem and a type
 abbrev pub untyped_among : (subsystem kind : Text) → List DeviceValue → Bool
 untyped_among subsystem kind [] = false
 untyped_among subsystem kind (device ∷ devices) =

@@ -1,4 +1,4 @@
--- Which devices usb_id tells of.
+-- Which devices usb_id says about.
 use Rattle.std.specs.Prelude.{Bool, Option, Some, None, is_some, codes, if◌then◌else◌}
 use Rattle.std.specs.Option.{option_and_then}
 use Rattle.device_core.specs.Values.{DeviceValue, EventValue}

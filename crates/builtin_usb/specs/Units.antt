@@ -22,15 +22,15 @@ pub record UnitValue : Type 0 where
 abbrev pub silent : UnitValue
 silent = record { vendor = None; model = None; kind = None; revision = None; instance = None }
 
--- a number below 2^32 and what stands behind the colon that ends it
+-- a number below 2^32 and what follows the colon that ends it
 abbrev pub with_number : Pair → Option (ℕ × Text)
 with_number parts = option_map (λ number. (number, parts.1)) (decimal_below (2 ^ 32) parts.0)
 
--- the number before the first colon of a text, and what stands behind the colon
+-- the number before the first colon of a text, and what follows the colon
 unfoldable pub before_colon : Text → Option (ℕ × Text)
 before_colon text = option_and_then with_number (split_once colon text)
 
--- the target, and the unit behind it
+-- the target, and the unit after it
 abbrev pub with_unit : ℕ × Text → Option (ℕ × ℕ)
 with_unit target = option_map (λ unit. (target.0, unit)) (decimal_below (2 ^ 32) target.1)
 
@@ -39,11 +39,11 @@ unfoldable pub target_and_unit : (kernel : Text) → Option (ℕ × ℕ)
 target_and_unit kernel =
     option_and_then (λ host. option_and_then (λ bus. option_and_then with_unit (before_colon bus.1)) (before_colon host.1)) (before_colon kernel)
 
--- a target and a unit as they are told
+-- a target and a unit as they are reported
 abbrev pub instance_text : (target unit : ℕ) → Text
 instance_text target unit = decimal target ++ colon ∷ decimal unit
 
--- The texts of a SCSI device with an instance. They are read in this order, and what stands behind the first that is absent does not count.
+-- The texts of a SCSI device with an instance. They are read in this order, and what follows the first that is absent does not count.
 abbrev pub texts_of : DeviceValue → (instance : Text) → UnitValue
 texts_of unit instance =
     let vendor = attribute unit (codes "vendor") in

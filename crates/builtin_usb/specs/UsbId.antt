@@ -30,7 +30,7 @@ number_text interface = attribute interface (codes "bInterfaceNumber")
 abbrev pub driver_text : (interface : DeviceValue) → Option Text
 driver_text interface = interface.driver
 
--- what stands only behind ID_USB_
+-- what stands only after ID_USB_
 unfoldable pub rows_apart : (interfaces : Text) → (number driver : Option Text) → List (Text × Option Text)
 rows_apart interfaces number driver =
     (codes "INTERFACES", unless_empty interfaces)
@@ -42,7 +42,7 @@ rows_apart interfaces number driver =
 abbrev pub own_rows : EventValue → (interface device : Option DeviceValue) → List (Text × Option Text)
 own_rows event interface device = rows_apart (interfaces_text event device) (option_and_then number_text interface) (option_and_then driver_text interface)
 
--- the bus, and what is told behind ID_ where no bus was told before
+-- the bus, and what is reported after ID_ where no bus was reported before
 abbrev pub bus_properties : IdentityValue → List Pair
 bus_properties i = (codes "ID_BUS", codes "usb") ∷ named (codes "ID_") (rows i)
 

@@ -12,10 +12,10 @@ use std::marker::Model;
 use text_bytes::Bytes;
 use text_links::{underscored, value_safe};
 
-/// The most bytes of a vendor, a model or a revision that are told.
+/// The most bytes of a vendor, a model or a revision that are reported.
 const MOST_BYTES: usize = 63;
 
-/// The most bytes of a serial number that are told.
+/// The most bytes of a serial number that are reported.
 const MOST_SERIAL_BYTES: usize = 511;
 
 /// The most bytes of vendor, model, serial number and instance in one text.
@@ -43,7 +43,7 @@ impl<'a> Model for Identity<'a> {
     ghost view = { λ i. record { vendor = i.vendor.now; vendor_id = i.vendor_id.now; model = i.model.now; model_id = i.model_id.now; revision = i.revision.now; serial = i.serial.now; kind = i.kind.now; instance = i.instance } };
 }
 
-/// A text as it is told, of so many bytes at its start. The error comes where memory is refused.
+/// A text as it is reported, of so many bytes at its start.
 #[tactic(auto, unfolding(crate::specs::Identities::shown), using(std::proofs::lemmas::List::take_min))]
 fn shown_of(alloc: Global, most: usize, text: &[u8]) -> Result<Vec<u8>, AllocError>
     ensures { IfOk result (λ made. made.items ≡ shown most text.now) }
@@ -52,21 +52,21 @@ fn shown_of(alloc: Global, most: usize, text: &[u8]) -> Result<Vec<u8>, AllocErr
     value_safe(alloc, &word)
 }
 
-/// A vendor, a model or a revision as it is told. The error comes where memory is refused.
+/// A vendor, a model or a revision as it is reported.
 pub(crate) fn shown(alloc: Global, text: &[u8]) -> Result<Vec<u8>, AllocError>
     ensures { IfOk result (λ made. made.items ≡ shown most_bytes text.now) }
 {
     shown_of(alloc, MOST_BYTES, text)
 }
 
-/// A serial number as it is told. The error comes where memory is refused.
+/// A serial number as it is reported.
 pub(crate) fn shown_serial(alloc: Global, text: &[u8]) -> Result<Vec<u8>, AllocError>
     ensures { IfOk result (λ made. made.items ≡ shown most_serial_bytes text.now) }
 {
     shown_of(alloc, MOST_SERIAL_BYTES, text)
 }
 
-/// The first of two texts where something of it is told, else the second.
+/// The first of two texts where something of it is reported, else the second.
 fn from_first<'a>(
     alloc: Global,
     first: Option<&'a [u8]>,
@@ -95,7 +95,7 @@ fn text_or<'a>(text: Option<&'a [u8]>, other: &'a [u8]) -> &'a [u8]
     }
 }
 
-/// Whether nothing is told of a text, or there is none. The error comes where memory is refused.
+/// Whether nothing is reported for a text, or there is none.
 pub(crate) fn says_nothing(alloc: Global, text: Option<&[u8]>) -> Result<bool, AllocError>
     ensures { IfOk result (λ nothing. nothing ≡ says_nothing (option_map (λ t. t.now) text.entry)) }
 {
@@ -129,7 +129,7 @@ fn serial_of<'a>(text: Option<&'a [u8]>) -> &'a [u8]
     }
 }
 
-/// The instance of a SCSI device, empty where there is none. The error comes where memory is refused.
+/// The instance of a SCSI device, empty where there is none.
 fn instance_of(alloc: Global, unit: &Unit<'_>) -> Result<Bytes, AllocError>
     ensures { IfOk result (λ instance. instance ≡ unwrap_or unit.now.instance []) }
 {
@@ -183,8 +183,7 @@ fn known_as<'a>(
     })
 }
 
-/// What is known of a USB device with a SCSI device that is asked: `None` where its vendor or its product has no number. The
-/// error comes where memory is refused.
+/// What is known of a USB device with a SCSI device that is asked: `None` where its vendor or its product has no number.
 pub(crate) fn identity_of<'a>(
     alloc: Global,
     device: &Device<'a>,
@@ -203,7 +202,7 @@ pub(crate) fn identity_of<'a>(
     Ok(Some(identity))
 }
 
-/// Puts a text that is not empty behind another, with a mark in between.
+/// Puts a text that is not empty after another, with a mark in between.
 fn push_marked(made: &mut Vec<u8>, mark: u8, text: &[u8]) -> Result<(), AllocError>
     ensures { OnOk result (made.new.items ≡ made.old.items ++ marked mark text.now) }
 {
@@ -214,7 +213,7 @@ fn push_marked(made: &mut Vec<u8>, mark: u8, text: &[u8]) -> Result<(), AllocErr
     Ok(())
 }
 
-/// Vendor, model, serial number and instance in one text, whatever its length. The error comes where memory is refused.
+/// Vendor, model, serial number and instance in one text, whatever its length.
 fn all_texts(alloc: Global, identity: &Identity<'_>) -> Result<Vec<u8>, AllocError>
     ensures { IfOk result (λ made. made.items ≡ all_texts identity.now) }
 {
@@ -228,7 +227,7 @@ fn all_texts(alloc: Global, identity: &Identity<'_>) -> Result<Vec<u8>, AllocErr
     Ok(made)
 }
 
-/// ID_SERIAL, at most 255 bytes. The error comes where memory is refused.
+/// ID_SERIAL, at most 255 bytes.
 #[tactic(auto, unfolding(crate::specs::Identities::full_serial))]
 pub(crate) fn full_serial(alloc: Global, identity: &Identity<'_>) -> Result<Vec<u8>, AllocError>
     ensures { IfOk result (λ made. made.items ≡ full_serial identity.now) }

@@ -54,7 +54,7 @@ pub(crate) fn attribute<'a>(device: &Device<'a>, name: &[u8]) -> Option<&'a [u8]
     device.attrs().get(name)
 }
 
-/// The kind that stands beside a number.
+/// The kind that is beside a number.
 fn kind_beside(rows: &[(u64, &'static [u8])], number: u64) -> &'static [u8]
     ensures { result.now ≡ kind_beside (map (λ row. (row.0, row.1.now)) rows.now) number }
 {
@@ -123,7 +123,7 @@ pub(crate) fn takes_scsi(interface: &Device<'_>) -> bool
     is_storage(interface) && (is_number(ATAPI, subclass) || is_number(SCSI, subclass))
 }
 
-/// The kind of storage, empty where the subclass is not told.
+/// The kind of storage, empty where the subclass is not reported.
 fn storage_kind(subclass: Option<&[u8]>) -> &'static [u8]
     ensures { result.now ≡ storage_kind (option_map (λ t. t.now) subclass.entry) }
 {

@@ -12,7 +12,7 @@ pub fn serials_are_short()
     ensures { (i : IdentityValue) → length (full_serial i) ≤ 255 }
 {}
 
-/// At most 72 interfaces are told.
+/// At most 72 interfaces are reported.
 pub fn interfaces_are_few()
     ensures { (file : List ℕ) → length (interfaces file) ≤ most_interfaces }
 {}
@@ -22,7 +22,7 @@ pub fn interfaces_stand_in_colons()
     ensures { (file : List ℕ) → StandsInColons file }
 {}
 
-/// What is told behind `ID_` is told behind `ID_USB_`, too, with the same values in the same order.
+/// What is reported after `ID_` is reported after `ID_USB_`, too, with the same values in the same order.
 pub fn properties_are_told_twice()
     ensures { (i : IdentityValue) → ToldTwice i }
 {}

@@ -1,4 +1,6 @@
-//! The builtin usb_id of udev: what a USB device says of itself, by the device, its interface and a SCSI device below it.
+//! The builtin usb_id of udev (systemd 257): what a USB device says about itself.
+//!
+//! Functions that allocate return `AllocError` when memory runs out.
 #![tactic(auto)]
 
 mod identities;

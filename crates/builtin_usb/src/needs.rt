@@ -21,7 +21,7 @@ fn is_untyped(subsystem: &[u8], device: &Device<'_>) -> bool
     is_text(subsystem, device.subsystem()) && type_of(device).is_none()
 }
 
-/// Whether the first of these that is of a subsystem and a type stands behind one of the subsystem that tells no type.
+/// Whether the first of these that is of a subsystem and a type follows one of the subsystem that tells no type.
 fn untyped_among(subsystem: &[u8], kind: &[u8], devices: &[&Device<'_>]) -> bool
     ensures { result ≡ untyped_among subsystem.now kind.now (map (λ device. device.now) devices.now) }
 {
@@ -200,7 +200,7 @@ fn need_of_unit(
     Ok(())
 }
 
-/// The bytes of the file of descriptors of a device, if the block tells them. The error comes where memory is refused.
+/// The bytes of the file of descriptors of a device, if the block tells them.
 pub(crate) fn descriptors_at(
     alloc: Global,
     event: &Event<'_>,
@@ -306,8 +306,7 @@ fn need_type(
     Ok(())
 }
 
-/// All that the block would have to tell, by the devices that the builtin looks at and the texts of the SCSI device. The
-/// error comes where memory is refused.
+/// All that the block would have to tell, by the devices that the builtin looks at and the texts of the SCSI device.
 #[tactic(auto, using(crate::proofs::Needed::four_more), unfolding(crate::specs::Needs::words))]
 pub(crate) fn needs_by(
     alloc: Global,

@@ -44,7 +44,7 @@ fn copy_of(alloc: Global, text: Option<&[u8]>) -> Result<Option<Bytes>, AllocErr
     }
 }
 
-/// Sets a name behind a prefix.
+/// Sets a name after a prefix.
 fn set(
     alloc: Global,
     prefix: &[u8],
@@ -76,7 +76,7 @@ fn set_rows(
     Ok(())
 }
 
-/// Sets what is known of a device behind a prefix.
+/// Sets what is known of a device after a prefix.
 #[tactic(auto, unfolding(crate::specs::Identities::rows))]
 fn set_identity(
     alloc: Global,
@@ -141,7 +141,7 @@ fn interfaces_text(
     }
 }
 
-/// The number of an interface, as it is told.
+/// The number of an interface, as it is reported.
 fn number_of<'a>(interface: Option<&Device<'a>>) -> Option<&'a [u8]>
     ensures { option_map (λ t. t.now) result ≡ option_and_then number_text (option_copied interface.entry) }
 {
@@ -155,7 +155,7 @@ fn driver_of<'a>(interface: Option<&Device<'a>>) -> Option<&'a [u8]>
     interface?.driver()
 }
 
-/// Sets what stands only behind `ID_USB_`.
+/// Sets what stands only after `ID_USB_`.
 #[tactic(auto, unfolding(crate::specs::UsbId::rows_apart))]
 fn set_apart(
     alloc: Global,
@@ -191,7 +191,7 @@ fn set_own(
     Ok(())
 }
 
-/// Sets the bus and what is told behind `ID_`, unless a bus was told before.
+/// Sets the bus and what is reported after `ID_`, unless a bus was reported before.
 fn set_bus(
     alloc: Global,
     identity: &Identity<'_>,
@@ -207,7 +207,7 @@ fn set_bus(
     set_identity(alloc, b"ID_", identity, properties)
 }
 
-/// The properties of a device that is known. The error comes where memory is refused.
+/// The properties of a device that is known.
 #[tactic(auto, unfolding(crate::specs::UsbId::properties))]
 pub(crate) fn properties_of(
     alloc: Global,

@@ -32,7 +32,7 @@ fn known<'a>(
 /// device is or belongs to, and where ID_BUS is not set before, that and the same properties with `ID_` in front.
 ///
 /// The builtin fails where there is no USB device, where the class of its interface is no number, and where its vendor or
-/// its product has no number. The error comes where memory is refused.
+/// its product has no number.
 #[tactic(auto, unfolding(crate::specs::UsbId::usb_id))]
 pub fn usb_id(alloc: Global, event: &Event<'_>, is_bus_set: bool) -> Result<Outcome, AllocError>
     ensures { IfOk result (λ outcome. outcome ≡ usb_id event.now is_bus_set) }

@@ -1,4 +1,4 @@
-//! Which devices usb_id tells of.
+//! Which devices usb_id says about.
 ghost use Rattle.std.specs.Prelude.{◌≡◌, IfOk, option_copied};
 ghost use Rattle.builtin_usb.specs.Subjects.{device_above, device_of, interface_above, interface_of, is_usb_device, unit_above, unit_of};
 

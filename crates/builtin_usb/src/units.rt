@@ -33,7 +33,7 @@ impl<'a> Model for Unit<'a> {
     ghost view = { λ u. record { vendor = option_map (λ t. t.now) u.vendor; model = option_map (λ t. t.now) u.model; kind = option_map (λ t. t.now) u.kind; revision = option_map (λ t. t.now) u.revision; instance = u.instance } };
 }
 
-/// The number before the first colon of a text, and what stands behind the colon.
+/// The number before the first colon of a text, and what follows the colon.
 #[tactic(auto, unfolding(crate::specs::Units::before_colon))]
 fn before_colon(text: &[u8]) -> Option<(u64, &[u8])>
     ensures { option_map (λ p. (p.0, p.1.now)) result ≡ before_colon text.now }
@@ -53,7 +53,7 @@ fn target_and_unit(kernel: &[u8]) -> Option<(u64, u64)>
     Some((target, decimal_below(NUMBERS, unit)?))
 }
 
-/// A target and a unit as they are told.
+/// A target and a unit as they are reported.
 fn instance_text(alloc: Global, target: u64, unit: u64) -> Result<Bytes, AllocError>
     ensures { IfOk result (λ text. text ≡ instance_text target unit) }
 {
@@ -93,7 +93,7 @@ fn texts_of<'a>(unit: &Device<'a>, instance: Bytes) -> Unit<'a>
     }
 }
 
-/// Whether the name of a SCSI device tells an instance. The error comes where memory is refused.
+/// Whether the name of a SCSI device tells an instance.
 pub(crate) fn has_instance(alloc: Global, unit: &Device<'_>) -> Result<bool, AllocError>
     ensures { IfOk result (λ has. has ≡ is_some (target_and_unit (kernel_of unit.now))) }
 {
@@ -101,7 +101,7 @@ pub(crate) fn has_instance(alloc: Global, unit: &Device<'_>) -> Result<bool, All
     Ok(target_and_unit(kernel.as_slice()).is_some())
 }
 
-/// The texts of the SCSI device that is asked, if one is. The error comes where memory is refused.
+/// The texts of the SCSI device that is asked, if one is.
 pub(crate) fn unit_texts<'a>(
     alloc: Global,
     unit: Option<&Device<'a>>,

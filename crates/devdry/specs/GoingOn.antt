@@ -1,4 +1,4 @@
--- What runs do that go on behind what can't be read.
+-- What runs do that go on after what can't be read.
 use Rattle.std.specs.Prelude.{◌≡◌, ℕ, ◌⊎◌, List, [], None, max}
 use Rattle.engine_ends.specs.declared.line.Line.{Line}
 use Rattle.engine_ends.specs.Delivery.{Delivers, IsRefused}
@@ -10,7 +10,7 @@ use Rattle.devdry_folders.specs.Surveys.{IsListed, IsReadSome}
 use Rattle.devdry_folders.specs.declared.reading.Listed.{Listed}
 use Rattle.devdry_folders.specs.declared.reading.ReadSome.{ReadSome}
 
--- The error output has what is told, and the run behind that goes on from there; the status is the run's own, or the least one
+-- The error output has what is reported, and the run after that goes on from there; the status is the run's own, or the least one
 -- where that is greater.
 pub record GoesOn (told : List ℕ) (least : ℕ) (Own : ℕ → Streams → Streams → Type 0) (status : ℕ) (before now : Streams) : Type 0 where
   pub err : SinkState
@@ -19,18 +19,18 @@ pub record GoesOn (told : List ℕ) (least : ℕ) (Own : ℕ → Streams → Str
   pub runs : Own own (record { input = before.input; out = before.out; err = err }) now
   pub status_is : status ≡ max own least
 
--- The error output failed at what is told, and nothing else was done.
+-- The error output failed at what is reported, and nothing else was done.
 pub record FailsAtTold (told : List ℕ) (status : ℕ) (before now : Streams) : Type 0 where
   pub status_is : status ≡ 3
   pub breaks_off : BreaksOff before.err told now.err
   pub unread : now.input ≡ before.input
   pub untouched : now.out ≡ before.out
 
--- what is told goes first, and the run behind it
+-- what is reported goes first, and the run after it
 abbrev pub RunsBehind : List ℕ → ℕ → (ℕ → Streams → Streams → Type 0) → ℕ → Streams → Streams → Type 0
 RunsBehind told least Own status before now = GoesOn told least Own status before now ⊎ FailsAtTold told status before now
 
--- Memory was refused to the reading, and that is told; no input is read.
+-- Memory was refused to the reading, and that is reported; no input is read.
 pub record IsRefusedToRead (status : ℕ) (before now : Streams) : Type 0 where
   pub refused : IsRefused status (outputs before) (outputs now)
   pub unread : now.input ≡ before.input
@@ -41,7 +41,7 @@ pub record RunsOverSome (may : Answer → Type 0) (line : Line) (status : ℕ) (
   pub is_some : IsReadSome may line some
   pub runs : RunsBehind some.told.items some.least (RunsOver line some.files.items None) status before now
 
--- what a line does that goes on behind what can't be read
+-- what a line does that goes on after what can't be read
 abbrev pub RunsSome : (Answer → Type 0) → Line → ℕ → Streams → Streams → Type 0
 RunsSome may line status before now = RunsOverSome may line status before now ⊎ IsRefusedToRead status before now
 
@@ -49,7 +49,7 @@ RunsSome may line status before now = RunsOverSome may line status before now �
 abbrev pub DeliversLines : List ℕ → ℕ → Streams → Streams → Type 0
 DeliversLines lines own before now = Delivers (record { output = lines; messages = []; status = 0 }) own (outputs before) (outputs now)
 
--- The folders that the line asks for were visited, and their files are told of.
+-- The folders that the line asks for were visited, and their files are reported.
 pub record TellsFiles (may : Answer → Type 0) (line : Line) (status : ℕ) (before now : Streams) : Type 0 where
   pub listed : Listed
   pub is_listed : IsListed may line listed

@@ -1,4 +1,4 @@
--- What a line asks for, as it comes from the disk, and what is told where it can't be read.
+-- What a line asks for, as it comes from the disk, and what is reported where it can't be read.
 use Rattle.std.specs.Prelude.{◌≡◌, ℕ, ◌⊎◌, List, Option}
 use Rattle.text_bytes.specs.declared.source_file.SourceFile.{SourceFile}
 use Rattle.engine_ends.specs.declared.line.Line.{Line}
@@ -25,7 +25,7 @@ pub record IsFaultyLast (may : Answer → Type 0) (w : Wanted) (path : List ℕ)
   pub were_read : AreWanted may w files
   pub faulty : IsFaultyIndex may w path
 
--- the first of what is wanted that can't be read: one of the files and folders, or, behind all of them, the index
+-- the first of what is wanted that can't be read: one of the files and folders, or, after all of them, the index
 abbrev pub IsFaultyRead : (Answer → Type 0) → Wanted → List ℕ → Type 0
 IsFaultyRead may w path = IsFaultyWanted may w path ⊎ IsFaultyLast may w path
 
@@ -34,7 +34,7 @@ abbrev pub IsFaultOf : (Answer → Type 0) → Line → ReadFault → Type 0
 IsFaultOf may line fault = (fault ≡ Memory)
     ⊎ ((wanted : Wanted) × Wants line wanted × HasPath (IsFaultyRead may wanted) fault)
 
--- What was asked for could not be read, for a fault of which this holds, and that is told; no input is read, and the output stays as it is.
+-- What was asked for could not be read, for a fault of which this holds, and that is reported; no input is read, and the output stays as it is.
 pub record FailsAt (IsFault : ReadFault → Type 0) (status : ℕ) (before now : Streams) : Type 0 where
   pub fault : ReadFault
   pub is_fault : IsFault fault

@@ -35,7 +35,7 @@ abbrev pub RunsWanted : (Answer → Type 0) → Line → ℕ → Streams → Str
 RunsWanted may line status before now =
     RunsOverFiles may line status before now ⊎ FailsToRead may line status before now
 
--- what a line does, by whether it goes on behind what can't be read
+-- what a line does, by whether it goes on after what can't be read
 abbrev pub RunsBy : Bool → (Answer → Type 0) → Line → ℕ → Streams → Streams → Type 0
 RunsBy true may line status before now = RunsSome may line status before now
 RunsBy false may line status before now = RunsWanted may line status before now
@@ -63,7 +63,7 @@ takes_blocks (Run line) = is_events line.verb
 takes_blocks (Files line) = false
 takes_blocks (Compare old new) = true
 
--- what is told before event blocks are read from a terminal
+-- what is reported before event blocks are read from a terminal
 abbrev pub waiting : List ℕ
 waiting = codes "devdry: waiting for event blocks, each ended by an empty line; devdry-capture DEVICE prints them\n"
 
@@ -73,7 +73,7 @@ pub record DoesWaiting (may : Answer → Type 0) (request : Request) (status : �
   pub hands_on : HandsOn before.err waiting err
   pub does : DoesRequest may request status (record { input = before.input; out = before.out; err = err }) now
 
--- what a request does, behind the line on waiting or without it
+-- what a request does, after the line on waiting or without it
 abbrev pub DoesBehind : Bool → (Answer → Type 0) → Request → ℕ → Streams → Streams → Type 0
 DoesBehind true may request status before now = DoesWaiting may request status before now ⊎ FailsAtTold waiting status before now
 DoesBehind false may request status before now = DoesRequest may request status before now
@@ -101,7 +101,7 @@ pub record RunsWords (terminals : Terminals) (may : Answer → Type 0) (words : 
   pub faultless : fault_of devdry words ≡ []
   pub runs : RunsKnowing terminals.input may (shown_request terminals.colors request) status before now
 
--- The words ask for nothing that is run, and that is told; no input is read.
+-- The words ask for nothing that is run, and that is reported; no input is read.
 pub record RefusesWords (words : List (List ℕ)) (status : ℕ) (before now : Streams) : Type 0 where
   pub fault : LineFault
   pub answers : AnswersWords (fault_of devdry words) (subcommand_of devdry words) fault

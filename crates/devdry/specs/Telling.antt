@@ -1,4 +1,4 @@
--- What is told of words, of lines and of files that can't be used, by the status.
+-- What is reported for words, of lines and of files that can't be used, by the status.
 use Rattle.std.specs.Prelude.{◌≡◌, ℕ, List, [], ◌∷◌, ◌++◌, codes, string_bytes}
 use Rattle.text_bytes.specs.Escapes.{escape_text}
 use Rattle.text_bytes.specs.Names.{newline}
@@ -14,7 +14,7 @@ use Rattle.devdry_files.specs.declared.fault.ReadFault.TheVariants as read
 abbrev pub cannot_read : List ℕ → List ℕ
 cannot_read path = codes "devdry: cannot read " ++ escape_text path ++ newline ∷ []
 
--- what is told where an argument is not UTF-8
+-- what is reported where an argument is not UTF-8
 abbrev pub not_text : List ℕ
 not_text = codes "error: an argument is not UTF-8\n\nFor more information, try '--help'.\n"
 
@@ -28,7 +28,7 @@ TellsLineFault (Usage text) status before now =
 TellsLineFault Memory status before now =
     (now.out ≡ before.out) × Tells out_of_memory 4 status before.err now.err
 
--- files could not be read: the path is told with status 3
+-- files could not be read: the path is reported with status 3
 abbrev pub TellsReadFault : ReadFault → ℕ → SinkState → SinkState → Type 0
 TellsReadFault (read.Path path) status err err_now = Tells (cannot_read (string_bytes path)) 3 status err err_now
 TellsReadFault read.Memory status err err_now = Tells out_of_memory 4 status err err_now

@@ -20,7 +20,7 @@ struct BothInputs {
 }
 
 /// Compares the answers of two lines of `events` over the files that they ask for. What can't be read
-/// of them is told of on `error`, and the status is 3.
+/// of them is reported on `error`, and the status is 3.
 pub(crate) fn run_compare<D: Disk, I: Source, W: Sink, E: Sink>(
     alloc: Global,
     disk: &D,

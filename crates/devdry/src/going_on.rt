@@ -1,6 +1,6 @@
-//! Runs that go on behind what can't be read.
+//! Runs that go on after what can't be read.
 //!
-//! What is told of the reading is written first. Then the run is as any other, and its status is no
+//! What is reported for the reading is written first. Then the run is as any other, and its status is no
 //! less than what the reading asks for.
 ghost use Rattle.engine_core.specs.Runs.{RunsOver};
 ghost use Rattle.engine_ends.specs.Sources.{SourceState};
@@ -72,7 +72,7 @@ pub(crate) fn run_files<D: Disk, W: Sink, E: Sink>(
     }
 }
 
-/// Writes what is told of the folders, and then the lines on their files.
+/// Writes what is reported for the folders, and then the lines on their files.
 fn tell_listed<W: Sink, E: Sink>(listed: &Listed, output: &mut W, error: &mut E) -> u8
     ensures { (input : SourceState) → RunsBehind listed.now.told.items listed.now.least
         (DeliversLines listed.now.lines.items) result

@@ -10,7 +10,7 @@ use engine_ends::{Request, Sink, Source};
 use std::alloc::Global;
 
 /// Reads the files of users and groups that a request names, and runs it with what they list. What
-/// can't be read of them is told of on `error`, and the status is 3.
+/// can't be read of them is reported on `error`, and the status is 3.
 pub(crate) fn run_knowing<D: Disk, I: Source, W: Sink, E: Sink>(
     alloc: Global,
     disk: &D,

@@ -1,9 +1,8 @@
 //! The program.
 //!
-//! It only glues: the crates below read the words, read the files and say what is to be written.
-//! What is decided here is the way from one to the next, and the status of what fails between them.
-//! All of it stands in functions over a disk, a source and sinks; `main` itself hands them the real
-//! ones.
+//! This crate only connects the crates below it, which parse the arguments, read the files and decide what to write.
+//! What it decides itself is the order of these steps and the status if one of them fails. Everything is done by
+//! functions over a disk, a source and sinks; `main` passes the real ones.
 #![tactic(auto)]
 
 ghost use Rattle.std.specs.Prelude.{◌≡◌, drop};
@@ -25,7 +24,7 @@ use std::io::{self, IsTerminal};
 use std::process::ExitCode;
 use std::rt::Env;
 
-// The words of a command line behind the first, which is the program's name.
+// The words of a command line after the first, which is the program's name.
 fn words_of(mut all: Vec<String>) -> Vec<String>
     ensures { result.items ≡ drop 1 all.items }
 {

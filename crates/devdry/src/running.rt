@@ -15,7 +15,7 @@ use engine_ends::{DeviceFault, Line, Request, Sink, Source, Verb, hand_on};
 use std::alloc::Global;
 use text_bytes::{Bytes, SourceFile};
 
-/// What is told before event blocks are read from a terminal.
+/// What is reported before event blocks are read from a terminal.
 const WAITING: &[u8] =
     b"devdry: waiting for event blocks, each ended by an empty line; devdry-capture DEVICE prints them\n";
 
@@ -28,7 +28,7 @@ pub(crate) struct Inputs {
     pub(crate) index: Option<Bytes>,
 }
 
-/// Runs the words that stand behind the program's name, and gives the status to exit with.
+/// Runs the words that follow the program's name, and gives the status to exit with.
 ///
 /// Words that ask for something are run over the files that this takes. Else help goes to `output`
 /// with status 0, or what is wrong with the words to `error` with status 2.
@@ -130,7 +130,7 @@ fn run_line<D: Disk, I: Source, W: Sink, E: Sink>(
     }
 }
 
-/// Runs a line over the files and the index that it asks for. What can't be read of them is told of
+/// Runs a line over the files and the index that it asks for. What can't be read of them is reported
 /// on `error`, and the status is 3.
 fn run_wanted<D: Disk, I: Source, W: Sink, E: Sink>(
     alloc: Global,

@@ -17,7 +17,7 @@ unquoted text = filter (λ b. not (b == backtick)) text
 abbrev pub HasHeading : Remark → List ℕ → Type 0
 HasHeading remark text = take (length (remark_heading remark) + 2) text ≡ remark_heading remark ++ newline ∷ newline ∷ []
 
--- behind these the text goes on, but for backticks, with how what the remark is about is mended
+-- after these the text goes on, but for backticks, with how what the remark is about is mended
 abbrev pub HasAdvice : Remark → List ℕ → Type 0
 HasAdvice remark text = take (length (advice_of remark)) (unquoted (drop (length (remark_heading remark) + 2) text)) ≡ advice_of remark
 

@@ -1,6 +1,6 @@
-//! What a message or a remark means, with a file that earns it and the mended one: the text for each code.
+//! What each message or remark means, with a file that causes it and the corrected file: one text per code.
 //!
-//! The texts are the sections of `docs/messages.md`, so that a user without the documents has them.
+//! The texts are the sections of `docs/messages.md`, for users who don't have the documents at hand.
 #![tactic(auto)]
 
 mod codes;

@@ -80,7 +80,7 @@ fn section_on_lint(lint: Lint) -> &'static str
     }
 }
 
-/// The section on a remark. Its first line is the heading of the remark, and behind an empty line stand
+/// The section on a remark. Its first line is the heading of the remark, and after an empty line stand
 /// what it means, a file that earns it, and the mended one.
 pub fn section_on(remark: Remark) -> &'static str
     ensures heading { HasHeading remark result.now }

@@ -1,4 +1,4 @@
-//! The sections on what `--udev` alone tells of.
+//! The sections on what `--udev` alone says about.
 //!
 //! `tests/test_explain.sh` compares them with those of `docs/messages.md`.
 

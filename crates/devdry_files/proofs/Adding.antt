@@ -1,4 +1,4 @@
--- One more folder's files, and faults that are handed on.
+-- One more folder's files, and faults that are passed on.
 use Rattle.std.proofs.Common.{◌≡◌, ◌∙◌, ◌++◌, ◌<◌, ℕ, ap, Bor, drop, get_or, length, suc, take, List, map, [], ◌∷◌, append-nil, append_assoc, Err, IfErr, IsErrAnd, Ok, Result, inr, refl, subst, sym, string_bytes, String}
 use Rattle.std.proofs.Math.Seq.{split_at}
 use Rattle.std.proofs.lemmas.List.{map-append}

@@ -8,7 +8,7 @@ use Rattle.devdry_files.specs.declared.disk.DiskFault.TheVariants.{Absent, Unrea
 use Rattle.devdry_files.specs.declared.look.Look.{Look}
 use Rattle.devdry_files.specs.declared.look.Look.TheVariants as look
 
--- nothing is there, memory was refused, or what is there can't be read
+-- nothing is there, memory runs out, or what is there can't be read
 abbrev pub fault_from : ErrorKind → DiskFault
 fault_from kind.NotFound = Absent
 fault_from kind.OutOfMemory = OutOfMemory
@@ -21,7 +21,7 @@ entry_fault_from kind.NotFound = Absent
 entry_fault_from kind.OutOfMemory = OutOfMemory
 entry_fault_from _ = Unreadable
 
--- What a look shows that failed, and nothing where memory was refused. Nothing that can be read is below a file, and links that lead
+-- What a look shows that failed, and nothing where memory runs out. Nothing that can be read is below a file, and links that lead
 -- to one another lead nowhere: neither is an absence.
 abbrev pub look_from : ErrorKind → Option Look
 look_from kind.NotFound = Some look.Absent
@@ -30,7 +30,7 @@ look_from kind.PermissionDenied = Some look.Forbidden
 look_from kind.OutOfMemory = None
 look_from _ = Some look.Failed
 
--- what is told of a symlink that can't be read: a question mark for a target that is not UTF-8, no target, or that memory was refused
+-- what is reported for a symlink that can't be read: a question mark for a target that is not UTF-8, no target, or that memory runs out
 abbrev pub target_unread : ErrorKind → Result (Option (List ℕ)) AllocError
 target_unread kind.OutOfMemory = Err alloc_error
 target_unread kind.InvalidFilename = Ok (Some (codes "?"))

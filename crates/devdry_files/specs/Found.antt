@@ -56,7 +56,7 @@ pub record AreInFolder (may : Answer → Type 0) (folder : Folder) (files : List
   pub are_names : AreNamesIn may folder listed_names
   pub are_files : AreFilesAt may folder.kind folder.rank (path_in folder) (map string_bytes listed_names) files
 
--- the files of a folder, and behind them others
+-- the files of a folder, and after them others
 pub record AreInFolderAnd (may : Answer → Type 0) (folder : Folder) (Others : List SourceFile → Type 0) (files : List SourceFile) : Type 0 where
   pub own : List SourceFile
   pub behind : List SourceFile

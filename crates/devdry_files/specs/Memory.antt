@@ -27,46 +27,46 @@ seen e = record { name = string_bytes e.name; is_folder = e.is_folder }
 abbrev pub seen_in_memory : MemoryEntry → Seen
 seen_in_memory e = record { name = e.name.now; is_folder = e.is_folder }
 
--- what stands at the path: at the first place that has it
+-- what is at the path: at the first place that has it
 abbrev pub stands_at : MemoryDisk → List ℕ → Option Stands
 stands_at disk path = option_map (λ p. p.stands) (find (λ p. bytes_eq p.path.now path) disk.places.now)
 
--- what stands there is listed so
+-- what is there is listed so
 abbrev pub ListsAs : Option Stands → List Entry → Type 0
 ListsAs (Some (stands.Folder own)) entries = map seen entries ≡ map seen_in_memory own.now
 ListsAs (Some (stands.File bytes)) entries = ⊥
 ListsAs (Some stands.Unreadable) entries = ⊥
 ListsAs None entries = ⊥
 
--- what stands there is read so
+-- what is there is read so
 abbrev pub ReadsAs : Option Stands → List ℕ → Type 0
 ReadsAs (Some (stands.Folder own)) bytes = ⊥
 ReadsAs (Some (stands.File own)) bytes = bytes ≡ own.now
 ReadsAs (Some stands.Unreadable) bytes = ⊥
 ReadsAs None bytes = ⊥
 
--- why what stands there can't be listed
+-- why what is there can't be listed
 abbrev pub ListsNot : Option Stands → DiskFault → Type 0
 ListsNot (Some (stands.Folder own)) fault = fault ≡ OutOfMemory
 ListsNot (Some (stands.File bytes)) fault = fault ≡ Unreadable
 ListsNot (Some stands.Unreadable) fault = fault ≡ Unreadable
 ListsNot None fault = fault ≡ Absent
 
--- why what stands there can't be read
+-- why what is there can't be read
 abbrev pub ReadsNot : Option Stands → DiskFault → Type 0
 ReadsNot (Some (stands.Folder own)) fault = fault ≡ Unreadable
 ReadsNot (Some (stands.File bytes)) fault = fault ≡ OutOfMemory
 ReadsNot (Some stands.Unreadable) fault = fault ≡ Unreadable
 ReadsNot None fault = fault ≡ Absent
 
--- what a look at what stands there shows
+-- what a look at what is there shows
 abbrev pub look_of : Option Stands → Look
 look_of (Some (stands.Folder own)) = look.Folder
 look_of (Some (stands.File bytes)) = look.File
 look_of (Some stands.Unreadable) = look.Failed
 look_of None = look.Absent
 
--- the answers that a disk over memory gives: to each question one, or want of memory in place of a text
+-- the answers that a disk over memory gives: to each question one, or out of memory in place of a text
 abbrev pub MayAnswer : MemoryDisk → Answer → Type 0
 MayAnswer disk (Listing path entries) = ListsAs (stands_at disk path) entries
 MayAnswer disk (NoListing path fault) = ListsNot (stands_at disk path) fault

@@ -16,7 +16,7 @@ pub record Place : Type 0 where
   pub rank : ℕ
   pub path : List ℕ
 
--- the place of this kind and rank: the folder's path behind the text that stands before it
+-- the place of this kind and rank: the folder's path after the text that comes before it
 abbrev pub place : FileKind → ℕ → List ℕ → Place
 place kind rank root = record { kind = kind; rank = rank; path = root ++ folder_path kind rank }
 
@@ -28,12 +28,12 @@ place_of f = record { kind = f.kind; rank = f.rank; path = string_bytes f.path }
 abbrev pub places_of : List Folder → List Place
 places_of folders = map place_of folders
 
--- the folders of a kind by rank, each behind the text that stands before it
+-- the folders of a kind by rank, each after the text that comes before it
 abbrev pub folders_of : FileKind → List ℕ → List Place
 folders_of Hwdb root = place Hwdb 0 root ∷ place Hwdb 1 root ∷ []
 folders_of Rules root = place Rules 0 root ∷ place Rules 1 root ∷ place Rules 2 root ∷ place Rules 3 root ∷ []
 
--- the folders of a kind that a line asks for: none where it names what stands in their place
+-- the folders of a kind that a line asks for: none where it names what is in their place
 abbrev pub folders_of_kind : Line → FileKind → List Place
 folders_of_kind line kind = if reads_folders_of line kind then folders_of kind line.root.now else []
 

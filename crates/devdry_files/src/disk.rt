@@ -16,7 +16,7 @@ use std::alloc::{AllocError, AllocFailed, Global};
 use std::io;
 use text_bytes::Bytes;
 
-/// What stands in a folder under one name.
+/// What is in a folder under one name.
 #[derive(Debug, Drop)]
 pub struct Entry {
     /// The name, without the folder.
@@ -34,7 +34,7 @@ pub enum DiskFault {
     Unreadable,
     /// 3: the folder at the path has a name that is not UTF-8.
     NotUtf8,
-    /// 4: memory was refused.
+    /// 4: memory runs out.
     OutOfMemory,
 }
 
@@ -87,17 +87,13 @@ pub trait Disk {
         ensures read { IfOk result (λ bytes. may_answer self.now (Content path.now bytes)) }
         ensures fault { IfErr result (λ fault. may_answer self.now (NoContent path.now fault)) };
 
-    /// What stands at a path. A symlink is followed, and nothing is read: a FIFO is not opened, so that a
+    /// What is at a path. A symlink is followed, and nothing is read: a FIFO is not opened, so that a
     /// look never waits.
-    ///
-    /// The error comes where memory is refused.
     fn look(&self, path: &str) -> Result<Look, AllocError>
         ensures { IfOk result (λ look. may_answer self.now (Looked path.now look)) };
 
     /// Where the symlink at a path leads, as it is written, or `?` where that is not UTF-8; `None` where
     /// no symlink is at the path, or where it can't be read.
-    ///
-    /// The error comes where memory is refused.
     fn target(&self, alloc: Global, path: &str) -> Result<Option<Bytes>, AllocError>
         ensures { IfOk result (λ target. may_answer self.now (Target path.now target)) };
 }

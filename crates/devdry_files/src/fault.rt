@@ -13,7 +13,7 @@ use std::fmt;
 pub enum ReadFault {
     /// 1: this file or folder could not be read: its path, with what the line puts before it.
     Path(String),
-    /// 2: memory was refused.
+    /// 2: memory runs out.
     Memory,
 }
 

@@ -1,8 +1,9 @@
-//! The files, the folders and the index that a command line asks for, and their reading.
+//! The files, folders and index that a command line asks for, and how they are read.
 //!
-//! Below this crate nothing opens a file: what stands in one is handed on whole and in memory. So
-//! all that can fail outside the program before its input and output begin fails here, and a fault
-//! has the path that a message names.
+//! No crate below this one opens a file: they receive whole files, in memory. So everything that can fail outside the
+//! program before its input and output begin fails here, and each fault has the path that its message names.
+//!
+//! Functions that allocate return `AllocError` when memory runs out.
 #![tactic(auto)]
 
 mod account_files;

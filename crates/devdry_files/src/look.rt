@@ -1,6 +1,6 @@
 //! What a look at a path shows.
 
-/// What stands at a path, symlinks followed.
+/// What is at a path, symlinks followed.
 #[derive(Clone, Copy, Debug, PartialEq, Eq)]
 pub enum Look {
     /// 1: nothing, which is also what a symlink to nothing leads to.

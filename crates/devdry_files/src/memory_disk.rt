@@ -18,7 +18,7 @@ pub struct MemoryEntry<'a> {
     pub is_folder: bool,
 }
 
-/// What stands at a path.
+/// What is at a path.
 #[derive(Clone, Copy, Debug)]
 pub enum Stands<'a> {
     /// A folder with these entries.
@@ -29,12 +29,12 @@ pub enum Stands<'a> {
     Unreadable,
 }
 
-/// A path, and what stands there.
+/// A path, and what is there.
 #[derive(Clone, Copy, Debug)]
 pub struct MemoryPlace<'a> {
     /// The path, which has to be asked for byte by byte.
     pub path: &'a str,
-    /// What stands there.
+    /// What is there.
     pub stands: Stands<'a>,
 }
 
@@ -46,7 +46,7 @@ pub struct MemoryDisk<'a> {
     pub places: &'a [MemoryPlace<'a>],
 }
 
-// What stands at a path.
+// What is at a path.
 fn stands_at<'a>(disk: &MemoryDisk<'a>, path: &str) -> Option<Stands<'a>>
     ensures { result ≡ stands_at disk.now path.now }
 {
@@ -54,7 +54,7 @@ fn stands_at<'a>(disk: &MemoryDisk<'a>, path: &str) -> Option<Stands<'a>>
     Some(place.stands)
 }
 
-// What a look at what stands at a path shows.
+// What a look at what is at a path shows.
 fn look_of(stands: Option<Stands<'_>>) -> Look
     ensures { result ≡ look_of stands.entry }
 {

@@ -38,7 +38,7 @@ impl<'r, R> RealDisk<'r, R> {
 }
 
 // Whether a folder is at a path, by the look at it. What can't be looked at is none, so that reading
-// it says why; but memory that is refused to the look itself is told of.
+// it says why; but memory that is refused to the look itself is reported.
 fn folder_by(looked: Result<bool, DiskFault>) -> Result<bool, DiskFault>
     ensures { MatchResult looked (λ is. result ≡ Ok is)
         (λ fault. (fault ≡ OutOfMemory → result ≡ Err OutOfMemory)

@@ -20,7 +20,7 @@ use text_bytes::Bytes;
 /// The number of the null device, 1:3 as the system writes it.
 const NULL_DEVICE: u64 = 0x103;
 
-// What a look that failed shows, and nothing where memory was refused to it.
+// What a look that failed shows, and nothing where memory runs out to it.
 fn failed_look(error: &io::Error) -> Option<Look>
     ensures { result ≡ look_from (error_kind error.now) }
 {
@@ -41,7 +41,7 @@ fn is_null(is_char_device: bool, number: u64) -> bool
     is_char_device & (number == NULL_DEVICE)
 }
 
-// What is at a path, by what the system tells of it, and whether it is the null device. All else that is
+// What is at a path, by what the system says about it, and whether it is the null device. All else that is
 // neither a folder nor a regular file, as a FIFO, is told apart, since it must not be opened.
 fn look_of(metadata: &Metadata, is_null: bool) -> Look
     ensures folder { IsDir (file_type metadata.now) → result ≡ Look.Folder }
@@ -105,7 +105,7 @@ pub(crate) fn target_from(
     }
 }
 
-// What is told of a symlink that can't be read, or want of memory.
+// What is reported for a symlink that can't be read, or out of memory.
 fn untargeted(alloc: Global, error: &io::Error) -> Result<Option<Bytes>, AllocError>
     ensures told { IfOk result (λ target. target_unread (error_kind error.now) ≡ Ok target) }
     ensures untold { (error_kind error.now ≢ ErrorKind.InvalidFilename)

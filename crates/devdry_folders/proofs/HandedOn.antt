@@ -1,4 +1,4 @@
--- Whether any file was read, and whether any is handed on.
+-- Whether any file was read, and whether any is passed on.
 use Rattle.std.proofs.Common.{◌≡◌, ◌∙◌, ◌++◌, ◌∷◌, ◌==◌, ◌||◌, [], ap, arith, Bool, false, flat_map, length, List, not, refl, sym, true, ℕ}
 use Rattle.text_bytes.specs.declared.source_file.FileKind.{FileKind}
 use Rattle.text_bytes.specs.declared.source_file.SourceFile.{SourceFile}
@@ -41,6 +41,6 @@ some_visits (v ∷ visits) =
     ∙ ap (λ b. any (files_of_visit v) || b) (some_visits visits)
     ∙ sym (joined (files_of_visit v) (files_of visits))
 
--- any file was read exactly where one is handed on
+-- any file was read exactly where one is passed on
 pub some_files : (visits : List Visit) → has_files visits ≡ not (length (files_of visits) == 0)
 some_files visits = some_visits visits ∙ counted (files_of visits)

@@ -1,4 +1,4 @@
--- What is told where no file was read at all.
+-- What is reported where no file was read at all.
 use Rattle.std.specs.Prelude.{◌≡◌, ◌++◌, ◌∷◌, ◌⊎◌, ◌==◌, ℕ, All, Bool, true, false, List, [], None, Option, Some, codes, decimal, filter, flat_map, if◌then◌else◌, length, map}
 use Rattle.std.specs.List.{count_by, list_all, list_any}
 use Rattle.text_bytes.specs.Escapes.{escape_text}
@@ -34,13 +34,13 @@ is_unread _ = false
 abbrev pub has_unread : List Sight → Bool
 has_unread sights = list_any (λ s. is_unread s.met) sights
 
--- why a folder gave no file, if nothing in it was told of yet
+-- why a folder gave no file, if nothing in it was reported for yet
 abbrev pub why_no_file : FileKind → List Sight → List ℕ
 why_no_file kind sights =
     if length sights == 0 then codes ": empty"
     else codes ": has no " ++ suffix_of kind ++ codes " files"
 
--- the line on a folder that was looked at, unless it or a file in it is told of as one that can't be read
+-- the line on a folder that was looked at, unless it or a file in it is reported as one that can't be read
 abbrev pub folder_line : FileKind → List ℕ → Spot → List Sight → List ℕ
 folder_line kind path spot.Absent sights = line_on path (codes ": absent")
 folder_line kind path spot.Folder sights =
@@ -68,7 +68,7 @@ abbrev pub unmerged_folder : FileKind → List ℕ
 unmerged_folder Hwdb = codes "/lib/udev/hwdb.d"
 unmerged_folder Rules = codes "/lib/udev/rules.d"
 
--- the word behind a number of files
+-- the word after a number of files
 abbrev pub files_word : ℕ → List ℕ
 files_word count = if count == 1 then codes " file" else codes " files"
 
@@ -76,7 +76,7 @@ files_word count = if count == 1 then codes " file" else codes " files"
 abbrev pub line_elsewhere : Elsewhere → List ℕ
 line_elsewhere e = if e.count == 0 then [] else line_on e.path (codes " has " ++ decimal e.count ++ files_word e.count)
 
--- all that is told where no file was read
+-- all that is reported where no file was read
 abbrev pub nothing_lines : List ℕ → List Visit → List Elsewhere → List ℕ
 nothing_lines root visits others =
     codes "devdry: no files\n" ++ flat_map (lines_on_place root) visits ++ flat_map line_elsewhere others
@@ -87,7 +87,7 @@ pub record IsCounted (may : Answer → Type 0) (kind : FileKind) (path : List �
   pub listed : may (Listing path entries) ⊎ ((entries ≡ []) × (may (NoListing path Absent) ⊎ (may (NoListing path Unreadable) ⊎ may (NoListing path NotUtf8))))
   pub count_is : count ≡ count_by (counts kind) entries
 
--- the folder of a kind that is not read, behind a root, with the files of the kind in it
+-- the folder of a kind that is not read, after a root, with the files of the kind in it
 pub record IsElsewhere (may : Answer → Type 0) (root : List ℕ) (e : Elsewhere) : Type 0 where
   pub path_is : e.path ≡ root ++ unmerged_folder e.kind
   pub counted : IsCounted may e.kind e.path e.count
@@ -97,11 +97,11 @@ pub record AreElsewhereOf (may : Answer → Type 0) (root : List ℕ) (kinds : L
   pub kinds_are : map (λ e. e.kind) others ≡ kinds
   pub each : All (IsElsewhere may root) others
 
--- the path of `/lib` behind a root
+-- the path of `/lib` after a root
 abbrev pub lib_of : List ℕ → List ℕ
 lib_of root = root ++ codes "/lib"
 
--- such a folder for each kind whose folders the line reads; but none where a symlink stands at `/lib`, since the files below it are
+-- such a folder for each kind whose folders the line reads; but none where a symlink is at `/lib`, since the files below it are
 -- those of the folder that it leads to
 abbrev pub AreElsewhereBy : (Answer → Type 0) → Line → Option (List ℕ) → List Elsewhere → Type 0
 AreElsewhereBy may line None others = AreElsewhereOf may line.root.now (filter (reads_folders_of line) (kinds_read line.verb)) others

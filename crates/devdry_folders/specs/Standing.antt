@@ -1,4 +1,4 @@
--- Which files of the folders count, as it is told line by line.
+-- Which files of the folders count, as it is reported line by line.
 use Rattle.std.specs.Prelude.{◌≡◌, ◌++◌, ◌∷◌, ◌==◌, ◌&&◌, ℕ, IsPermutation, IsSortedByKey, List, [], None, Option, Some, codes, find, flat_map, if◌then◌else◌, length}
 use Rattle.std.specs.List.Sorted.{IsStableByKey}
 use Rattle.text_bytes.specs.Escapes.{escape_text}
@@ -38,12 +38,12 @@ counting sights name = find (λ s. is_file s.met && same_text name s.name) sight
 abbrev pub use_text : List ℕ → List ℕ
 use_text bytes = if length bytes == 0 then codes "masked" else codes "used"
 
--- what is told of a file at a path, by the file of its name that counts
+-- what is reported for a file at a path, by the file of its name that counts
 abbrev pub file_text : List ℕ → List ℕ → Option Sight → List ℕ
 file_text path bytes None = use_text bytes
 file_text path bytes (Some first) = if same_text path first.path then use_text bytes else codes "hidden by " ++ escape_text first.path
 
--- what is told of what was met at a path, by the file of its name that counts
+-- what is reported for what was met at a path, by the file of its name that counts
 abbrev pub standing : FileKind → List ℕ → Option Sight → Met → List ℕ
 standing kind path first (met.File bytes) = file_text path bytes first
 standing kind path first met.OtherName = codes "passed over: name does not end in " ++ suffix_of kind
@@ -58,7 +58,7 @@ standing_line kind sights s = escape_text s.path ++ codes ": " ++ standing kind 
 abbrev pub standing_lines : FileKind → List Sight → List ℕ
 standing_lines kind sights = flat_map (standing_line kind sights) sights
 
--- the lines on the rules by name, and behind them those on the database
+-- the lines on the rules by name, and after them those on the database
 pub record AreListed (visits : List Visit) (lines : List ℕ) : Type 0 where
   pub rules : List Sight
   pub database : List Sight

@@ -1,4 +1,4 @@
--- What is told of what can't be read, and the files that were read.
+-- What is reported for what can't be read, and the files that were read.
 use Rattle.std.specs.Prelude.{◌++◌, ◌∷◌, ◌==◌, ℕ, Bool, true, false, List, [], codes, flat_map, if◌then◌else◌, length, not}
 use Rattle.std.specs.List.{list_any}
 use Rattle.text_bytes.specs.Escapes.{escape_text}
@@ -27,7 +27,7 @@ line_on_met path _ = []
 abbrev pub line_on_sight : Sight → List ℕ
 line_on_sight s = line_on_met s.path s.met
 
--- the line on what stands at a path, if it can't be listed
+-- the line on what is at a path, if it can't be listed
 abbrev pub line_on_spot : List ℕ → Spot → List ℕ
 line_on_spot path (spot.Unread reason) = unread_line path reason
 line_on_spot path _ = []

@@ -24,7 +24,7 @@ use Rattle.devdry_folders.specs.declared.sights.Spot.{Spot}
 use Rattle.devdry_folders.specs.declared.sights.Spot.TheVariants as spot
 use Rattle.devdry_folders.specs.declared.sights.Visit.{Visit}
 
--- the path of a name in the folder at a path: one slash is put between them, but none behind a slash that ends the folder's path
+-- the path of a name in the folder at a path: one slash is put between them, but none after a slash that ends the folder's path
 abbrev pub below : List ℕ → List ℕ → List ℕ
 below folder name = if ends_with nat_eq folder (slash ∷ []) then folder ++ name else folder ++ slash ∷ name
 
@@ -65,7 +65,7 @@ abbrev pub missing_folder : Option (List ℕ) → Spot
 missing_folder None = spot.Absent
 missing_folder (Some target) = spot.Unread (reasons.LinkToNothing target)
 
--- what stands at a folder's path and is not listed
+-- what is at a folder's path and is not listed
 abbrev pub IsUnlisted : Spot → Scan → Type 0
 IsUnlisted it scan = (scan.spot ≡ it) × (scan.sights.items ≡ [])
 

@@ -58,7 +58,7 @@ fn count_at<D: Disk>(
     Ok(entries.iter().filter(|entry| counts(kind, entry)).count())
 }
 
-// The files of a kind that stand elsewhere behind a root.
+// The files of a kind that stand elsewhere after a root.
 fn elsewhere_of<D: Disk>(
     alloc: Global,
     disk: &D,
@@ -88,7 +88,7 @@ fn kinds_in_folders(alloc: Global, line: &Line<'_>) -> Result<Vec<FileKind>, All
         .collect(alloc)
 }
 
-// The files of kinds that stand elsewhere behind a root.
+// The files of kinds that stand elsewhere after a root.
 fn elsewhere_of_kinds<D: Disk>(
     alloc: Global,
     disk: &D,
@@ -105,7 +105,7 @@ fn elsewhere_of_kinds<D: Disk>(
     Ok(others)
 }
 
-// Where the symlink at `/lib` behind a root leads, if one is there.
+// Where the symlink at `/lib` after a root leads, if one is there.
 fn lib_target<D: Disk>(alloc: Global, disk: &D, root: &str) -> Result<Option<Bytes>, AllocError>
     ensures { IfOk result (λ target. D.may_answer disk.now (Target (lib_of root.now) target)) }
 {
@@ -116,8 +116,6 @@ fn lib_target<D: Disk>(alloc: Global, disk: &D, root: &str) -> Result<Option<Byt
 
 /// The files that stand elsewhere, for each kind that the line reads from folders; none where `/lib` is
 /// a symlink, whose files are those of the folder that it leads to.
-///
-/// The error comes where memory is refused.
 pub fn files_elsewhere<D: Disk>(
     alloc: Global,
     disk: &D,

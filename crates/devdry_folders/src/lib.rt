@@ -1,8 +1,10 @@
-//! Reading that goes on behind what can't be read, and what is told of the folders that are read.
+//! Reading that continues after files that can't be read, and the report on the folders that are read.
 //!
-//! `devdry_files` ends at the first file that can't be read, as the commands do by default. Here each
-//! file and folder that a line asks for is visited, whatever comes of it: what was met is kept, with
-//! the reason where it can't be read, and all that is told is made of that.
+//! `devdry_files` stops at the first file that can't be read, as the commands do by default. This crate visits every
+//! file and folder that a command line asks for: it keeps what it found there, or why it could not be read, and makes
+//! the whole report from that.
+//!
+//! Functions that allocate return `AllocError` when memory runs out.
 #![tactic(auto)]
 
 mod elsewhere;

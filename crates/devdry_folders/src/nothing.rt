@@ -1,4 +1,4 @@
-//! What is told where no file was read at all.
+//! What is reported where no file was read at all.
 //!
 //! A check of no file must not look like a good one, so each place that was looked at is named.
 ghost use Rattle.std.specs.List.{list_all};
@@ -13,7 +13,7 @@ use itoa::Buffer;
 use std::alloc::{AllocError, Global};
 use text_bytes::{Bytes, FileKind};
 
-// Puts a line on a place behind others.
+// Puts a line on a place after others.
 fn push_line(alloc: Global, lines: &mut Vec<u8>, path: &[u8], text: &[u8]) -> Result<(), AllocError>
     ensures { OnOk result (lines.new.items ≡ lines.old.items ++ line_on path.now text.now) }
 {
@@ -50,7 +50,7 @@ fn why_no_file(alloc: Global, kind: FileKind, sights: &[Sight]) -> Result<Vec<u8
     Ok(text)
 }
 
-// Puts the line on a folder that was listed behind others, unless what is in it is told of already.
+// Puts the line on a folder that was listed after others, unless what is in it is reported already.
 fn push_listed(
     alloc: Global,
     lines: &mut Vec<u8>,
@@ -67,7 +67,7 @@ fn push_listed(
     push_line(alloc, lines, path, &why_no_file(alloc, kind, sights)?)
 }
 
-// Puts the line on a place that was looked at behind others.
+// Puts the line on a place that was looked at after others.
 fn push_folder(alloc: Global, lines: &mut Vec<u8>, visit: &Visit) -> Result<(), AllocError>
     ensures { OnOk result (lines.new.items ≡ lines.old.items
         ++ folder_line visit.now.kind visit.now.path visit.now.scan.spot visit.now.scan.sights.items) }
@@ -80,7 +80,7 @@ fn push_folder(alloc: Global, lines: &mut Vec<u8>, visit: &Visit) -> Result<(), 
     }
 }
 
-// Puts the line on a link to an absolute path behind others.
+// Puts the line on a link to an absolute path after others.
 fn push_target(
     alloc: Global,
     lines: &mut Vec<u8>,
@@ -104,7 +104,7 @@ fn is_own_root(root: &str) -> bool
     root.bytes().all(|byte| byte == b'/')
 }
 
-// Puts the line on a link at a path behind others, if it is an absolute one in an image.
+// Puts the line on a link at a path after others, if it is an absolute one in an image.
 fn push_link(
     alloc: Global,
     lines: &mut Vec<u8>,
@@ -121,7 +121,7 @@ fn push_link(
     }
 }
 
-// Puts the lines on a place that was looked at behind others.
+// Puts the lines on a place that was looked at after others.
 fn push_place(
     alloc: Global,
     lines: &mut Vec<u8>,
@@ -140,14 +140,14 @@ fn push_place(
     )
 }
 
-// The word behind a number of files.
+// The word after a number of files.
 fn files_word(count: usize) -> &'static [u8]
     ensures { result.now ≡ files_word count }
 {
     if count == 1 { b" file" } else { b" files" }
 }
 
-// Puts the line on files that stand elsewhere behind others, if there are any.
+// Puts the line on files that stand elsewhere after others, if there are any.
 fn push_elsewhere(alloc: Global, lines: &mut Vec<u8>, other: &Elsewhere) -> Result<(), AllocError>
     ensures { OnOk result (lines.new.items ≡ lines.old.items ++ line_elsewhere other.now) }
 {
@@ -160,7 +160,7 @@ fn push_elsewhere(alloc: Global, lines: &mut Vec<u8>, other: &Elsewhere) -> Resu
     push_line(alloc, lines, other.path.as_slice(), &text)
 }
 
-// Puts the lines on all places that were looked at behind others.
+// Puts the lines on all places that were looked at after others.
 fn push_places(
     alloc: Global,
     lines: &mut Vec<u8>,
@@ -178,11 +178,9 @@ fn push_places(
 
 /// The lines that say that no file was read: `devdry: no files`, then for each folder that was looked
 /// at `devdry: PATH: absent`, `empty` or `has no .rules files`, with `devdry: PATH: link out of the
-/// root: TARGET` behind it where it is an absolute link and the root is not that of the running system,
+/// root: TARGET` after it where it is an absolute link and the root is not that of the running system,
 /// and `devdry: PATH has 12 files` (`1 file`) for files that stand elsewhere. What can't be read has no
 /// line here.
-///
-/// The error comes where memory is refused.
 pub fn nothing_lines(
     alloc: Global,
     root: &str,

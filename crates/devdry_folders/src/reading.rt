@@ -1,4 +1,4 @@
-//! What a line comes to that goes on behind what can't be read.
+//! What a line comes to that goes on after what can't be read.
 ghost use Rattle.std.specs.Prelude.{◌≡◌, ◌≤◌, IfOk};
 ghost use Rattle.devdry_folders.specs.Surveys.{AreVisitsFor, IsListed, IsReadSome, IsTold, TellsNothing};
 ghost use Rattle.devdry_folders.specs.Unread.{least_of, least_status};
@@ -20,7 +20,7 @@ use text_bytes::SourceFile;
 pub struct ReadSome {
     /// The files that were read, in the order of reading.
     pub files: Vec<SourceFile>,
-    /// What is told on the error output before the run.
+    /// What is reported on the error output before the run.
     pub told: Vec<u8>,
     /// The least status of the run.
     pub least: u8,
@@ -31,7 +31,7 @@ pub struct ReadSome {
 pub struct Listed {
     /// The lines for the output.
     pub lines: Vec<u8>,
-    /// What is told on the error output before them.
+    /// What is reported on the error output before them.
     pub told: Vec<u8>,
     /// The least status of the run.
     pub least: u8,
@@ -45,7 +45,7 @@ fn visits_for<D: Disk>(alloc: Global, disk: &D, line: &Line<'_>) -> Result<Vec<V
     visits(alloc, disk, &wanted)
 }
 
-// What is told of visits before the run, and the least status of the run.
+// What is reported for visits before the run, and the least status of the run.
 #[derive(Drop)]
 struct Told {
     lines: Vec<u8>,
@@ -65,7 +65,7 @@ fn least_of(unread: &[u8], some: bool) -> u8
     }
 }
 
-// What is told where no file was read, and nothing else.
+// What is reported where no file was read, and nothing else.
 fn told_of_nothing<D: Disk>(
     alloc: Global,
     disk: &D,
@@ -82,7 +82,7 @@ fn told_of_nothing<D: Disk>(
     nothing_lines(alloc, line.root, visits, &others)
 }
 
-// What is told of visits before the run, and the least status of the run.
+// What is reported for visits before the run, and the least status of the run.
 fn told_of<D: Disk>(
     alloc: Global,
     disk: &D,
@@ -103,12 +103,10 @@ fn told_of<D: Disk>(
 /// folders.
 ///
 /// Where the line names a folder, the files in it are taken whose names end in the suffix of their
-/// kind, by name, each as `FILE/NAME`, with one slash. What can't be read is told, `devdry: cannot read
+/// kind, by name, each as `FILE/NAME`, with one slash. What can't be read is reported, `devdry: cannot read
 /// PATH: REASON`, and the least status is then 3; nothing is opened that is neither a folder nor a
 /// regular file, but for the null device. An absent folder is no fault. Where no file was read, each
-/// folder that was looked at is told of, and the least status is 1, unless it is 3.
-///
-/// The error comes where memory is refused.
+/// folder that was looked at is reported, and the least status is 1, unless it is 3.
 pub fn read_what_can<D: Disk>(
     alloc: Global,
     disk: &D,
@@ -127,10 +125,8 @@ pub fn read_what_can<D: Disk>(
 }
 
 /// Tells which files of the folders that a line asks for count: each file is used, masks those of its
-/// name, is hidden by another, or is passed over with the reason; what can't be read is told besides,
+/// name, is hidden by another, or is passed over with the reason; what can't be read is reported besides,
 /// and the least status is as with `read_what_can`.
-///
-/// The error comes where memory is refused.
 pub fn list_files<D: Disk>(alloc: Global, disk: &D, line: &Line<'_>) -> Result<Listed, AllocError>
     ensures listed { IfOk result (IsListed (D.may_answer disk.now) line.now) }
     ensures least { IfOk result (λ listed. listed.least ≤ 3) }

@@ -25,7 +25,7 @@ pub enum Reason {
     Failed,
 }
 
-/// Puts a front and a word behind a text, the word escaped.
+/// Puts a front and a word after a text, the word escaped.
 pub fn push_escaped(
     alloc: Global,
     text: &mut Vec<u8>,
@@ -38,7 +38,7 @@ pub fn push_escaped(
     text.extend_from_slice(&escape(alloc, word)?)
 }
 
-/// Puts a reason behind a text, in words.
+/// Puts a reason after a text, in words.
 pub fn push_reason(alloc: Global, text: &mut Vec<u8>, reason: &Reason) -> Result<(), AllocError>
     ensures { OnOk result (text.new.items ≡ text.old.items ++ reason_text reason.now) }
 {

@@ -27,23 +27,23 @@ pub struct Sight {
     pub met: Met,
 }
 
-/// What stands at the path of a folder that is wanted, or of a file that is named.
+/// What is at the path of a folder that is wanted, or of a file that is named.
 #[derive(Debug, Drop)]
 pub enum Spot {
     /// Nothing, which is no fault of a folder.
     Absent,
     /// A folder, which was listed.
     Folder,
-    /// A file, or what stands in its place.
+    /// A file, or what is in its place.
     File,
-    /// A folder that can't be listed, or what stands in its place, and why it can't be.
+    /// A folder that can't be listed, or what is in its place, and why it can't be.
     Unread(Reason),
 }
 
-/// What stands at a path, and what is met in it.
+/// What is at a path, and what is met in it.
 #[derive(Debug, Drop)]
 pub struct Scan {
-    /// What stands there.
+    /// What is there.
     pub spot: Spot,
     /// What is met in a folder, sorted by name, or the file alone.
     pub sights: Vec<Sight>,

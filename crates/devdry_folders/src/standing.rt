@@ -23,7 +23,7 @@ struct ByKind {
     database: Vec<Sight>,
 }
 
-// Puts the sights of a visit behind those of its kind.
+// Puts the sights of a visit after those of its kind.
 fn push_visit(held: &mut ByKind, mut visit: Visit) -> Result<(), AllocError>
     ensures rules { OnOk result (held.new.rules.items
         ≡ held.old.rules.items ++ sights_if FileKind.Rules visit) }
@@ -93,7 +93,7 @@ fn use_text(bytes: &[u8]) -> &'static [u8]
     if bytes.is_empty() { b"masked" } else { b"used" }
 }
 
-// Puts what is told of a file behind a text.
+// Puts what is reported for a file after a text.
 fn push_file(
     alloc: Global,
     text: &mut Vec<u8>,
@@ -112,7 +112,7 @@ fn push_file(
     }
 }
 
-// Puts what is told of what was met behind a text.
+// Puts what is reported for what was met after a text.
 fn push_standing(
     alloc: Global,
     text: &mut Vec<u8>,
@@ -137,7 +137,7 @@ fn push_standing(
     }
 }
 
-// Puts two texts behind another.
+// Puts two texts after another.
 fn push_both(text: &mut Vec<u8>, front: &[u8], behind: &[u8]) -> Result<(), AllocError>
     ensures { OnOk result (text.new.items ≡ text.old.items ++ (front.now ++ behind.now)) }
 {
@@ -145,7 +145,7 @@ fn push_both(text: &mut Vec<u8>, front: &[u8], behind: &[u8]) -> Result<(), Allo
     text.extend_from_slice(behind)
 }
 
-// Puts the line on a sight behind others, by the files that count.
+// Puts the line on a sight after others, by the files that count.
 fn push_line(
     alloc: Global,
     lines: &mut Vec<u8>,
@@ -166,7 +166,7 @@ fn push_line(
     Ok(())
 }
 
-// Puts the lines on sights of a kind behind others.
+// Puts the lines on sights of a kind after others.
 fn push_lines(
     alloc: Global,
     lines: &mut Vec<u8>,
@@ -185,8 +185,6 @@ fn push_lines(
 /// The lines on what was met in the folders, those on rules before those on the database, each by name
 /// and those of one name in the order of their folders: `PATH: used`, `PATH: masked`, `PATH: hidden by
 /// PATH` or `PATH: passed over: REASON`, the paths escaped.
-///
-/// The error comes where memory is refused.
 pub fn standing_lines(alloc: Global, visits: Vec<Visit>) -> Result<Vec<u8>, AllocError>
     ensures { IfOk result (λ lines. AreListed visits.items lines.items) }
 {

@@ -1,4 +1,4 @@
-//! What is told of what can't be read.
+//! What is reported for what can't be read.
 ghost use Rattle.std.specs.Prelude.{◌≡◌, ◌++◌, IfOk, OnOk, flat_map};
 ghost use Rattle.devdry_folders.specs.Unread.{has_file, has_files, is_file, line_on_met, line_on_spot, lines_on_visit, unread_line, unread_lines};
 
@@ -6,7 +6,7 @@ use crate::reasons::{Reason, push_escaped, push_reason};
 use crate::sights::{Met, Sight, Spot, Visit};
 use std::alloc::{AllocError, Global};
 
-// Puts the line on what can't be read behind others.
+// Puts the line on what can't be read after others.
 fn push_unread(
     alloc: Global,
     lines: &mut Vec<u8>,
@@ -22,7 +22,7 @@ fn push_unread(
     Ok(())
 }
 
-// Puts the line on what is met at a path behind others, if it can't be read.
+// Puts the line on what is met at a path after others, if it can't be read.
 fn push_on_met(alloc: Global, lines: &mut Vec<u8>, path: &[u8], met: &Met) -> Result<(), AllocError>
     ensures { OnOk result (lines.new.items ≡ lines.old.items ++ line_on_met path.now met.now) }
 {
@@ -32,7 +32,7 @@ fn push_on_met(alloc: Global, lines: &mut Vec<u8>, path: &[u8], met: &Met) -> Re
     }
 }
 
-// Puts the line on what stands at a path behind others, if it can't be listed.
+// Puts the line on what is at a path after others, if it can't be listed.
 fn push_on_spot(
     alloc: Global,
     lines: &mut Vec<u8>,
@@ -47,7 +47,7 @@ fn push_on_spot(
     }
 }
 
-// Puts the lines on a visit behind others.
+// Puts the lines on a visit after others.
 fn push_on_visit(alloc: Global, lines: &mut Vec<u8>, visit: &Visit) -> Result<(), AllocError>
     ensures { OnOk result (lines.new.items ≡ lines.old.items ++ lines_on_visit visit.now) }
 {

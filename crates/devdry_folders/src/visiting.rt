@@ -111,7 +111,7 @@ fn sights_in<D: Disk>(
     sights_of_names(alloc, disk, kind, folder, &names)
 }
 
-// What stands at a path and is not listed.
+// What is at a path and is not listed.
 fn unlisted(alloc: Global, spot: Spot) -> Scan
     ensures { IsUnlisted spot result }
 {
@@ -288,8 +288,6 @@ fn folder_visits<D: Disk>(
 /// A file that is named is read whatever its name; of a folder that is named, and of the folders, the
 /// files are read whose names end in the suffix of their kind, by name. What can't be read is kept with
 /// its reason, and the next is visited. An absent folder is no fault, but a symlink to nothing is.
-///
-/// The error comes where memory is refused.
 pub fn visits<D: Disk>(
     alloc: Global,
     disk: &D,

@@ -10,7 +10,7 @@ use Rattle.devdry_words.specs.Values.{cut_at_commas}
 abbrev pub unknown_in : List Text → Option Text
 unknown_in texts = first_unknown (flat_map cut_at_commas texts)
 
--- what is left at a place is what stands there, and what is left behind it
+-- what is left at a place is what is there, and what is left after it
 left_at : {A B : Type 0} (f : A → B) (xs : List A) (i : ℕ) (d : A) → i < length xs → map f (drop i xs) ≡ f (get_or xs i d) ∷ map f (drop (i + 1) xs)
 left_at f xs i d h = rw (add-one, drop-cons xs i d) refl
 
@@ -20,7 +20,7 @@ next f texts at text h =
     ap unknown_in (left_at f texts at text h)
     ∙ find-append (λ part. not (is_ignorable part)) (cut_at_commas (f (get_or texts at text))) (flat_map cut_at_commas (map f (drop (at + 1) texts)))
 
--- where a text has none, it is in those behind
+-- where a text has none, it is in those after
 pub goes_on : {A : Type 0} (f : A → Text) (texts : List A) (at : ℕ) (text : A) (whole : Option Text) → at < length texts
     → unknown_in (map f (drop at texts)) ≡ whole → first_unknown (cut_at_commas (f (get_or texts at text))) ≡ None → unknown_in (map f (drop (at + 1) texts)) ≡ whole
 goes_on f texts at text whole h left none = sym (ap (λ found. option_or found (unknown_in (map f (drop (at + 1) texts)))) none) ∙ sym (next f texts at text h) ∙ left

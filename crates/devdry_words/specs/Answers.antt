@@ -16,7 +16,7 @@ use Rattle.devdry_words.specs.Values.{text_of}
 abbrev pub AsksForHelp : ErrorKind → Type 0
 AsksForHelp k = (k ≡ kind.DisplayHelp) ⊎ (k ≡ kind.DisplayVersion)
 
--- help answers a request, usage any other kind, and want of memory may answer each
+-- help answers a request, usage any other kind, and out of memory may answer each
 abbrev pub IsAnswer : LineFault → ErrorKind → Type 0
 IsAnswer (Help text) k = AsksForHelp k
 IsAnswer (Usage text) k = AsksForHelp k → ⊥
@@ -39,7 +39,7 @@ IsHelpWith P (Help text) = P (string_bytes text)
 IsHelpWith P (Usage text) = ⊥
 IsHelpWith P Memory = ⊤
 
--- what is said behind a code that there is not
+-- what is said after a code that there is not
 abbrev pub no_such_code : Text
 no_such_code = codes "' for '<CODE>'\n  [possible values: " ++ known_codes ++ codes "]\n\nFor more information, try '--help'.\n"
 

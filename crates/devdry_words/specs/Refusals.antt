@@ -48,7 +48,7 @@ refusal_of name rows = if names_two name rows then Some TwoDatabases
     else (if lacks_side rows then Some EmptySide
     else (if lacks_udev rows then Some NoUdev else unknown_value rows)))
 
--- what is said of a value that its argument does not take, by what stands before and behind the value
+-- what is said of a value that its argument does not take, by what comes before and after the value
 abbrev pub invalid_value : Text → Text → Text
 invalid_value value behind = codes "error: invalid value '" ++ value ++ behind
 
@@ -68,7 +68,7 @@ empty_side = codes "error: an empty value of '<OLD>' or '<NEW>' names no folder;
 abbrev pub no_udev : Text
 no_udev = codes "error: the arguments '--users <FILE>' and '--groups <FILE>' need '--udev'\n\nUsage: devdry verify --udev --users <FILE> --groups <FILE> [FILE]...\n\nFor more information, try '--help'.\n"
 
--- what is said behind the name of a format that there is not
+-- what is said after the name of a format that there is not
 abbrev pub no_such_format : Text
 no_such_format = codes "' for '--format <FORMAT>'\n  [possible values: plain, gcc, github, gitlab, json, human]\n\nFor more information, try '--help'.\n"
 
@@ -76,7 +76,7 @@ no_such_format = codes "' for '--format <FORMAT>'\n  [possible values: plain, gc
 abbrev pub known_codes : Text
 known_codes = codes "V1, V2, V3, V4, V5, V6, V7, V8, V9, V10, V11, V12, V13, V14, V15, V16, V17, V18, V19, V20, V21, V22, V23, V24, V25, V26, S1, S2, S3, S4, S5, S6, H1, H2, H3, H4, H5, H6, W1, W2, W3, W4, W5, W6, W7, W8, W9, W10, W11, W12, W13, I1, I2"
 
--- what is said behind a part of `--ignore` that is neither a code nor the word `comments`
+-- what is said after a part of `--ignore` that is neither a code nor the word `comments`
 abbrev pub not_ignorable : Text
 not_ignorable = codes "' for '--ignore <CODES>'\n  [possible values: " ++ known_codes ++ codes ", comments]\n\nFor more information, try '--help'.\n"
 

@@ -1,4 +1,4 @@
-//! The command line of `devdry`, as `clap` is told of it.
+//! The command line of `devdry`, as `clap` is reported it.
 //!
 //! An argument is a function of its own where several subcommands take it, so that it is the same
 //! in each. `clap` wraps no text here, so that the texts of the help are broken by hand.
@@ -316,7 +316,7 @@ fn program<'a>(alloc: Global) -> Result<Command<'a>, AllocError>
         .bin_name("devdry")
 }
 
-/// The command line of `devdry`, with its subcommands. `Err` is want of memory.
+/// The command line of `devdry`, with its subcommands. `Err` is out of memory.
 pub fn devdry_command<'a>(alloc: Global) -> Result<Command<'a>, AllocError>
     ensures { IfOk result (λ c. app_of c ≡ devdry) }
 {

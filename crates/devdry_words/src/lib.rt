@@ -1,7 +1,9 @@
-//! Reads the words of a command line of `devdry`, by `clap`.
+//! Parses the command line of `devdry`, with `clap`.
 //!
-//! A crate of its own, since whatever stands on `clap` is slow to check: the types that the words
-//! become stand in `engine_ends`, and only the program needs this crate.
+//! This is a crate of its own because everything that depends on `clap` is slow to check: the types that the arguments
+//! become are in `engine_ends`, and only the program needs this crate.
+//!
+//! Functions that allocate return `AllocError` when memory runs out.
 #![tactic(auto)]
 
 mod commands;

@@ -46,7 +46,7 @@ fn fault_from(alloc: Global, error: &Error) -> LineFault
     }
 }
 
-// A request, where want of memory is a fault.
+// A request, where out of memory is a fault.
 fn or_memory<'a>(request: Result<Request<'a>, AllocError>) -> Result<Request<'a>, LineFault>
     ensures { MatchResult request.entry (λ r. result ≡ Ok r) (λ _. result ≡ Err LineFault.Memory) }
 {
@@ -116,7 +116,7 @@ pub fn parse_line<'a>(alloc: Global, words: &'a [String]) -> Result<Request<'a>,
     // A fault answers what is wrong with the words, or what they ask for: help, or usage.
     ensures fault { IfErr result (AnswersWords (fault_of devdry (map string_bytes words.now))
         (subcommand_of devdry (map string_bytes words.now))) }
-    // Words that are taken give no request for want of memory, or where they are refused or explained.
+    // Words that are taken give no request for out of memory, or where they are refused or explained.
     ensures refusal { takes devdry (map string_bytes words.now) ≡ true
         → IfErr result (λ fault. (fault ≡ LineFault.Memory)
         ⊎ AnswersSubcommand (subcommand_of devdry (map string_bytes words.now)) fault) }

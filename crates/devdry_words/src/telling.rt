@@ -43,7 +43,7 @@ fn invalid_value(alloc: Global, value: &str, behind: &str) -> Result<String, All
     Ok(text)
 }
 
-/// Usage on a value that its argument does not take, with what stands behind the value.
+/// Usage on a value that its argument does not take, with what follows the value.
 pub(crate) fn usage_on_value(alloc: Global, value: &str, behind: &str) -> LineFault
     ensures { IsUsageOf (invalid_value value.now behind.now) result }
 {

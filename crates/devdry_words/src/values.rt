@@ -54,7 +54,7 @@ pub fn every_value<'b, 'a>(matches: &'b ArgMatches<'a>, id: &str) -> Option<&'b 
     matches.get_strs(id)
 }
 
-/// The values of an argument in their order, none where it was not given. The error comes where memory is refused.
+/// The values of an argument in their order, none where it was not given.
 pub fn texts<'a>(
     alloc: Global,
     matches: &ArgMatches<'a>,
@@ -79,14 +79,14 @@ pub fn has_value(matches: &ArgMatches<'_>, id: &str) -> bool
     }
 }
 
-/// The parts of a text between its commas. The error comes where memory is refused.
+/// The parts of a text between its commas.
 fn cut_at_commas(alloc: Global, text: &str) -> Result<Vec<&str>, AllocError>
     ensures { IfOk result (λ parts. map (λ p. p.now) parts.items ≡ cut_at_commas text.now) }
 {
     text.split(',').collect(alloc)
 }
 
-/// The parts of texts between their commas, in their order. The error comes where memory is refused.
+/// The parts of texts between their commas, in their order.
 fn cut_each_at_commas<'a>(alloc: Global, texts: &[&'a str]) -> Result<Vec<&'a str>, AllocError>
     ensures { IfOk result (λ parts. map (λ p. p.now) parts.items
         ≡ flat_map cut_at_commas (map (λ t. t.now) texts.now)) }
@@ -98,8 +98,7 @@ fn cut_each_at_commas<'a>(alloc: Global, texts: &[&'a str]) -> Result<Vec<&'a st
     Ok(parts)
 }
 
-/// The values of an argument in their order, each cut at its commas; none where it was not given. The error comes
-/// where memory is refused.
+/// The values of an argument in their order, each cut at its commas; none where it was not given.
 pub fn parts<'a>(
     alloc: Global,
     matches: &ArgMatches<'a>,

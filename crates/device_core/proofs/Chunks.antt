@@ -1,4 +1,4 @@
--- Bytes of one line, put behind a run.
+-- Bytes of one line, put after a run.
 use Rattle.std.proofs.Common.{◌≡◌, ℕ, zero, suc, ◌+◌, ◌-◌, ◌<◌, ◌≤◌, ◌==◌, ◌&&◌, not, Bool, true, false, cond, ltb, List, [], ◌∷◌, ◌++◌, Option, Some, None, MatchOption, length, take, drop, get_or, refl, append_assoc, ap, sym, ◌∙◌, arith}
 use Rattle.std.specs.List.{position, position_or_len}
 use Rattle.std.proofs.lemmas.List.{append-nil, take_more, take_all, get_or-drop}
@@ -35,7 +35,7 @@ line_goes_on start text zero l e = tt
 line_goes_on start [] (suc n) l e = absurd (omega arith)
 line_goes_on start (byte ∷ text) (suc n) l e = (e, behind_byte (byte == 10) byte text n l (λ m. line_goes_on false text n m refl))
 
--- how many bytes stand before the first newline, or in all
+-- how many bytes come before the first newline, or in all
 abbrev pub newline_at : List ℕ → ℕ
 newline_at text = position_or_len (λ b. b == 10) text
 
@@ -82,7 +82,7 @@ none_before before piece i n l none =
     let both : s ++ t ≡ before ++ take i piece = sym (take_chunk before piece n (i - n)) ∙ ap (λ k. before ++ take k piece) is in
     no_more (complete_runs s) (complete_runs (rest_of s ++ t)) (sym (complete_runs-append s t) ∙ ap complete_runs both ∙ none)
 
--- whether a line begins behind a chunk
+-- whether a line begins after a chunk
 pub begins_after-chunk : (held piece : List ℕ) (i n : ℕ) → 0 < n → i + n ≤ length piece → begins_after true (held ++ take n (drop i piece)) ≡ (get_or piece (i + n - 1) 0 == 10)
 begins_after-chunk held piece i n some l =
     let m : ℕ = n - 1 in
@@ -107,7 +107,7 @@ line_size piece i n h value within =
     let size : n ≤ length (drop i piece) = rw (left_is piece i) at within in
     (rw (left_is piece i) at value, grind (arith, common_steps, size))
 
--- a chunk of the piece, written behind what is held
+-- a chunk of the piece, written after what is held
 pub chunk_held : (piece room now : List ℕ) (i len n : ℕ) → i + n ≤ length piece
     → take (len + length (take (i + n - i) (drop i piece))) now ≡ take len room ++ take (i + n - i) (drop i piece) → take (len + n) now ≡ take len room ++ take n (drop i piece)
 chunk_held piece room now i len n inside h =

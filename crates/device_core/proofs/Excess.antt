@@ -16,7 +16,7 @@ some_byte : (text : List ℕ) → 0 < length text → text ≡ [] → ⊥
 some_byte [] h e = absurd (omega arith)
 some_byte (byte ∷ text) h e = absurd cc
 
--- a run that goes on behind a full room is too long, whatever comes later
+-- a run that goes on after a full room is too long, whatever comes later
 pub begins_too_long : (before piece later held : List ℕ) (used byte line : ℕ)
     → complete_runs (before ++ take (used + 1) piece) ≡ [] → rest_of (before ++ take (used + 1) piece) ≡ held ++ byte ∷ []
     → length held ≡ most_bytes → line ≡ newline_count held + 1 → BeginsTooLong (before ++ piece ++ later) line

@@ -51,7 +51,7 @@ sections_are (byte ∷ text) = let h = sections_are text in (
   step_inside (byte == 10) byte text refl h.0 h.1,
 )
 
--- the second text's sections behind the first's
+-- the second text's sections after the first's
 abbrev pub joined : Sections → Sections → Sections
 joined first second = let both = onto_first_section first.rest second.followed second.rest in record { followed = first.followed ++ both.followed; rest = both.rest }
 
@@ -131,7 +131,7 @@ complete_runs-append s t = ap (λ p. not_empty p.followed) (sections-append s t)
 pub rest_of-append : (s t : List ℕ) → rest_of (s ++ t) ≡ rest_of (rest_of s ++ t)
 rest_of-append s t = ap (λ p. p.rest) (sections-append s t)
 
--- one byte behind a run that no empty line follows
+-- one byte after a run that no empty line follows
 one_byte : (held : List ℕ) (start empty : Bool) (byte : ℕ) → IsOpen start held → (start && (byte == 10)) ≡ empty
     → sections_of (lines_inclusive (held ++ byte ∷ [])) ≡ joined (record { followed = []; rest = held }) (next_line empty (byte ∷ []) (record { followed = []; rest = [] }))
 one_byte held start empty byte o e = rw ((sections_are (held ++ byte ∷ [])).0, sections_from-append true held (byte ∷ []), o.alone, o.begins, e) refl

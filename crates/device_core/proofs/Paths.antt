@@ -1,4 +1,4 @@
--- A parent's path with a slash behind it begins a path.
+-- A parent's path with a slash after it begins a path.
 use Rattle.std.proofs.Common.{◌≡◌, ℕ, Bool, true, false, ◌&&◌, List, [], ◌∷◌, ◌++◌, length, drop, refl, ap, sym, ◌∙◌, nat_eq, ◌==◌, arith}
 use Rattle.std.specs.List.{starts_with}
 use Rattle.text_bytes.specs.Names.{slash}
@@ -31,7 +31,7 @@ filled : (xs : List ℕ) → (length xs == 0) ≡ false → is_empty xs ≡ fals
 filled [] h = h
 filled (x ∷ xs) h = refl
 
--- the answer of a reader that looks behind the parent
+-- the answer of a reader that looks after the parent
 pub parent_answer : (child parent behind : List ℕ) (r : Bool) → (length parent == 0) ≡ false → starts_with nat_eq child parent ≡ true → behind ≡ drop (length parent) child → r ≡ begins_with slash behind → r ≡ is_parent_path child parent
 parent_answer child parent behind r some front back says = says ∙ ap (begins_with slash) back ∙ sym (parent_path_is child parent (filled parent some) ∙ ap (λ b. b && begins_with slash (drop (length parent) child)) front)
 

@@ -9,7 +9,7 @@ use Rattle.device_core.specs.Holding.{begins_after, IsPending}
 use Rattle.device_core.proofs.Law.{rest_of-alone, piece_ends, not_empty-one}
 use Rattle.device_core.proofs.Chunks.{GoesOn, chunk_stays, line_goes_on, take_chunk, begins_after-chunk}
 
--- after i bytes of the piece, len bytes stand in the room
+-- after i bytes of the piece, len bytes are in the room
 pub record Filling (before piece : List ℕ) (i : ℕ) (room : List ℕ) (len : ℕ) (start : Bool) : Type 0 where
   pub within : len ≤ length room
   pub inside : i ≤ length piece
@@ -43,7 +43,7 @@ stays {before} {piece} {i} {room} {len} {start} n f e l =
     let p = chunk_stays (before ++ take i piece) (take len room) (take n (drop i piece)) start f.rest f.begins (goes_on start piece i n e l) in
     (ap complete_runs (take_chunk before piece i n) ∙ p.0 ∙ f.none, ap rest_of (take_chunk before piece i n) ∙ p.1)
 
--- a line, or what the piece has of it, is put behind the run
+-- a line, or what the piece has of it, is put after the run
 pub puts : {before piece : List ℕ} {i : ℕ} {room : List ℕ} {len : ℕ} {start : Bool} (n : ℕ) (now : List ℕ) → Filling before piece i room len start → (start && (get_or piece i 0 == 10)) ≡ false
     → 0 < n → n ≤ length (first_line (drop i piece)) → i + n ≤ length piece → len + n ≤ length now → take (len + n) now ≡ take len room ++ take n (drop i piece)
     → Filling before piece (i + n) now (len + n) (get_or piece (i + n - 1) 0 == 10)

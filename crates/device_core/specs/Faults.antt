@@ -44,12 +44,12 @@ lacks_action above Action rest = is_empty above && is_empty rest
 lacks_action above Answer rest = false
 lacks_action above _ rest = is_empty above
 
--- a line about a device stands above each `P:`
+-- a line about a device is above each `P:`
 abbrev pub lacks_device : List Row → LineKind → Bool
 lacks_device above (Field field) = is_none (device_above above)
 lacks_device above _ = false
 
--- the line begins a device, and as many as there may be stand above
+-- the line begins a device, and as many as there may be are above
 abbrev pub is_too_deep : List Row → LineKind → Bool
 is_too_deep above Device = nat_le most_devices (length (devices above))
 is_too_deep above _ = false

@@ -12,7 +12,7 @@ abbrev pub first_line : List ℕ → List ℕ
 first_line [] = []
 first_line (byte ∷ text) = if byte == newline then byte ∷ [] else byte ∷ first_line text
 
--- The whole piece was put behind what stood before, and no run is complete.
+-- The whole piece was put after what stood before, and no run is complete.
 pub record UsesAll (before piece : List ℕ) (used : ℕ) (begins : Bool) (held : List ℕ) : Type 0 where
   pub all : used ≡ length piece
   pub none : complete_runs (before ++ take used piece) ≡ []

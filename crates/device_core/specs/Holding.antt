@@ -5,12 +5,12 @@ use Rattle.device_core.specs.Runs.{complete_runs, rest_of}
 use Rattle.device_core.specs.RunBlocks.{most_bytes}
 use Rattle.device_core.specs.Splits.{Split}
 
--- whether a line begins behind the text, if one does before it or not
+-- whether a line begins after the text, if one does before it or not
 abbrev pub begins_after : Bool → List ℕ → Bool
 begins_after start [] = start
 begins_after start (byte ∷ text) = begins_after (byte == newline) text
 
--- what is held is a run that is not complete, and it is known whether a line begins behind it
+-- what is held is a run that is not complete, and it is known whether a line begins after it
 pub record IsPending (held : List ℕ) (at_start : Bool) : Type 0 where
   pub none : complete_runs held ≡ []
   pub rest : rest_of held ≡ held

@@ -33,7 +33,7 @@ letter_of Answer = 82  -- R
 abbrev pub kinds : List LineKind
 kinds = Action ∷ Device ∷ Field Subsystem ∷ Field Driver ∷ Field Node ∷ Field Devnum ∷ Field Attribute ∷ Field Property ∷ Field Tag ∷ Field Link ∷ Constant ∷ Command ∷ Answer ∷ []
 
--- a line by its kind, and what stands behind the space
+-- a line by its kind, and what follows the space
 abbrev pub Row : Type 0
 Row = LineKind × Text
 

@@ -13,7 +13,7 @@ use Rattle.device_core.specs.Values.{NumberValue, AnswerValue}
 abbrev pub with_name : Pair → Option Pair
 with_name p = if is_empty p.0 then None else Some p
 
--- a name and its value: what stands before the first `=` and is not empty, and what behind it
+-- a name and its value: what comes before the first `=` and is not empty, and what after it
 unfoldable pub pair_of : Text → Option Pair
 pair_of rest = option_and_then with_name (split_once equals rest)
 
@@ -33,7 +33,7 @@ with_parts p = if is_part p.0 && is_part p.1 then Some (record { major = p.0; mi
 unfoldable pub number_of : Text → Option NumberValue
 number_of rest = option_and_then with_parts (split_once colon rest)
 
--- the status and the text of an answer: what stands before the first space and behind it
+-- the status and the text of an answer: what comes before the first space and after it
 abbrev pub answer_parts : Text → Option Pair → Pair
 answer_parts rest None = (rest, [])
 answer_parts rest (Some p) = p
@@ -46,7 +46,7 @@ with_status p = option_map (λ status. record { status = status; text = p.1 }) (
 unfoldable pub answer_of : Text → Option AnswerValue
 answer_of rest = with_status (answer_parts rest (split_once space rest))
 
--- whether each slash is followed by a byte that is none; the first argument says that one stands right before the text
+-- whether each slash is followed by a byte that is none; the first argument says that one comes right before the text
 abbrev pub names_follow : Bool → Text → Bool
 names_follow after_slash [] = not after_slash
 names_follow after_slash (b ∷ text) = if b == slash then not after_slash && names_follow true text else names_follow false text
@@ -56,6 +56,6 @@ unfoldable pub is_device_path : Text → Bool
 is_device_path [] = false
 is_device_path (b ∷ text) = b == slash && names_follow true text
 
--- whether a path is that of a parent: not empty, and with a slash behind it the beginning of the other
+-- whether a path is that of a parent: not empty, and with a slash after it the beginning of the other
 unfoldable pub is_parent_path : (child parent : Text) → Bool
 is_parent_path child parent = not (is_empty parent) && starts_with nat_eq child (parent ++ slash ∷ [])

@@ -17,7 +17,7 @@ pub record FindsAll (is_faulty : List ℕ → Bool) (texts found : List (List �
   pub none : All (λ text. is_faulty text ≡ false) texts
   pub all : found ≡ texts
 
--- A faulty text stands behind others that are not, and no more are found.
+-- A faulty text follows others that are not, and no more are found.
 pub record FindsFaulty (is_faulty : List ℕ → Bool) (texts found : List (List ℕ)) : Type 0 where
   pub before : List (List ℕ)
   pub faulty : List ℕ

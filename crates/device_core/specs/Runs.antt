@@ -1,7 +1,7 @@
 -- Runs of lines: the blocks of an input.
 --
 -- A line ends with its newline, and the last may lack it. A run is as many lines in a row as can be
--- of which none is empty; its newlines are counted to it, and the empty line behind it is not. The
+-- of which none is empty; its newlines are counted to it, and the empty line after it is not. The
 -- law `a_text_is_cut_one_way` says the same of bytes (`Cuts`).
 use Rattle.std.specs.Prelude.{ℕ, ◌==◌, Bool, true, false, List, [], ◌∷◌, ◌++◌, if◌then◌else◌}
 use Rattle.std.specs.List.{onto_first}
@@ -18,7 +18,7 @@ is_empty_line [] = false
 is_empty_line (byte ∷ []) = byte == newline
 is_empty_line (byte ∷ more ∷ line) = false
 
--- a text cut at its empty lines: what stands before each of them, and what stands behind the last
+-- a text cut at its empty lines: what comes before each of them, and what follows the last
 pub record Sections : Type 0 where
   pub followed : List (List ℕ)
   pub rest : List ℕ

@@ -48,7 +48,7 @@ pub record BeginsTooLong (text : List ℕ) (line : ℕ) : Type 0 where
   pub counted : line ≡ line_of_excess run
 
 -- What `take` does where it fails. The run that begins with the pending bytes and goes on with the
--- piece is too long, whatever comes behind the piece; or the input had ended.
+-- piece is too long, whatever comes after the piece; or the input had ended.
 abbrev pub FailsBy : SplitFault → Split → List ℕ → Split → Type 0
 FailsBy (TooLong line) old piece new = ((later : List ℕ) → BeginsTooLong (old.pending ++ piece ++ later) line) × (old.ended ≡ false) × (new ≡ closed)
 FailsBy Ended old piece new = (old.ended ≡ true) × (new ≡ closed)

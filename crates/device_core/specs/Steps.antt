@@ -56,7 +56,7 @@ number_once before (Some number) = if is_some before then Err Twice else Ok numb
 unfoldable pub number_step : Option NumberValue → Text → Result NumberValue BlockFaultKind
 number_step before rest = number_once before (number_of rest)
 
--- a name and its value behind those known, where the name is new
+-- a name and its value after those known, where the name is new
 abbrev pub with_pair : List NameAndValue → Option NameAndValue → Result (List NameAndValue) BlockFaultKind
 with_pair known None = Err Pair
 with_pair known (Some pair) = if named known pair.0 then Err Twice else Ok (known ++ pair ∷ [])
@@ -118,7 +118,7 @@ above_step (Some d) field rest = field_step d field rest
 unfoldable pub command_step : List (Text × AnswerValue) → Text → Bool → Result Text BlockFaultKind
 command_step programs rest answered = if is_empty rest || not answered then Err Pair else (if named programs rest then Err Twice else Ok rest)
 
--- a command with its answer behind those known, where the command is new
+-- a command with its answer after those known, where the command is new
 abbrev pub with_answer : List (Text × AnswerValue) → Text → Option AnswerValue → Result (List (Text × AnswerValue)) BlockFaultKind
 with_answer programs command None = Err Number
 with_answer programs command (Some answer) = if named programs command then Err Twice else Ok (programs ++ (command, answer) ∷ [])
@@ -150,12 +150,12 @@ known_row (Some row) = Ok row
 unfoldable pub plain_row : Text → Result Row BlockFaultKind
 plain_row line = if has_nul line then Err Nul else known_row (row_of line)
 
--- a line by its kind behind the lines so far
+-- a line by its kind after the lines so far
 abbrev pub then_row : Sofar → Bool → Result Row BlockFaultKind → Result Sofar BlockFaultKind
 then_row s answered (Err kind) = Err kind
 then_row s answered (Ok row) = row_step s row.0 row.1 answered
 
--- one line behind those so far; whether the next one begins as an answer
+-- one line after those so far; whether the next one begins as an answer
 unfoldable pub line_step : Sofar → Text → Bool → Result Sofar BlockFaultKind
 line_step s line answered = then_row s answered (plain_row line)
 
@@ -170,11 +170,11 @@ abbrev pub action_in : Result Row BlockFaultKind → Result Text BlockFaultKind
 action_in (Err kind) = Err kind
 action_in (Ok row) = action_by row.0 row.1
 
--- the action of the first line, as it stands in the block
+-- the action of the first line, as it is in the block
 unfoldable pub first_step : Text → Result Text BlockFaultKind
 first_step line = action_in (plain_row line)
 
--- nothing is read behind the first line yet
+-- nothing is read after the first line yet
 abbrev pub start : Sofar
 start = record { closed = []; last = None; programs = []; asked = None; constants = [] }
 
@@ -193,7 +193,7 @@ abbrev pub then_steps : {Y : Type 0} → ℕ → (Sofar → Result Y BlockFault)
 then_steps line more (Err kind) = Err (record { line = line; kind = kind })
 then_steps line more (Ok s) = more s
 
--- the lines behind the first `above` ones, and how many lines there are in all
+-- the lines after the first `above` ones, and how many lines there are in all
 unfoldable pub steps : Sofar → ℕ → List Text → Result (Sofar × ℕ) BlockFault
 steps s above [] = Ok (s, above)
 steps s above (line ∷ below) = then_steps (above + 1) (λ t. steps t (above + 1) below) (line_step s line (begins_answer below))
@@ -217,7 +217,7 @@ abbrev pub then_finished : Text → Result (Sofar × ℕ) BlockFault → Result 
 then_finished action (Err fault) = Err fault
 then_finished action (Ok p) = finished action p.0 p.1
 
--- the event of the lines behind the first, or the fault of that
+-- the event of the lines after the first, or the fault of that
 abbrev pub behind_first : List Text → Result Text BlockFaultKind → Result EventValue BlockFault
 behind_first lines (Err kind) = Err (record { line = 1; kind = kind })
 behind_first lines (Ok action) = then_finished action (steps start 1 lines)

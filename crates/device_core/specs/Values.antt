@@ -21,7 +21,7 @@ pub record DeviceValue : Type 0 where
   pub tags : List Text
   pub links : List Text
 
--- a device that is told of by its path, its subsystem and its attributes alone
+-- a device that is reported by its path, its subsystem and its attributes alone
 abbrev pub told : (path subsystem : Text) → List Pair → DeviceValue
 told path subsystem attrs = record {
   path = path;

@@ -22,14 +22,14 @@ impl<'a> Model for DeviceNumber<'a> {
 }
 
 impl<'a> DeviceNumber<'a> {
-    /// What stands before the `:`.
+    /// What comes before the `:`.
     pub fn major(&self) -> &'a [u8]
         ensures { result.now ≡ self.now.major }
     {
         self.major
     }
 
-    /// What stands behind it.
+    /// What follows it.
     pub fn minor(&self) -> &'a [u8]
         ensures { result.now ≡ self.now.minor }
     {
@@ -61,7 +61,7 @@ impl<'a> Model for Device<'a> {
 }
 
 impl<'a> Device<'a> {
-    /// A device that is told of by its path, its subsystem and its attributes alone.
+    /// A device that is reported by its path, its subsystem and its attributes alone.
     pub fn told(alloc: Global, path: &'a [u8], subsystem: &'a [u8], attrs: Pairs<'a>) -> Device<'a>
         ensures { result ≡ told path.now subsystem.now attrs.entry }
     {

@@ -15,10 +15,10 @@ use crate::programs::ProgramAnswer;
 use std::alloc::Global;
 use text_tables::{Pairs, Table};
 
-/// The most devices that may stand above the last: 64 in all.
+/// The most devices that may be above the last: 64 in all.
 const MOST_ABOVE_LAST: usize = 63;
 
-/// The lines so far, behind the first.
+/// The lines so far, after the first.
 #[derive(Drop)]
 pub(crate) struct Draft<'a> {
     pub(crate) closed: Vec<Device<'a>>,

@@ -65,7 +65,7 @@ impl<'a> Event<'a> {
         1 + self.parents.len()
     }
 
-    /// The device at a place of the chain, where there is one; the event device stands at 0.
+    /// The device at a place of the chain, where there is one; the event device is at 0.
     pub fn device_at(&self, place: usize) -> Option<&Device<'a>>
         ensures { option_copied result ≡ slice_get (chain self.now) place }
     {

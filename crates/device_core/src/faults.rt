@@ -18,7 +18,7 @@ pub struct BlockFault {
 pub enum BlockFaultKind {
     /// 1: the first line is no `C:`, or its action is empty.
     NoAction,
-    /// 2: a line about a device stands before the first `P:`, or the block has no `P:`.
+    /// 2: a line about a device comes before the first `P:`, or the block has no `P:`.
     NoDevice,
     /// 3: the line is not a known letter, `:`, one space and a rest.
     Letter,
@@ -36,7 +36,7 @@ pub enum BlockFaultKind {
     TooLong,
     /// 10: the line begins the 65th device.
     TooDeep,
-    /// 11: memory was refused.
+    /// 11: memory runs out.
     Memory,
 }
 

@@ -1,4 +1,4 @@
-//! The bytes of a piece, put behind those of a run that is not complete.
+//! The bytes of a piece, put after those of a run that is not complete.
 //!
 //! A line at a time is copied: the search for its newline is `memchr`'s.
 ghost use Rattle.std.specs.Prelude.{◌≡◌, ℕ, ◌+◌, ◌≤◌, ◌<◌, [], ◌++◌, length, take};
@@ -26,12 +26,12 @@ pub(crate) struct Filled {
     pub(crate) used: usize,
     /// How many bytes of the room are held.
     pub(crate) len: usize,
-    /// Whether a line begins behind them.
+    /// Whether a line begins after them.
     pub(crate) at_start: bool,
     pub(crate) stop: Stop,
 }
 
-/// Puts the bytes of a piece behind the first `held` of the room, up to the end of a run.
+/// Puts the bytes of a piece after the first `held` of the room, up to the end of a run.
 pub(crate) fn fill(room: &mut [u8], held: usize, begins: bool, piece: &[u8]) -> Filled
     requires within { held ≤ length room.old }
     requires pending { IsPending (take held room.old) begins }

@@ -1,4 +1,6 @@
-//! Events and their devices: the input of events cut into blocks in bounded room, and a block read as an event.
+//! Events and their devices: cuts the input of events into blocks in bounded room, and reads a block as an event.
+//!
+//! Functions that allocate return `AllocError` when memory runs out.
 #![tactic(auto)]
 
 mod devices;

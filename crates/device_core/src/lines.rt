@@ -1,4 +1,4 @@
-//! One line by itself: its letter, and what stands behind it.
+//! One line by itself: its letter, and what follows it.
 ghost use Rattle.std.specs.Prelude.{◌≡◌, ◌∷◌, [], ◌<◌, length, option_map, nat_eq};
 ghost use Rattle.std.specs.List.{starts_with};
 ghost use Rattle.device_core.specs.Lines.{form, kind_of, row_of};

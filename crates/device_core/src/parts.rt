@@ -53,7 +53,7 @@ pub(crate) fn number_of(rest: &[u8]) -> Option<DeviceNumber<'_>>
     Some(DeviceNumber { major, minor })
 }
 
-/// An answer: its status, and its text behind a space.
+/// An answer: its status, and its text after a space.
 #[tactic(auto, unfolding(crate::specs::Parts::answer_of))]
 pub(crate) fn answer_of(rest: &[u8]) -> Option<ProgramAnswer<'_>>
     ensures { result ≡ answer_of rest.now }

@@ -45,7 +45,7 @@ fn action_in(line: &[u8]) -> Result<&[u8], BlockFaultKind>
     }
 }
 
-/// A line that is not the first, and what stands below it.
+/// A line that is not the first, and what is below it.
 #[tactic(auto, unfolding(crate::specs::Steps::line_step))]
 fn add_line<'a>(
     alloc: Global,
@@ -59,7 +59,7 @@ fn add_line<'a>(
     add_row(alloc, draft, kind, rest, begins_answer(below))
 }
 
-/// The lines behind the first, and how many lines there are in all.
+/// The lines after the first, and how many lines there are in all.
 fn read_rest<'a>(alloc: Global, text: &'a [u8]) -> Result<(Draft<'a>, usize), BlockFault>
     requires { length text.now ≤ most_bytes }
     ensures value { GivesAt (λ p. (sofar p.0, p.1)) result (steps start 1 (lines text.now)) }
@@ -165,7 +165,7 @@ fn read_lines<'a>(alloc: Global, block: &'a [u8]) -> Result<Event<'a>, BlockFaul
     finish(action, draft, count)
 }
 
-/// Reads an event block, as udev's properties of an event stand in lines: the action, then each
+/// Reads an event block, as udev's properties of an event are in lines: the action, then each
 /// device of the chain with what is known of it.
 ///
 /// A block has at most 65,536 bytes with its newlines and at most 64 devices. The fault is that

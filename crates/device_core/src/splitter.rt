@@ -27,7 +27,7 @@ pub struct Taken {
 /// Why nothing more is taken.
 #[derive(Clone, Copy, Debug, PartialEq, Eq)]
 pub enum SplitFault {
-    /// 1: a block has more than 65,536 bytes, its newlines counted: byte 65,537 stands in this of its
+    /// 1: a block has more than 65,536 bytes, its newlines counted: byte 65,537 is in this of its
     /// lines, counted from 1.
     TooLong {
         /// The line.
@@ -60,7 +60,7 @@ pub struct Splitter {
     room: BoxedSlice<u8>,
     /// How many bytes of the room are held.
     len: usize,
-    /// Whether a line begins behind them.
+    /// Whether a line begins after them.
     at_start: bool,
     /// Whether they are a block that is lent.
     standing: bool,
@@ -83,8 +83,6 @@ impl Model for Splitter {
 
 impl Splitter {
     /// A splitter at the input's start, with all the room that it will need: 65,536 bytes.
-    ///
-    /// The error comes where memory is refused.
     pub fn new(alloc: Global) -> Result<Splitter, AllocError>
         ensures { IfOk result (λ s. s ≡ opened) }
     {
@@ -133,7 +131,7 @@ impl Splitter {
         }
     }
 
-    /// The block that the last call completed, without the empty line behind it; nothing if that call
+    /// The block that the last call completed, without the empty line after it; nothing if that call
     /// completed none or failed.
     pub fn block(&self) -> &[u8]
         ensures { result.now ≡ self.now.block }
@@ -172,7 +170,7 @@ impl Splitter {
     }
 }
 
-/// In which line the byte behind a text stands, counted from 1.
+/// In which line the byte after a text stands, counted from 1.
 fn line_after(text: &[u8]) -> usize
     requires { length text.now ≤ most_bytes }
     ensures { result ≡ newline_count text.now + 1 }

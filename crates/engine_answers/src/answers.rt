@@ -12,10 +12,9 @@ use text_bytes::Bytes;
 /// The lines of the answer to an event: one for each part of what it comes to that has something to say.
 ///
 /// The lines are `event ACTION PATH`, `name`, `owner`, `group`, `mode`, `priority`, `watch` or
-/// `nowatch`, `persist`, `label MODULE=..`, `link`, `tag`, `env KEY=..`, `attr NAME=..`,
-/// `sysctl NAME=..`, `run TYPE ..` and `note FILE:LINE: TEXT: WORD`, in this order, as udev(7) names
-/// these things. Properties whose names begin with a dot are left out. The error comes where memory is
-/// refused.
+/// `nowatch`, `persist`, `label MODULE=..`, `link`, `tag`, `env KEY=..`, `attr NAME=..`, `sysctl
+/// NAME=..`, `run TYPE ..` and `note FILE:LINE: TEXT: WORD`, in this order, as udev(7) names these
+/// things. Properties whose names begin with a dot are left out.
 #[tactic(auto, unfolding(crate::specs::Answers::answer_lines))]
 pub fn answer_lines(
     alloc: Global,
@@ -38,8 +37,7 @@ pub fn answer_lines(
     Ok(lines)
 }
 
-/// The answer to an event: the lines of `answer_lines`, and an empty line behind them. The error comes
-/// where memory is refused.
+/// The answer to an event: the lines of `answer_lines`, and an empty line after them.
 pub fn answer(alloc: Global, event: &Event<'_>, outcome: &Outcome) -> Result<Bytes, AllocError>
     ensures { IfOk result (λ text. text ≡ answer event.now outcome.now) }
 {
@@ -48,7 +46,7 @@ pub fn answer(alloc: Global, event: &Event<'_>, outcome: &Outcome) -> Result<Byt
     Ok(Bytes::new(lines))
 }
 
-/// Puts the lines on the device's node behind others.
+/// Puts the lines on the device's node after others.
 #[tactic(auto, unfolding(crate::specs::Answers::node_lines))]
 fn push_node(alloc: Global, lines: &mut Vec<u8>, outcome: &Outcome) -> Result<(), AllocError>
     ensures { OnOk result (lines.new.items ≡ lines.old.items ++ node_lines outcome.now) }
@@ -63,7 +61,7 @@ fn push_node(alloc: Global, lines: &mut Vec<u8>, outcome: &Outcome) -> Result<()
     Ok(())
 }
 
-/// Puts the lines of commands behind others.
+/// Puts the lines of commands after others.
 fn push_runs(alloc: Global, lines: &mut Vec<u8>, runs: &Commands) -> Result<(), AllocError>
     ensures { OnOk result (lines.new.items ≡ lines.old.items ++ run_lines runs.now) }
 {

@@ -9,8 +9,7 @@ use rule_types::RunType;
 use std::alloc::{AllocError, Global};
 use text_bytes::{Bytes, escape};
 
-/// Puts a line with a text behind others. The error comes where memory is
-/// refused.
+/// Puts a line with a text after others.
 #[tactic(auto, unfolding(crate::specs::Lines::text_line))]
 pub fn push_text(
     alloc: Global,
@@ -27,7 +26,7 @@ pub fn push_text(
     Ok(())
 }
 
-/// Puts a line with a text behind others, if the text is there.
+/// Puts a line with a text after others, if the text is there.
 pub(crate) fn push_given(
     alloc: Global,
     lines: &mut Vec<u8>,
@@ -42,8 +41,7 @@ pub(crate) fn push_given(
     }
 }
 
-/// Puts a line with a name and its value behind others. The error comes where memory is
-/// refused.
+/// Puts a line with a name and its value after others.
 #[tactic(auto, unfolding(crate::specs::Lines::pair_line))]
 pub fn push_pair(
     alloc: Global,
@@ -63,7 +61,7 @@ pub fn push_pair(
     Ok(())
 }
 
-/// Puts the line of a property behind others, unless its name begins with a dot.
+/// Puts the line of a property after others, unless its name begins with a dot.
 pub(crate) fn push_shown(
     alloc: Global,
     lines: &mut Vec<u8>,
@@ -85,8 +83,7 @@ pub fn is_hidden(name: &[u8]) -> bool
     name.first() == Some(&b'.')
 }
 
-/// Puts the line of a priority behind others, if one was assigned. The error comes where memory is
-/// refused.
+/// Puts the line of a priority after others, if one was assigned.
 pub fn push_priority(lines: &mut Vec<u8>, priority: Option<i32>) -> Result<(), AllocError>
     ensures { OnOk result (lines.new.items ≡ lines.old.items ++ priority_line priority) }
 {
@@ -99,8 +96,7 @@ pub fn push_priority(lines: &mut Vec<u8>, priority: Option<i32>) -> Result<(), A
     Ok(())
 }
 
-/// Puts the line on watching behind others, if it was assigned. The error comes where memory is
-/// refused.
+/// Puts the line on watching after others, if it was assigned.
 pub fn push_watch(lines: &mut Vec<u8>, watch: Option<bool>) -> Result<(), AllocError>
     ensures { OnOk result (lines.new.items ≡ lines.old.items ++ watch_line watch) }
 {
@@ -112,8 +108,7 @@ pub fn push_watch(lines: &mut Vec<u8>, watch: Option<bool>) -> Result<(), AllocE
     Ok(())
 }
 
-/// Puts the line of what stays in the database behind others. The error comes where memory is
-/// refused.
+/// Puts the line of what stays in the database after others.
 pub fn push_persist(lines: &mut Vec<u8>, persist: bool) -> Result<(), AllocError>
     ensures { OnOk result (lines.new.items ≡ lines.old.items ++ persist_line persist) }
 {
@@ -123,8 +118,7 @@ pub fn push_persist(lines: &mut Vec<u8>, persist: bool) -> Result<(), AllocError
     Ok(())
 }
 
-/// Puts the line of a command behind others. The error comes where memory is
-/// refused.
+/// Puts the line of a command after others.
 #[tactic(auto, unfolding(crate::specs::Lines::run_line))]
 pub fn push_run(
     alloc: Global,
@@ -142,7 +136,7 @@ pub fn push_run(
     Ok(())
 }
 
-/// Puts the line of a note behind others.
+/// Puts the line of a note after others.
 #[tactic(auto, unfolding(crate::specs::Lines::note_line))]
 pub(crate) fn push_note(alloc: Global, lines: &mut Vec<u8>, note: &Note) -> Result<(), AllocError>
     ensures { OnOk result (lines.new.items ≡ lines.old.items ++ note_line note.now) }
@@ -155,8 +149,7 @@ pub(crate) fn push_note(alloc: Global, lines: &mut Vec<u8>, note: &Note) -> Resu
     Ok(())
 }
 
-/// Puts the first line behind others: what happened, and to which device. The error comes where memory is
-/// refused.
+/// Puts the first line after others: what happened, and to which device.
 #[tactic(auto, unfolding(crate::specs::Lines::event_line))]
 pub fn push_event(
     alloc: Global,

@@ -7,7 +7,7 @@ use eval_state::Notes;
 use std::alloc::{AllocError, Global};
 use text_tables::{OwnedPairs, OwnedTexts};
 
-/// Puts a line for each text behind others.
+/// Puts a line for each text after others.
 pub(crate) fn push_texts(
     alloc: Global,
     lines: &mut Vec<u8>,
@@ -22,7 +22,7 @@ pub(crate) fn push_texts(
     Ok(())
 }
 
-/// Puts a line for each name and its value behind others.
+/// Puts a line for each name and its value after others.
 pub(crate) fn push_pairs(
     alloc: Global,
     lines: &mut Vec<u8>,
@@ -37,7 +37,7 @@ pub(crate) fn push_pairs(
     Ok(())
 }
 
-/// Puts the lines of properties behind others.
+/// Puts the lines of properties after others.
 pub(crate) fn push_env(
     alloc: Global,
     lines: &mut Vec<u8>,
@@ -51,7 +51,7 @@ pub(crate) fn push_env(
     Ok(())
 }
 
-/// Puts the lines of notes behind others. The error comes where memory is refused.
+/// Puts the lines of notes after others.
 pub fn push_notes(alloc: Global, lines: &mut Vec<u8>, notes: &Notes) -> Result<(), AllocError>
     ensures { OnOk result (lines.new.items ≡ lines.old.items ++ note_lines notes.now) }
 {

@@ -1,4 +1,4 @@
--- What was found and what is said of comments, as they stand among what is told.
+-- What was found and what is said of comments, as they stand among what is reported.
 use Rattle.std.proofs.Common.{◌≡◌, Bool, true, false, not, ◌&&◌, ◌||◌, cond, List, [], ◌∷◌, All, filter, map, Some, None, option_map, refl, ap, sym, ◌∙◌, subst}
 use Rattle.std.specs.List.{cons_option, list_any}
 use Rattle.std.proofs.lemmas.List.Elements.{All-cons, All-filter, All-map, All-nil, All-weaker}
@@ -41,7 +41,7 @@ module _ (lint style : Bool) (ignored : List Text) (file : FileText) (ignores : 
   asked_of_comments : All (λ d. is_found d.remark ≡ false) (filter (λ d. is_asked lint style ignored d.remark) (comment_diagnostics file found ignores))
   asked_of_comments = All-filter (λ d. is_asked lint style ignored d.remark) (λ d. is_found d.remark ≡ false) (comment_diagnostics file found ignores) (said_of_comments file found ignores)
 
-  -- a test that passes no remark on a comment finds what is told of what it finds
+  -- a test that passes no remark on a comment finds what is reported for what it finds
   pub told_part : (p : Remark → Bool) → ((remark : Remark) → is_found remark ≡ false → p remark ≡ false)
       → filter (λ d. p d.remark) (file_told lint style ignored file ignores found) ≡ filter (is_told lint style ignored ignores) (filter (λ d. p d.remark) found)
   unfolding file_told
@@ -50,11 +50,11 @@ module _ (lint style : Bool) (ignored : List Text) (file : FileText) (ignores : 
       (All-weaker (λ d. is_found d.remark ≡ false) (λ d. p d.remark ≡ false) (λ d e. none d.remark e) (filter (λ d. is_asked lint style ignored d.remark) (comment_diagnostics file found ignores)) asked_of_comments)
       ∙ filter_swap (λ d. p d.remark) (is_told lint style ignored ignores) found
 
-  -- what is told of what was found
+  -- what is reported for what was found
   pub told_found : All (λ d. is_found d.remark ≡ true) found → found_among (file_told lint style ignored file ignores found) ≡ filter (is_told lint style ignored ignores) found
   told_found all = told_part is_found (λ remark e. e) ∙ ap (filter (is_told lint style ignored ignores)) (filter_all (λ d. is_found d.remark) found all)
 
-  -- the remarks on comments that are told
+  -- the remarks on comments that are reported
   pub told_remarks : All (λ d. is_found d.remark ≡ true) found → remarks_among (file_told lint style ignored file ignores found) ≡ filter (λ d. not (is_among ignored (code_of d.remark))) (comment_diagnostics file found ignores)
   unfolding file_told
   told_remarks all =
@@ -111,7 +111,7 @@ quiet false known = refl
 abbrev is_counted : Bool → DiagnosticValue → Bool
 is_counted lint d = not (is_lint d.remark) || lint
 
--- without comments all is told but for style and for the codes that are ignored, where each lint is asked for
+-- without comments all is reported but for style and for the codes that are ignored, where each lint is asked for
 plainly_told : (lint style : Bool) (ignored : List Text) (file : FileText) (found : List DiagnosticValue) → All (λ d. is_counted lint d ≡ true) found
     → file_told lint style ignored file [] found ≡ filter (λ d. (style || not (is_about_style d.remark)) && not (is_among ignored (code_of d.remark))) found
 unfolding file_told
@@ -152,7 +152,7 @@ module _ (line : Line) (file : SourceFile) (counts : has_comments (ignored_by li
       ∙ plainly_told line.lint line.style (ignored_by line) (file_text line file) (database_found line file)
       (All-map (λ d. is_counted line.lint d ≡ true) (database_diagnostic (file_text line file)) (messages_of (file ∷ [])) (λ k d h. refl))
 
-  -- messages alone are told where lints are not asked for
+  -- messages alone are reported where lints are not asked for
   pub messages_plainly_told : line.lint ≡ false → rules_told line file ≡ filter (λ d. (line.style || not (is_about_style d.remark)) && not (is_among (ignored_by line) (code_of d.remark))) (messages_in line file)
   messages_plainly_told unasked =
       rules_plainly_told ∙ ap (filter (λ d. (line.style || not (is_about_style d.remark)) && not (is_among (ignored_by line) (code_of d.remark)))) (messages_alone line file unasked counts)

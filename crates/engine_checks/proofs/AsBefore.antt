@@ -1,4 +1,4 @@
--- With the default format and nothing ignored, what is told is what the messages say.
+-- With the default format and nothing ignored, what is reported is what the messages say.
 use Rattle.std.proofs.Common.{◌≡◌, ℕ, ◌+◌, ◌^◌, Bool, true, false, not, ◌&&◌, ◌||◌, cond, List, [], ◌∷◌, ◌++◌, length, filter, fold, map, nat_le, refl, ap, sym, ◌∙◌, subst}
 use Rattle.std.specs.List.{count_by, flat_map}
 use Rattle.std.proofs.lemmas.List.{map-id}
@@ -37,7 +37,7 @@ pub none_among : (ds : List DiagnosticValue) → by_line ds [] ≡ ds
 none_among [] = refl
 none_among (d ∷ ds) = ap (λ xs. d ∷ xs) (none_among ds)
 
--- with nothing ignored all is told, or all but what is about style
+-- with nothing ignored all is reported, or all but what is about style
 pub all_but_style : (lint style : Bool) (file : FileText) (found : List DiagnosticValue) → file_told lint style [] file [] found ≡ filter (is_told lint style [] []) found
 unfolding file_told
 all_but_style lint style file found = none_among (filter (is_told lint style [] []) found)
@@ -70,7 +70,7 @@ messages_alone line file unasked counts =
     ∙ ap (λ b. found_with (file_text line file) (findings_of line file) (cond b (placed_lints line.profile file) [])) counts
     ∙ none_among (messages_in line file)
 
--- with nothing ignored and no lints, the messages are told, or all but those about style
+-- with nothing ignored and no lints, the messages are reported, or all but those about style
 messages_told : (line : Line) (file : SourceFile) → line.lint ≡ false → ignored_by line ≡ [] → rules_told line file ≡ filter (is_told false line.style [] []) (messages_in line file)
 unfolding rules_told
 messages_told line file unasked none =

@@ -1,4 +1,4 @@
--- A code has no blanks before it and no whitespace behind it.
+-- A code has no blanks before it and no whitespace after it.
 use Rattle.std.proofs.Common.{◌≡◌, ℕ, zero, suc, ◌+◌, ◌-◌, ◌<◌, ◌≤◌, Bool, true, false, cond, [], ◌∷◌, length, take, drop, get_or, reverse, nat_lt, refl, ap, sym, ◌∙◌, arith}
 use Rattle.std.specs.List.{prefix_len, suffix_len}
 use Rattle.std.proofs.lemmas.Bool.{ltb-true, ltb-false}

@@ -1,4 +1,4 @@
--- What tables of codes tell of files is what is told of them.
+-- What tables of codes say about files is what is reported for them.
 use Rattle.std.proofs.Common.{◌≡◌, ◌^◌, ◌<◌, ◌≤◌, Bool, not, ◌&&◌, ◌||◌, cond, List, [], ◌∷◌, ◌++◌, filter, map, refl, ap, ◌∙◌}
 use Rattle.std.specs.List.{flat_map}
 use Rattle.std.proofs.lemmas.Bool.{le-leb, lt-leb}
@@ -32,7 +32,7 @@ same_filter : {X : Type 0} (p q : X → Bool) (xs : List X) → ((x : X) → p x
 same_filter p q [] e = refl
 same_filter p q (x ∷ xs) e = ap (λ b. cond b (x ∷ filter p xs) (filter p xs)) (e x) ∙ ap (λ ys. cond (q x) (x ∷ ys) ys) (same_filter p q xs e)
 
--- what is told hangs on which codes are ignored, and not on how they are listed
+-- what is reported hangs on which codes are ignored, and not on how they are listed
 told_alike : (lint style : Bool) (these those : List Text) (file : FileText) (ignores : List Ignore) (found : List DiagnosticValue)
     → ((code : Text) → is_among these code ≡ is_among those code) → file_told lint style these file ignores found ≡ file_told lint style those file ignores found
 unfolding file_told
@@ -44,7 +44,7 @@ told_alike lint style these those file ignores found e =
     (same_filter (λ d. is_asked lint style these d.remark) (λ d. is_asked lint style those d.remark) (comment_diagnostics file found ignores) (λ d. asked d.remark))
 
 module _ (line : Line) (profile : Profile) (lint style comments : Bool) (ignored : List Text) (p : profile ≡ line.profile) (l : lint ≡ line.lint) (s : style ≡ line.style) (e : (code : Text) → is_among ignored code ≡ is_among (ignored_by line) code) (c : comments ≡ has_comments ignored) where
-  -- what is told of a file, by tables
+  -- what is reported for a file, by tables
   one_file : (file : SourceFile) (found : List DiagnosticValue) → file_told lint style ignored (file_text line file) (cond comments (ignores_in line.profile file) []) found ≡ told_of line file found
   one_file file found =
       told_alike lint style ignored (ignored_by line) (file_text line file) (cond comments (ignores_in line.profile file) []) found e

@@ -74,7 +74,7 @@ no_style false true e = (refl, refl)
 no_style false false e = cc
 no_style true about e = cc
 
--- what is not told is left out
+-- what is not reported is left out
 pub left_out : (lint style : Bool) (ignored : List Text) (ignores : List Ignore) (d : DiagnosticValue) → is_told lint style ignored ignores d ≡ false → IsLeftOut lint style ignored ignores d
 left_out lint style ignored ignores d e = silent (one_fails (wanted && not known) (not (is_silenced ignores d)) e)
   where
@@ -118,7 +118,7 @@ not_kept : (b : Bool) → b ≡ true → not b ≡ true → ⊥
 not_kept true e k = cc
 not_kept false e k = cc
 
--- what is told is not left out
+-- what is reported is not left out
 pub told_is_kept : (lint style : Bool) (ignored : List Text) (ignores : List Ignore) (d : DiagnosticValue) → is_told lint style ignored ignores d ≡ true → IsLeftOut lint style ignored ignores d → ⊥
 told_is_kept lint style ignored ignores d e = by
   where

@@ -1,4 +1,4 @@
--- Lints and messages, as they stand among what is told.
+-- Lints and messages, as they stand among what is reported.
 use Rattle.std.proofs.Common.{◌≡◌, Bool, true, false, not, ◌&&◌, ◌||◌, cond, List, [], ◌∷◌, filter, map, refl, ap, ◌∙◌}
 use Rattle.std.proofs.lemmas.List.Elements.{All-map}
 use Rattle.text_bytes.specs.declared.source_file.SourceFile.{SourceFile}
@@ -30,7 +30,7 @@ message_is_found (Lint lint) e = refl
 message_is_found IdleIgnore e = refl
 message_is_found UnknownCode e = refl
 
--- which lints are told
+-- which lints are reported
 lint_told : (lint style known silent : Bool) → lint ≡ true → ((((false || lint) && (style || true)) && not known) && not silent) ≡ (not known && not silent)
 lint_told true true known silent e = refl
 lint_told true false known silent e = refl
@@ -82,7 +82,7 @@ module _ (line : Line) (file : SourceFile) where
   unfolding rules_told
   lints_part = told_part line.lint line.style ignored (file_text line file) comments (rules_found line file) is_lint lint_is_found ∙ ap (filter told) found_lints
 
-  -- the lints that are told where they are asked for
+  -- the lints that are reported where they are asked for
   pub asked_lints : line.lint ≡ true → lints_among (rules_told line file) ≡ filter (λ d. not (is_among (ignored_by line) (code_of d.remark)) && not (is_silenced (ignores_counted line.profile (ignored_by line) file) d)) (lints_in line file)
   asked_lints e =
       lints_part
@@ -91,7 +91,7 @@ module _ (line : Line) (file : SourceFile) where
       (All-map (λ d. told d ≡ (not (is_among (ignored_by line) (code_of d.remark)) && not (is_silenced (ignores_counted line.profile (ignored_by line) file) d))) (lint_diagnostic (file_text line file)) (placed_lints line.profile file)
       (λ k d h. lint_told line.lint line.style _ _ e))
 
-  -- none is told where they are not
+  -- none is reported where they are not
   pub unasked_lints : line.lint ≡ false → lints_among (rules_told line file) ≡ []
   unasked_lints e =
       lints_part
@@ -99,7 +99,7 @@ module _ (line : Line) (file : SourceFile) where
       (All-map (λ d. told d ≡ false) (lint_diagnostic (file_text line file)) (lints_counted line.profile line.lint (ignored_by line) file)
       (λ k d h. lint_untold line.lint line.style _ _ e))
 
-  -- the messages that are told
+  -- the messages that are reported
   pub same_messages : messages_among (rules_told line file) ≡ filter (is_told false line.style (ignored_by line) (ignores_counted line.profile (ignored_by line) file)) (messages_in line file)
   unfolding rules_told
   same_messages =
@@ -108,7 +108,7 @@ module _ (line : Line) (file : SourceFile) where
       ∙ filter_alike told (is_told false line.style ignored comments) (messages_in line file)
       (All-map (λ d. told d ≡ is_told false line.style ignored comments d) (rule_diagnostic (file_text line file)) (findings_of line file) (λ k d h. refl))
 
-  -- no lint is told of a database
+  -- no lint is reported for a database
   pub database_lints : lints_among (database_told line file) ≡ []
   unfolding database_told
   database_lints =

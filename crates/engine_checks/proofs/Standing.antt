@@ -78,7 +78,7 @@ comment_ends : (kind : FileKind) (text : Text) → IsEnd text (comment_of kind t
 comment_ends Rules text = dropped (prefix_len is_blank text) text
 comment_ends Hwdb text = ([], refl)
 
--- a code stands in a text of a line
+-- a code is in a text of a line
 code_there : (front text back : Text) → take (length (code_in text)) (drop (length front + (length text - length (unindented text))) (front ++ (text ++ back))) ≡ code_in text
 code_there front text back =
     let n : ℕ = prefix_len is_blank text in
@@ -127,7 +127,7 @@ module _ (bytes : List ℕ) (line : ℕ) (scope : Scope) (whole : Text) (there :
       (one_stands front t (b ∷ rest) column at (is ∙ ap (λ x. front ++ x) e))
       (all_stand (u ∷ ts) (front ++ (t ++ b ∷ [])) rest (column + length t + 1) parts (omega arith) more)
 
--- the codes of a line stand in it
+-- the codes of a line are in it
 module _ (bytes : List ℕ) (l : NumberedLine) (there : line_numbered (numbered_lines bytes) (capped l.number) ≡ l.text) (short : length l.text < 2 ^ 32 - 1) where
   asked_stand : (asked : Scope × Text) → IsEnd l.text asked.1 → All (StandsInLine bytes) (ignores_asked l asked)
   asked_stand asked (front, is) =
@@ -164,7 +164,7 @@ all_numbered P n [] h = All-nil (λ (l : NumberedLine). P l.text)
 all_numbered P n (t ∷ ts) h =
     All-cons (λ (l : NumberedLine). P l.text) (record { number = n; text = t }) (numbered_from (n + 1) ts) (All-head P t ts h) (all_numbered P (n + 1) ts (All-tail P t ts h))
 
--- A line is found by its number, and is short enough for its columns to be told.
+-- A line is found by its number, and is short enough for its columns to be reported.
 pub record IsTold (bytes : List ℕ) (l : NumberedLine) : Type 0 where
   pub there : line_numbered (numbered_lines bytes) (capped l.number) ≡ l.text
   pub short : length l.text < 2 ^ 32 - 1
@@ -188,7 +188,7 @@ lines_stand bytes kind starts (l ∷ ls) h =
     All-append (StandsInLine bytes) (ignores_of_line kind (next_behind starts (capped l.number)) l) (ignores_among kind starts ls)
     (line_stands bytes l told.there told.short kind (next_behind starts (capped l.number))) (lines_stand bytes kind starts ls (All-tail (IsTold bytes) l ls h))
 
--- the codes of a file stand in its lines
+-- the codes of a file are in its lines
 pub codes_stand : (by : Profile) (file : SourceFile) → length (lines file.bytes) < 2 ^ 32 → All (λ t. length t < 2 ^ 32 - 1) (lines file.bytes) → All (StandsInLine file.bytes) (ignores_in by file)
 unfolding ignores_in
 codes_stand by file few short = lines_stand file.bytes file.kind (starts_of by file.kind file.bytes) (numbered_lines file.bytes) (all_told file.bytes few short)

@@ -1,4 +1,4 @@
--- What is told of a file, step by step.
+-- What is reported for a file, step by step.
 use Rattle.std.proofs.Common.{◌≡◌, ℕ, ◌+◌, ◌<◌, Bool, true, false, not, ◌&&◌, cond, List, [], ◌∷◌, ◌++◌, length, take, get_or, map, filter, Option, Some, None, option_map, option_to_list, nat_lt, refl, ap, sym, ◌∙◌, append_assoc}
 use Rattle.std.specs.List.{cons_option, filter_map, list_any, take_while}
 use Rattle.std.proofs.lemmas.List.{take_more}
@@ -59,7 +59,7 @@ filter_made p q f (x ∷ xs) e = ap (λ b. map f (cond b (x ∷ filter p xs) (fi
     by true more = ap (λ ys. f x ∷ ys) more
     by false more = more
 
--- tables of what comments silence tell which diagnostics are told
+-- tables of what comments silence tell which diagnostics are reported
 pub told_by : {X : Type 0} (f : X → DiagnosticValue) (lint style : Bool) (ignored in_file : List Text) (at_lines : List (ℕ × Text)) (ignores : List Ignore) (found : List X)
     → ((d : DiagnosticValue) → are_silencing in_file at_lines d ≡ is_silenced ignores d)
     → map f (filter (λ x. is_told_by lint style ignored in_file at_lines (f x)) found) ≡ filter (is_told lint style ignored ignores) (map f found)
@@ -67,7 +67,7 @@ told_by f lint style ignored in_file at_lines ignores found silencing =
     filter_made (λ x. is_told_by lint style ignored in_file at_lines (f x)) (is_told lint style ignored ignores) f found
     (λ x. ap (λ b. is_asked lint style ignored (f x).remark && not b) (silencing (f x)))
 
--- all that is told of a file
+-- all that is reported for a file
 pub all_told : {X : Type 0} (f : X → DiagnosticValue) (lint style : Bool) (ignored : List Text) (file : FileText) (ignores : List Ignore) (found seen kept : List X) (remarks lent told : List DiagnosticValue)
     (met_file : List Text) (met_lines : List (ℕ × Text)) (in_file : List Text) (at_lines : List (ℕ × Text))
     → seen ≡ found

@@ -98,7 +98,7 @@ all_made file (m ∷ ms) h k =
       all_made file ms (All-tail (IsOf file.name) m ms h) (All-tail (λ m. word_of (placed file.lines m).word ≡ m.word) m ms k),
     )
 
--- without comments and codes all of them are told
+-- without comments and codes all of them are reported
 all_told : (lint style : Bool) (file : FileText) (ms : List Message) → All (IsOf file.name) ms → filter (is_told lint style [] []) (map (database_diagnostic file) ms) ≡ map (database_diagnostic file) ms
 all_told lint style file [] h = refl
 all_told lint style file (m ∷ ms) h = by style (all_told lint style file ms (All-tail (IsOf file.name) m ms h))

@@ -1,4 +1,4 @@
--- Line by line, the starts that are not behind a line are passed.
+-- Line by line, the starts that are not after a line are passed.
 use Rattle.std.proofs.Common.{◌≡◌, ℕ, suc, ◌+◌, ◌≤◌, Bool, true, false, cond, List, [], ◌∷◌, ◌++◌, drop, Option, Some, refl, ap, sym, ◌∙◌, append_assoc, append-nil, subst, arith, nat_le}
 use Rattle.std.specs.List.{prefix_len, slice_get}
 use Rattle.std.proofs.lemmas.Bool.{lt-ltb, le-ltb, leb-true, leb-false}
@@ -8,7 +8,7 @@ use Rattle.text_bytes.specs.Texts.{skip_while}
 use Rattle.text_bytes.specs.declared.source_file.FileKind.{FileKind}
 use Rattle.engine_checks.specs.Ignores.{Ignore, ignores_among, ignores_of_line, next_behind}
 
--- the starts that are left behind a line
+-- the starts that are left after a line
 abbrev pub left_behind : List ℕ → ℕ → List ℕ
 left_behind starts line = skip_while (λ s. nat_le s line) starts
 
@@ -29,7 +29,7 @@ first_left (s ∷ starts) line = ap (λ ss. slice_get ss 0) (left-cons line s st
     by true e more = more ∙ sym (ap (λ b. cond b (Some s) (next_behind starts line)) (le-ltb line s (leb-true s line e)))
     by false e more = sym (ap (λ b. cond b (Some s) (next_behind starts line)) (lt-ltb line s (leb-false s line e)))
 
--- behind a later line the next one is the same
+-- after a later line the next one is the same
 next_left : (starts : List ℕ) (line later : ℕ) → line ≤ later → next_behind (left_behind starts line) later ≡ next_behind starts later
 next_left [] line later h = refl
 next_left (s ∷ starts) line later h = ap (λ ss. next_behind ss later) (left-cons line s starts) ∙ by (nat_le s line) refl (next_left starts line later h)
@@ -55,7 +55,7 @@ lines_rise bytes = rise_more 1 0 (lines bytes) (omega arith)
 capped-le : (a b : ℕ) → a ≤ b → capped a ≤ capped b
 capped-le a b h = omega arith
 
--- lines behind this one have the same codes by the starts that are left
+-- lines after this one have the same codes by the starts that are left
 among_left : (kind : FileKind) (starts : List ℕ) (n m : ℕ) (ls : List NumberedLine) → n ≤ m → RiseFrom m ls → ignores_among kind (left_behind starts (capped n)) ls ≡ ignores_among kind starts ls
 among_left kind starts n m [] h r = refl
 among_left kind starts n m (l ∷ ls) h r =

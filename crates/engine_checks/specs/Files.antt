@@ -81,7 +81,7 @@ accounts_by line = record {
   groups = option_map (λ file. accounts_of Group file.bytes) line.groups;
 }
 
--- what is told of the rules of a file
+-- what is reported for the rules of a file
 abbrev pub findings_of : Line → SourceFile → List PlacedFinding
 findings_of line file = findings_as line.profile (accounts_by line) file
 
@@ -89,7 +89,7 @@ findings_of line file = findings_as line.profile (accounts_by line) file
 abbrev pub lints_counted : Profile → Bool → List Text → SourceFile → List PlacedLint
 lints_counted profile lint ignored file = if lint || has_comments ignored then placed_lints profile file else []
 
--- what is found in a rules file: its findings with these lints put among them, each behind all that is told of its rule
+-- what is found in a rules file: its findings with these lints put among them, each after all that is reported for its rule
 abbrev pub found_with : FileText → List PlacedFinding → List PlacedLint → List DiagnosticValue
 found_with file findings lints = by_line (map (rule_diagnostic file) findings) (map (lint_diagnostic file) lints)
 
@@ -105,14 +105,14 @@ database_found line file = map (database_diagnostic (file_text line file)) (mess
 abbrev pub ignores_counted : Profile → List Text → SourceFile → List Ignore
 ignores_counted profile ignored file = if has_comments ignored then ignores_in profile file else []
 
--- what is told of what was found in a file
+-- what is reported for what was found in a file
 abbrev pub told_of : Line → SourceFile → List DiagnosticValue → List DiagnosticValue
 told_of line file found = file_told line.lint line.style (ignored_by line) (file_text line file) (ignores_counted line.profile (ignored_by line) file) found
 
--- what is told of a rules file
+-- what is reported for a rules file
 unfoldable pub rules_told : Line → SourceFile → List DiagnosticValue
 rules_told line file = told_of line file (rules_found line file)
 
--- what is told of a file of a database, which has no lints and no messages about style
+-- what is reported for a file of a database, which has no lints and no messages about style
 unfoldable pub database_told : Line → SourceFile → List DiagnosticValue
 database_told line file = told_of line file (database_found line file)

@@ -15,7 +15,7 @@ use Rattle.rule_core.specs.Lines.{joined_lines}
 use Rattle.engine_checks.specs.declared.ignores.Scope.{Scope}
 use Rattle.engine_checks.specs.declared.ignores.Scope.TheVariants.{File, Next, Unread}
 
--- a code in a comment: the comment's line, the column at which the code begins and the one behind its end, and what it is about
+-- a code in a comment: the comment's line, the column at which the code begins and the one after its end, and what it is about
 pub record Ignore : Type 0 where
   pub line : ℕ
   pub column : ℕ
@@ -23,17 +23,17 @@ pub record Ignore : Type 0 where
   pub scope : Scope
   pub code : Text
 
--- what stands behind the front of a text, where it begins with that
+-- what follows the front of a text, where it begins with that
 abbrev pub behind : Text → Text → Option Text
 behind front text = if same_text (take (length front) text) front then Some (drop (length front) text) else None
 
--- what a comment is about and its codes, by what stands behind ` ignore ` or else behind ` ignore-file `, and else the text that is not understood
+-- what a comment is about and its codes, by what follows ` ignore ` or else after ` ignore-file `, and else the text that is not understood
 abbrev pub asked_or : Option ℕ → Option Text → Option Text → Text → Scope × Text
 asked_or next (Some list) in_file text = (Next next, list)
 asked_or next None (Some list) text = (File, list)
 asked_or next None None text = (Unread, unindented text)
 
--- what a comment asks for by what stands behind `# devdry:`
+-- what a comment asks for by what follows `# devdry:`
 abbrev pub asked_by : Option ℕ → Text → Scope × Text
 asked_by next text = asked_or next (behind (codes " ignore ") text) (behind (codes " ignore-file ") text) text
 
@@ -43,7 +43,7 @@ texts_of File list = slice_split (λ b. b == comma) list
 texts_of (Next next) list = slice_split (λ b. b == comma) list
 texts_of Unread text = text ∷ []
 
--- the code in a text: without the blanks before it and the whitespace behind it
+-- the code in a text: without the blanks before it and the whitespace after it
 abbrev pub code_in : Text → Text
 code_in text = trimmed (unindented text)
 
@@ -61,7 +61,7 @@ ignore_at line scope column text = record {
   code = code_in text;
 }
 
--- texts of a comment in this line, one behind another with a byte between them, of which the first begins in this column
+-- texts of a comment in this line, one after another with a byte between them, of which the first begins in this column
 abbrev pub ignores_at : ℕ → Scope → ℕ → List Text → List Ignore
 ignores_at line scope column [] = []
 ignores_at line scope column (text ∷ texts) =
@@ -85,7 +85,7 @@ ignores_behind l next (Some text) = ignores_asked l (asked_by next text)
 abbrev pub ignores_of_line : FileKind → Option ℕ → NumberedLine → List Ignore
 ignores_of_line kind next l = ignores_behind l next (behind (codes "# devdry:") (comment_of kind l.text))
 
--- the first line behind another one, by the numbers of lines
+-- the first line after another one, by the numbers of lines
 abbrev pub next_behind : List ℕ → ℕ → Option ℕ
 next_behind starts line = find (nat_lt line) starts
 
@@ -94,7 +94,7 @@ abbrev pub starts_of : Profile → FileKind → List ℕ → List ℕ
 starts_of profile Rules bytes = map (λ l. l.number) (joined_lines profile bytes).lines ++ option_to_list (joined_lines profile bytes).open_at
 starts_of profile Hwdb bytes = map (λ l. capped l.number) (filter (λ l. not (is_comment l.text)) (numbered_lines bytes))
 
--- the codes in lines, each comment on the next rule being about the first of these starts behind it
+-- the codes in lines, each comment on the next rule being about the first of these starts after it
 abbrev pub ignores_among : FileKind → List ℕ → List NumberedLine → List Ignore
 ignores_among kind starts lines = flat_map (λ l. ignores_of_line kind (next_behind starts (capped l.number)) l) lines
 

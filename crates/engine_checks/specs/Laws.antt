@@ -49,7 +49,7 @@ messages_in line file = map (rule_diagnostic (file_text line file)) (findings_of
 abbrev pub lints_in : Line → SourceFile → List DiagnosticValue
 lints_in line file = map (lint_diagnostic (file_text line file)) (placed_lints line.profile file)
 
--- A code in a comment silences what was found: that has the code, and the comment is about the whole file, or about the line that it is told of.
+-- A code in a comment silences what was found: that has the code, and the comment is about the whole file, or about the line that it is reported.
 pub record IsSilencing (ignore : Ignore) (d : DiagnosticValue) : Type 0 where
   pub code : code_of d.remark ≡ ignore.code
   pub about : (ignore.scope ≡ File) ⊎ (ignore.scope ≡ Next (Some d.begins))
@@ -77,19 +77,19 @@ IsSaidOf found ignore (Some IdleIgnore) = (IsInUse found ignore → ⊥) × (IsU
 IsSaidOf found ignore (Some (Message kind)) = ⊥
 IsSaidOf found ignore (Some (Lint lint)) = ⊥
 
--- A code in a comment stands in the line of its number at its columns, without the blanks before it and the whitespace behind it.
+-- A code in a comment is in the line of its number at its columns, without the blanks before it and the whitespace after it.
 pub record StandsInLine (bytes : List ℕ) (ignore : Ignore) : Type 0 where
   pub text : take (ignore.end - ignore.column) (drop (ignore.column - 1) (line_numbered (numbered_lines bytes) ignore.line)) ≡ ignore.code
   pub begins : 0 < ignore.column
   pub front : unindented ignore.code ≡ ignore.code
   pub back : trimmed ignore.code ≡ ignore.code
 
--- A line is the first of these numbers behind another one; it is none where no number is behind that.
+-- A line is the first of these numbers after another one; it is none where no number is after that.
 abbrev pub IsFirstBehind : List ℕ → ℕ → Option ℕ → Type 0
 IsFirstBehind starts line None = All (λ start. start ≤ line) starts
 IsFirstBehind starts line (Some next) =
     (passed : List ℕ) × ((more : List ℕ) × ((starts ≡ passed ++ next ∷ more) × (All (λ start. start ≤ line) passed × (line < next))))
 
--- A comment on the next rule is about the first of these lines behind its own.
+-- A comment on the next rule is about the first of these lines after its own.
 abbrev pub IsAboutNext : List ℕ → Ignore → Type 0
 IsAboutNext starts ignore = (next : Option ℕ) → ignore.scope ≡ Next next → IsFirstBehind starts ignore.line next

@@ -51,7 +51,7 @@ is_next_at line code ignore = option_map_or (λ next. is_code_at line code (next
 abbrev pub has_code : Text → DiagnosticValue → Bool
 has_code code d = same_text code (code_of d.remark)
 
--- whether it has this code and is told of this line
+-- whether it has this code and is reported for this line
 abbrev pub has_code_in : ℕ → Text → DiagnosticValue → Bool
 has_code_in line code d = is_code_at line code (d.begins, code_of d.remark)
 
@@ -70,7 +70,7 @@ remark_by found at_lines ignore =
     else if is_met found at_lines ignore.scope ignore.code then None
     else Some IdleIgnore
 
--- whether a diagnostic is told, by tables of what is ignored
+-- whether a diagnostic is reported, by tables of what is ignored
 abbrev pub is_told_by : Bool → Bool → List Text → List Text → List (ℕ × Text) → DiagnosticValue → Bool
 is_told_by lint style ignored in_file at_lines d = is_asked lint style ignored d.remark && not (are_silencing in_file at_lines d)
 
@@ -89,11 +89,11 @@ abbrev pub rules_found_by : Profile → Accounts → Bool → List Text → File
 rules_found_by profile accounts lint ignored read =
     found_with read.text (findings_as profile accounts read.file) (lints_counted profile lint ignored read.file)
 
--- what is told of a rules file that is read
+-- what is reported for a rules file that is read
 abbrev pub rules_told_by : Profile → Accounts → Bool → Bool → List Text → FileRead → List DiagnosticValue
 rules_told_by profile accounts lint style ignored read =
     file_told lint style ignored read.text read.ignores (rules_found_by profile accounts lint ignored read)
 
--- what is told of a file of a database that is read
+-- what is reported for a file of a database that is read
 abbrev pub database_told_by : Bool → Bool → List Text → FileRead → List DiagnosticValue
 database_told_by lint style ignored read = file_told lint style ignored read.text read.ignores (map (database_diagnostic read.text) (messages_of (read.file ∷ [])))

@@ -1,4 +1,4 @@
--- Which diagnostics of a file are told, and which remarks on its comments.
+-- Which diagnostics of a file are reported, and which remarks on its comments.
 use Rattle.std.specs.Prelude.{ℕ, Bool, true, false, not, ◌==◌, ◌||◌, ◌&&◌, nat_lt, if◌then◌else◌, List, [], ◌∷◌, ◌++◌, filter, filter_map, Option, Some, None, option_map}
 use Rattle.std.specs.List.{list_any, take_while}
 use Rattle.text_bytes.specs.Lines.{NumberedLine}
@@ -15,14 +15,14 @@ use Rattle.engine_checks.specs.Ignores.{Ignore}
 use Rattle.engine_checks.specs.declared.ignores.Scope.{Scope}
 use Rattle.engine_checks.specs.declared.ignores.Scope.TheVariants.{File, Next, Unread}
 
--- whether what is told of a line is among what a comment is about
+-- whether what is reported for a line is among what a comment is about
 abbrev pub covers : Scope → ℕ → Bool
 covers File line = true
 covers (Next None) line = false
 covers (Next (Some next)) line = line == next
 covers Unread line = false
 
--- whether a code in a comment silences a diagnostic: it is the diagnostic's, which is told of a line that the comment is about
+-- whether a code in a comment silences a diagnostic: it is the diagnostic's, which is reported for a line that the comment is about
 abbrev pub silences : Ignore → DiagnosticValue → Bool
 silences ignore d = covers ignore.scope d.begins && same_text (code_of d.remark) ignore.code
 
@@ -48,7 +48,7 @@ is_lint UnknownCode = false
 abbrev pub is_asked : Bool → Bool → List Text → Remark → Bool
 is_asked lint style ignored remark = ((not (is_lint remark) || lint) && (style || not (is_about_style remark))) && not (is_among ignored (code_of remark))
 
--- whether what was found is told: it is asked for, and no code in a comment silences it
+-- whether what was found is reported: it is asked for, and no code in a comment silences it
 abbrev pub is_told : Bool → Bool → List Text → List Ignore → DiagnosticValue → Bool
 is_told lint style ignored ignores d = is_asked lint style ignored d.remark && not (is_silenced ignores d)
 
@@ -89,12 +89,12 @@ comment_diagnostic file ignore remark = record {
 abbrev pub comment_diagnostics : FileText → List DiagnosticValue → List Ignore → List DiagnosticValue
 comment_diagnostics file found ignores = filter_map (λ ignore. option_map (comment_diagnostic file ignore) (remark_on found ignore)) ignores
 
--- diagnostics with others put among them, each of these behind all that are told of its line or of one before it
+-- diagnostics with others put among them, each of these after all that are reported for its line or of one before it
 abbrev pub by_line : List DiagnosticValue → List DiagnosticValue → List DiagnosticValue
 by_line [] others = others
 by_line (d ∷ ds) others = take_while (λ o. nat_lt o.begins d.begins) others ++ d ∷ by_line ds (skip_while (λ o. nat_lt o.begins d.begins) others)
 
--- what is told of a file, by what was found in it and the codes in its comments; what is said of these is asked for, too
+-- what is reported for a file, by what was found in it and the codes in its comments; what is said of these is asked for, too
 unfoldable pub file_told : Bool → Bool → List Text → FileText → List Ignore → List DiagnosticValue → List DiagnosticValue
 file_told lint style ignored file ignores found =
     by_line (filter (is_told lint style ignored ignores) found) (filter (λ d. is_asked lint style ignored d.remark) (comment_diagnostics file found ignores))

@@ -15,7 +15,7 @@ use text_tables::Texts;
 /// The word among the codes that lets comments count.
 const COMMENTS: &[u8] = b"comments";
 
-/// The texts, each once. The error comes where memory is refused.
+/// The texts, each once.
 fn ignored_codes<'a>(alloc: Global, ignored: &[&'a str]) -> Result<Texts<'a>, AllocError>
     ensures { IfOk result (λ codes. (code : Text) → is_among codes code ≡ is_among (map (λ t. t.now) ignored.now) code) }
 {
@@ -33,7 +33,7 @@ pub(crate) fn has_comments(codes: &Texts<'_>) -> bool
     codes.contains(COMMENTS)
 }
 
-/// The accounts that a file lists, if there is one. The error comes where memory is refused.
+/// The accounts that a file lists, if there is one.
 fn accounts_in(
     alloc: Global,
     kind: AccountKind,
@@ -47,7 +47,7 @@ fn accounts_in(
     }
 }
 
-/// The users and the groups that a line knows. The error comes where memory is refused.
+/// The users and the groups that a line knows.
 fn accounts_by(alloc: Global, line: &Line<'_>) -> Result<Accounts, AllocError>
     ensures { IfOk result (λ accounts. accounts ≡ accounts_by line.now) }
 {
@@ -57,7 +57,7 @@ fn accounts_by(alloc: Global, line: &Line<'_>) -> Result<Accounts, AllocError>
     })
 }
 
-/// What a line asks for of messages. The error comes where memory is refused.
+/// What a line asks for of messages.
 pub(crate) fn asked_by<'a>(alloc: Global, line: &Line<'a>) -> Result<Asked<'a>, AllocError>
     ensures profile { IfOk result (λ asked. asked.profile ≡ line.now.profile) }
     ensures accounts { IfOk result (λ asked. asked.accounts ≡ accounts_by line.now) }

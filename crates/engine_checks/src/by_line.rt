@@ -9,7 +9,7 @@ use crate::lent::{Lent, push_lent};
 use engine_formats::Diagnostic;
 use std::alloc::{AllocError, Global};
 
-/// How many of others at the front are told of lines before one.
+/// How many of others at the front are reported for lines before one.
 fn count_before(others: &[Lent<'_, '_>], line: u32) -> usize
     ensures value { result ≡ prefix_len (λ o. nat_lt o.begins line) others.now }
     ensures within { result ≤ length others.now }
@@ -20,7 +20,7 @@ fn count_before(others: &[Lent<'_, '_>], line: u32) -> usize
         .count()
 }
 
-/// The others at the front that are told of lines before one.
+/// The others at the front that are reported for lines before one.
 fn before<'s, 'r, 'w>(others: &'s [Lent<'r, 'w>], line: u32) -> &'s [Lent<'r, 'w>]
     ensures { result.now ≡ take_while (λ o. nat_lt o.begins line) others.now }
 {
@@ -28,7 +28,7 @@ fn before<'s, 'r, 'w>(others: &'s [Lent<'r, 'w>], line: u32) -> &'s [Lent<'r, 'w
     before
 }
 
-/// The others behind these.
+/// The others after these.
 fn behind<'s, 'r, 'w>(others: &'s [Lent<'r, 'w>], line: u32) -> &'s [Lent<'r, 'w>]
     ensures { result.now ≡ skip_while (λ o. nat_lt o.begins line) others.now }
 {
@@ -36,7 +36,7 @@ fn behind<'s, 'r, 'w>(others: &'s [Lent<'r, 'w>], line: u32) -> &'s [Lent<'r, 'w
     behind
 }
 
-/// Diagnostics with others put among them, each behind all that are told of its line or of one before it.
+/// Diagnostics with others put among them, each after all that are reported for its line or of one before it.
 pub(crate) fn by_line<'r>(
     alloc: Global,
     found: Vec<Diagnostic<'r>>,

@@ -17,11 +17,12 @@ use rule_core::{files_as_read, read_rules_as};
 use std::alloc::{AllocError, Global};
 use text_bytes::{FileKind, SourceFile};
 
-/// What `verify` says of the files handed in, by the line's profile, with its format, with lints where the line asks for them, and without the
-/// messages and lints that it ignores: what is told, and how many of the files are bad.
+/// What `verify` says of the files passed in, by the line's profile, with its format, with lints where the line asks
+/// for them, and without the
+/// messages and lints that it ignores: what is reported, and how many of the files are bad.
 ///
 /// A text of the line that is no code silences nothing. `TooManyRules` comes exactly where the rules have more than 2^24
-/// tokens, `Memory` where memory is refused.
+/// tokens, `Memory` where memory runs out.
 pub fn report_on_checks(
     alloc: Global,
     line: &Line<'_>,
@@ -48,7 +49,7 @@ fn report_on_these(alloc: Global, line: &Line<'_>, files: &[SourceFile]) -> Resu
     Ok(report)
 }
 
-/// What is told of the files.
+/// What is reported for the files.
 fn checked(alloc: Global, line: &Line<'_>, files: &[SourceFile]) -> Result<Report, AllocError>
     ensures said { IfOk result (λ r. said r ≡ checks_said line.now files.now (flat_map (rules_told line.now) files.now)) }
     ensures status { IfOk result (λ r. r.status < 3) }
@@ -59,7 +60,7 @@ fn checked(alloc: Global, line: &Line<'_>, files: &[SourceFile]) -> Result<Repor
     report_on_told(alloc, line, files, &told)
 }
 
-/// What is said of files and of what is told of them.
+/// What is said of files and of what is reported for them.
 fn report_on_told(
     alloc: Global,
     line: &Line<'_>,

@@ -16,7 +16,8 @@ ghost use Rattle.engine_checks.specs.Ignores.{ignores_in, starts_of};
 ghost use Rattle.engine_checks.specs.Laws.{IsAboutNext, IsLeftOut, IsSaidOf, StandsInLine, found_among, remarks_among};
 ghost use Rattle.engine_checks.specs.Told.{comment_diagnostic, is_told, remark_on};
 
-/// Where comments count, what was found is told in its order, but for lints and style where these are left out, and for what the
+/// Where comments count, what was found is reported in its order, but for lints and style where these are left out,
+/// and for what the
 /// line or a comment silences; nothing else is left out.
 pub fn found_is_told_or_silenced()
     ensures rules { (line : Line) (file : SourceFile) → has_comments (ignored_by line) ≡ true
@@ -27,7 +28,8 @@ pub fn found_is_told_or_silenced()
     ensures told { (lint style : Bool) (ignored : List Text) (comments : List ignores.Ignore) (d : DiagnosticValue) → is_told lint style ignored comments d ≡ true → IsLeftOut lint style ignored comments d → ⊥ }
 {}
 
-/// Each code in a comment silences something that was found, or is told as I1 or I2, and only then; but for these codes where the
+/// Each code in a comment silences something that was found, or is reported as I1 or I2, and only then; but for these
+/// codes where the
 /// line ignores them.
 pub fn comments_silence_or_are_told()
     ensures rules { (line : Line) (file : SourceFile) → has_comments (ignored_by line) ≡ true
@@ -37,13 +39,14 @@ pub fn comments_silence_or_are_told()
     ensures said { (found : List DiagnosticValue) (ignore : ignores.Ignore) → IsSaidOf found ignore (remark_on found ignore) }
 {}
 
-/// The code of a comment stands in its line at its columns, and has no blanks around it.
+/// The code of a comment is in its line at its columns, and has no blanks around it.
 pub fn codes_stand_in_their_comments()
     ensures { (profile : Profile) (file : SourceFile) → length (lines file.bytes) < 2 ^ 32 → All (λ line. length line < 2 ^ 32 - 1) (lines file.bytes)
         → All (StandsInLine file.bytes) (ignores_in profile file) }
 {}
 
-/// A comment on the next rule is about the first line behind its own of which a rule has the number, in a database the first that is no
+/// A comment on the next rule is about the first line after its own of which a rule has the number, in a database the
+/// first that is no
 /// comment; it is about none where none follows.
 pub fn comments_are_about_what_follows()
     ensures { (profile : Profile) (file : SourceFile) → All (IsAboutNext (starts_of profile file.kind file.bytes)) (ignores_in profile file) }

@@ -31,7 +31,7 @@ fn comment_diagnostic<'r, 'a>(
     }
 }
 
-/// Puts what is to be said of a code in a comment behind other remarks, if something is.
+/// Puts what is to be said of a code in a comment after other remarks, if something is.
 fn push_remark<'r, 'a>(
     remarks: &mut Vec<Lent<'r, 'a>>,
     file: &'r FileText<'_>,
@@ -46,7 +46,7 @@ fn push_remark<'r, 'a>(
     Ok(())
 }
 
-/// What is to be said of codes in comments, by what was found in the file. The error comes where memory is refused.
+/// What is to be said of codes in comments, by what was found in the file.
 pub(crate) fn comment_remarks<'r, 'a>(
     alloc: Global,
     file: &'r FileText<'_>,

@@ -21,7 +21,7 @@ fn names_in<'a>(alloc: Global, told: &[Diagnostic<'a>]) -> Result<Texts<'a>, All
     Ok(names)
 }
 
-/// How many of the files have a diagnostic that bears their name. The error comes where memory is refused.
+/// How many of the files have a diagnostic that bears their name.
 pub(crate) fn bad_count(
     alloc: Global,
     files: &[SourceFile],

@@ -1,4 +1,4 @@
-//! What is told of files of a database.
+//! What is reported for files of a database.
 ghost use Rattle.std.specs.Prelude.{◌≡◌, ◌∷◌, [], flat_map, map, IfOk};
 ghost use Rattle.hwdb_core.specs.Sources.{messages_of};
 ghost use Rattle.engine_formats.specs.Diagnostics.{shown};
@@ -14,7 +14,7 @@ use std::slice::from_ref;
 use text_bytes::{Message, SourceFile};
 
 /// The messages about a file of files that hold no more than a database may. So the file holds no more either, and the error
-/// comes where memory is refused.
+/// comes where memory runs out.
 fn messages_about(alloc: Global, file: &SourceFile) -> Result<Vec<Message>, AllocError>
     ensures { IfOk result (λ messages. messages.items ≡ messages_of (file.now ∷ [])) }
 {
@@ -24,7 +24,7 @@ fn messages_about(alloc: Global, file: &SourceFile) -> Result<Vec<Message>, Allo
     }
 }
 
-/// What is told of a file of a database.
+/// What is reported for a file of a database.
 fn told_of_file<'r>(
     alloc: Global,
     asked: &Asked<'_>,
@@ -37,7 +37,7 @@ fn told_of_file<'r>(
     file_told(alloc, asked, read.text(), read.ignores(), found)
 }
 
-/// What is told of files of a database, file by file. The error comes where memory is refused.
+/// What is reported for files of a database, file by file.
 pub(crate) fn database_told<'r>(
     alloc: Global,
     asked: &Asked<'_>,

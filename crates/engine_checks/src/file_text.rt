@@ -26,7 +26,7 @@ impl<'a> Model for FileText<'a> {
 }
 
 impl<'a> FileText<'a> {
-    /// A file that a command line reads. The error comes where memory is refused.
+    /// A file that a command line reads.
     pub(crate) fn of(
         alloc: Global,
         line: &Line<'_>,

@@ -26,7 +26,7 @@ fn rule_diagnostic<'r>(file: &'r FileText<'_>, finding: PlacedFinding) -> Diagno
     }
 }
 
-/// Findings of a rules file as diagnostics. The error comes where memory is refused.
+/// Findings of a rules file as diagnostics.
 pub(crate) fn rule_diagnostics<'r>(
     alloc: Global,
     file: &'r FileText<'_>,
@@ -41,7 +41,7 @@ pub(crate) fn rule_diagnostics<'r>(
     Ok(found)
 }
 
-/// A message about a database as a diagnostic. The error comes where memory is refused.
+/// A message about a database as a diagnostic.
 fn database_diagnostic<'r>(
     alloc: Global,
     file: &'r FileText<'_>,
@@ -63,7 +63,7 @@ fn database_diagnostic<'r>(
     })
 }
 
-/// Messages about a file of a database as diagnostics. The error comes where memory is refused.
+/// Messages about a file of a database as diagnostics.
 pub(crate) fn database_diagnostics<'r>(
     alloc: Global,
     file: &'r FileText<'_>,

@@ -1,8 +1,9 @@
 //! The codes that comments in a file ask to ignore.
 //!
 //! `# devdry: ignore V6,S2` is about the next rule, `# devdry: ignore-file S1` about the whole file. Such a comment is a line
-//! of its own; in rules blanks may stand before it. Codes are cut at commas, and blanks around a code are no part of it. A
-//! comment that begins with `# devdry:` and goes on in another way is kept too, so that it can be told.
+//! of its own; in rules blanks may come before it. Codes are cut at commas, and blanks around a code are no part of
+//! it. A
+//! comment that begins with `# devdry:` and goes on in another way is kept too, so that it can be reported.
 ghost use Rattle.std.specs.Prelude.{◌≡◌, ◌++◌, ◌+◌, ◌-◌, ◌≤◌, ◌<◌, ◌^◌, ◌==◌, length, option_map, IfSome, IfOk, OnOk};
 ghost use Rattle.std.specs.List.{slice_split};
 ghost use Rattle.text_bytes.specs.Lines.{numbered_lines};
@@ -34,11 +35,11 @@ pub struct Ignore<'a> {
     pub line: u32,
     /// The byte of the line at which the code begins, counted from 1, up to the same number.
     pub column: u32,
-    /// The byte behind the code's last one.
+    /// The byte after the code's last one.
     pub end: u32,
     /// What it is about.
     pub scope: Scope,
-    /// The code, without the blanks around it, or what stands behind `# devdry:` where that is not understood.
+    /// The code, without the blanks around it, or what follows `# devdry:` where that is not understood.
     pub code: &'a [u8],
 }
 
@@ -69,7 +70,7 @@ impl<'a> Ignore<'a> {
     }
 }
 
-/// What stands behind the front of a text, where it begins with that.
+/// What follows the front of a text, where it begins with that.
 fn behind<'a>(front: &[u8], text: &'a [u8]) -> Option<&'a [u8]>
     ensures value { option_map (λ t. t.now) result ≡ behind front.now text.now }
     ensures within { IfSome result (λ t. length t.now ≤ length text.now) }
@@ -88,7 +89,7 @@ fn comment_of(kind: FileKind, text: &[u8]) -> &[u8]
     }
 }
 
-/// What a comment is about and its codes, by what stands behind `# devdry:`.
+/// What a comment is about and its codes, by what follows `# devdry:`.
 fn asked_by(next: Option<u32>, text: &[u8]) -> (Scope, &[u8])
     ensures asked { (result.0, result.1.now) ≡ asked_by next text.now }
     ensures within { length result.1.now ≤ length text.now }
@@ -102,7 +103,7 @@ fn asked_by(next: Option<u32>, text: &[u8]) -> (Scope, &[u8])
     }
 }
 
-/// Puts the codes of a list, which ends before a column, behind others.
+/// Puts the codes of a list, which ends before a column, after others.
 fn push_list<'a>(
     ignores: &mut Vec<Ignore<'a>>,
     line: u32,
@@ -122,7 +123,7 @@ fn push_list<'a>(
     Ok(())
 }
 
-/// Puts what a comment asks for, which ends before a column, behind others.
+/// Puts what a comment asks for, which ends before a column, after others.
 fn push_asked<'a>(
     ignores: &mut Vec<Ignore<'a>>,
     line: u32,
@@ -142,7 +143,7 @@ fn push_asked<'a>(
     }
 }
 
-/// Puts the codes in a line behind others.
+/// Puts the codes in a line after others.
 fn push_line<'a>(
     ignores: &mut Vec<Ignore<'a>>,
     kind: FileKind,
@@ -161,7 +162,7 @@ fn push_line<'a>(
     }
 }
 
-/// The codes in the lines of a file, each comment on the next rule being about the first of these starts behind it.
+/// The codes in the lines of a file, each comment on the next rule being about the first of these starts after it.
 fn ignores_among<'a>(
     alloc: Global,
     kind: FileKind,
@@ -179,7 +180,7 @@ fn ignores_among<'a>(
     Ok(ignores)
 }
 
-/// The codes that comments in a file ask to ignore, in the order of their places. The error comes where memory is refused.
+/// The codes that comments in a file ask to ignore, in the order of their places.
 #[tactic(auto, unfolding(crate::specs::Ignores::ignores_in))]
 pub fn ignores_in(
     alloc: Global,

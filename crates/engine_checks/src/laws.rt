@@ -27,7 +27,7 @@ pub fn plain_checks_are_as_before()
 }
 
 /// With the default format and nothing ignored `update` says what it says without these options, where the lines of each file
-/// that is read can be told by number.
+/// that is read can be reported by number.
 pub fn plain_updates_are_as_before()
     ensures { (line : Line) (files : List SourceFile) → line.format ≡ Format.Plain → ignored_by line ≡ [] → All (λ file. length (lines file.bytes) < 2 ^ 32) (files_read kinds.FileKind.Hwdb line files)
         → told_update_outcome line files ≡ database_outcome (update_outcome line) (files_read kinds.FileKind.Hwdb line files) }

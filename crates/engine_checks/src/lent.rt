@@ -40,7 +40,7 @@ impl<'r, 'w> Model for Lent<'r, 'w> {
 }
 
 impl<'r, 'w> Lent<'r, 'w> {
-    /// The line that it is told of.
+    /// The line that it is reported.
     pub(crate) fn line(&self) -> u32
         ensures { result ≡ self.now.begins }
     {
@@ -54,7 +54,7 @@ impl<'r, 'w> Lent<'r, 'w> {
         self.remark
     }
 
-    /// The same with a word of its own. The error comes where memory is refused.
+    /// The same with a word of its own.
     fn diagnostic(&self, alloc: Global) -> Result<Diagnostic<'r>, AllocError>
         ensures { IfOk result (λ d. shown d ≡ self.now) }
     {
@@ -72,7 +72,7 @@ impl<'r, 'w> Lent<'r, 'w> {
     }
 }
 
-/// Puts such diagnostics behind others.
+/// Puts such diagnostics after others.
 pub(crate) fn push_lent<'r>(
     alloc: Global,
     told: &mut Vec<Diagnostic<'r>>,

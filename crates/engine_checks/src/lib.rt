@@ -1,8 +1,11 @@
-//! The checks of files with options: other formats of messages, lints, and messages that are ignored.
+//! The checks of files with options: other formats of messages, lints, and ignored messages.
 //!
-//! With `--lint` what is told of rules has lints behind the messages about each rule. `--ignore` names codes; messages and lints
-//! of these are neither told nor counted. With the word `comments` among them, comments in the files count too. What is told
-//! is put together as diagnostics, file by file, and written in the format that was asked for.
+//! With `--lint`, the messages about each rule are followed by its lints. `--ignore` names codes, and messages and
+//! lints with these codes are neither printed nor counted. If the word `comments` is among them, comments in the files
+//! can name codes too. The report is put together as diagnostics, file by file, and written in the format that was
+//! asked for.
+//!
+//! Functions that allocate return `AllocError` when memory runs out.
 #![tactic(auto)]
 
 mod asked;

@@ -38,7 +38,7 @@ impl<'a> LineCodes<'a> {
         self.held.contains(&(line, code))
     }
 
-    /// Adds a code at a line. The error comes where memory is refused.
+    /// Adds a code at a line.
     pub(crate) fn add(&mut self, line: u32, code: &'a [u8]) -> Result<(), AllocError>
         ensures { OnOk result ((at : ℕ) (text : Text) → has_code_at self.new at text ≡ (has_code_at self.old at text || is_code_at at text (line, code.now))) }
     {

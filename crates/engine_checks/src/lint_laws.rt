@@ -1,4 +1,4 @@
-//! What lints change in what is told.
+//! What lints change in what is reported.
 //!
 //! Each function does nothing: its contract is a law of the definitions.
 ghost use Rattle.std.specs.Prelude.{◌≡◌, ◌&&◌, ◌||◌, not, true, false, [], filter};
@@ -11,7 +11,8 @@ ghost use Rattle.engine_checks.specs.Files.{database_told, ignored_by, ignores_c
 ghost use Rattle.engine_checks.specs.Laws.{lints_among, lints_in, messages_among, messages_in};
 ghost use Rattle.engine_checks.specs.Told.{is_about_style, is_silenced, is_told};
 
-/// Lints are told exactly where they are asked for, in their order, but for those that the line or a comment silences; never of
+/// Lints are reported exactly where they are asked for, in their order, but for those that the line or a comment
+/// silences; never of
 /// a database.
 pub fn lints_are_told_where_asked()
     ensures asked { (line : Line) (file : SourceFile) → line.lint ≡ true
@@ -20,7 +21,8 @@ pub fn lints_are_told_where_asked()
     ensures database { (line : Line) (file : SourceFile) → lints_among (database_told line file) ≡ [] }
 {}
 
-/// Lints change nothing in which messages are told. Where they are not asked for and comments don't count, all that is told is
+/// Lints change nothing in which messages are reported. Where they are not asked for and comments don't count, all
+/// that is reported is
 /// messages.
 pub fn messages_are_told_as_without_lints()
     ensures messages { (line : Line) (file : SourceFile)
@@ -29,7 +31,8 @@ pub fn messages_are_told_as_without_lints()
         → rules_told line file ≡ filter (λ d. (line.style || not (is_about_style d.remark)) && not (is_among (ignored_by line) (code_of d.remark))) (messages_in line file) }
 {}
 
-/// Where comments count, lints are found whether they are told or not, so that a code in a comment that silences one is in use.
+/// Where comments count, lints are found whether they are reported or not, so that a code in a comment that silences
+/// one is in use.
 pub fn comments_count_for_lints()
     ensures { (line : Line) (file : SourceFile) → has_comments (ignored_by line) ≡ true → lints_among (rules_found line file) ≡ lints_in line file }
 {}

@@ -12,7 +12,6 @@ use std::alloc::{AllocError, Global};
 use text_bytes::SourceFile;
 
 /// The lints of a rules file; none is looked for where none is asked for and comments, which may silence lints, don't count.
-/// The error comes where memory is refused.
 pub(crate) fn lints_counted(
     alloc: Global,
     asked: &Asked<'_>,
@@ -44,7 +43,7 @@ fn lint_diagnostic<'r, 'w>(file: &'r FileText<'_>, lint: &'w PlacedLint) -> Lent
     }
 }
 
-/// Lints of a rules file as diagnostics. The error comes where memory is refused.
+/// Lints of a rules file as diagnostics.
 pub(crate) fn lint_diagnostics<'r, 'w>(
     alloc: Global,
     file: &'r FileText<'_>,

@@ -20,12 +20,12 @@ use text_tables::Texts;
 pub(crate) struct Met {
     /// Those in the whole file.
     pub(crate) in_file: Texts<'static>,
-    /// Those at each line of which something is told.
+    /// Those at each line of which something is reported.
     pub(crate) at_lines: LineCodes<'static>,
 }
 
 impl Met {
-    /// The codes of these diagnostics. The error comes where memory is refused.
+    /// The codes of these diagnostics.
     pub(crate) fn of(alloc: Global, found: &[Diagnostic<'_>]) -> Result<Met, AllocError>
         ensures { IfOk result (λ m. (ignore : ignores.Ignore) → is_met m.in_file m.at_lines ignore.scope ignore.code ≡ list_any (silences ignore) (map shown found.now)) }
     {
@@ -83,7 +83,7 @@ fn codes_in_file(alloc: Global, found: &[Diagnostic<'_>]) -> Result<Texts<'stati
     Ok(codes)
 }
 
-/// The codes of diagnostics at the lines of which they are told.
+/// The codes of diagnostics at the lines of which they are reported.
 fn codes_at_lines(alloc: Global, found: &[Diagnostic<'_>]) -> Result<LineCodes<'static>, AllocError>
     ensures { IfOk result (λ codes. (line : ℕ) (code : Text) → has_code_at codes line code ≡ list_any (has_code_in line code) (map shown found.now)) }
 {

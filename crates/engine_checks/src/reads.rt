@@ -26,7 +26,7 @@ impl<'a> Model for FileRead<'a> {
 }
 
 impl<'a> FileRead<'a> {
-    /// A file that a command line reads, with or without its comments. The error comes where memory is refused.
+    /// A file that a command line reads, with or without its comments.
     fn of(
         alloc: Global,
         line: &Line<'_>,
@@ -69,7 +69,7 @@ impl<'a> FileRead<'a> {
     }
 }
 
-/// Files that a command line reads, with or without their comments. The error comes where memory is refused.
+/// Files that a command line reads, with or without their comments.
 pub(crate) fn read_files<'a>(
     alloc: Global,
     line: &Line<'_>,

@@ -1,4 +1,4 @@
-//! What is told of rules files.
+//! What is reported for rules files.
 ghost use Rattle.std.specs.Prelude.{◌≡◌, flat_map, map, IfOk};
 ghost use Rattle.engine_formats.specs.Diagnostics.{shown};
 ghost use Rattle.engine_checks.specs.Tables.{rules_found_by, rules_told_by};
@@ -12,7 +12,7 @@ use engine_formats::Diagnostic;
 use rule_remarks::file_findings;
 use std::alloc::{AllocError, Global};
 
-/// All that is found in a rules file: what is told of its rules, and behind that of each rule its lints.
+/// All that is found in a rules file: what is reported for its rules, and after that of each rule its lints.
 fn rules_found<'r>(
     alloc: Global,
     asked: &Asked<'_>,
@@ -27,7 +27,7 @@ fn rules_found<'r>(
     by_line(alloc, found, &lent)
 }
 
-/// What is told of a rules file.
+/// What is reported for a rules file.
 fn told_of_file<'r>(
     alloc: Global,
     asked: &Asked<'_>,
@@ -39,7 +39,7 @@ fn told_of_file<'r>(
     file_told(alloc, asked, read.text(), read.ignores(), found)
 }
 
-/// What is told of rules files, file by file. The error comes where memory is refused.
+/// What is reported for rules files, file by file.
 pub(crate) fn rules_told<'r>(
     alloc: Global,
     asked: &Asked<'_>,

@@ -24,7 +24,7 @@ pub(crate) struct Silenced<'a> {
 }
 
 impl<'a> Silenced<'a> {
-    /// The codes that these comments ask to ignore. The error comes where memory is refused.
+    /// The codes that these comments ask to ignore.
     pub(crate) fn by(alloc: Global, ignores: &[Ignore<'a>]) -> Result<Silenced<'a>, AllocError>
         ensures { IfOk result (λ s. (d : DiagnosticValue) → are_silencing s.in_file s.at_lines d ≡ is_silenced ignores.now d) }
     {

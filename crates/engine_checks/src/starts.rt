@@ -9,7 +9,7 @@ use std::alloc::{AllocError, Global};
 use text_bytes::{FileKind, Lines, Profile, begins_with, capped};
 
 /// The lines of a file that a comment on the next rule can be about: those that rules have the numbers of, also the one that is
-/// still open where the file ends, and in a database those that are no comments. The error comes where memory is refused.
+/// still open where the file ends, and in a database those that are no comments.
 pub(crate) fn starts_of(
     alloc: Global,
     profile: Profile,
@@ -60,7 +60,7 @@ fn plain_starts(alloc: Global, bytes: &[u8]) -> Result<Vec<u32>, AllocError>
     Ok(starts)
 }
 
-/// What is left of starts behind a line.
+/// What is left of starts after a line.
 pub(crate) fn behind_line(starts: &[u32], line: u32) -> &[u32]
     ensures { result.now ≡ skip_while (λ s. nat_le s line) starts.now }
 {
@@ -68,7 +68,7 @@ pub(crate) fn behind_line(starts: &[u32], line: u32) -> &[u32]
     behind
 }
 
-/// How many starts at the front are not behind a line.
+/// How many starts at the front are not after a line.
 fn count_up_to(starts: &[u32], line: u32) -> usize
     ensures value { result ≡ prefix_len (λ s. nat_le s line) starts.now }
     ensures within { result ≤ length starts.now }

@@ -1,4 +1,4 @@
-//! What is told of a file.
+//! What is reported for a file.
 ghost use Rattle.std.specs.Prelude.{◌≡◌, filter, map, IfOk};
 ghost use Rattle.engine_formats.specs.Diagnostics.{shown};
 ghost use Rattle.engine_checks.specs.Tables.{is_told_by};
@@ -25,11 +25,11 @@ pub(crate) struct Asked<'a> {
     pub(crate) profile: Profile,
     /// The users and the groups that are known.
     pub(crate) accounts: Accounts,
-    /// Whether those about style are told.
+    /// Whether those about style are reported.
     pub(crate) style: bool,
-    /// Whether lints are told.
+    /// Whether lints are reported.
     pub(crate) lint: bool,
-    /// The codes of those that are not told.
+    /// The codes of those that are not reported.
     pub(crate) ignored: Texts<'a>,
 }
 
@@ -62,14 +62,14 @@ fn is_asked(asked: &Asked<'_>, remark: Remark) -> bool
         && !asked.ignored.contains(remark.code())
 }
 
-/// Whether what was found is told.
+/// Whether what was found is reported.
 fn is_told(asked: &Asked<'_>, silenced: &Silenced<'_>, diagnostic: &Diagnostic<'_>) -> bool
     ensures { result ≡ is_told_by asked.now.lint asked.now.style asked.now.ignored silenced.now.in_file silenced.now.at_lines (shown diagnostic.now) }
 {
     is_asked(asked, diagnostic.remark) && !silenced.has(diagnostic)
 }
 
-/// Those of diagnostics that are told.
+/// Those of diagnostics that are reported.
 fn keep_told<'a>(
     asked: &Asked<'_>,
     silenced: &Silenced<'_>,
@@ -89,7 +89,7 @@ fn keep_asked<'r, 'a>(asked: &Asked<'_>, mut remarks: Vec<Lent<'r, 'a>>) -> Vec<
     remarks
 }
 
-/// What is told of a file, by what was found in it and the codes in its comments. The error comes where memory is refused.
+/// What is reported for a file, by what was found in it and the codes in its comments.
 #[tactic(auto, unfolding(crate::specs::Told::file_told))]
 pub(crate) fn file_told<'r>(
     alloc: Global,

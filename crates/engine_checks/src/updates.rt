@@ -18,18 +18,19 @@ use text_bytes::{FileKind, SourceFile};
 use trie_build::{Trie, trie_of};
 use trie_core::write_index;
 
-/// What is told of files, as text, and how much it is.
+/// What is reported for files, as text, and how much it is.
 #[derive(Drop)]
 struct ToldText {
     text: Vec<u8>,
     count: usize,
 }
 
-/// What `update` says of the files handed in, with the line's format and without the messages that it ignores: what is told,
+/// What `update` says of the files passed in, with the line's format and without the messages that it ignores: what is
+/// reported,
 /// which makes a strict run fail, and the entries as an index.
 ///
 /// A text of the line that is no code silences nothing. `TooManyEntries` comes exactly where the files hold more than a
-/// database may, `Memory` where memory is refused.
+/// database may, `Memory` where memory runs out.
 pub fn report_on_told_update(
     alloc: Global,
     line: &Line<'_>,
@@ -43,7 +44,7 @@ pub fn report_on_told_update(
     report_on_database(alloc, line, files)
 }
 
-/// The same of the files that are read, which are given back before the index is made.
+/// The same of the files that are read, which are returned before the index is made.
 fn report_on_database(
     alloc: Global,
     line: &Line<'_>,
@@ -61,7 +62,7 @@ fn report_on_database(
     Ok(report)
 }
 
-/// What is told of the files.
+/// What is reported for the files.
 fn told_of_database(
     alloc: Global,
     line: &Line<'_>,
@@ -79,7 +80,7 @@ fn told_of_database(
     })
 }
 
-/// The index of the entries, and what is told of the files.
+/// The index of the entries, and what is reported for the files.
 fn updated(
     alloc: Global,
     line: &Line<'_>,
@@ -96,7 +97,7 @@ fn updated(
     })
 }
 
-/// The status of `update`: 1 where it is strict and something is told.
+/// The status of `update`: 1 where it is strict and something is reported.
 fn update_status(strict: bool, count: usize) -> u8
     ensures { result ≡ update_status strict count }
 {

@@ -1,4 +1,4 @@
--- How often lines stand in lists.
+-- How often lines are in lists.
 use Rattle.std.proofs.Common.{◌≡◌, ◌↔◌, ℕ, ◌+◌, ◌-◌, ◌<◌, ◌≤◌, Bool, true, false, cond, ◌||◌, nat_lt, List, [], ◌∷◌, ◌++◌, refl, ap, sym, ◌∙◌, arith, add-zero, zero-add, append_assoc, append-nil}
 use Rattle.std.proofs.lemmas.Bool.{ltb-true, ltb-false, lt-ltb, le-ltb}
 use Rattle.std.proofs.lemmas.List.Sums.{sum_by-cons, sum_by-append, sum_by_push}
@@ -57,7 +57,7 @@ step_same before others behind = by (nat_lt before others) refl
 step_other : (before others behind : ℕ) → 0 + (behind - (others - (before + 0))) ≡ (0 + behind) - (others - before)
 step_other before others behind = omega arith
 
--- texts behind others are more as often as all of them are more than those of the other list
+-- texts after others are more as often as all of them are more than those of the other list
 pub counted_behind : (before texts others : List Text) (text : Text) → times text (surplus_behind before texts others) ≡ times text texts - (times text others - times text before)
 counted_behind before [] others text = omega arith
 counted_behind before (other ∷ texts) others text = by (same_text text other) refl
@@ -95,7 +95,7 @@ put_in old new gone come g h = omega (arith, g, h)
 pub led : (old new : List Text) (text : Text) → (times text old - times text (surplus old new)) + times text (surplus new old) ≡ times text new
 led old new text = put_in (times text old) (times text new) (times text (surplus old new)) (times text (surplus new old)) (counted old new text) (counted new old text)
 
--- a text is among others where it stands there at least once
+-- a text is among others where it is there at least once
 pub among_some : (texts : List Text) (text : Text) → is_among texts text ≡ nat_lt 0 (times text texts)
 among_some [] text = refl
 among_some (other ∷ texts) text = by (same_text text other) (among_some texts text) ∙ ap (λ n. nat_lt 0 n) (sym (times-cons text other texts))

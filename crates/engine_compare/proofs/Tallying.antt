@@ -58,8 +58,8 @@ taken_one tally next line left l e text = ap (λ (n : List (Text × ℕ)). left_
     by true h = ap (λ n. n - 1) (l ∙ ap (left_of tally) (sym (is_same text line h)))
     by false h = less_none (left_of tally text)
 
--- Some lines are gone past: of each line so many are left as the other list has more, and what is told so far and what is still to come
--- is all that is to be told.
+-- Some lines are gone past: of each line so many are left as the other list has more, and what is reported so far and what is still to come
+-- is all that is to be reported.
 pub record GoesOn (tally : List (Text × ℕ)) (told past rest whole others : List Text) : Type 0 where
   pub left : (text : Text) → left_of tally text ≡ times text others - times text past
   pub so_far : told ++ surplus_behind past rest others ≡ whole
@@ -129,7 +129,7 @@ goes_item f tally next told more whole others lines at item there g h t l e =
 pub goes_out : {A : Type 0} (f : A → Text) (tally : List (Text × ℕ)) (told past whole others : List Text) (lines : List A) (at : ℕ) → length lines ≤ at → GoesOn tally told past (map f (drop at lines)) whole others → told ≡ whole
 goes_out f tally told past whole others lines at h g = goes_end tally told past whole others (subst (λ rest. GoesOn tally told past rest whole others) (ap (map f) (drop_of_length-le lines h)) g)
 
--- a line that is none of those left is told
+-- a line that is none of those left is reported
 pub told_line : {A : Type 0} (f : A → Text) (told more : List A) (line : A) (there : Bool) → there ≡ false → more ≡ told ++ line ∷ [] → map f more ≡ map f told ++ cond there [] (f line ∷ [])
 told_line f told more line there n e = ap (map f) e ∙ map-append f told (line ∷ []) ∙ ap (λ b. map f told ++ cond b [] (f line ∷ [])) (sym n)
 

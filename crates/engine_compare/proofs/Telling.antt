@@ -1,4 +1,4 @@
--- Where nothing is told of an event.
+-- Where nothing is reported for an event.
 use Rattle.std.proofs.Common.{◌≡◌, ◌↔◌, ℕ, ◌+◌, ◌==◌, ◌&&◌, Bool, true, false, cond, List, [], ◌∷◌, ◌++◌, length, refl, ap, ap₂, sym, ◌∙◌, append_assoc, arith}
 use Rattle.std.proofs.lemmas.Bool.{eqb-true}
 use Rattle.text_bytes.specs.Names.{newline, minus, plus}
@@ -18,7 +18,7 @@ second_empty : {A : Type 0} (first second : List A) → first ++ second ≡ [] �
 second_empty [] second h = h
 second_empty (a ∷ first) second h = absurd (cc)
 
--- what is told of an event ends in an empty line
+-- what is reported for an event ends in an empty line
 told_ends : (event : EventValue) (gone come : List Text) → event_line event.action event.device.path ++ marked_lines minus gone ++ marked_lines plus come ++ newline ∷ [] ≡ [] → ⊥
 told_ends event gone come h =
     let end : newline ∷ [] ≡ [] = second_empty (event_line event.action event.device.path ++ marked_lines minus gone ++ marked_lines plus come) (newline ∷ []) h in

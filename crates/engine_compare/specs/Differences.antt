@@ -17,19 +17,19 @@ abbrev pub behind_first : List Text → List Text
 behind_first [] = []
 behind_first (first ∷ others) = others
 
--- the lines of an answer that are compared: of those behind its first, which names the event, all but the notes and the empty one at its end
+-- the lines of an answer that are compared: of those after its first, which names the event, all but the notes and the empty one at its end
 abbrev pub compared_lines : Text → List Text
 compared_lines answer = filter is_compared (behind_first (lines answer))
 
--- a line behind a mark
+-- a line after a mark
 abbrev pub marked_line : ℕ → Text → Text
 marked_line mark line = mark ∷ line ++ newline ∷ []
 
--- lines, each behind a mark
+-- lines, each after a mark
 abbrev pub marked_lines : ℕ → List Text → Text
 marked_lines mark lines = flat_map (marked_line mark) lines
 
--- what is told of an event: its line, each line that goes behind `-`, each that comes behind `+`, and an empty line; nothing where no
+-- what is reported for an event: its line, each line that goes after `-`, each that comes after `+`, and an empty line; nothing where no
 -- line goes or comes
 abbrev pub told_of : EventValue → List Text → List Text → Text
 told_of event gone come =

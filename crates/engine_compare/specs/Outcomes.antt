@@ -1,4 +1,4 @@
--- What a comparison says: its outcome, as a function of the two command lines, of the files handed in for each, of what comes of an index
+-- What a comparison says: its outcome, as a function of the two command lines, of the files passed in for each, of what comes of an index
 -- and of the input.
 use Rattle.std.specs.Prelude.{◌++◌, Result, Ok, Err}
 use Rattle.text_bytes.specs.declared.profile.Profile.{Profile}

@@ -2,7 +2,7 @@
 use Rattle.std.specs.Prelude.{ℕ, if◌then◌else◌, nat_lt, List, [], ◌∷◌, ◌++◌, count_by}
 use Rattle.text_tables.specs.Texts.{Text, same_text}
 
--- how many times a text stands in a list
+-- how many times a text is in a list
 abbrev pub times : Text → List Text → ℕ
 times text texts = count_by (same_text text) texts
 
@@ -10,7 +10,7 @@ times text texts = count_by (same_text text) texts
 abbrev pub unless_fewer : List Text → Text → List Text → List Text
 unless_fewer before text others = if nat_lt (times text before) (times text others) then [] else text ∷ []
 
--- those of these texts that are more than another list has, where they stand behind others
+-- those of these texts that are more than another list has, where they follow others
 abbrev pub surplus_behind : List Text → List Text → List Text → List Text
 surplus_behind before [] others = []
 surplus_behind before (text ∷ texts) others = unless_fewer before text others ++ surplus_behind (before ++ text ∷ []) texts others

@@ -10,10 +10,10 @@ use std::alloc::{AllocError, Global};
 use text_bytes::{Bytes, first_line};
 
 /// What comes and goes between an old and a new answer to an event: the event's line, the old lines
-/// that the new answer has less often, each behind `-`, the new ones that the old answer has less
-/// often, each behind `+`, and an empty line. Where there is neither, no byte.
+/// that the new answer has less often, each after `-`, the new ones that the old answer has less
+/// often, each after `+`, and an empty line. Where there is neither, no byte.
 ///
-/// Notes are not compared. The error comes where memory is refused.
+/// Notes are not compared.
 pub fn differences(
     alloc: Global,
     event: &Event<'_>,
@@ -43,7 +43,7 @@ fn compared_lines<'a>(alloc: Global, answer: &'a [u8]) -> Result<Vec<&'a [u8]>, 
     Ok(compared)
 }
 
-/// What stands behind the first line of a text.
+/// What follows the first line of a text.
 fn behind_first_line(text: &[u8]) -> &[u8]
     ensures { lines result.now ≡ behind_first (lines text.now) }
 {
@@ -54,7 +54,7 @@ fn behind_first_line(text: &[u8]) -> &[u8]
     below
 }
 
-/// Puts a line behind others, if it is compared.
+/// Puts a line after others, if it is compared.
 fn push_compared<'a>(compared: &mut Vec<&'a [u8]>, line: &'a [u8]) -> Result<(), AllocError>
     ensures { OnOk result (map (λ l. l.now) compared.new.items ≡ map (λ l. l.now) compared.old.items ++ filter is_compared (line.now ∷ [])) }
 {
@@ -71,8 +71,7 @@ fn is_compared(line: &[u8]) -> bool
     !(line.is_empty() || line.starts_with(b"note "))
 }
 
-/// What is told of an event, by the lines that go and those that come. The error comes where memory is
-/// refused.
+/// What is reported for an event, by the lines that go and those that come.
 fn told_of(
     alloc: Global,
     event: &Event<'_>,
@@ -92,7 +91,7 @@ fn told_of(
     Ok(Bytes::new(text))
 }
 
-/// Puts lines behind a text, each behind a mark.
+/// Puts lines after a text, each after a mark.
 fn push_marked_lines(text: &mut Vec<u8>, mark: u8, lines: &[&[u8]]) -> Result<(), AllocError>
     ensures { OnOk result (text.new.items ≡ text.old.items ++ marked_lines mark (map (λ l. l.now) lines.now)) }
 {
@@ -102,7 +101,7 @@ fn push_marked_lines(text: &mut Vec<u8>, mark: u8, lines: &[&[u8]]) -> Result<()
     Ok(())
 }
 
-/// Puts a line behind a text, behind a mark.
+/// Puts a line after a text, after a mark.
 fn push_marked_line(text: &mut Vec<u8>, mark: u8, line: &[u8]) -> Result<(), AllocError>
     ensures { OnOk result (text.new.items ≡ text.old.items ++ marked_line mark line.now) }
 {

@@ -6,7 +6,7 @@ ghost use Rattle.engine_answers.specs.Lines.{event_line};
 ghost use Rattle.engine_compare.specs.Differences.{compared_lines, differences};
 ghost use Rattle.engine_compare.specs.Surplus.{surplus, times, unless_fewer};
 
-/// A line is told as many times as its list has it more often than the other list.
+/// A line is reported as many times as its list has it more often than the other list.
 pub fn lines_are_told_as_often_as_they_are_more()
     ensures { (texts others : List Text) (text : Text) → times text (surplus texts others) ≡ times text texts - times text others }
 {}
@@ -28,25 +28,27 @@ pub fn nothing_differs_where_lines_are_the_same()
     ensures { (old new : List Text) → ((surplus old new ≡ []) × (surplus new old ≡ [])) ↔ ((text : Text) → times text old ≡ times text new) }
 {}
 
-/// Lines are told in the order of their list, and of equal ones the last: a line at the end of a list
-/// is told behind the others, unless those before it have it less often than the other list.
+/// Lines are reported in the order of their list, and of equal ones the last: a line at the end of a list
+/// is reported after the others, unless those before it have it less often than the other list.
 pub fn the_last_of_equal_lines_are_told()
     ensures { (texts others : List Text) (text : Text) → surplus (texts ++ text ∷ []) others ≡ surplus texts others ++ unless_fewer texts text others }
 {}
 
-/// Of an answer that is the same twice nothing is told.
+/// Of an answer that is the same twice nothing is reported.
 pub fn the_same_answer_differs_in_nothing()
     ensures { (event : EventValue) (answer : Text) → differences event answer answer ≡ [] }
 {}
 
-/// Nothing is told of an event exactly where its two answers have the same lines, notes aside: each as often, in whatever
+/// Nothing is reported for an event exactly where its two answers have the same lines, notes aside: each as often, in
+/// whatever
 /// order.
 pub fn nothing_is_told_where_lines_are_the_same()
     ensures { (event : EventValue) (old new : Text) → (differences event old new ≡ [])
         ↔ ((text : Text) → times text (compared_lines old) ≡ times text (compared_lines new)) }
 {}
 
-/// What is told, by an example: behind the event's line the lines that go, each behind `-`, then those that come, each behind
+/// What is reported, by an example: after the event's line the lines that go, each after `-`, then those that come,
+/// each after
 /// `+`, both in the order of their answer, and an empty line. The first line of an answer is not compared, and notes are not.
 pub fn lines_that_go_stand_before_those_that_come()
     ensures { (event : EventValue) → differences event

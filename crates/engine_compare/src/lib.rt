@@ -1,7 +1,9 @@
-//! What comes and goes between the answers of two sets of rules to one event, and the whole run of
-//! `compare` over files and an index in memory and an input.
+//! What appears and disappears between the answers of two sets of rules to one event, and the whole run of `compare`
+//! over files and an index in memory and an input.
 //!
-//! Nothing here opens a file or knows a terminal, as in `engine_core`, whose `serve` it stands beside.
+//! Like `engine_core`, beside whose `serve` it stands, this crate opens no file and knows no terminal.
+//!
+//! Functions that allocate return `AllocError` when memory runs out.
 #![tactic(auto)]
 
 mod answers;

@@ -23,16 +23,16 @@ use text_bytes::{Profile, SourceFile};
 /// Compares the answers to the events of an input by two sets of rules, writes what comes and goes, and
 /// gives the status to exit with.
 ///
-/// The files of each side are those handed in for its line, taken and read as `events` does; rules are
+/// The files of each side are those passed in for its line, taken and read as `events` does; rules are
 /// evaluated by the profile of the old line, which is that of the new one where a command line made both.
 /// Messages
 /// about the old and then about the new rules go to `error`; to `output`, for each block of `input`
 /// whose answers differ, what comes and goes, written and flushed before the next read. Where `index`
-/// is handed in, both sides ask it, and no file of a database is read.
+/// is passed in, both sides ask it, and no file of a database is read.
 ///
 /// The status is 0; 1 where anything comes or goes, where a block is faulty, where the files of a side
 /// hold more than they may, or where the index fails a check; 3 where the input or an output failed, or
-/// the input did not end within 2^48 reads, and only there; 4 where memory was refused. Under 3 all was
+/// the input did not end within 2^48 reads, and only there; 4 where memory ran out. Under 3 all was
 /// written and flushed.
 pub fn serve_compare<R: Source, W: Sink, E: Sink>(
     alloc: Global,
@@ -115,7 +115,7 @@ fn compare_read<L: Lookup + Drop, M: Lookup + Drop, R: Source, W: Sink, E: Sink>
     }
 }
 
-/// Writes the messages, and what comes and goes behind them.
+/// Writes the messages, and what comes and goes after them.
 fn compare_rules<L: Lookup + Drop, M: Lookup + Drop, R: Source, W: Sink, E: Sink>(
     alloc: Global,
     profile: Profile,
@@ -139,7 +139,7 @@ fn compare_rules<L: Lookup + Drop, M: Lookup + Drop, R: Source, W: Sink, E: Sink
     }
 }
 
-/// The messages about both sides, and the tables of both. The error comes where memory is refused.
+/// The messages about both sides, and the tables of both.
 fn both_tables<L: Lookup + Drop, M: Lookup + Drop>(
     alloc: Global,
     old: RulesRead,
@@ -167,7 +167,7 @@ fn both_tables<L: Lookup + Drop, M: Lookup + Drop>(
     Ok((messages, Compared::new(old_tables, new_tables)))
 }
 
-/// The rules and the messages about the files handed in, beside an index that others ask, too. No file of
+/// The rules and the messages about the files passed in, beside an index that others ask, too. No file of
 /// a database is read.
 fn open_beside<'b, 'a>(
     alloc: Global,

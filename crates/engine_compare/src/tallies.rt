@@ -11,8 +11,6 @@ use std::alloc::{AllocError, Global};
 use text_tables::Table;
 
 /// The lines that a list has more often than another has, in its order; of equal lines the last ones.
-///
-/// The error comes where memory is refused.
 pub fn surplus<'a>(
     alloc: Global,
     lines: &[&'a [u8]],
@@ -30,7 +28,7 @@ pub fn surplus<'a>(
     Ok(more)
 }
 
-/// How often each line stands in a list. The error comes where memory is refused.
+/// How often each line is in a list.
 fn tally_of<'a>(alloc: Global, lines: &[&'a [u8]]) -> Result<Table<'a, usize>, AllocError>
     ensures { IfOk result (λ tally. Tallies tally (map (λ l. l.now) lines.now)) }
 {
@@ -52,8 +50,7 @@ fn left_of(tally: &Table<'_, usize>, line: &[u8]) -> usize
     }
 }
 
-/// Takes one of a line away, if one is left, and says whether one was. The error comes where memory is
-/// refused.
+/// Takes one of a line away, if one is left, and says whether one was.
 fn take_one<'a>(tally: &mut Table<'a, usize>, line: &'a [u8]) -> Result<bool, AllocError>
     ensures there { IfOk result (λ there. there ≡ nat_lt 0 (left_of tally.old line.now)) }
     ensures left { OnOk result ((text : Text) → left_of tally.new text ≡ left_of tally.old text - (if same_text text line.now then 1 else 0)) }

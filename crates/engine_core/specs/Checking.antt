@@ -31,11 +31,11 @@ is_udev Udev = true
 abbrev pub asks_checks : Line → Bool
 asks_checks line = ((is_udev line.profile || line.lint) || not (is_plain line.format)) || not (vec_len line.ignored == 0)
 
--- what `verify` says of the files handed in
+-- what `verify` says of the files passed in
 abbrev pub verify_said : Line → List SourceFile → Outcome
 verify_said line files = if asks_checks line then checks_outcome line files else verify_outcome line files
 
--- what `update` says of the files handed in
+-- what `update` says of the files passed in
 abbrev pub update_said : Line → List SourceFile → Outcome
 update_said line files =
     if asks_checks line then told_update_outcome line files

@@ -1,4 +1,4 @@
--- What a run says: its outcome, as a function of the command line, of the files handed in, of what comes of an index and of the input.
+-- What a run says: its outcome, as a function of the command line, of the files passed in, of what comes of an index and of the input.
 use Rattle.std.specs.Prelude.{Bool, not, ◌||◌, ◌==◌, if◌then◌else◌, List, map, Option, Some, None, Result, Ok, Err, vec_len}
 use Rattle.text_tables.specs.Texts.{Text}
 use Rattle.text_bytes.specs.declared.source_file.SourceFile.{SourceFile}
@@ -65,6 +65,6 @@ abbrev pub outcome_by : Line → Result OpeningValue Outcome → Text → Outcom
 outcome_by line (Ok opening) input = input_outcome opening.messages (answer_with line opening) input
 outcome_by line (Err said) input = said
 
--- the outcome of a run over the files handed in, what comes of an index and an input
+-- the outcome of a run over the files passed in, what comes of an index and an input
 abbrev pub outcome : Line → List SourceFile → Option (Result Contents IndexFault) → Text → Outcome
 outcome line files opened input = outcome_by line (before_input line.verb line files opened) input

@@ -71,7 +71,7 @@ fn answer_over<L: Lookup + Drop, R: Source, W: Sink, E: Sink>(
     }
 }
 
-/// Writes the messages, and behind them the answers, or else which rule the line asks for that is not
+/// Writes the messages, and after them the answers, or else which rule the line asks for that is not
 /// there.
 fn answer_asked<L: Lookup + Drop, R: Source, W: Sink, E: Sink>(
     alloc: Global,
@@ -122,10 +122,10 @@ fn answer_by_rules<L: Lookup + Drop, R: Source, W: Sink, E: Sink>(
     }
 }
 
-/// The rules and the messages about the files handed in, and the database that these hold.
+/// The rules and the messages about the files passed in, and the database that these hold.
 ///
 /// `TooManyEntries` comes exactly where the files of the database hold more than they may, else
-/// `TooManyRules` exactly where the rules have more than 2^24 tokens; `Memory` where memory is refused.
+/// `TooManyRules` exactly where the rules have more than 2^24 tokens; `Memory` where memory runs out.
 pub fn open_with_database(
     alloc: Global,
     line: &Line<'_>,

@@ -18,17 +18,18 @@ use text_bytes::SourceFile;
 /// properties as systemd-hwdb(8) gives them, for `update` the index of the database, messages or not,
 /// for `verify`, as in udevadm(8), how many files are bad, and for `events` the answer to each block of
 /// `input`, written and flushed before the next read, with the rule before each line that it comes from
-/// and behind the lines what rules met, where `line` asks for that. Where `line` names files of the
-/// kind that the command reads, those handed in are read in their order, and else those whose names end
+/// and after the lines what rules met, where `line` asks for that. Where `line` names files of the
+/// kind that the command reads, those passed in are read in their order, and else those whose names end
 /// in `.hwdb` or `.rules`, of each name the one of least rank, sorted by name. `verify` and `events` read
-/// rules, and `events` evaluates them, by the profile of `line`. Where `index` is handed in, `query` and `events` answer from it and read no file of the database. The input is looked at by
+/// rules, and `events` evaluates them, by the profile of `line`. Where `index` is passed in, `query` and `events`
+/// answer from it and read no file of the database. The input is looked at by
 /// `events` alone.
 ///
-/// The status is 0; 1 where `update` is strict and there is a message, where `verify` finds a bad file,
-/// where a block is faulty, where the files hold more than they may, or where `query` or `events` is
-/// handed an index that fails a check; 2 where a text of `ignored` is no code, and where a text of `why`
-/// asks for no rule and for no message's place, and then no input is read; 3 where the input or an output failed, or the input did not end
-/// within 2^48 reads, and only there; 4 where memory was refused. Under 3 all was written and flushed.
+/// The status is 0; 1 where `update` is strict and there is a message, where `verify` finds a bad file, where a block is faulty, where the
+/// files hold more than they may, or where `query` or `events` is passed an index that fails a check; 2 where a text
+/// of `ignored` is no
+/// code, and where a text of `why` asks for no rule and for no message's place, and then no input is read; 3 where the input or an output
+/// failed, or the input did not end within 2^48 reads, and only there; 4 where memory ran out. Under 3 all was written and flushed.
 pub fn serve<R: Source, W: Sink, E: Sink>(
     alloc: Global,
     line: &Line<'_>,

@@ -32,7 +32,7 @@ impl<L: Lookup + Drop> Tables<L> {
     /// The rules and the database that events are answered by; the rules are laid out once, as a
     /// program.
     ///
-    /// The error comes where memory is refused; what was handed in is dropped then.
+    /// The error comes where memory runs out; what was passed in is dropped then.
     pub fn new(alloc: Global, rules: RuleSet, lookup: L) -> Result<Tables<L>, AllocError>
         ensures { IfOk result (λ tables. tables ≡ record { rules = rules.rules; entries = L.entries lookup }) }
     {

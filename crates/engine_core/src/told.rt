@@ -14,7 +14,7 @@ use std::alloc::{AllocError, Global};
 use std::marker::Model;
 use text_bytes::Bytes;
 
-/// Rules and a database, by which events are answered, and what is told beside: the rule that each line
+/// Rules and a database, by which events are answered, and what is reported beside: the rule that each line
 /// comes from, and what rules met.
 #[derive(Drop)]
 pub struct ToldTables<'b, 'a, L: Lookup> {
@@ -40,7 +40,7 @@ impl<'b, 'a, L: Lookup> Model for ToldTables<'b, 'a, L> {
 }
 
 impl<'b, 'a, L: Lookup + Drop> ToldTables<'b, 'a, L> {
-    /// The rules and the database that events are answered by, and what is told beside: with `sources`
+    /// The rules and the database that events are answered by, and what is reported beside: with `sources`
     /// the rule that each line comes from, and what the rules met that `why` asks for.
     pub fn new(
         sources: bool,

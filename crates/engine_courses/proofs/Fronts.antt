@@ -9,13 +9,13 @@ and_assoc : (a b c : Bool) → (a && (b && c)) ≡ ((a && b) && c)
 and_assoc true b c = refl
 and_assoc false b c = refl
 
--- a text is another with more behind it where it begins with that and has this behind
+-- a text is another with more after it where it begins with that and has this after
 split_same : (front text more : Text) → same_text text (front ++ more) ≡ (same_text (take (length front) text) front && same_text (drop (length front) text) more)
 split_same [] text more = refl
 split_same (b ∷ front) [] more = refl
 split_same (b ∷ front) (c ∷ text) more = ap (λ s. eqb c b && s) (split_same front text more) ∙ and_assoc (eqb c b) _ _
 
--- the same, by what stands behind the front
+-- the same, by what follows the front
 same_by : (front text more : Text) → same_text text (front ++ more) ≡ option_map_or (λ rest. same_text rest more) (behind front text) false
 same_by front text more = split_same front text more ∙ by (same_text (take (length front) text) front)
   where
@@ -27,7 +27,7 @@ same_none : (text : Text) → same_text text [] ≡ eqb (length text) 0
 same_none [] = refl
 same_none (b ∷ text) = grind (arith, nat_tests)
 
--- a text asks for a place by what stands behind the file's name
+-- a text asks for a place by what follows the file's name
 asks_by : (file text more : Text) → (same_text text file || same_text text (file ++ more)) ≡ option_map_or (λ rest. eqb (length rest) 0 || same_text rest more) (behind file text) false
 asks_by file text more =
     ap (λ f. same_text text f || same_text text (file ++ more)) (sym (append-nil file))
@@ -47,7 +47,7 @@ module _ {B : Type 0} (value : B → Text) (file text more : Text) (behind_it : 
   pub asks_none : behind_it ≡ None → false ≡ (same_text text file || same_text text (file ++ more))
   asks_none none = ap (λ o. by_rest (option_map value o)) (sym none) ∙ ap by_rest is ∙ sym (asks_by file text more)
 
-  -- a text that goes on behind the file's name asks for a line by that
+  -- a text that goes on after the file's name asks for a line by that
   pub asks_behind : (rest : B) (answer : Bool) → behind_it ≡ Some rest → eqb (length (value rest)) 0 ≡ false → answer ≡ same_text (value rest) more → answer ≡ (same_text text file || same_text text (file ++ more))
   asks_behind rest answer some filled same =
       same

@@ -52,7 +52,7 @@ known_is text messages rules =
     by true = refl
     by false = refl
 
--- of several texts the first that is unknown is told
+-- of several texts the first that is unknown is reported
 pub first_is : (text : Text) (why : List Text) (messages : List Message) (rules : List Rule)
     → unknown (text ∷ why) messages rules ≡ cond (is_none (unknown (text ∷ []) messages rules)) (unknown why messages rules) (unknown (text ∷ []) messages rules)
 unfolding unknown

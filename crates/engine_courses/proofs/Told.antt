@@ -1,4 +1,4 @@
--- What is told, and what is not.
+-- What is reported, and what is not.
 use Rattle.std.proofs.Common.{◌≡◌, Bool, true, false, ◌&&◌, cond, List, [], ◌∷◌, ◌++◌, Option, None, refl, ap, ◌∙◌}
 use Rattle.std.specs.List.{filter, flat_map, list_all}
 use Rattle.std.proofs.lemmas.List.Folds.{list_all-append}
@@ -64,7 +64,7 @@ no_rules es since jumping (r ∷ rs) s =
     by a b true h g = h
     by a b false h g = g
 
--- where nothing is asked for, nothing is told
+-- where nothing is asked for, nothing is reported
 pub nothing_told : (messages : List Message) (rules : List Rule) (entries : List Entry) (event : EventValue) → why_lines [] messages rules entries event ≡ []
 unfolding why_lines
 nothing_told messages rules entries event =

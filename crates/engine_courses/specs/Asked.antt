@@ -48,7 +48,7 @@ places_of messages rules = map (λ r. (r.file, r.line)) rules ++ map (λ m. (m.f
 abbrev pub is_known : List Place → Text → Bool
 is_known places text = list_any (asks text) places
 
--- a place as it is told, `FILE:LINE`, the file's name escaped
+-- a place as it is reported, `FILE:LINE`, the file's name escaped
 abbrev pub place_text : Place → Text
 place_text place = escape_text place.0 ++ colon ∷ decimal place.1
 

@@ -11,11 +11,11 @@ use Rattle.text_tables.specs.Texts.{Text, same_text}
 abbrev pub Place : Type 0
 Place = Text × ℕ
 
--- what stands behind the front of a text, where it begins with that
+-- what follows the front of a text, where it begins with that
 abbrev pub behind : Text → Text → Option Text
 behind front text = if same_text (take (length front) text) front then Some (drop (length front) text) else None
 
--- the number of a line that decimal digits write; one over 2^32 - 1 counts as that, as it does where lines are told
+-- the number of a line that decimal digits write; one over 2^32 - 1 counts as that, as it does where lines are reported
 abbrev pub line_number : Text → Option ℕ
 line_number digits = if is_decimal digits then Some (capped (decimal digits)) else None
 
@@ -23,11 +23,11 @@ line_number digits = if is_decimal digits then Some (capped (decimal digits)) el
 abbrev pub line_in : Text → Text → Option ℕ
 line_in file text = option_and_then line_number (option_and_then (behind (colon ∷ [])) (behind file text))
 
--- a place behind how far its line is from another one
+-- a place after how far its line is from another one
 abbrev pub Candidate : Type 0
 Candidate = ℕ × Place
 
--- a place behind how far it is from the line of its file that a text asks for
+-- a place after how far it is from the line of its file that a text asks for
 abbrev pub candidate_of : Text → Place → Option Candidate
 candidate_of text place = option_map (λ line. (abs_diff line place.1, place)) (line_in place.0 text)
 

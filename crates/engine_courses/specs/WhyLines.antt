@@ -21,7 +21,7 @@ use Rattle.engine_courses.specs.Asked.{is_asked, unread}
 unfoldable pub why_line : Text → ℕ → Text → Text
 why_line file line text = codes "why " ++ place_of file line ++ text ++ newline ∷ []
 
--- what is told of a line of rules that was not read, by the message on it
+-- what is reported for a line of rules that was not read, by the message on it
 unfoldable pub unread_text : Message → Text
 unread_text message = codes "not read: " ++ heading_of message.kind ++ word_part message.word
 
@@ -29,12 +29,12 @@ unread_text message = codes "not read: " ++ heading_of message.kind ++ word_part
 abbrev pub unread_lines : List Message → Text
 unread_lines messages = flat_map (λ m. why_line m.file m.line (unread_text m)) messages
 
--- what is told of a rule that is passed over, by the rule that jumps
+-- what is reported for a rule that is passed over, by the rule that jumps
 abbrev pub passed_texts : Option Rule → List Text
 passed_texts None = []
 passed_texts (Some jumping) = (codes "passed over by GOTO of " ++ rule_place jumping) ∷ []
 
--- a rule with what is told of it, where it is asked for
+-- a rule with what is reported it, where it is asked for
 abbrev pub told_if_asked : List Text → Rule → List Text → List (Rule × List Text)
 told_if_asked why r texts = if is_asked why r.file r.line then (r, texts) ∷ [] else []
 
@@ -42,11 +42,11 @@ told_if_asked why r texts = if is_asked why r.file r.line then (r, texts) ∷ []
 abbrev pub sought_by : Option Rule → Option Text
 sought_by jumping = option_and_then (λ r. r.goto) jumping
 
--- the rule that jumps behind a rule that was come to: this one, where its GOTO is then sought
+-- the rule that jumps after a rule that was come to: this one, where its GOTO is then sought
 abbrev pub jumping_after : Bool → Rule → Option Rule
 jumping_after reached r = if is_some (sought_after reached r) then Some r else None
 
--- of rules one behind another those that are asked for, each with what is told of it: by which rule it is passed over, or its
+-- of rules one after another those that are asked for, each with what is reported it: by which rule it is passed over, or its
 -- course; what is known of final keys is known from all rules
 unfoldable pub told_from : List Text → List Entry → Since → Option Rule → List Rule → Scene → List (Rule × List Text)
 told_from why entries since jumping [] s = []
@@ -56,7 +56,7 @@ told_from why entries since jumping (r ∷ rs) s =
     told_if_asked why r (course entries since r s)
     ++ told_from why entries (since_behind since r (apply entries r s).0.finals) (jumping_after (apply entries r s).1 r) rs (apply entries r s).0
 
--- the rules of an event that are asked for, each with what is told of it
+-- the rules of an event that are asked for, each with what is reported it
 abbrev pub told_of : List Text → List Rule → List Entry → EventValue → List (Rule × List Text)
 told_of why rules entries event = told_from why entries no_since None rules (start event)
 
@@ -64,7 +64,7 @@ told_of why rules entries event = told_from why entries no_since None rules (sta
 abbrev pub rule_lines : Rule × List Text → Text
 rule_lines told = flat_map (why_line told.0.file told.0.line) told.1
 
--- the lines of `--why` behind the answer to an event: those on lines that were not read, then those on rules in the order of
+-- the lines of `--why` after the answer to an event: those on lines that were not read, then those on rules in the order of
 -- evaluation
 unfoldable pub why_lines : List Text → List Message → List Rule → List Entry → EventValue → Text
 why_lines why messages rules entries event = unread_lines (unread why messages rules) ++ flat_map rule_lines (told_of why rules entries event)

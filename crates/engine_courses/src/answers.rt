@@ -1,4 +1,4 @@
-//! The lines behind the answer to an event.
+//! The lines after the answer to an event.
 ghost use Rattle.std.specs.Prelude.{◌≡◌, ◌++◌, OnOk, map};
 ghost use Rattle.engine_courses.specs.Asked.{unread};
 ghost use Rattle.engine_courses.specs.WhyLines.{unread_lines, why_lines};
@@ -13,7 +13,7 @@ use rule_types::Rule;
 use std::alloc::{AllocError, Global};
 use text_bytes::Message;
 
-/// Puts the lines on messages behind others, of those on lines that are asked for and were not read.
+/// Puts the lines on messages after others, of those on lines that are asked for and were not read.
 #[tactic(auto, unfolding(crate::specs::Asked::unread))]
 fn push_unread_lines(
     alloc: Global,
@@ -32,12 +32,13 @@ fn push_unread_lines(
     Ok(())
 }
 
-/// Puts the lines of `--why` behind the lines of an answer: on each line that is asked for and was not read, what the message
+/// Puts the lines of `--why` after the lines of an answer: on each line that is asked for and was not read, what the
+/// message
 /// on it says; then on each rule that is asked for, in the order of evaluation, by which rule's GOTO it is passed over, or
 /// what each of its keys met and how the rule ended, as `eval_courses` tells it. Rules that are not asked for have no line.
 ///
-/// The rules are evaluated once more for this, as for the answer. The error comes where memory is refused; what was put
-/// behind the lines until then stays.
+/// The rules are evaluated once more for this, as for the answer. The error comes where memory runs out; what was put
+/// after the lines until then stays.
 #[tactic(auto, unfolding(crate::specs::WhyLines::why_lines))]
 pub fn push_why_lines<L: Lookup>(
     alloc: Global,

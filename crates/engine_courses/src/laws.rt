@@ -15,7 +15,7 @@ pub fn unknown_asks_for_nothing()
     ensures { (text : Text) (told : List messages.Message) (read : List rules.Rule) → is_none (unknown (text ∷ []) told read) ≡ (list_any (λ r. is_asked (text ∷ []) r.file r.line) read || list_any (λ m. is_asked (text ∷ []) m.file m.line) told) }
 {}
 
-/// Of several texts the first that is unknown is told.
+/// Of several texts the first that is unknown is reported.
 #[tactic(auto, using(crate::proofs::Known::first_is))]
 pub fn first_unknown_is_told()
     ensures { (text : Text) (why : List Text) (told : List messages.Message) (read : List rules.Rule) → unknown (text ∷ why) told read ≡ (if is_none (unknown (text ∷ []) told read) then unknown why told read else unknown (text ∷ []) told read) }
@@ -27,7 +27,7 @@ pub fn rules_are_told_where_asked()
     ensures { (why : List Text) (read : List rules.Rule) (entries : List entries.Entry) (event : EventValue) → list_all (λ told. is_asked why told.0.file told.0.line) (told_of why read entries event) ≡ true }
 {}
 
-/// Where nothing is asked for, nothing is told.
+/// Where nothing is asked for, nothing is reported.
 #[tactic(auto, using(crate::proofs::Told::nothing_told))]
 pub fn nothing_is_told_unasked()
     ensures { (told : List messages.Message) (read : List rules.Rule) (entries : List entries.Entry) (event : EventValue) → why_lines [] told read entries event ≡ [] }

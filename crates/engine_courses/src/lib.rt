@@ -1,9 +1,11 @@
-//! Why rules did what they did, for those that `--why` asks for.
+//! Why rules did what they did, for the rules that `--why` asks for.
 //!
-//! A text of `--why` is the name of a rules file, or `FILE:LINE`. One that asks for nothing is told before any event. Behind
-//! the answer to an event stand lines on what is asked for: why a line was not read, by which rule's GOTO a rule is passed
-//! over, or what each of its keys met. For these the rules are evaluated once more, each by the same function as for the
-//! answer, or by one that tells its course beside.
+//! An argument of `--why` is the name of a rules file, or `FILE:LINE`. One that matches nothing is reported before any
+//! event. The answer to an event is followed by lines on the rules that were asked for: why a line is no rule, which
+//! rule's GOTO skips a rule, or what each of its keys found. For these lines the rules are evaluated again, by the same
+//! functions as for the answer or by ones that report their course as well.
+//!
+//! Functions that allocate return `AllocError` when memory runs out.
 #![tactic(auto)]
 
 mod answers;

@@ -32,7 +32,7 @@ impl<'a> Candidate<'a> {
     }
 }
 
-/// What stands behind the front of a text, where it begins with that.
+/// What follows the front of a text, where it begins with that.
 pub(crate) fn behind<'a>(front: &[u8], text: &'a [u8]) -> Option<&'a [u8]>
     ensures { option_map (λ t. t.now) result ≡ behind front.now text.now }
 {

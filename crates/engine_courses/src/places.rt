@@ -38,7 +38,7 @@ impl<'a> Place<'a> {
     }
 }
 
-/// Puts the places of rules behind others.
+/// Puts the places of rules after others.
 fn push_rules<'a>(places: &mut Vec<Place<'a>>, rules: &'a [Rule]) -> Result<(), AllocError>
     ensures { OnOk result (places.new.items ≡ places.old.items ++ map (λ r. (r.file, r.line)) rules.now) }
 {
@@ -51,7 +51,7 @@ fn push_rules<'a>(places: &mut Vec<Place<'a>>, rules: &'a [Rule]) -> Result<(), 
     Ok(())
 }
 
-/// Puts the places of messages behind others.
+/// Puts the places of messages after others.
 fn push_messages<'a>(places: &mut Vec<Place<'a>>, messages: &'a [Message]) -> Result<(), AllocError>
     ensures { OnOk result (places.new.items ≡ places.old.items ++ map (λ m. (m.file, m.line)) messages.now) }
 {
@@ -64,7 +64,7 @@ fn push_messages<'a>(places: &mut Vec<Place<'a>>, messages: &'a [Message]) -> Re
     Ok(())
 }
 
-/// The places of rules and of messages. The error comes where memory is refused.
+/// The places of rules and of messages.
 pub(crate) fn places_of<'a>(
     alloc: Global,
     messages: &'a [Message],

@@ -1,4 +1,4 @@
-//! All rules over an event, with what is told of those that are asked for.
+//! All rules over an event, with what is reported for those that are asked for.
 ghost use Rattle.std.specs.Prelude.{◌≡◌, ◌++◌, None, IfOk, OnOk, flat_map, map, option_map};
 ghost use Rattle.eval_rules.specs.Steps.{apply};
 ghost use Rattle.eval_effects.specs.Since.{no_since};
@@ -23,7 +23,7 @@ fn sought_by<'a>(jumping: Option<&'a Rule>) -> Option<&'a [u8]>
     jumping?.goto()
 }
 
-/// The rule that jumps behind a rule that was come to: this one, if its GOTO is then sought.
+/// The rule that jumps after a rule that was come to: this one, if its GOTO is then sought.
 fn jumping_after(reached: bool, rule: &Rule) -> Option<&Rule>
     ensures { option_map (λ r. r.now) result ≡ jumping_after reached rule.now }
 {
@@ -34,7 +34,7 @@ fn jumping_after(reached: bool, rule: &Rule) -> Option<&Rule>
     }
 }
 
-/// Puts what is told of a rule that is passed over behind other lines, if it is asked for.
+/// Puts what is reported for a rule that is passed over after other lines, if it is asked for.
 fn tell_passed(
     alloc: Global,
     lines: &mut Vec<u8>,
@@ -50,7 +50,8 @@ fn tell_passed(
     Ok(())
 }
 
-/// Evaluates a rule, and puts its course behind other lines, if it is asked for. Answers whether the rule's end was reached.
+/// Evaluates a rule, and puts its course after other lines, if it is asked for. Answers whether the rule's end was
+/// reached.
 fn tell_rule<'a, L: Lookup>(
     alloc: Global,
     lines: &mut Vec<u8>,
@@ -71,7 +72,7 @@ fn tell_rule<'a, L: Lookup>(
     Ok(course.reached)
 }
 
-/// Evaluates rules, one behind another, and puts what is told of those that are asked for behind other lines.
+/// Evaluates rules, one after another, and puts what is reported for those that are asked for after other lines.
 fn tell_rules<'a, L: Lookup>(
     alloc: Global,
     lines: &mut Vec<u8>,
@@ -96,8 +97,7 @@ fn tell_rules<'a, L: Lookup>(
     Ok(())
 }
 
-/// Evaluates the rules of an event, and puts what is told of those that are asked for behind other lines. The error comes
-/// where memory is refused.
+/// Evaluates the rules of an event, and puts what is reported for those that are asked for after other lines.
 pub(crate) fn tell_event<'a, L: Lookup>(
     alloc: Global,
     lines: &mut Vec<u8>,

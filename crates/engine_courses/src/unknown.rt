@@ -10,7 +10,7 @@ use rule_types::Rule;
 use std::alloc::{AllocError, Global};
 use text_bytes::{Bytes, Message, escape};
 
-/// Puts a place behind a text, `FILE:LINE`, the file's name escaped.
+/// Puts a place after a text, `FILE:LINE`, the file's name escaped.
 fn push_place_alone(alloc: Global, line: &mut Vec<u8>, place: &Place<'_>) -> Result<(), AllocError>
     ensures { OnOk result (line.new.items ≡ line.old.items ++ place_text place.now) }
 {
@@ -19,7 +19,7 @@ fn push_place_alone(alloc: Global, line: &mut Vec<u8>, place: &Place<'_>) -> Res
     line.extend_from_slice(Buffer::new().format(place.line()).as_bytes())
 }
 
-/// Puts that there is no such rule behind a text, with the nearest place.
+/// Puts that there is no such rule after a text, with the nearest place.
 fn push_nearest(alloc: Global, line: &mut Vec<u8>, place: &Place<'_>) -> Result<(), AllocError>
     ensures { OnOk result (line.new.items ≡ line.old.items ++ missing (Some place.now)) }
 {
@@ -27,7 +27,7 @@ fn push_nearest(alloc: Global, line: &mut Vec<u8>, place: &Place<'_>) -> Result<
     push_place_alone(alloc, line, place)
 }
 
-/// Puts what there is none of behind a text, with the nearest place where there is one.
+/// Puts what there is none of after a text, with the nearest place where there is one.
 fn push_missing(
     alloc: Global,
     line: &mut Vec<u8>,
@@ -66,8 +66,6 @@ fn unknown_line(alloc: Global, places: &[Place<'_>], text: &[u8]) -> Result<Byte
 /// The line on the first text of `--why` that asks for no rule and for no message's place, with its newline: that there is
 /// no such rule, and the place of that file which is nearest to it, or that there is no such rules file. None is said where
 /// each text asks for something.
-///
-/// The error comes where memory is refused.
 #[tactic(auto, unfolding(crate::specs::Asked::unknown))]
 pub fn first_unknown(
     alloc: Global,

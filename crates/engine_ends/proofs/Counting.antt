@@ -1,4 +1,4 @@
--- Counts, one behind another.
+-- Counts, one after another.
 use Rattle.std.proofs.Common.{◌≡◌, ℕ, ◌+◌, ◌-◌, ◌^◌, min, arith}
 use Rattle.engine_ends.specs.Counts.{Counts}
 

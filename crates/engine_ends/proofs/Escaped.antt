@@ -22,7 +22,7 @@ pub breaks-second : (before mid now : SinkState) (first second : List ℕ) → T
 breaks-second before mid now first second takes h =
     rw (← append-nil second) (breaks-in-middle before mid now first second [] takes h)
 
--- what is told of a byte, by whether it is escaped
+-- what is reported for a byte, by whether it is escaped
 pub told : (needed : Bool) (text shown : List ℕ) → then_some needed text ≡ Some shown → shown ≡ text
 told true text shown h = cc
 told false text shown h = absurd cc
@@ -55,7 +55,7 @@ plain-more text first from to h l e so_far =
     ∙ append_assoc first (run text from to) (b ∷ [])
     ∙ ap (λ (bs : List ℕ). first ++ bs) (sym (run-more text from to h l))
 
--- a run went out, and behind it a byte that does not stand for itself
+-- a run went out, and after it a byte that does not stand for itself
 pub takes-more : (before mid later now : SinkState) (text first : List ℕ) (from to : ℕ) → to < length text
     → escape_text (take to text) ≡ first ++ take (to - from) (drop from text)
     → Takes before first mid → Takes mid (take (to - from) (drop from text)) later → Takes later (escape_byte (get_or text to 0)) now
@@ -75,7 +75,7 @@ breaks-in-run before mid now text first from to so_far p h =
     ∙ ap (λ (bs : List ℕ). bs ++ rest) so_far ∙ append_assoc first (run text from to) rest in
     rw whole (breaks-in-middle before mid now first (run text from to) rest p h)
 
--- and one that breaks off in the byte behind it
+-- and one that breaks off in the byte after it
 pub breaks-in-escape : (before mid later now : SinkState) (text first : List ℕ) (from to : ℕ) → to < length text
     → escape_text (take to text) ≡ first ++ take (to - from) (drop from text)
     → Takes before first mid → Takes mid (take (to - from) (drop from text)) later → BreaksOff later (escape_byte (get_or text to 0)) now

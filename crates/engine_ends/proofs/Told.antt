@@ -1,4 +1,4 @@
--- Laws of what is told.
+-- Laws of what is reported.
 use Rattle.std.specs.Prelude.{◌≡◌, ℕ, ◌+◌, ◌-◌, ◌≤◌, Option, Some, None, List, [], ◌∷◌, ◌++◌, length, take, drop, refl, sum}
 use Rattle.std.proofs.Common.{append_assoc, ap, sym, ◌∙◌, arith}
 use Rattle.std.proofs.lemmas.List.{append-nil, take-append-drop, drop-drop}

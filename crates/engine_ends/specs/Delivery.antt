@@ -18,7 +18,7 @@ write_failed = codes "devdry: write failed\n"
 abbrev pub out_of_memory : List ℕ
 out_of_memory = codes "devdry: out of memory\n"
 
--- A line on a failure is handed on and its status answered, or the sink breaks off and the status is 3.
+-- A line on a failure is passed on and its status answered, or the sink breaks off and the status is 3.
 abbrev pub Tells : List ℕ → ℕ → ℕ → SinkState → SinkState → Type 0
 Tells line wanted status before now = ((status ≡ wanted) × HandsOn before line now) ⊎ ((status ≡ 3) × BreaksOff before line now)
 

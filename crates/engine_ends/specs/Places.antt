@@ -7,6 +7,6 @@ use Rattle.text_bytes.specs.Escapes.{escape_text}
 abbrev pub place_of : List ℕ → ℕ → List ℕ
 place_of file line = escape_text file ++ colon ∷ decimal line ++ codes ": "
 
--- a word behind a text, escaped; an empty word is left out with its colon
+-- a word after a text, escaped; an empty word is left out with its colon
 abbrev pub word_part : List ℕ → List ℕ
 word_part word = if length word == 0 then [] else codes ": " ++ escape_text word

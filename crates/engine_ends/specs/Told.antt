@@ -1,17 +1,17 @@
--- What a device tells of the items that went through it: `None` where it tells nothing.
+-- What a device says about the items that went through it: `None` where it tells nothing.
 use Rattle.std.specs.Prelude.{◌≡◌, ℕ, Option, Some, None, List, [], ◌++◌}
 
--- what is told once more items have followed
+-- what is reported once more items have followed
 abbrev pub followed_by : {A : Type 0} → Option (List A) → List A → Option (List A)
 followed_by None more = None
 followed_by (Some items) more = Some (items ++ more)
 
--- what is told of the items to come where these come first
+-- what is reported for the items to come where these come first
 abbrev pub led_by : {A : Type 0} → List A → Option (List A) → Option (List A)
 led_by first None = None
 led_by first (Some rest) = Some (first ++ rest)
 
--- no item is to come, as far as is told
+-- no item is to come, as far as is reported
 abbrev pub NoneLeft : Option (List ℕ) → Type 0
 NoneLeft None = Unit {0}
 NoneLeft (Some rest) = rest ≡ []

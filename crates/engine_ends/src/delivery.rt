@@ -1,7 +1,7 @@
 //! Writing what a run says, and the status that comes of it.
 //!
 //! The messages go out before the answer, each as one text. A status under 3 says that all of both
-//! was written and flushed; 3 says that a device failed; 4 that memory was refused. A line on a
+//! was written and flushed; 3 says that a device failed; 4 that memory runs out. A line on a
 //! failure is made of texts that are there already, so that telling of it needs no memory.
 ghost use Rattle.std.specs.Prelude.{◌≡◌, ◌<◌, ◌++◌, ◌∷◌, [], flat_map};
 ghost use Rattle.text_bytes.specs.Escapes.{escape_text};
@@ -18,7 +18,7 @@ const OUT_OF_MEMORY: &[u8] = b"devdry: out of memory\n";
 /// Writes the messages and the answer, and gives the status that was asked for, or 3 where a device
 /// failed.
 ///
-/// Messages go to `error`, and the answer then to `output`. Where `output` fails, `error` is told
+/// Messages go to `error`, and the answer then to `output`. Where `output` fails, `error` is reported
 /// `devdry: write failed`. The status asked for is under 3.
 pub fn deliver<W: Sink, E: Sink>(
     messages: &[u8],
@@ -65,7 +65,7 @@ pub fn deliver_in_pieces<W: Sink, E: Sink>(
     }
 }
 
-/// Says that memory was refused, and gives the status for it, 4, or 3 where the error output failed.
+/// Says that memory runs out, and gives the status for it, 4, or 3 where the error output failed.
 pub fn tell_out_of_memory<E: Sink>(error: &mut E) -> u8
     ensures { Tells out_of_memory 4 result (E.shown error.old) (E.shown error.new) }
 {

@@ -1,6 +1,6 @@
 //! The two traits that stand for what a run reads and writes.
 //!
-//! Each shows contracts one record. What it tells of the bytes is an `Option`, so that one contract
+//! Each shows contracts one record. What it says about the bytes is an `Option`, so that one contract
 //! serves both kinds of devices: a clause on the bytes says nothing of a device that tells none.
 ghost use Rattle.std.specs.Prelude.{◌≡◌, ◌<◌, ◌≤◌, length, take, IfOk, OnOk, OnErr};
 ghost use Rattle.engine_ends.specs.Told.{NoneLeft};
@@ -29,13 +29,14 @@ impl Error for DeviceFault {}
 
 /// Where input comes from.
 pub trait Source {
-    // the pieces read and the bytes still to come, where they are told, how many calls were made, and how many of them failed
+    // the pieces read and the bytes still to come, where they are reported, how many calls were made, and how many of
+    // them failed
     ghost shown: { Self → SourceState };
 
     /// Reads some bytes into the front of a slice that is not empty, and says how many.
     ///
     /// It answers 0 at the input's end alone, which is an empty piece. A `DeviceFault` says that the
-    /// device failed; what stands in the slice is then left open, and no piece was read.
+    /// device failed; what is in the slice is then left open, and no piece was read.
     fn read(&mut self, into: &mut [u8]) -> Result<usize, DeviceFault>
         requires { 0 < length into.old }
         ensures within { IfOk result (λ n. n ≤ length into.old) }
@@ -46,7 +47,7 @@ pub trait Source {
 
 /// Where output goes.
 pub trait Sink {
-    // the bytes taken and those flushed, where they are told, and how many calls failed
+    // the bytes taken and those flushed, where they are reported, and how many calls failed
     ghost shown: { Self → SinkState };
 
     /// Takes the first bytes of a text, perhaps not all of them, and says how many.

@@ -1,7 +1,7 @@
 //! The kinds of files that a line speaks of.
 //!
 //! A subcommand may read files of several kinds. The files that its line names are of one of them,
-//! and they stand in place of the folders of that kind alone. An index stands in place of those of
+//! and they are in place of the folders of that kind alone. An index is in place of those of
 //! the database.
 ghost use Rattle.std.specs.Prelude.{◌≡◌};
 ghost use Rattle.engine_ends.specs.Kinds.{kind_named, kinds_read, names_files_of, reads_folders_of, same_kind};

@@ -1,6 +1,8 @@
-//! The two ends of a run: what a command line asks for, and the streams that an input comes from and outputs go to.
+//! The two ends of a run: what a command line asks for, and the streams for input and output.
 //!
-//! Beside these stand writing what a run says with the status that comes of it, and how a place and a word are told.
+//! This crate also writes what a run says, with the status that results, and shows places and words in messages.
+//!
+//! Functions that allocate return `AllocError` when memory runs out.
 #![tactic(auto)]
 
 mod delivery;

@@ -1,6 +1,6 @@
 //! What a command line of `devdry` asks for, whoever read it.
 //!
-//! These types stand below the crate that reads the words and below those that do the work, so that
+//! These types are below the crate that reads the words and below those that do the work, so that
 //! none of them needs another. Which files a line speaks of is said here too, so that the crate that
 //! reads files and the one that answers from them can't differ.
 
@@ -54,11 +54,11 @@ pub struct AccountFile<'a> {
 pub struct Line<'a> {
     /// The subcommand.
     pub verb: Verb,
-    /// What stands before each folder; empty where nothing was said.
+    /// What comes before each folder; empty where nothing was said.
     pub root: &'a str,
     /// The files that are named, in the order given.
     pub files: Vec<&'a str>,
-    /// The index that is named, if any: it stands in place of the database's folders. `update` and
+    /// The index that is named, if any: it is in place of the database's folders. `update` and
     /// `verify` name none.
     pub index: Option<&'a str>,
     /// Whether a message makes `update` fail.
@@ -73,11 +73,11 @@ pub struct Line<'a> {
     pub summary: bool,
     /// Whether `verify` gives messages about style; true for the other subcommands.
     pub style: bool,
-    /// Whether `verify` also tells of rules that are most likely not the ones that were meant.
+    /// Whether `verify` also says about rules that are most likely not the ones that were meant.
     pub lint: bool,
     /// How `verify` and `update` write messages; plain for the other subcommands.
     pub format: Format,
-    /// Whether `verify` and `update` go on behind what can't be read.
+    /// Whether `verify` and `update` go on after what can't be read.
     pub all: bool,
     /// The codes of the messages that `verify` and `update` leave out, in the order given; `comments`
     /// among them says that comments in the files are asked, too.
@@ -85,7 +85,7 @@ pub struct Line<'a> {
     /// By whose word `verify` reads rules, and `events` and `compare` read and evaluate them; the manual's
     /// for the other subcommands.
     pub profile: Profile,
-    /// The users that `verify` knows where it reads rules as udev does; without a list it tells of no
+    /// The users that `verify` knows where it reads rules as udev does; without a list it says about no
     /// name of a user.
     pub users: Option<AccountFile<'a>>,
     /// The groups, likewise.
@@ -111,7 +111,7 @@ pub enum LineFault {
     Help(String),
     /// 2: the words are not understood: what to tell the user.
     Usage(String),
-    /// 3: memory was refused.
+    /// 3: memory runs out.
     Memory,
 }
 

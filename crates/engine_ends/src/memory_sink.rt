@@ -52,14 +52,14 @@ impl MemorySink {
         self.flushes_fail = fail;
     }
 
-    /// Lends the bytes taken so far.
+    /// Returns the bytes taken so far.
     pub fn bytes_taken(&self) -> &[u8]
         ensures { (⟦<MemorySink as Sink>⟧.shown self.now).taken ≡ Some result.now }
     {
         self.bytes.as_slice()
     }
 
-    /// Lends the bytes flushed so far, which are the first of those taken.
+    /// Returns the bytes flushed so far, which are the first of those taken.
     pub fn bytes_flushed(&self) -> &[u8]
         ensures { (⟦<MemorySink as Sink>⟧.shown self.now).flushed ≡ Some result.now }
     {

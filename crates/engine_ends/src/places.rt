@@ -9,9 +9,9 @@ use itoa::Buffer;
 use std::alloc::{AllocError, Global};
 use text_bytes::escape;
 
-/// Puts `FILE:LINE: ` behind a text, the file's name escaped.
+/// Puts `FILE:LINE: ` after a text, the file's name escaped.
 ///
-/// The error comes where memory is refused; the text then stays as it is.
+/// Where memory runs out, the text stays as it is.
 pub fn push_place(
     alloc: Global,
     text: &mut Vec<u8>,
@@ -28,9 +28,9 @@ pub fn push_place(
     text.extend_from_slice(&place)
 }
 
-/// Puts `: ` and a word behind a text, the word escaped, and nothing where the word is empty.
+/// Puts `: ` and a word after a text, the word escaped, and nothing where the word is empty.
 ///
-/// The error comes where memory is refused; the text then stays as it is.
+/// Where memory runs out, the text stays as it is.
 pub fn push_word(alloc: Global, text: &mut Vec<u8>, word: &[u8]) -> Result<(), AllocError>
     ensures word { OnOk result (text.new.items ≡ text.old.items ++ word_part word.now) }
     ensures refused { OnErr result (text.new.items ≡ text.old.items) }

@@ -26,7 +26,7 @@ pub fn write_all<W: Sink>(sink: &mut W, text: &[u8]) -> Result<(), DeviceFault>
     Ok(())
 }
 
-/// Writes whole texts one behind another, as `write_all` does one text.
+/// Writes whole texts one after another, as `write_all` does one text.
 fn write_each<W: Sink>(sink: &mut W, texts: &[&[u8]]) -> Result<(), DeviceFault>
     ensures whole { OnOk result (Takes (W.shown sink.old) (flat_map (λ t. t.now) texts.now) (W.shown sink.new)) }
     ensures part { OnErr result (BreaksOff (W.shown sink.old) (flat_map (λ t. t.now) texts.now) (W.shown sink.new)) }
@@ -49,7 +49,7 @@ pub fn hand_on<W: Sink>(sink: &mut W, text: &[u8]) -> Result<(), DeviceFault>
     sink.flush()
 }
 
-/// Writes whole texts one behind another and flushes them, as `hand_on` does for one text.
+/// Writes whole texts one after another and flushes them, as `hand_on` does for one text.
 pub fn hand_on_each<W: Sink>(sink: &mut W, texts: &[&[u8]]) -> Result<(), DeviceFault>
     ensures whole { OnOk result (HandsOn (W.shown sink.old) (flat_map (λ t. t.now) texts.now) (W.shown sink.new)) }
     ensures part { OnErr result (BreaksOff (W.shown sink.old) (flat_map (λ t. t.now) texts.now) (W.shown sink.new)) }

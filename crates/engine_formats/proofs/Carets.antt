@@ -63,7 +63,7 @@ spaces_have_no_caret (b ∷ bytes) = lacks-append caret (under space b) (flat_ma
   by_test true = refl
   by_test false = refl
 
--- what stands before the mark takes the columns of what is shown before the place
+-- what comes before the mark takes the columns of what is shown before the place
 below : (paint : Paint) (before place : List ℕ) → columns (before_caret (mark_body paint before place)) ≡ columns (codes "  " ++ map shown_byte before)
 unfolding mark_body
 below paint before place =

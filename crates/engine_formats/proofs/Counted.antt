@@ -23,7 +23,7 @@ use Rattle.engine_formats.proofs.Commands.{property_ends_none, text_ends_no_line
 use Rattle.engine_formats.proofs.Headings.{advice_lacks, code_lacks, heading_lacks, text_lacks}
 use Rattle.engine_formats.proofs.OneLine.{Lacks, decimal_lacks, first_line_is, lacks-append, or_parts}
 
--- a text is a line: a newline ends it, and none stands before
+-- a text is a line: a newline ends it, and none comes before
 unfoldable pub IsLine : List ℕ → Type 0
 IsLine text = (body : List ℕ) × Lacks newline body × (text ≡ body ++ newline ∷ [])
 
@@ -72,7 +72,7 @@ severity_lacks : (severity : Severity) → Lacks newline (severity_word severity
 severity_lacks Error = refl
 severity_lacks Warning = refl
 
--- what stands in no byte that passes a test stands in none that passes a narrower one
+-- what is in no byte that passes a test is in none that passes a narrower one
 narrower : (wide narrow : ℕ → Bool) → ((b : ℕ) → wide b ≡ false → narrow b ≡ false) → (text : List ℕ) → list_any wide text ≡ false → list_any narrow text ≡ false
 narrower wide narrow within [] h = refl
 narrower wide narrow within (b ∷ text) h =

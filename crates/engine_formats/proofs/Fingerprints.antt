@@ -17,7 +17,7 @@ not_colon b text h e =
     let same : eqb b colon ≡ true = eq-eqb b colon e in
     cc
 
--- two texts without a colon, each with a colon behind it
+-- two texts without a colon, each with a colon after it
 in_two : (a c r s : List ℕ) → Lacks colon a → Lacks colon c → a ++ colon ∷ r ≡ c ++ colon ∷ s → (a ≡ c) × (r ≡ s)
 in_two [] [] r s p q e = (refl, cc)
 in_two [] (b ∷ c) r s p q e = let same : b ≡ colon = cc in absurd (not_colon b c q same)
@@ -34,7 +34,7 @@ number_lacks n h = decimal_lacks colon (λ d small. ne_eqb (48 + d) colon (λ e.
 number_same : (m n : ℕ) → m < 2 ^ 32 → n < 2 ^ 32 → decimal m ≡ decimal n → m ≡ n
 number_same m n h k e = decimal_injective m n (omega arith) (omega arith) e
 
--- the parts of a fingerprint, one behind the other
+-- the parts of a fingerprint, one after another
 regrouped : (l c k p : List ℕ) → ((l ++ colon ∷ c) ++ colon ∷ k) ++ colon ∷ p ≡ l ++ colon ∷ (c ++ colon ∷ (k ++ colon ∷ p))
 regrouped l c k p = append_assoc (l ++ colon ∷ c) (colon ∷ k) (colon ∷ p) ∙ append_assoc l (colon ∷ c) (colon ∷ (k ++ colon ∷ p))
 

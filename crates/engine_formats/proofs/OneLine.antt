@@ -11,7 +11,7 @@ use Rattle.json.specs.Print.{begins, ends, escape, escape_byte, print_from, sepa
 use Rattle.json.specs.Token as token
 use Rattle.json.specs.Token.{Token}
 
--- a byte does not stand in a text
+-- a byte is not in a text
 abbrev pub Lacks : ℕ → List ℕ → Type 0
 Lacks byte text = list_any (λ b. eqb b byte) text ≡ false
 
@@ -20,7 +20,7 @@ lacks-append byte first second p q =
     list_any-append (λ b. eqb b byte) first second
     ∙ or_from (list_any (λ b. eqb b byte) first) (list_any (λ b. eqb b byte) second) p q
 
--- a byte that is no digit does not stand in a number
+-- a byte that is no digit is not in a number
 pub decimal_lacks : (byte : ℕ) → ((d : ℕ) → d < 10 → eqb (48 + d) byte ≡ false) → (n : ℕ) → n < 2 ^ 64 → Lacks byte (decimal n)
 decimal_lacks byte no_digit n h =
     decimal_by_steps (λ _ ds. Lacks byte ds)
@@ -115,7 +115,7 @@ first_line_is (b ∷ text) rest h =
     let parts = or_parts (eqb b newline) (list_any (λ x. eqb x newline) text) h in
     rw parts.0 (ap (onto_first b) (first_line_is text rest parts.1))
 
--- what stands before the first byte that passes a test
+-- what comes before the first byte that passes a test
 pub up_to : (test : ℕ → Bool) (text : List ℕ) (b : ℕ) (rest : List ℕ) → list_any test text ≡ false → test b ≡ true → take_while (λ x. not (test x)) (text ++ b ∷ rest) ≡ text
 up_to test [] b rest h k = rw k refl
 up_to test (x ∷ text) b rest h k =

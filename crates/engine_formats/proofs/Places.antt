@@ -26,7 +26,7 @@ clean_begins source =
     let text : List ℕ = before_comment source in
     begin_of_begin (trimmed text) text source (first_begin (length text - suffix_len is_whitespace text) text) (first_begin _ source)
 
--- what stands before the text that is told
+-- what comes before the text that is reported
 before_told : (clean : List ℕ) (kind : MessageKind) → (lead : List ℕ) × (clean ≡ lead ++ told_text clean kind)
 before_told clean kind = by_test (is_about_property kind) where
   by_test : (v : Bool) → (lead : List ℕ) × (clean ≡ lead ++ cond v (unindented clean) clean)

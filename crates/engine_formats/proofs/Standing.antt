@@ -37,12 +37,12 @@ length_numbered : (n : ℕ) (ts : List (List ℕ)) → length (numbered_from n t
 length_numbered n [] = refl
 length_numbered n (t ∷ ts) = ap suc (length_numbered (n + 1) ts)
 
--- all lines of a file with their numbers, of which there are few enough to be told
+-- all lines of a file with their numbers, of which there are few enough to be reported
 module _ (bytes : List ℕ) (few : length (lines bytes) < 2 ^ 32) where
   abbrev there : List NumberedLine
   there = numbered_lines bytes
 
-  -- a line stands in the file at its number, which is told as it is
+  -- a line is in the file at its number, which is reported as it is
   abbrev Stands : NumberedLine → Type 0
   Stands l = (line_numbered there l.number ≡ l.text) × (l.number < 2 ^ 32) × Contains there l
 
@@ -90,7 +90,7 @@ module _ (bytes : List ℕ) (few : length (lines bytes) < 2 ^ 32) where
   left_paragraphs : All (λ part. All IsLeft part) (paragraphs (lines_of bytes))
   left_paragraphs = All-filter has_lines (λ part. All IsLeft part) (slice_split is_empty_line (lines_of bytes)) (split (lines_of bytes) left_lines)
 
-  -- the message that tells of what is left of a line, by what it tells of it
+  -- the message that says about what is left of a line, by what it says about it
   keeps : (file : List ℕ) (l : NumberedLine) (kind : MessageKind) (text : List ℕ) → IsLeft l → text ≡ told_text l.text kind → KeepsWord (message file l.number kind text)
   keeps file l kind text h same =
       let number : capped l.number ≡ l.number = omega (arith, h.1) in (

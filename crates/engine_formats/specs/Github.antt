@@ -46,7 +46,7 @@ ends_line b = b == carriage_return || b == newline
 abbrev pub ends_property : ℕ → Bool
 ends_property b = b == comma || b == colon || ends_line b
 
--- the property behind a name at the start of a text, up to what ends it
+-- the property after a name at the start of a text, up to what ends it
 abbrev pub property_at : List ℕ → List ℕ → List ℕ
 property_at name text = take_while (λ b. not (ends_property b)) (drop (length name) text)
 

@@ -24,7 +24,7 @@ continues b = nat_le 128 b && nat_lt b 192
 abbrev pub first_start : List ℕ → ℕ → ℕ
 first_start source column = min (column - 1 - 40) (length source - 160)
 
--- Where the part of a line begins that is shown: behind the at most three bytes that go on a character which begins before it.
+-- Where the part of a line begins that is shown: after the at most three bytes that go on a character which begins before it.
 unfoldable pub window_start : List ℕ → ℕ → ℕ
 window_start source column =
     let start = first_start source column in

@@ -28,11 +28,11 @@ columns text = columns_from false text
 abbrev pub before_caret : List ℕ → List ℕ
 before_caret line = take_while (λ b. not (b == caret)) line
 
--- the line of a text that stands behind this many others, without its newline
+-- the line of a text that follows this many others, without its newline
 abbrev pub line_behind : ℕ → List ℕ → List ℕ
 line_behind others text = slice_index_or (lines text) others []
 
--- `^` stands below the first byte of the place at a column: the line that is shown goes on from the place as its source does, for one
+-- `^` is below the first byte of the place at a column: the line that is shown goes on from the place as its source does, for one
 -- byte at least where there is one, and before the mark stand as many columns as before the place
 pub record PointsAt (source : List ℕ) (column : ℕ) (shown marks : List ℕ) : Type 0 where
   pub before : List ℕ

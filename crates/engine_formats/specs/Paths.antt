@@ -6,7 +6,7 @@ use Rattle.engine_ends.specs.Folders.{folder_path}
 use Rattle.engine_ends.specs.Kinds.{names_files_of}
 use Rattle.engine_ends.specs.declared.line.Line.{Line}
 
--- the path of a file in its folder, behind a root
+-- the path of a file in its folder, after a root
 abbrev pub path_in_folder : List ℕ → SourceFile → List ℕ
 path_in_folder root file = root ++ folder_path file.kind file.rank ++ slash ∷ file.name
 

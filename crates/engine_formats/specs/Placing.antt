@@ -1,4 +1,4 @@
--- Where messages about a database stand in their file.
+-- Where messages about a database are in their file.
 use Rattle.std.specs.Prelude.{◌≡◌, ℕ, ◌+◌, ◌-◌, ◌<◌, Bool, true, false, if◌then◌else◌, List, [], drop, length, slice_index_or, take}
 use Rattle.std.specs.List.{Contains}
 use Rattle.text_bytes.specs.Lines.{NumberedLine}
@@ -25,25 +25,25 @@ shown_place p = record { source = p.source.now; column = p.column; end = p.end; 
 abbrev pub line_numbered : List NumberedLine → ℕ → List ℕ
 line_numbered lines number = (slice_index_or lines (number - 1) (record { number = 0; text = [] })).text
 
--- whether messages of a kind are about a property, which stands behind blanks
+-- whether messages of a kind are about a property, which follows blanks
 abbrev pub is_about_property : MessageKind → Bool
 is_about_property PropertyWithoutMatch = true
 is_about_property NoEquals = true
 is_about_property EmptyKey = true
 is_about_property _ = false
 
--- the text of a clean line that a message of a kind tells of: a property without its leading blanks, and else the line
+-- the text of a clean line that a message of a kind says about: a property without its leading blanks, and else the line
 abbrev pub told_text : List ℕ → MessageKind → List ℕ
 told_text clean kind = if is_about_property kind then unindented clean else clean
 
--- where a message of a kind stands in a line: at the text that it tells of, which ends where the clean line does
+-- where a message of a kind is in a line: at the text that it says about, which ends where the clean line does
 abbrev pub place_in : List ℕ → MessageKind → Place
 place_in source kind =
     let clean = trimmed (before_comment source) in
     let word = told_text clean kind in
     record { source = source; column = capped (length clean - length word + 1); end = capped (length clean + 1); word = word }
 
--- where a message stands in the lines of its file
+-- where a message is in the lines of its file
 abbrev pub placed : List NumberedLine → Message → Place
 placed lines message = place_in (line_numbered lines message.line) message.kind
 

@@ -20,7 +20,7 @@ pub struct Diagnostic<'a> {
     pub line: u32,
     /// The column that the place begins at.
     pub column: u32,
-    /// The column behind the last byte of the place that stands in this line; `column` where the place
+    /// The column after the last byte of the place that is in this line; `column` where the place
     /// is empty.
     pub end: u32,
     /// What it is about.

@@ -14,8 +14,6 @@ use engine_ends::Format;
 use std::alloc::{AllocError, Global};
 
 /// Diagnostics in a format, in the order given.
-///
-/// The error comes where memory is refused.
 pub fn formatted(
     alloc: Global,
     format: Format,

@@ -6,7 +6,7 @@ ghost use Rattle.engine_formats.specs.Github.{github_byte, github_property, gith
 
 use std::alloc::AllocError;
 
-/// Puts what a command says behind a text: `%` and the two ends of a line each as `%` and two
+/// Puts what a command says after a text: `%` and the two ends of a line each as `%` and two
 /// hexadecimal digits.
 pub(crate) fn push_github_text(text: &mut Vec<u8>, said: &[u8]) -> Result<(), AllocError>
     ensures { OnOk result (text.new.items ≡ text.old.items ++ github_text said.now) }
@@ -17,7 +17,7 @@ pub(crate) fn push_github_text(text: &mut Vec<u8>, said: &[u8]) -> Result<(), Al
     Ok(())
 }
 
-/// Puts a property of a command behind a text: as what it says, with `:` and `,` written so too.
+/// Puts a property of a command after a text: as what it says, with `:` and `,` written so too.
 pub(crate) fn push_github_property(text: &mut Vec<u8>, value: &[u8]) -> Result<(), AllocError>
     ensures { OnOk result (text.new.items ≡ text.old.items ++ github_property value.now) }
 {
@@ -27,7 +27,7 @@ pub(crate) fn push_github_property(text: &mut Vec<u8>, value: &[u8]) -> Result<(
     Ok(())
 }
 
-/// Puts a byte of what a command says behind a text.
+/// Puts a byte of what a command says after a text.
 fn push_text_byte(text: &mut Vec<u8>, byte: u8) -> Result<(), AllocError>
     ensures { OnOk result (text.new.items ≡ text.old.items ++ github_byte byte) }
 {
@@ -39,7 +39,7 @@ fn push_text_byte(text: &mut Vec<u8>, byte: u8) -> Result<(), AllocError>
     }
 }
 
-/// Puts a byte of a property behind a text.
+/// Puts a byte of a property after a text.
 fn push_property_byte(text: &mut Vec<u8>, byte: u8) -> Result<(), AllocError>
     ensures { OnOk result (text.new.items ≡ text.old.items ++ property_byte byte) }
 {

@@ -32,7 +32,7 @@ pub(crate) fn gitlab_report(
     Ok(text)
 }
 
-/// Puts the issues of diagnostics behind what is written.
+/// Puts the issues of diagnostics after what is written.
 fn write_issues(
     alloc: Global,
     writer: &mut Writer,
@@ -47,7 +47,7 @@ fn write_issues(
     Ok(())
 }
 
-/// Puts the issue of a diagnostic behind what is written.
+/// Puts the issue of a diagnostic after what is written.
 #[tactic(auto, unfolding(crate::specs::Json::issue_tokens))]
 fn write_issue(
     alloc: Global,
@@ -71,7 +71,7 @@ fn write_issue(
     Ok(())
 }
 
-/// Puts the file and the line of a diagnostic behind what is written.
+/// Puts the file and the line of a diagnostic after what is written.
 fn write_location(
     alloc: Global,
     writer: &mut Writer,

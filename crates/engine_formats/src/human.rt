@@ -25,7 +25,7 @@ pub(crate) fn human_lines(
     Ok(text)
 }
 
-/// Puts the four lines of a diagnostic behind a text, in colors or without.
+/// Puts the four lines of a diagnostic after a text, in colors or without.
 #[tactic(auto, unfolding(crate::specs::Human::human_lines))]
 fn push_human_lines(
     alloc: Global,
@@ -47,7 +47,7 @@ fn push_human_lines(
     push_advice(text, diagnostic.remark)
 }
 
-/// Puts `PATH:LINE:COLUMN: error: bad substitution [V6]` and a newline behind a text, up to what is said
+/// Puts `PATH:LINE:COLUMN: error: bad substitution [V6]` and a newline after a text, up to what is said
 /// in a color.
 #[tactic(auto, unfolding(crate::specs::Human::title_line))]
 fn push_title(
@@ -65,7 +65,7 @@ fn push_title(
     push_code(text, diagnostic.remark)
 }
 
-/// Puts `  = ` and how a remark is mended behind a text, and a newline.
+/// Puts `  = ` and how a remark is mended after a text, and a newline.
 #[tactic(auto, unfolding(crate::specs::Human::advice_line))]
 fn push_advice(text: &mut Vec<u8>, remark: Remark) -> Result<(), AllocError>
     ensures { OnOk result (text.new.items ≡ text.old.items ++ advice_line remark) }

@@ -1,4 +1,4 @@
-//! Members of JSON objects, put behind what a writer has written.
+//! Members of JSON objects, put after what a writer has written.
 ghost use Rattle.std.specs.Prelude.{◌≡◌, ◌∷◌, [], ◌++◌, decimal, OnOk};
 ghost use Rattle.std.specs.Str.Lossy.{utf8_lossy};
 ghost use Rattle.json.specs.Token as token;

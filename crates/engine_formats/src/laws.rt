@@ -27,7 +27,7 @@ ghost use Rattle.engine_formats.specs.declared.remark.Remark.{Remark};
 ghost use Rattle.engine_formats.specs.declared.remark.Remark.TheVariants as about;
 ghost use Rattle.engine_formats.specs.declared.remark.Severity.TheVariants.{Error, Warning};
 
-/// The heading of a remark is its code, a space and what it says, and no space stands in its code.
+/// The heading of a remark is its code, a space and what it says, and no space is in its code.
 pub fn a_heading_is_its_code_and_text()
     ensures whole { (remark : Remark) → remark_heading remark ≡ code_of remark ++ space ∷ text_of remark }
     ensures code { (remark : Remark) → list_any (λ b. b == space) (code_of remark) ≡ false }
@@ -63,8 +63,8 @@ pub fn commands_are_read_back()
 {}
 
 /// The text at the place of a message about a database is what the message keeps the first bytes of,
-/// where a file's lines are few enough to be told by number.
-/// In lines that are short enough it stands at the columns that are told, in the line that is told.
+/// where a file's lines are few enough to be reported by number.
+/// In lines that are short enough it is at the columns that are reported, in the line that is reported.
 pub fn messages_stand_at_their_words()
     ensures word { (file : SourceFile) → length (lines file.bytes) < 2 ^ 32
         → All (λ m. word_of (placed (numbered_lines file.bytes) m).word ≡ m.word) (messages_of (file ∷ [])) }
@@ -72,7 +72,7 @@ pub fn messages_stand_at_their_words()
         → All (λ m. StandsIn (numbered_lines file.bytes) m.line (placed (numbered_lines file.bytes) m)) (messages_of (file ∷ [])) }
 {}
 
-/// In the format for people the mark `^` stands below the first byte of the place, in colors and without.
+/// In the format for people the mark `^` is below the first byte of the place, in colors and without.
 /// A line of at most 160 bytes is shown whole.
 pub fn marks_stand_below_their_places()
     ensures mark { (in_color : Bool) (d : DiagnosticValue) → HasPlace d → d.column ≤ length d.source + 1

@@ -1,7 +1,9 @@
-//! Diagnostics: what is said of a place in a file, in each of the formats that it can be written in.
+//! Diagnostics: messages about a place in a file, in each of the formats in which they can be written.
 //!
-//! A diagnostic is made of a message about a file and of where in it that stands. What is said is
-//! built as one text before any of it is written.
+//! A diagnostic is made from a message about a file and the place that the message is about. The whole report is built
+//! as one text before any of it is written.
+//!
+//! Functions that allocate return `AllocError` when memory runs out.
 #![tactic(auto)]
 
 mod advice;

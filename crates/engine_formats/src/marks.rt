@@ -12,10 +12,10 @@ const WIDTH: usize = 160;
 /// How many bytes of a longer line are shown before the place.
 const MARGIN: usize = 40;
 
-/// How many bytes of a character of UTF-8 there are at most behind its first one.
+/// How many bytes of a character of UTF-8 there are at most after its first one.
 const LONGEST_REST: usize = 3;
 
-/// Puts the line that a place stands in behind a text, and a line that marks the place in a color: `^`
+/// Puts the line that a place is in after a text, and a line that marks the place in a color: `^`
 /// below its first byte and `~` below the others. Of a line of more than 160 bytes, 160 around the
 /// place are shown.
 #[tactic(auto, unfolding(crate::specs::Human::source_lines))]
@@ -41,7 +41,7 @@ pub(crate) fn push_source(
 }
 
 /// Where the part of a line begins that is shown. Where that would be inside a character of UTF-8, the
-/// part begins behind the bytes that go on the character.
+/// part begins after the bytes that go on the character.
 #[tactic(auto, unfolding(crate::specs::Human::window_start))]
 fn window_start(source: &[u8], column: usize) -> usize
     ensures { result ≡ window_start source.now column }
@@ -88,14 +88,14 @@ fn front(text: &[u8], len: usize) -> &[u8]
     &text[..len.min(text.len())]
 }
 
-/// What stands behind the first bytes of a text, nothing where there are fewer.
+/// What follows the first bytes of a text, nothing where there are fewer.
 fn behind(text: &[u8], len: usize) -> &[u8]
     ensures { result.now ≡ drop len text.now }
 {
     if len < text.len() { &text[len..] } else { &[] }
 }
 
-/// Puts a part of a line behind a text, indented, and a newline.
+/// Puts a part of a line after a text, indented, and a newline.
 #[tactic(auto, unfolding(crate::specs::Human::source_line))]
 fn push_line(text: &mut Vec<u8>, shown: &[u8]) -> Result<(), AllocError>
     ensures { OnOk result (text.new.items ≡ text.old.items ++ source_line shown.now) }
@@ -106,7 +106,7 @@ fn push_line(text: &mut Vec<u8>, shown: &[u8]) -> Result<(), AllocError>
     Ok(())
 }
 
-/// Puts the bytes of a line behind a text as they are shown.
+/// Puts the bytes of a line after a text as they are shown.
 fn push_shown(text: &mut Vec<u8>, bytes: &[u8]) -> Result<(), AllocError>
     ensures { OnOk result (text.new.items ≡ text.old.items ++ map shown_byte bytes.now) }
 {
@@ -128,7 +128,7 @@ fn shown_byte(byte: u8) -> u8
     }
 }
 
-/// Puts the marks of a place behind a text, in a color and by what is shown before it and in it, and a
+/// Puts the marks of a place after a text, in a color and by what is shown before it and in it, and a
 /// newline.
 #[tactic(auto, unfolding(crate::specs::Human::mark_line))]
 fn push_marks(
@@ -149,7 +149,7 @@ fn push_marks(
     Ok(())
 }
 
-/// Puts a mark behind a text for each of the bytes that takes a column.
+/// Puts a mark after a text for each of the bytes that takes a column.
 fn push_under(text: &mut Vec<u8>, mark: u8, bytes: &[u8]) -> Result<(), AllocError>
     ensures { OnOk result (text.new.items ≡ text.old.items ++ flat_map (under mark) bytes.now) }
 {

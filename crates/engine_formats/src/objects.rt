@@ -23,7 +23,7 @@ pub(crate) fn json_lines(
     Ok(text)
 }
 
-/// A text with the line of a diagnostic behind it.
+/// A text with the line of a diagnostic after it.
 #[tactic(auto, unfolding(crate::specs::Json::json_line))]
 fn with_json_line(
     alloc: Global,
@@ -39,7 +39,7 @@ fn with_json_line(
     Ok(longer)
 }
 
-/// Puts the object of a diagnostic behind what is written.
+/// Puts the object of a diagnostic after what is written.
 fn write_object(
     alloc: Global,
     writer: &mut Writer,

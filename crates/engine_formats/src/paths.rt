@@ -7,9 +7,7 @@ use std::alloc::{AllocError, Global};
 use text_bytes::SourceFile;
 
 /// The path by which a file was opened: its name where the line names files of its kind, and else
-/// that of its folder behind the line's root, a `/` and its name.
-///
-/// The error comes where memory is refused.
+/// that of its folder after the line's root, a `/` and its name.
 pub fn path_of(alloc: Global, line: &Line<'_>, file: &SourceFile) -> Result<Vec<u8>, AllocError>
     ensures { IfOk result (λ path. path.items ≡ path_of line.now file.now) }
 {
@@ -20,7 +18,7 @@ pub fn path_of(alloc: Global, line: &Line<'_>, file: &SourceFile) -> Result<Vec<
     }
 }
 
-/// The path of a file in its folder, behind a root.
+/// The path of a file in its folder, after a root.
 fn path_in_folder(alloc: Global, root: &[u8], file: &SourceFile) -> Result<Vec<u8>, AllocError>
     ensures { IfOk result (λ path. path.items ≡ path_in_folder root.now file.now) }
 {

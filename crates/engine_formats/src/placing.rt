@@ -1,4 +1,4 @@
-//! Where messages about a database stand in their file.
+//! Where messages about a database are in their file.
 ghost use Rattle.std.specs.Prelude.{◌≡◌, ◌≤◌, length, IfOk};
 ghost use Rattle.text_bytes.specs.Lines.{numbered_lines};
 ghost use Rattle.engine_formats.specs.Placing.{is_about_property, line_numbered, place_in, placed, shown_place, told_text};
@@ -7,7 +7,7 @@ use hwdb_core::{before_comment, trimmed};
 use std::alloc::{AllocError, Global};
 use text_bytes::{Line, Lines, Message, MessageKind, capped, unindented};
 
-/// Where a message about a database stands in its line.
+/// Where a message about a database is in its line.
 ///
 /// Columns are counted from 1, in bytes.
 #[derive(Clone, Copy, Debug, PartialEq, Eq)]
@@ -16,15 +16,13 @@ pub struct TextPlace<'a> {
     pub source: &'a [u8],
     /// The column that the text begins at.
     pub column: u32,
-    /// The column behind its last byte.
+    /// The column after its last byte.
     pub end: u32,
-    /// The text that the message tells of, whole.
+    /// The text that the message says about, whole.
     pub word: &'a [u8],
 }
 
 /// The lines of a file, in which its messages are placed.
-///
-/// The error comes where memory is refused.
 pub fn file_lines(alloc: Global, bytes: &[u8]) -> Result<Vec<Line<'_>>, AllocError>
     ensures { IfOk result (λ lines. lines.items ≡ numbered_lines bytes.now) }
 {
@@ -41,17 +39,17 @@ pub fn line_numbered<'a>(lines: &[Line<'a>], number: u32) -> &'a [u8]
     }
 }
 
-/// Where a message about a database stands in its file, whose lines are given.
+/// Where a message about a database is in its file, whose lines are given.
 ///
 /// The line is read as the database is: its comment, and the whitespace before that, are no part of
-/// the place. Of a property the place begins behind the leading blanks.
+/// the place. Of a property the place begins after the leading blanks.
 pub fn placed_message<'a>(lines: &[Line<'a>], message: &Message) -> TextPlace<'a>
     ensures { shown_place result ≡ placed lines.now message.now }
 {
     place_in(line_numbered(lines, message.line), message.kind)
 }
 
-/// Where a message of a kind stands in a line.
+/// Where a message of a kind is in a line.
 fn place_in(source: &[u8], kind: MessageKind) -> TextPlace<'_>
     ensures { shown_place result ≡ place_in source.now kind }
 {
@@ -65,7 +63,7 @@ fn place_in(source: &[u8], kind: MessageKind) -> TextPlace<'_>
     }
 }
 
-/// The text of a clean line that a message of a kind tells of.
+/// The text of a clean line that a message of a kind says about.
 fn told_text(clean: &[u8], kind: MessageKind) -> &[u8]
     ensures text { result.now ≡ told_text clean.now kind }
     ensures within { length result.now ≤ length clean.now }
@@ -77,7 +75,7 @@ fn told_text(clean: &[u8], kind: MessageKind) -> &[u8]
     }
 }
 
-/// Whether messages of a kind are about a property, which stands behind blanks.
+/// Whether messages of a kind are about a property, which follows blanks.
 fn is_about_property(kind: MessageKind) -> bool
     ensures { result ≡ is_about_property kind }
 {

@@ -57,7 +57,7 @@ impl Remark {
         text
     }
 
-    /// What stands before the first space of the heading, and what behind it.
+    /// What comes before the first space of the heading, and what after it.
     #[tactic(auto, unfolding(crate::specs::Remarks::heading_parts))]
     fn heading_parts(self) -> (&'static [u8], &'static [u8])
         ensures { (result.0.now, result.1.now) ≡ heading_parts self }

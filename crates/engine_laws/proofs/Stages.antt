@@ -12,12 +12,12 @@ use Rattle.eval_sources.specs.Sources.{Source, Stage, source_of, stands_througho
 use Rattle.eval_effects.specs.Items.{stands}
 use Rattle.eval_sources.specs.Told.{stages_from, stages_over}
 
--- what stands at the last of these stages, or else what stood before them
+-- what is at the last of these stages, or else what stood before them
 abbrev last_of : List Pair → List Stage → List Pair
 last_of were [] = were
 last_of were (stage ∷ later) = last_of stage.1 later
 
--- each of these stages is behind a rule
+-- each of these stages is after a rule
 abbrev AreRules : List Stage → Type 0
 AreRules [] = Unit {0}
 AreRules (stage ∷ later) = (is_some stage.0 ≡ true) × AreRules later
@@ -39,12 +39,12 @@ left_of true b h = refl
 left_of false b h = cc
 
 module _ (item : Pair) where
-  -- what stands throughout stands at the last stage
+  -- what stands throughout is at the last stage
   stands_last : (were : List Pair) (later : List Stage) → (stands item were && stands_throughout item later) ≡ true → stands item (last_of were later) ≡ true
   stands_last were [] h = left_of (stands item were) true h
   stands_last were (stage ∷ later) h = stands_last stage.1 later (right_of (stands item were) (stands_throughout item (stage ∷ later)) h)
 
-  -- what does not stand throughout comes from a rule where it stands at the last stage
+  -- what does not stand throughout comes from a rule where it is at the last stage
   comes : (were : List Pair) (later : List Stage) → AreRules later → (stands item were && stands_throughout item later) ≡ false → is_some (source_of later item) ≡ stands item (last_of were later)
   unfolding source_of
   comes were [] are h = sym (sym (and_true (stands item were)) ∙ h)
@@ -79,7 +79,7 @@ module _ (item : Pair) where
       ap (λ b. cond b first.0 (source_of (before ++ last ∷ stage ∷ later) item)) (not_throughout (first ∷ before) (stage ∷ later) last h) ∙ from_then_on before later last stage h all
 
 module _ (es : List Entry) where
-  -- the stages behind rules
+  -- the stages after rules
   pub are_rules : (sought : Option Text) (rules : List Rule) (s : Scene) → AreRules (stages_from es sought rules s)
   unfolding stages_from
   are_rules sought [] s = tt

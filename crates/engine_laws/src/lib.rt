@@ -1,6 +1,6 @@
-//! Laws of answers: what holds of their lines and of where these come from, in the subject's own words.
+//! Laws of answers: what is true of their lines and of where these come from.
 //!
-//! A law is the contract of a function with an empty body. Nothing stands on this crate.
+//! A law is the contract of a function with an empty body. No crate depends on this one.
 #![tactic(auto)]
 
 pub mod asking;

@@ -22,13 +22,13 @@ pub fn without_their_sources_the_lines_are_the_answer()
     ensures { (rules : List Rule) (entries : List Entry) (event : EventValue) → lines_by (λ source. []) rules entries event ≡ answer_lines event (outcome rules entries event) }
 {}
 
-/// An item comes from a rule exactly where it stands in the end and did not stand so from the start,
+/// An item comes from a rule exactly where it is in the end and did not stand so from the start,
 /// through all stages.
 pub fn what_stood_from_the_start_comes_from_no_rule()
     ensures { (rules : List Rule) (entries : List Entry) (event : EventValue) (item : Pair) → is_some (source_of (stages rules entries event) item) ≡ (stands item (items (run entries None rules (start event))) && not (stands_throughout item (stages rules entries event))) }
 {}
 
-/// An item comes from a stage where it stands there and at all later ones, and did not stand before.
+/// An item comes from a stage where it is there and at all later ones, and did not come before.
 pub fn an_item_comes_from_where_it_stands_from_then_on()
     ensures { (before later : List Stage) (last stage : Stage) (item : Pair) → stands item last.1 ≡ false → stands_throughout item (stage ∷ later) ≡ true → source_of (before ++ last ∷ stage ∷ later) item ≡ stage.0 }
 {}

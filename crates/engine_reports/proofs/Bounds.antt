@@ -105,7 +105,7 @@ index_said refusal fault outcome e said = subst (λ r. IsSaid r outcome) e said
 pub in_pieces : (first text whole last : List ℕ) → text ≡ whole → (first ++ whole) ++ last ≡ first ++ (text ++ (last ++ []))
 in_pieces first text whole last e = append_assoc first whole last ∙ ap (λ t. first ++ t) (ap (λ t. t ++ last) (sym e) ∙ ap (λ t. text ++ t) (sym (append-nil last)))
 
--- messages and a line behind them, in two pieces
+-- messages and a line after them, in two pieces
 pub two_pieces : (messages line : List ℕ) → messages ++ line ≡ messages ++ (line ++ [])
 two_pieces messages line = ap (λ t. messages ++ t) (sym (append-nil line))
 

@@ -5,7 +5,7 @@ use Rattle.hwdb_lookup.specs.Query.{Origin, query, sourced}
 use Rattle.hwdb_lookup.specs.declared.entry.Entry.{Entry}
 use Rattle.engine_ends.specs.Places.{place_of}
 
--- a property's line, `KEY=VALUE`, both as they stand in the database
+-- a property's line, `KEY=VALUE`, both as they are in the database
 unfoldable pub property_line : List ℕ → List ℕ → List ℕ
 property_line key value = key ++ equals ∷ value ++ newline ∷ []
 
@@ -17,7 +17,7 @@ pair_line pair = property_line pair.0 pair.1
 abbrev pub origin_of : List ℕ → ℕ → List ℕ
 origin_of file line = if length file == 0 then codes "-: " else place_of file line
 
--- a property's line behind where it comes from
+-- a property's line after where it comes from
 unfoldable pub origin_line : Origin → List ℕ
 origin_line found = origin_of found.file found.line ++ property_line found.key found.value
 

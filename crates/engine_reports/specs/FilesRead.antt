@@ -1,4 +1,4 @@
--- Which of the files handed in are read, and in which order.
+-- Which of the files passed in are read, and in which order.
 use Rattle.std.specs.Prelude.{if◌then◌else◌, List, filter, map}
 use Rattle.text_bytes.specs.FileOrder.{ordered}
 use Rattle.text_bytes.specs.Kinds.{suffix_of}
@@ -18,7 +18,7 @@ of_kind kind files = filter (λ file. same_kind file.kind kind) files
 abbrev pub chosen : FileKind → Line → List SourceFile → List SourceFile
 chosen kind line files = if names_files_of line kind then files else ordered (suffix_of kind) files
 
--- the files of a kind that a run reads, of all that are handed in
+-- the files of a kind that a run reads, of all that are passed in
 abbrev pub files_read : FileKind → Line → List SourceFile → List SourceFile
 files_read kind line files = chosen kind line (of_kind kind files)
 

@@ -1,4 +1,4 @@
--- What comes of an index file that is handed in, and what is said of one that is refused.
+-- What comes of an index file that is passed in, and what is said of one that is refused.
 use Rattle.std.specs.Prelude.{◌≡◌, ◌⊎◌, List, [], ◌∷◌, ◌++◌, Option, Some, None, Result, Ok, Err, codes}
 use Rattle.text_bytes.specs.Names.{newline}
 use Rattle.text_tables.specs.Texts.{Text}
@@ -10,7 +10,7 @@ use Rattle.index_reading.specs.FaultTexts.{fault_text}
 use Rattle.index_reading.specs.Contents.{Contents, contents}
 use Rattle.engine_ends.specs.Delivery.{Outcome}
 
--- What comes of an index: nothing where none is handed in; what its bytes hold where they are accepted, and else the first check
+-- What comes of an index: nothing where none is passed in; what its bytes hold where they are accepted, and else the first check
 -- that they fail.
 abbrev pub Opens : Option Text → Option (Result Contents IndexFault) → Type 0
 Opens None opened = opened ≡ None

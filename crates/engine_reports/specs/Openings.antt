@@ -41,7 +41,7 @@ opening_by profile rules messages entries =
 unfoldable pub opening_within : Profile → List SourceFile → List SourceFile → Result OpeningValue Outcome
 opening_within profile rules database = if are_few database then opening_by profile rules (messages_of database) (entries_of database) else Err too_many_entries
 
--- what comes of the files handed in, of rules by the line's profile, or in place of those of a database of what comes of an index
+-- what comes of the files passed in, of rules by the line's profile, or in place of those of a database of what comes of an index
 abbrev pub opening : Line → List SourceFile → Option (Result Contents IndexFault) → Result OpeningValue Outcome
 opening line files None = opening_within line.profile (rules_read line files) (files_read Hwdb line files)
 opening line files (Some (Ok contents)) = opening_by line.profile (rules_read line files) [] (entries_in contents)

@@ -1,4 +1,4 @@
--- What a run says: its outcome, as a function of the command line and of the files handed in.
+-- What a run says: its outcome, as a function of the command line and of the files passed in.
 use Rattle.std.specs.Prelude.{ℕ, ◌^◌, Bool, ◌==◌, ◌&&◌, nat_le, not, if◌then◌else◌, List, [], ◌++◌, Option, Some, None, Result, Ok, Err, length, sum_by, codes}
 use Rattle.text_bytes.specs.declared.source_file.SourceFile.{SourceFile}
 use Rattle.text_bytes.specs.declared.source_file.FileKind.TheVariants.{Hwdb, Rules}
@@ -64,7 +64,7 @@ too_many_rules = record { output = []; messages = codes "devdry: rules: too many
 unfoldable pub database_outcome : (List Entry → List Message → Outcome) → List SourceFile → Outcome
 database_outcome say files = if are_few files then say (entries_of files) (messages_of files) else too_many_entries
 
--- what `query` says of the files handed in, or in their place of what comes of an index
+-- what `query` says of the files passed in, or in their place of what comes of an index
 abbrev pub query_over : Line → List SourceFile → Option (Result Contents IndexFault) → Outcome
 query_over line files None = database_outcome (query_outcome line) (files_read Hwdb line files)
 query_over line files (Some (Ok contents)) = query_outcome line (entries_in contents) []
@@ -76,6 +76,6 @@ rules_outcome line files =
     if nat_le (tokens_in (set_of files).rules) (2 ^ 24) then said_of line.summary files (told line.style (set_of files).messages)
     else too_many_rules
 
--- what `verify` says of the files handed in
+-- what `verify` says of the files passed in
 abbrev pub verify_outcome : Line → List SourceFile → Outcome
 verify_outcome line files = rules_outcome line (files_read Rules line files)

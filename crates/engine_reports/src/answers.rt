@@ -38,7 +38,7 @@ fn pair_lines(alloc: Global, pairs: &[(&[u8], &[u8])]) -> Result<Vec<u8>, AllocE
     Ok(text)
 }
 
-/// The lines of properties, each behind where it comes from.
+/// The lines of properties, each after where it comes from.
 fn origin_lines(alloc: Global, found: &[Sourced<'_>]) -> Result<Vec<u8>, AllocError>
     ensures { IfOk result (λ text. text.items ≡ flat_map origin_line (map shown_origin found.now)) }
 {
@@ -49,7 +49,7 @@ fn origin_lines(alloc: Global, found: &[Sourced<'_>]) -> Result<Vec<u8>, AllocEr
     Ok(text)
 }
 
-/// Puts a property's line behind a text, with where it comes from before it.
+/// Puts a property's line after a text, with where it comes from before it.
 #[tactic(auto, unfolding(crate::specs::Answers::origin_line))]
 fn push_sourced(alloc: Global, text: &mut Vec<u8>, property: &Sourced<'_>) -> Result<(), AllocError>
     ensures { OnOk result (text.new.items ≡ text.old.items ++ origin_line (shown_origin property.now)) }
@@ -58,7 +58,7 @@ fn push_sourced(alloc: Global, text: &mut Vec<u8>, property: &Sourced<'_>) -> Re
     push_property(text, property.key, property.value)
 }
 
-/// Puts `FILE:LINE: ` behind a text, or `-: ` where no file is known.
+/// Puts `FILE:LINE: ` after a text, or `-: ` where no file is known.
 fn push_origin(alloc: Global, text: &mut Vec<u8>, file: &[u8], line: u32) -> Result<(), AllocError>
     ensures { OnOk result (text.new.items ≡ text.old.items ++ origin_of file.now line) }
 {
@@ -69,7 +69,7 @@ fn push_origin(alloc: Global, text: &mut Vec<u8>, file: &[u8], line: u32) -> Res
     }
 }
 
-/// Puts `KEY=VALUE` and a newline behind a text, neither of the two escaped.
+/// Puts `KEY=VALUE` and a newline after a text, neither of the two escaped.
 #[tactic(auto, unfolding(crate::specs::Answers::property_line))]
 fn push_property(text: &mut Vec<u8>, key: &[u8], value: &[u8]) -> Result<(), AllocError>
     ensures { OnOk result (text.new.items ≡ text.old.items ++ property_line key.now value.now) }

@@ -19,8 +19,8 @@ use text_tables::Texts;
 
 /// The messages about rules files, and how many of the files are bad.
 ///
-/// `TooManyRules` comes exactly where the rules have more than 2^24 tokens, `Memory` where memory is
-/// refused.
+/// `TooManyRules` comes exactly where the rules have more than 2^24 tokens, `Memory` where memory
+/// runs out.
 pub fn report_on_rules(
     alloc: Global,
     line: &Line<'_>,
@@ -64,8 +64,7 @@ fn checked(
     })
 }
 
-/// The line that counts files, where it is asked for: all of them, and how many are bad. The error
-/// comes where memory is refused.
+/// The line that counts files, where it is asked for: all of them, and how many are bad.
 pub fn counted(alloc: Global, summary: bool, all: usize, bad: usize) -> Result<Vec<u8>, AllocError>
     requires { bad ≤ all }
     ensures { IfOk result (λ text. text.items ≡ (if summary then summary_line all bad else [])) }
@@ -141,7 +140,7 @@ fn summary_line(alloc: Global, all: usize, bad: usize) -> Result<Vec<u8>, AllocE
     Ok(text)
 }
 
-/// Puts a number and a text behind another text.
+/// Puts a number and a text after another text.
 fn push_count(text: &mut Vec<u8>, count: usize, behind: &[u8]) -> Result<(), AllocError>
     ensures { OnOk result (text.new.items ≡ text.old.items ++ (decimal count ++ behind.now)) }
 {

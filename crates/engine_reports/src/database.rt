@@ -1,6 +1,7 @@
 //! What `query` and `update` say of the database.
 //!
-//! `query` asks an index where one is handed in; of files it keeps just the entries that the modalias fits. `update` makes
+//! `query` asks an index where one is passed in; of files it keeps just the entries that the modalias fits. `update`
+//! makes
 //! the trie of all entries, as events do, of which the index is written.
 ghost use Rattle.std.specs.Prelude.{◌≡◌, ◌<◌, List, length, IfOk, IfErr};
 ghost use Rattle.text_bytes.specs.declared.message.Message.{Message};
@@ -27,7 +28,7 @@ use trie_core::write_index;
 /// What `query` says of the files of the database, or of the index that was opened in their place.
 ///
 /// `Index` comes exactly where the index was refused. Without one, `TooManyEntries` comes exactly where
-/// the files hold more than a database may. `Memory` comes where memory is refused.
+/// the files hold more than a database may. `Memory` comes where memory runs out.
 pub fn report_on_query(
     alloc: Global,
     line: &Line<'_>,
@@ -63,7 +64,7 @@ fn read_answer(
 }
 
 /// The trie of the entries of the files that are read, and the messages about these. The files are
-/// given back as soon as their entries are known.
+/// returned as soon as their entries are known.
 fn read_database(
     alloc: Global,
     line: &Line<'_>,
@@ -103,7 +104,7 @@ fn answered<L: Lookup>(
 /// What `update` says of the files of the database: their entries as an index, messages or not.
 ///
 /// `TooManyEntries` comes exactly where the files hold more than a database may, `Memory` where memory
-/// is refused.
+/// runs out.
 pub fn report_on_update(
     alloc: Global,
     line: &Line<'_>,

@@ -44,7 +44,7 @@ pub fn deliver_report<W: Sink, E: Sink>(
 }
 
 /// Writes why there is nothing to say of the files, and gives the status: 1 where they hold more than
-/// they may or where the index is none, 4 where memory was refused, or 3 where the error output failed.
+/// they may or where the index is none, 4 where memory ran out, or 3 where the error output failed.
 pub fn deliver_refusal<W: Sink, E: Sink>(refusal: Refusal, output: &mut W, error: &mut E) -> u8
     ensures delivers { (outcome : Outcome) → IsSaid refusal outcome
         → Delivers outcome result
@@ -64,7 +64,7 @@ pub fn deliver_refusal<W: Sink, E: Sink>(refusal: Refusal, output: &mut W, error
     }
 }
 
-/// Writes the messages and, behind them, a line on what a command line asks for that is not there, and
+/// Writes the messages and, after them, a line on what a command line asks for that is not there, and
 /// gives the status for it: 2, or 3 where an output failed.
 pub fn deliver_usage_error<W: Sink, E: Sink>(
     messages: &[u8],

@@ -1,4 +1,4 @@
-//! Which of the files handed in are read.
+//! Which of the files passed in are read.
 ghost use Rattle.std.specs.Prelude.{◌≡◌, IfOk};
 ghost use Rattle.engine_reports.specs.FilesRead.{chosen, files_read, of_kind};
 
@@ -6,8 +6,8 @@ use engine_ends::{Line, same_kind};
 use std::alloc::{AllocError, Global};
 use text_bytes::{FileKind, SourceFile, order_files};
 
-/// The files of a kind that a run reads: those handed in where the line names files of that kind,
-/// and else those of the folders, by suffix, rank and name. The error comes where memory is refused.
+/// The files of a kind that a run reads: those passed in where the line names files of that kind,
+/// and else those of the folders, by suffix, rank and name.
 pub fn files_read(
     alloc: Global,
     kind: FileKind,

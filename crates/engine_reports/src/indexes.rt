@@ -1,4 +1,4 @@
-//! The index that is handed in, in place of the files of the database.
+//! The index that is passed in, in place of the files of the database.
 //!
 //! It is checked whole before anything is said by it, so that a damaged one is refused by name and
 //! never gives a wrong answer.
@@ -9,7 +9,7 @@ ghost use Rattle.engine_reports.specs.Indexes.{Opens, refused_index};
 use engine_ends::{Sink, deliver_in_pieces};
 use index_reading::{Index, IndexFault};
 
-/// What comes of an index file, if one is handed in: the index, or the first check that it fails.
+/// What comes of an index file, if one is passed in: the index, or the first check that it fails.
 ///
 /// It takes no memory.
 pub fn open_index(index: Option<&[u8]>) -> Option<Result<Index<'_>, IndexFault>>

@@ -1,9 +1,11 @@
-//! What a command says of the files that were read: the messages about them, and the answer.
+//! What a command says about the files that were read: the messages about them, and the answer.
 //!
-//! Nothing here opens a file or knows a terminal: the files come as bytes and the outputs as sinks.
-//! What is said is built first, as one text for each output, and then written; so memory that runs
-//! out never leaves half of an answer. For `events` only what comes before the first answer is said
-//! here; the answers stand above, since they need all that evaluates rules.
+//! This crate opens no file and knows no terminal: files are bytes and outputs are sinks. The report is built first, as
+//! one text for each output, and then written, so that running out of memory never leaves half an answer. For `events`
+//! this is only what comes before the first answer; the answers are made by the crates above, since they need
+//! everything that evaluates rules.
+//!
+//! Functions that allocate return `AllocError` when memory runs out.
 #![tactic(auto)]
 
 mod answers;

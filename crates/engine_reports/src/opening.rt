@@ -37,10 +37,10 @@ pub struct RulesRead {
     pub rules: RuleSet,
 }
 
-/// Reads what events are answered by from the files handed in, rules by the line's profile.
+/// Reads what events are answered by from the files passed in, rules by the line's profile.
 ///
 /// `TooManyEntries` comes exactly where the files of the database hold more than they may, else
-/// `TooManyRules` exactly where the rules have more than 2^24 tokens; `Memory` where memory is refused.
+/// `TooManyRules` exactly where the rules have more than 2^24 tokens; `Memory` where memory runs out.
 pub fn open_files(
     alloc: Global,
     line: &Line<'_>,
@@ -77,11 +77,11 @@ fn open_these(
     })
 }
 
-/// Reads the rules that events are answered by beside an index, from the files handed in and by the
+/// Reads the rules that events are answered by beside an index, from the files passed in and by the
 /// line's profile. No file of a database is read, and so there are no messages about one.
 ///
-/// `TooManyRules` comes exactly where the rules have more than 2^24 tokens; `Memory` where memory is
-/// refused.
+/// `TooManyRules` comes exactly where the rules have more than 2^24 tokens; `Memory` where memory
+/// runs out.
 pub fn open_rules(
     alloc: Global,
     line: &Line<'_>,

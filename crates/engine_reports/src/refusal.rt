@@ -13,7 +13,7 @@ pub enum Refusal {
     TooManyEntries,
     /// Their rules have too many tokens.
     TooManyRules,
-    /// The index handed in is none: the first check that it fails.
+    /// The index passed in is none: the first check that it fails.
     Index(IndexFault),
     /// Want of memory.
     Memory,

@@ -1,4 +1,4 @@
--- The answers to blocks, one list behind another.
+-- The answers to blocks, one list after another.
 use Rattle.std.proofs.Common.{◌≡◌, ℕ, ◌+◌, ◌<◌, ◌≤◌, ◌-◌, ◌^◌, ◌⊎◌, inl, inr, min, List, [], ◌∷◌, ◌++◌, Some, None, Result, Ok, Err, ap, sym, ◌∙◌, arith, add-zero}
 use Rattle.std.proofs.Math.Nat.{min-eq_left, min-eq_right}
 use Rattle.std.proofs.lemmas.Bool.{cases_lt}
@@ -23,7 +23,7 @@ behind_block answer (Ok event) first all behind texts more e =
     ap (λ a. with_block answer (Ok event) a) rest ∙ ap (λ l. with_texts l behind) (sym same)
 behind_block answer (Err fault) first all behind texts more e = let both : Some fault ≡ None = ap (λ a. a.fault) e in absurd cc
 
--- the answers to blocks behind others of which none is faulty
+-- the answers to blocks after others of which none is faulty
 pub answers_to-append : (answer : EventValue → Text) (first second : List Text) (texts : List Text) → answers_to answer first ≡ well texts → answers_to answer (first ++ second) ≡ with_texts texts (answers_to answer second)
 answers_to-append answer [] second texts e = ap (λ l. with_texts l (answers_to answer second)) (ap (λ a. a.texts) e)
 answers_to-append answer (block ∷ first) second texts e =

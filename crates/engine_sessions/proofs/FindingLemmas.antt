@@ -1,4 +1,4 @@
--- Whether answers that are sent one behind another have a byte.
+-- Whether answers that are sent one after another have a byte.
 use Rattle.std.proofs.Common.{◌≡◌, ℕ, zero, suc, ◌+◌, ◌==◌, Bool, true, false, cond, not, ◌||◌, inr, List, [], ◌++◌, length, take, ◌≤◌, Ok, Err, ap, ap₂, sym, ◌∙◌, refl, arith, zero-add, length-append}
 use Rattle.std.specs.Option.{option_to_list}
 use Rattle.std.proofs.lemmas.Bool.{ne_eqb}
@@ -87,7 +87,7 @@ pub finding_used_up : {A : Type 0} (answer : EventValue → Text) (first session
     → AnswersFinding answer (Err Read) input now output sink
 finding_used_up answer first session input now output sink finds s = record { answers = used_up answer first session input now output sink s.served; finds_is = tt }
 
--- all is answered, and what is found is told by the status
+-- all is answered, and what is found is reported by the status
 pub found_behind : (messages : Text) (answer : EventValue → Text) (finds : Bool) (status : ℕ) (before now : Streams) → HandsOn before.err messages now.err → AnswersFinding answer (Ok finds) before.input now.input before.out now.out → status ≡ cond finds 1 0
     → FindsAll messages answer status before now
 found_behind messages answer finds status before now h a e = inr (record { told = now.err; says = h; end = Ok tt; answers = a.answers; concludes = (e ∙ ap (λ b. cond b 1 0) a.finds_is, refl) })

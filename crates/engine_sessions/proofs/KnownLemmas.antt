@@ -28,7 +28,7 @@ known-append true s t =
     ∙ append_assoc (complete_runs s) (complete_runs (rest_of s ++ t)) (overlong (rest_of (rest_of s ++ t)))
 known-append false s t = runs-append s t
 
--- what stands behind nothing but itself
+-- what follows nothing but itself
 nothing_behind : (first second : List Text) → first ≡ first ++ second → second ≡ []
 nothing_behind [] second e = sym e
 nothing_behind (text ∷ first) second e = nothing_behind first second (ap (λ l. drop 1 l) e)

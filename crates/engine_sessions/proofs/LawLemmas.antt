@@ -41,7 +41,7 @@ pub faulty_behind : (answer : EventValue → Text) (before : List Text) (texts :
 faulty_behind answer before texts block fault behind e f =
     answers_to-append answer before (block ∷ behind) texts e ∙ ap (with_texts texts) (answers_to-faulty answer block behind fault f) ∙ ap (λ l. until l fault) (append-nil texts)
 
--- nothing behind a faulty block counts
+-- nothing after a faulty block counts
 stays_block : (answer : EventValue → Text) (given : Result EventValue BlockFault) (first all : Answers) (texts : List Text) (fault : BlockFault)
     → ((some : List Text) → first ≡ until some fault → all ≡ until some fault) → with_block answer given first ≡ until texts fault → with_block answer given all ≡ until texts fault
 stays_block answer (Ok event) first all texts fault more e =
@@ -130,7 +130,7 @@ first_answers answer text later = by_fault (answers_to answer (known_blocks true
         let known : answers_to answer (known_blocks true text) ≡ until (answers_to answer (known_blocks true text)).texts fault = ap (λ (x : Option BlockFault). record { texts = (answers_to answer (known_blocks true text)).texts; fault = x }) f in
         ([], ap (λ a. a.texts) (stays_faulty answer text later (answers_to answer (known_blocks true text)).texts fault known) ∙ sym (append-nil (answers_to answer (known_blocks true text)).texts))
 
--- what calls in a row give, behind a text that was answered before
+-- what calls in a row give, after a text that was answered before
 pub record Given {A : Type 0} (answer : EventValue → Text) (text : Text) (texts : List Text) (now : Held A) : Type 0 where
   pub answers : answers_to answer (complete_runs text) ≡ well texts
   pub pending : rest_of text ≡ now.pending

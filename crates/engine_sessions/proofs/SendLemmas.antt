@@ -1,4 +1,4 @@
--- Answers sent one behind another.
+-- Answers sent one after another.
 use Rattle.std.proofs.Common.{◌≡◌, List, [], ◌∷◌, ◌++◌, refl, ap, sym, ◌∙◌}
 use Rattle.std.proofs.lemmas.List.{append-nil}
 use Rattle.std.proofs.lemmas.Grind.{flat_map-append}
@@ -18,7 +18,7 @@ sends-one before now text h = record {
   well = h.well;
 }
 
--- what is flushed behind all answers
+-- what is flushed after all answers
 flushed_more : (before between now : SinkState) (first second : List Text) → between.flushed ≡ flushed_behind before first between → now.taken ≡ followed_by between.taken (joined second) → now.flushed ≡ flushed_behind between second now
     → now.flushed ≡ flushed_behind before (first ++ second) now
 flushed_more before between now [] [] e t f = f ∙ e

@@ -55,7 +55,7 @@ tells_begun : (line : Text) (wanted status : ℕ) (told now : SinkState) → Tel
 tells_begun line wanted status told now (inl p) = begun-taken told now line p.1.taken
 tells_begun line wanted status told now (inr p) = p.1.taken
 
--- a run that is cut short, by the line that tells of it
+-- a run that is cut short, by the line that says about it
 cut_by : (outcome : Outcome) (status : ℕ) (before now : Streams) (told : SinkState) (line : Text) → IsStatusLine line → HasBegun before.out outcome.output now.out → HasBegun before.err outcome.messages told → HasBegun told line now.err
     → (status ≡ 4 → HandsOn told out_of_memory now.err) → IsCutShort outcome status before now
 cut_by outcome status before now told line is output messages begun memory = record { output = output; told = told; messages = messages; line = line; line_is = is; begun = begun; memory = memory }
@@ -115,7 +115,7 @@ reports_serve outcome said status before now same r = record {
   statuses = r.delivers.statuses;
 }
 
--- messages are the first of what is told
+-- messages are the first of what is reported
 opening_first : (messages : Text) (output : Text) (count : ℕ) (fault : Option BlockFault) (err told : SinkState) → told.taken ≡ followed_by err.taken messages → HasBegun err (answered_until messages output count fault).messages told
 opening_first messages output count None err told e = begun-taken err told messages e
 opening_first messages output count (Some fault) err told e = begun-first err told messages (block_line (number_behind count) fault) (begun-taken err told messages e)
@@ -128,7 +128,7 @@ outcome_faulty : (messages : Text) (answer : EventValue → Text) (text : Text) 
     → input_outcome messages answer text ≡ record { output = joined sent; messages = messages ++ block_line number fault; status = 1 }
 outcome_faulty messages answer text sent number fault e n = ap (answered messages) e ∙ ap (λ k. record { output = joined sent; messages = messages ++ block_line k fault; status = 1 }) (sym n)
 
--- a text that is told of, by what was read of it and what is left
+-- a text that is reported, by what was read of it and what is left
 pub rest_told : (text first : Text) (left : Option Text) → Some text ≡ led_by first left → (rest : Text) × (left ≡ Some rest) × (text ≡ first ++ rest)
 rest_told text first None e = absurd cc
 rest_told text first (Some rest) e = (rest, refl, some_is text (first ++ rest) e)
@@ -143,7 +143,7 @@ none_is (Some other) rest h e = let same : other ≡ rest = some_is other rest e
     some_is : (a b : Text) → Some a ≡ Some b → a ≡ b
     some_is a b e = cc
 
--- what is flushed behind answers, by their text
+-- what is flushed after answers, by their text
 sent_flushed : (out told : SinkState) (sent : List Text) → told.flushed ≡ flushed_behind out sent told → (told.flushed ≡ told.taken) ⊎ ((joined sent ≡ []) × (told.flushed ≡ out.flushed))
 sent_flushed out told [] e = inr (refl, e)
 sent_flushed out told (text ∷ sent) e = inl e

@@ -46,7 +46,7 @@ sent-none answer old sink going = record {
     leaves_old : (pending : Text) (answered : ℕ) → pending ≡ old.pending → answered ≡ old.answered → old ≡ record { answering = old.answering; pending = pending; answered = answered; ended = false }
     leaves_old pending answered e f = rw (e, f, ← going.goes_on) refl
 
--- what stands behind the part taken
+-- what follows the part taken
 pending_is : {A : Type 0} (answer : EventValue → Text) (old now : Held A) (part : Text) (before sink : SinkState) → Sent answer old part now before sink → rest_of (old.pending ++ part) ≡ now.pending
 pending_is answer old now part before sink s = sym (ap (λ h. h.pending) s.leaves)
 
@@ -91,7 +91,7 @@ pub sent-more_texts : {A : Type 0} (answer : EventValue → Text) (old now next 
 unfolding sent-more
 sent-more_texts answer old now next part piece step before sink later s t k = refl
 
--- the answers due are those sent and those to what stands behind
+-- the answers due are those sent and those to what follows
 due_more : {A : Type 0} (answer : EventValue → Text) (more : Bool) (old now : Held A) (part piece : Text) (before sink : SinkState) (s : Sent answer old part now before sink)
     → due answer more old.pending (part ++ piece) ≡ with_texts s.texts (due answer more now.pending piece)
 due_more answer more old now part piece before sink s =
@@ -203,17 +203,17 @@ pub gone_is : {A : Type 0} (answering : A) (pending : Text) (answered : ℕ) (en
 gone_is answering pending answered true e = refl
 gone_is answering pending answered false e = absurd cc
 
--- a session that is closed behind some calls has ended
+-- a session that is closed after some calls has ended
 ended_behind : {A : Type 0} (old now : Held A) → now.answering ≡ old.answering → HasEnded old (closed now)
 ended_behind old now e = rw e refl
 
--- a call of the session fails behind others
+-- a call of the session fails after others
 pub ended_by : {A : Type 0} (fault : SessionFault) (old now next : Held A) (blocks : List Text) → now.answering ≡ old.answering → now.ended ≡ false → FailsBy fault now blocks next → HasEnded old next
 ended_by (Block number fault) old now next blocks e going f = rw f.2 (ended_behind old now e)
 ended_by Memory old now next blocks e going f = rw f.1 (ended_behind old now e)
 ended_by Ended old now next blocks e going f = let both : true ≡ false = sym f.0 ∙ going in absurd cc
 
--- a turn that fails behind its read
+-- a turn that fails after its read
 pub turn_fails : {A : Type 0} (answer : EventValue → Text) (fault : TurnFault) (old : Held A) (input input_now : SourceState) (output output_now : SinkState) (more : Bool) (piece : Text)
     → old.ended ≡ false → Reads more input piece input_now → SendsUntil fault (due answer more old.pending piece) old.answered output output_now → TurnFailsBy answer fault old input input_now output output_now
 turn_fails answer Read old input input_now output output_now more piece going reads s = absurd s

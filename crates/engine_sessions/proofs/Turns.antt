@@ -27,11 +27,11 @@ use Rattle.engine_sessions.proofs.SendLemmas.{sends-none, sends-more}
 use Rattle.engine_sessions.proofs.LawLemmas.{Given, until, complete_well, behind_well, first_answers, stays_faulty}
 use Rattle.engine_sessions.specs.Inputs.{most_turns, all_but_last, HasSentDue, HoldsFew, StopsAtBlock, ReadsWell, ReadsToFault, AnswersInput}
 
--- no more is held, neither before one of these pieces nor behind them, than a block may have
+-- no more is held, neither before one of these pieces nor after them, than a block may have
 abbrev pub HoldsUpTo : List Text → Type 0
 HoldsUpTo read = (n : ℕ) → n ≤ length read → length (rest_of (joined (take n read))) ≤ most_bytes
 
--- All that is due behind some turns is sent.
+-- All that is due after some turns is sent.
 pub record Served {A : Type 0} (answer : EventValue → Text) (first : Held A) (input now : SourceState) (output sink : SinkState) (session : Held A) (turns : ℕ) : Type 0 where
   pub read : List Text
   pub pieces : now.pieces ≡ followed_by input.pieces read
@@ -64,7 +64,7 @@ all_but_last-push read piece = grind (arith, common_steps)
 due_at_start : (answer : EventValue → Text) → HasSentDue answer [] []
 due_at_start answer = ([], refl)
 
--- what is due behind one more piece
+-- what is due after one more piece
 due_behind : (answer : EventValue → Text) (read : List Text) (piece : Text) (sent more : List Text) → answers_to answer (complete_runs (joined read)) ≡ well sent → HasSentDue answer (read ++ piece ∷ []) (sent ++ more)
 due_behind answer read piece sent more e =
     (more, ap (λ texts. texts ++ more) (sym (ap (λ pieces. (answers_to answer (complete_runs (joined pieces))).texts) (all_but_last-push read piece) ∙ ap (λ a. a.texts) e)))
@@ -75,7 +75,7 @@ one_more input now later read piece p q = q ∙ ap (λ told. followed_by told (p
 left_behind : (input now later : SourceState) (read : List Text) (piece : Text) → input.left ≡ led_by (joined read) now.left → now.left ≡ led_by piece later.left → input.left ≡ led_by (joined (read ++ piece ∷ [])) later.left
 left_behind input now later read piece p q = p ∙ ap (led_by (joined read)) q ∙ led_by-append (joined read) piece later.left ∙ ap (λ text. led_by text later.left) (sym (joined-push read piece))
 
--- what was held before each piece, with one more piece behind them
+-- what was held before each piece, with one more piece after them
 few_behind : (read : List Text) (piece : Text) → HoldsUpTo read → HoldsFew (read ++ piece ∷ [])
 few_behind read piece fits n h =
     let within : n ≤ length read = omega (arith, h, length-append read (piece ∷ [])) in
@@ -84,7 +84,7 @@ few_behind read piece fits n h =
 few_of : (read : List Text) → HoldsUpTo read → HoldsFew read
 few_of read fits n h = fits n (omega (arith, h))
 
--- and behind it
+-- and after it
 up_to_behind : (read : List Text) (piece : Text) → HoldsUpTo read → length (rest_of (joined (read ++ piece ∷ []))) ≤ most_bytes → HoldsUpTo (read ++ piece ∷ [])
 up_to_behind read piece fits last n h = by_case (cases_lt n (length (read ++ piece ∷ [])))
   where
@@ -216,7 +216,7 @@ due_first : (answer : EventValue → Text) (more : Bool) (pending piece : Text) 
 due_first answer true pending piece = rw append-nil at (first_answers answer (pending ++ piece) [])
 due_first answer false pending piece = ([], sym (append-nil (answers_of answer (pending ++ piece)).texts))
 
--- what is read, where a turn fails behind its read
+-- what is read, where a turn fails after its read
 record ReadOn (input later : SourceState) (read : List Text) : Type 0 where
   pub pieces : later.pieces ≡ followed_by input.pieces read
   pub left : input.left ≡ led_by (joined read) later.left
@@ -232,7 +232,7 @@ read_on answer first session input now later output sink turns more piece s r = 
   fits = few_behind s.read piece s.fits;
 }
 
--- the answers sent, and those behind them
+-- the answers sent, and those after them
 sent_first : {A : Type 0} (answer : EventValue → Text) (session : Held A) (read : List Text) (more : Bool) (piece : Text) (sent some others : List Text) → Given answer (joined read) sent session → (due answer more session.pending piece).texts ≡ some ++ others
     → (behind : List Text) × ((answers_of answer (joined (read ++ piece ∷ []))).texts ≡ (sent ++ some) ++ (others ++ behind))
 sent_first answer session read more piece sent some others g e =

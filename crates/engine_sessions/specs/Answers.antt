@@ -6,7 +6,7 @@ use Rattle.device_core.specs.Values.{EventValue}
 use Rattle.device_core.specs.Faults.{block_gives}
 use Rattle.device_core.specs.declared.faults.BlockFault.{BlockFault}
 
--- the answers to blocks, in order, and what is wrong with the block behind those answered, if one is faulty
+-- the answers to blocks, in order, and what is wrong with the block after those answered, if one is faulty
 pub record Answers : Type 0 where
   pub texts : List Text
   pub fault : Option BlockFault
@@ -15,7 +15,7 @@ pub record Answers : Type 0 where
 abbrev pub well : List Text → Answers
 well texts = record { texts = texts; fault = None }
 
--- the answers behind a block: its own in front of them where it gives an event, and none where it is faulty
+-- the answers after a block: its own in front of them where it gives an event, and none where it is faulty
 abbrev pub with_block : (EventValue → Text) → Result EventValue BlockFault → Answers → Answers
 with_block answer (Ok event) behind = record { texts = answer event ∷ behind.texts; fault = behind.fault }
 with_block answer (Err fault) behind = record { texts = []; fault = Some fault }
@@ -33,6 +33,6 @@ answers_of answer input = answers_to answer (runs input)
 abbrev pub counted : ℕ → ℕ
 counted blocks = min blocks (2 ^ 64 - 1)
 
--- the number of the block behind those answered, counted from 1
+-- the number of the block after those answered, counted from 1
 abbrev pub number_behind : ℕ → ℕ
 number_behind answered = counted (answered + 1)

@@ -1,4 +1,4 @@
--- Calls of `take` in a row, each with what is handed to it: pieces of an input, and what is left of them.
+-- Calls of `take` in a row, each with what is passed to it: pieces of an input, and what is left of them.
 use Rattle.std.specs.Prelude.{◌≡◌, ℕ, List, [], ◌∷◌, ◌++◌, Option, Some, length, take}
 use Rattle.std.specs.Option.{option_to_list}
 use Rattle.text_tables.specs.Texts.{Text}
@@ -9,7 +9,7 @@ use Rattle.engine_sessions.specs.Answers.{answers_to, answers_of, well, counted,
 use Rattle.engine_sessions.specs.Sessions.{Held, Takes}
 use Rattle.engine_sessions.specs.declared.session.Step.{Step}
 
--- a call: the piece, what came of it, and the session behind it
+-- a call: the piece, what came of it, and the session after it
 pub record Call (A : Type 0) : Type 0 where
   pub piece : Text
   pub step : Step

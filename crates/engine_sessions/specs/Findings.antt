@@ -31,13 +31,13 @@ pub record AnswersFinding (answer : EventValue → Text) (end : Result Bool Turn
 abbrev pub found : Outcome → Outcome
 found outcome = record { output = outcome.output; messages = outcome.messages; status = if length outcome.output == 0 then outcome.status else 1 }
 
--- How the answering of an input is told of where these answers are findings: as it is without that, but where all is answered the status
+-- How the answering of an input is reported where these answers are findings: as it is without that, but where all is answered the status
 -- is 1 if any of them has a byte.
 abbrev pub ConcludesFinding : Result (Unit {0}) TurnFault → List Text → ℕ → SinkState → SinkState → Type 0
 ConcludesFinding (Ok done) sent status err err_now = (status ≡ (if say_something sent then 1 else 0)) × (err_now ≡ err)
 ConcludesFinding (Err fault) sent status err err_now = Concludes (Err fault) status err err_now
 
--- The messages are written, then the input is answered, and then its end is told of.
+-- The messages are written, then the input is answered, and then its end is reported.
 pub record FindsBehind (messages : Text) (answer : EventValue → Text) (status : ℕ) (before now : Streams) : Type 0 where
   pub told : SinkState
   pub says : HandsOn before.err messages told
@@ -45,6 +45,6 @@ pub record FindsBehind (messages : Text) (answer : EventValue → Text) (status 
   pub answers : AnswersInput answer end before.input now.input before.out now.out
   pub concludes : ConcludesFinding end answers.sent status told now.err
 
--- Messages, and the findings in an input behind them, step by step.
+-- Messages, and the findings in an input after them, step by step.
 abbrev pub FindsAll : Text → (EventValue → Text) → ℕ → Streams → Streams → Type 0
 FindsAll messages answer status before now = StopsBefore messages status before now ⊎ FindsBehind messages answer status before now

@@ -37,14 +37,14 @@ pub record StopsAtBlock (answer : EventValue → Text) (text : Text) (left : Opt
   pub stays : (later : Text) → left ≡ Some later → answers_of answer (text ++ later) ≡ record { texts = sent; fault = Some fault }
   pub numbered : number ≡ number_behind (length sent)
 
--- The sink broke off at the answer behind those sent.
+-- The sink broke off at the answer after those sent.
 pub record StopsInAnswer (answer : EventValue → Text) (text : Text) (sent : List Text) (told now : SinkState) : Type 0 where
   pub next : Text
   pub unsent : List Text
   pub answers : (answers_of answer text).texts ≡ sent ++ next ∷ unsent
   pub breaks : BreaksOff told next now
 
--- The answers sent are the first of all, and nothing was written behind them.
+-- The answers sent are the first of all, and nothing was written after them.
 pub record StopsBetween (answer : EventValue → Text) (text : Text) (sent : List Text) (told now : SinkState) : Type 0 where
   pub unsent : List Text
   pub answers : (answers_of answer text).texts ≡ sent ++ unsent
@@ -56,8 +56,8 @@ pub record IsAnswered (answer : EventValue → Text) (text : Text) (left : Optio
   pub none_left : NoneLeft left
   pub untouched : now ≡ told
 
--- How it ends, by the bytes read, those left, the answers sent, and the sink behind these and at the end: all is answered; or what
--- was read until then is, and no more could be read; or it stops in an answer, at a faulty block, or where memory was refused.
+-- How it ends, by the bytes read, those left, the answers sent, and the sink after these and at the end: all is answered; or what
+-- was read until then is, and no more could be read; or it stops in an answer, at a faulty block, or where memory runs out.
 abbrev pub EndsBy : (EventValue → Text) → Result (Unit {0}) TurnFault → Text → Option Text → List Text → SinkState → SinkState → Type 0
 EndsBy answer (Ok done) text left sent told now = IsAnswered answer text left sent told now
 EndsBy answer (Err Read) text left sent told now = (answers_to answer (complete_runs text) ≡ well sent) × (now ≡ told)

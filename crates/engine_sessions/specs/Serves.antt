@@ -38,7 +38,7 @@ pub record IsWhole (outcome : Outcome) (status : ℕ) (before now : Streams) : T
 abbrev pub IsStatusLine : Text → Type 0
 IsStatusLine line = (line ≡ []) ⊎ (line ≡ read_failed) ⊎ (line ≡ write_failed) ⊎ (line ≡ out_of_memory)
 
--- A first part of the outcome is written: of the output, and of the messages with a first part of one status line behind them. At
+-- A first part of the outcome is written: of the output, and of the messages with a first part of one status line after them. At
 -- status 4 that line is the one on memory, and it is whole.
 pub record IsCutShort (outcome : Outcome) (status : ℕ) (before now : Streams) : Type 0 where
   pub output : HasBegun before.out outcome.output now.out
@@ -65,7 +65,7 @@ pub record Serves (outcome : Text → Outcome) (status : ℕ) (before now : Stre
   pub failures : TellsFailures status (length read) before now
   pub statuses : status ≤ 4
 
--- How the answering of an input is told of: by nothing, or by one line and its status.
+-- How the answering of an input is reported: by nothing, or by one line and its status.
 abbrev pub Concludes : Result (Unit {0}) TurnFault → ℕ → SinkState → SinkState → Type 0
 Concludes (Ok done) status err err_now = (status ≡ 0) × (err_now ≡ err)
 Concludes (Err Read) status err err_now = Tells read_failed 3 status err err_now
@@ -74,7 +74,7 @@ Concludes (Err (Session (Block number fault))) status err err_now = Tells (block
 Concludes (Err (Session Memory)) status err err_now = Tells out_of_memory 4 status err err_now
 Concludes (Err (Session Ended)) status err err_now = ⊥
 
--- The messages are written, then the input is answered, and then its end is told of.
+-- The messages are written, then the input is answered, and then its end is reported.
 pub record AnswersBehind (messages : Text) (answer : EventValue → Text) (status : ℕ) (before now : Streams) : Type 0 where
   pub told : SinkState
   pub says : HandsOn before.err messages told
@@ -82,13 +82,13 @@ pub record AnswersBehind (messages : Text) (answer : EventValue → Text) (statu
   pub answers : AnswersInput answer end before.input now.input before.out now.out
   pub concludes : Concludes end status told now.err
 
--- Nothing is read or answered: the error output failed at the messages, or memory was refused before them, which its line tells.
+-- Nothing is read or answered: the error output failed at the messages, or memory runs out before them, which its line tells.
 pub record StopsBefore (messages : Text) (status : ℕ) (before now : Streams) : Type 0 where
   pub unread : now.input ≡ before.input
   pub unanswered : now.out ≡ before.out
   pub tells : ((status ≡ 3) × BreaksOff before.err messages now.err) ⊎ Tells out_of_memory 4 status before.err now.err
 
--- Messages, and the answers to an input behind them, step by step.
+-- Messages, and the answers to an input after them, step by step.
 abbrev pub AnswersAll : Text → (EventValue → Text) → ℕ → Streams → Streams → Type 0
 AnswersAll messages answer status before now =
     StopsBefore messages status before now ⊎ AnswersBehind messages answer status before now

@@ -71,7 +71,7 @@ pub record BeginsFaulty {A : Type 0} (old : Held A) (blocks : List Text) (number
   pub gives : block_gives block ≡ Err fault
   pub numbered : number ≡ number_behind old.answered
 
--- What a call does where it fails, by the blocks known then: the first of them is faulty, memory was refused, or the session had
+-- What a call does where it fails, by the blocks known then: the first of them is faulty, memory runs out, or the session had
 -- ended. No more is taken from then on.
 abbrev pub FailsBy : {A : Type 0} → SessionFault → Held A → List Text → Held A → Type 0
 FailsBy (Block number fault) old blocks new = BeginsFaulty old blocks number fault × (old.ended ≡ false) × (new ≡ closed old)

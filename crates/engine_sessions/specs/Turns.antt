@@ -14,7 +14,7 @@ use Rattle.engine_sessions.specs.declared.session.SessionFault.TheVariants.{Bloc
 use Rattle.engine_sessions.specs.declared.turning.TurnFault.{TurnFault}
 use Rattle.engine_sessions.specs.declared.turning.TurnFault.TheVariants.{Read, Write, Session}
 
--- answers, one behind another
+-- answers, one after another
 abbrev pub joined : List Text → Text
 joined texts = flat_map (λ text. text) texts
 
@@ -50,7 +50,7 @@ pub record SendsSome (before : SinkState) (texts : List Text) (now : SinkState) 
   pub texts_are : texts ≡ sent ++ unsent
   pub sends : Sends before sent now
 
--- The block behind these answers has this number and this fault, and all of them were sent.
+-- The block after these answers has this number and this fault, and all of them were sent.
 pub record Refuses (answers : Answers) (answered number : ℕ) (fault : BlockFault) (before now : SinkState) : Type 0 where
   pub faulty : answers.fault ≡ Some fault
   pub numbered : number ≡ number_behind (answered + length answers.texts)
@@ -71,7 +71,7 @@ pub record Reads (more : Bool) (before : SourceState) (piece : Text) (now : Sour
 abbrev pub due : (EventValue → Text) → Bool → Text → Text → Answers
 due answer more pending piece = answers_to answer (known_blocks more (pending ++ piece))
 
--- the session behind a piece, with so many answers more
+-- the session after a piece, with so many answers more
 abbrev pub behind : {A : Type 0} → Bool → Held A → Text → ℕ → Held A
 behind more old piece answers = record {
   answering = old.answering;
@@ -98,8 +98,8 @@ pub record Turns {A : Type 0} (answer : EventValue → Text) (more : Bool) (old 
   pub reads : Reads more input piece input_now
   pub sends : SendsDue answer more old piece new output output_now
 
--- Which of the answers due are sent where a turn fails behind its read: up to that in which the output failed, all before a faulty
--- block, or some where memory was refused.
+-- Which of the answers due are sent where a turn fails after its read: up to that in which the output failed, all before a faulty
+-- block, or some where memory runs out.
 abbrev pub SendsUntil : TurnFault → Answers → ℕ → SinkState → SinkState → Type 0
 SendsUntil Read answers answered before now = ⊥
 SendsUntil Write answers answered before now = BreaksOffIn before answers.texts now
@@ -116,7 +116,7 @@ pub record FailsBehindRead {A : Type 0} (answer : EventValue → Text) (fault : 
   pub sends : SendsUntil fault (due answer more old.pending piece) old.answered output output_now
 
 -- What a turn does where it fails: its read failed and nothing is sent, or the session had ended and nothing is read or sent, or it
--- failed behind the read.
+-- failed after the read.
 abbrev pub FailsBy : {A : Type 0} → (EventValue → Text) → TurnFault → Held A → SourceState → SourceState → SinkState → SinkState → Type 0
 FailsBy answer Read old input input_now output output_now = (old.ended ≡ false) × SourceFails input input_now × (output_now ≡ output)
 FailsBy answer (Session Ended) old input input_now output output_now = (old.ended ≡ true) × (input_now ≡ input) × (output_now ≡ output)

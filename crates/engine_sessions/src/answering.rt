@@ -14,8 +14,6 @@ pub trait Answering {
     ghost answers: { Self → EventValue → Text };
 
     /// The answer to an event.
-    ///
-    /// The error comes where memory is refused.
     fn answer(&self, alloc: Global, event: &Event<'_>) -> Result<Bytes, AllocError>
         ensures { IfOk result (λ text. text ≡ answers self.now event.now) };
 }

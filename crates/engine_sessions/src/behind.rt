@@ -1,4 +1,4 @@
-//! Messages, and the answers to an input behind them.
+//! Messages, and the answers to an input after them.
 ghost use Rattle.std.specs.Prelude.{◌≡◌, Err};
 ghost use Rattle.engine_sessions.specs.Findings.{FindsAll, found};
 ghost use Rattle.engine_sessions.specs.Outcomes.{input_outcome};
@@ -21,9 +21,9 @@ const WRITE_FAILED: &[u8] = b"devdry: write failed\n";
 /// Writes messages to `error`, and then answers the blocks of the input on `output`, over whose
 /// events rules are evaluated by a profile; gives the status to exit with.
 ///
-/// The status is 0; 1 where a block is faulty, which is told on `error` behind the answers to those
+/// The status is 0; 1 where a block is faulty, which is reported on `error` after the answers to those
 /// before it; 3 where the input or an output failed, or the input did not end within 2^48 reads; 4
-/// where memory was refused.
+/// where memory ran out.
 pub fn answer_behind<A: Answering, R: Source, W: Sink, E: Sink>(
     alloc: Global,
     profile: Profile,

@@ -17,7 +17,7 @@ const MOST_TURNS: u64 = 1 << 48;
 /// any answer has a byte.
 ///
 /// `Session(Block(..))` comes where a block is faulty, with the answers to all blocks before it sent;
-/// `Session(Memory)` where memory is refused; `Write` where the output failed; `Read` where the input
+/// `Session(Memory)` where memory runs out; `Write` where the output failed; `Read` where the input
 /// failed, or did not end within 2^48 reads.
 pub fn answer_input<A: Answering, R: Source, W: Sink>(
     alloc: Global,

@@ -16,7 +16,7 @@ ghost use Rattle.engine_sessions.specs.declared.session.SessionFault.TheVariants
 use crate::answering::Answering;
 
 /// Where no block is faulty, the answers are those to the events of all blocks. Else they are those
-/// to the events of the blocks before the first faulty one, and its fault, whatever stands behind it.
+/// to the events of the blocks before the first faulty one, and its fault, whatever follows it.
 pub fn answers_end_at_the_first_fault()
     ensures well { (answer : EventValue → Text) (blocks : List Text) (events : List EventValue)
         → map block_gives blocks ≡ map Ok events

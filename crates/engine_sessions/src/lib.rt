@@ -1,4 +1,6 @@
-//! The blocks of an input answered one by one, and a whole input answered turn by turn, for any answering of events.
+//! Answers the blocks of an input one by one, and a whole input turn by turn, for any way of answering events.
+//!
+//! Functions that allocate return `AllocError` when memory runs out.
 #![tactic(auto)]
 
 mod answering;

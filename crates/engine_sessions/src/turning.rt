@@ -47,7 +47,7 @@ pub(crate) struct Turned {
 /// `Read` and `Write` come only where that device failed. `Session` has the session's fault: the
 /// answers before a faulty block are written and flushed. After any fault and after false the session
 /// has ended, and `turn` then answers `Session(Ended)`, reads nothing and writes nothing. What the
-/// session holds behind a turn is at most 65,536 bytes, and nothing once it has ended.
+/// session holds after a turn is at most 65,536 bytes, and nothing once it has ended.
 pub fn turn<A: Answering, R: Source, W: Sink>(
     alloc: Global,
     session: &mut Session<'_, A>,

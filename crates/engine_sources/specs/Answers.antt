@@ -1,4 +1,4 @@
--- The answer to an event, each line behind the rule that it comes from.
+-- The answer to an event, each line after the rule that it comes from.
 use Rattle.std.specs.Prelude.{List, ◌++◌, codes}
 use Rattle.text_tables.specs.Texts.{Text}
 use Rattle.text_tables.specs.Pairs.{Pair}
@@ -13,7 +13,7 @@ use Rattle.eval_sources.specs.Told.{event_commands, stages}
 use Rattle.engine_answers.specs.Lines.{event_line, note_lines}
 use Rattle.engine_sources.specs.Lines.{command_lines, env_value_lines, given_line, member_lines, source_part, sourced_persist, sourced_priority, sourced_watch, value_lines}
 
--- the lines on the device's node, each behind the part on where it comes from
+-- the lines on the device's node, each after the part on where it comes from
 unfoldable pub sourced_node : (Source → Text) → (Pair → Source) → Outcome → Text
 sourced_node part source outcome =
     given_line part source (codes "name") outcome.name
@@ -24,7 +24,7 @@ sourced_node part source outcome =
     ++ sourced_watch part source outcome.watch
     ++ sourced_persist part source outcome.persist
 
--- the lines of the answer to an event that comes to this, each but the first and those of notes behind the part on where it comes
+-- the lines of the answer to an event that comes to this, each but the first and those of notes after the part on where it comes
 -- from
 unfoldable pub lines_behind : (Source → Text) → (Pair → Source) → EventValue → Outcome → List (Command × Rule) → Text
 lines_behind part source event outcome commands =
@@ -39,11 +39,11 @@ lines_behind part source event outcome commands =
     ++ command_lines part commands
     ++ note_lines outcome.notes
 
--- the lines of the answer to an event by rules and entries, each behind such a part on the rule that it comes from
+-- the lines of the answer to an event by rules and entries, each after such a part on the rule that it comes from
 abbrev pub lines_by : (Source → Text) → List Rule → List Entry → EventValue → Text
 lines_by part rules entries event =
     lines_behind part (source_of (stages rules entries event)) event (outcome rules entries event) (event_commands rules entries event)
 
--- the lines of the answer to an event, each behind the place of the rule that it comes from
+-- the lines of the answer to an event, each after the place of the rule that it comes from
 abbrev pub sourced_lines : List Rule → List Entry → EventValue → Text
 sourced_lines rules entries event = lines_by source_part rules entries event

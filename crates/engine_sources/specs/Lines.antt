@@ -1,4 +1,4 @@
--- The lines of an answer, each behind a part on the rule that it comes from.
+-- The lines of an answer, each after a part on the rule that it comes from.
 use Rattle.std.specs.Prelude.{ℤ, Bool, true, false, cond, List, [], ◌∷◌, ◌++◌, Option, Some, None, codes, flat_map}
 use Rattle.std.specs.Fmt.{signed_decimal}
 use Rattle.text_tables.specs.Texts.{Text}
@@ -15,7 +15,7 @@ abbrev pub source_part : Source → Text
 source_part None = codes "-: "
 source_part (Some r) = place_of r.file r.line
 
--- the line of a command, behind the part on the rule that added it
+-- the line of a command, after the part on the rule that added it
 unfoldable pub command_line : (Source → Text) → Command × Rule → Text
 command_line part found = part (Some found.1) ++ run_line found.0.kind found.0.text
 

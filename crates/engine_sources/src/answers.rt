@@ -14,7 +14,7 @@ use hwdb_lookup::Lookup;
 use rule_core::RuleSet;
 use std::alloc::{AllocError, Global};
 
-/// Puts the lines on the device's node behind others.
+/// Puts the lines on the device's node after others.
 #[tactic(auto, unfolding(crate::specs::Answers::sourced_node))]
 fn push_node(
     alloc: Global,
@@ -33,7 +33,7 @@ fn push_node(
     push_sourced_persist(alloc, lines, sources, outcome.persist)
 }
 
-/// The lines of what an event comes to, each behind where it comes from.
+/// The lines of what an event comes to, each after where it comes from.
 #[tactic(auto, unfolding(crate::specs::Answers::lines_behind))]
 fn lines_of(alloc: Global, event: &Event<'_>, found: &Sourced<'_>) -> Result<Vec<u8>, AllocError>
     ensures { IfOk result (λ lines. lines.items ≡ lines_behind source_part (source_in found.now.sources None) event.now found.now.outcome found.now.commands.items) }
@@ -69,8 +69,8 @@ fn lines_for<'a, L: Lookup>(
     said
 }
 
-/// The lines of the answer to an event by the rules as they are read, each behind the place of the rule that it comes
-/// from. The first line and those of notes stay as they are. The error comes where memory is refused.
+/// The lines of the answer to an event by the rules as they are read, each after the place of the rule that it comes
+/// from. The first line and those of notes stay as they are.
 pub fn sourced_lines<L: Lookup>(
     alloc: Global,
     rules: &RuleSet,

@@ -1,7 +1,9 @@
-//! Answers with the rule that each line comes from.
+//! Answers in which each line says which rule it comes from.
 //!
-//! The lines are those of an answer; before each stands `FILE:LINE: `, or `-: ` where it stands in the block or is set at
-//! the start of an event. The first line and those of notes stay as they are.
+//! The lines are those of an answer, each with `FILE:LINE: ` in front, or with `-: ` if it is in the block or is set
+//! when the event starts. The first line and the lines of notes stay as they are.
+//!
+//! Functions that allocate return `AllocError` when memory runs out.
 #![tactic(auto)]
 
 mod answers;

@@ -1,4 +1,4 @@
-//! One line of each kind, behind the rule that it comes from.
+//! One line of each kind, after the rule that it comes from.
 ghost use Rattle.std.specs.Prelude.{◌≡◌, ◌++◌, None, OnOk, option_map};
 ghost use Rattle.eval_effects.specs.Items.{watch_word};
 ghost use Rattle.eval_sources.specs.Sources.{source_in};
@@ -38,7 +38,7 @@ fn push_source(
     push_rule(alloc, lines, sources.rule_of(name, value))
 }
 
-/// Puts a line with a text that is an item of its word behind others.
+/// Puts a line with a text that is an item of its word after others.
 #[tactic(auto, unfolding(crate::specs::Lines::word_line))]
 fn push_word(
     alloc: Global,
@@ -53,7 +53,7 @@ fn push_word(
     push_text(alloc, lines, word, text)
 }
 
-/// Puts a line with a text behind others, if the text is there.
+/// Puts a line with a text after others, if the text is there.
 pub(crate) fn push_given(
     alloc: Global,
     lines: &mut Vec<u8>,
@@ -69,7 +69,7 @@ pub(crate) fn push_given(
     }
 }
 
-/// Puts a line with a text that is one of several behind others.
+/// Puts a line with a text that is one of several after others.
 #[tactic(auto, unfolding(crate::specs::Lines::member_line))]
 pub(crate) fn push_member(
     alloc: Global,
@@ -85,7 +85,7 @@ pub(crate) fn push_member(
     push_text(alloc, lines, word, text)
 }
 
-/// Puts a line with a name and its value behind others.
+/// Puts a line with a name and its value after others.
 #[tactic(auto, unfolding(crate::specs::Lines::value_line))]
 pub(crate) fn push_value(
     alloc: Global,
@@ -102,7 +102,7 @@ pub(crate) fn push_value(
     push_pair(alloc, lines, word, name, value)
 }
 
-/// Puts the line of a property behind others, unless its name begins with a dot.
+/// Puts the line of a property after others, unless its name begins with a dot.
 pub(crate) fn push_shown(
     alloc: Global,
     lines: &mut Vec<u8>,
@@ -118,7 +118,7 @@ pub(crate) fn push_shown(
     push_value(alloc, lines, sources, b"env", name, value)
 }
 
-/// Puts the line of a priority behind others, if one was assigned.
+/// Puts the line of a priority after others, if one was assigned.
 pub(crate) fn push_sourced_priority(
     alloc: Global,
     lines: &mut Vec<u8>,
@@ -143,7 +143,7 @@ fn watch_word(watched: bool) -> &'static [u8]
     if watched { b"watch" } else { b"nowatch" }
 }
 
-/// Puts the line on watching behind others, if it was assigned.
+/// Puts the line on watching after others, if it was assigned.
 pub(crate) fn push_sourced_watch(
     alloc: Global,
     lines: &mut Vec<u8>,
@@ -159,7 +159,7 @@ pub(crate) fn push_sourced_watch(
     push_watch(lines, Some(watched))
 }
 
-/// Puts the line of what stays in the database behind others.
+/// Puts the line of what stays in the database after others.
 pub(crate) fn push_sourced_persist(
     alloc: Global,
     lines: &mut Vec<u8>,
@@ -175,7 +175,7 @@ pub(crate) fn push_sourced_persist(
     push_persist(lines, true)
 }
 
-/// Puts the line of a command behind others.
+/// Puts the line of a command after others.
 #[tactic(auto, unfolding(crate::specs::Lines::command_line))]
 pub(crate) fn push_command(
     alloc: Global,

@@ -1,4 +1,4 @@
-//! A line for each member of a list, behind the rule that it comes from.
+//! A line for each member of a list, after the rule that it comes from.
 ghost use Rattle.std.specs.Prelude.{◌≡◌, ◌++◌, None, OnOk};
 ghost use Rattle.eval_sources.specs.Sources.{source_in};
 ghost use Rattle.engine_sources.specs.Lines.{command_lines, env_value_lines, member_lines, source_part, value_lines};
@@ -8,7 +8,7 @@ use eval_sources::{SourcedCommand, Sources};
 use std::alloc::{AllocError, Global};
 use text_tables::{OwnedPairs, OwnedTexts};
 
-/// Puts a line for each text behind others.
+/// Puts a line for each text after others.
 pub(crate) fn push_members(
     alloc: Global,
     lines: &mut Vec<u8>,
@@ -24,7 +24,7 @@ pub(crate) fn push_members(
     Ok(())
 }
 
-/// Puts a line for each name and its value behind others.
+/// Puts a line for each name and its value after others.
 pub(crate) fn push_values(
     alloc: Global,
     lines: &mut Vec<u8>,
@@ -40,7 +40,7 @@ pub(crate) fn push_values(
     Ok(())
 }
 
-/// Puts the lines of properties behind others.
+/// Puts the lines of properties after others.
 pub(crate) fn push_env(
     alloc: Global,
     lines: &mut Vec<u8>,
@@ -55,7 +55,7 @@ pub(crate) fn push_env(
     Ok(())
 }
 
-/// Puts the lines of commands behind others.
+/// Puts the lines of commands after others.
 pub(crate) fn push_commands(
     alloc: Global,
     lines: &mut Vec<u8>,

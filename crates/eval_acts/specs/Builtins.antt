@@ -33,7 +33,7 @@ hwdb_of_words None = asked.BadArguments
 hwdb_of_words (Some []) = hwdb_asked (hwdb_of [])
 hwdb_of_words (Some (name ∷ words)) = hwdb_asked (hwdb_of words)
 
--- what a command asks for, by the builtin of udev's that it means; one that means none is told as it is
+-- what a command asks for, by the builtin of udev's that it means; one that means none is reported as it is
 abbrev pub builtin_meant : Option known.Builtin → Text → Builtin
 builtin_meant None text = asked.Other text
 builtin_meant (Some known_as.Hwdb) text = hwdb_of_words (command_words text)

@@ -1,4 +1,4 @@
--- The words behind `hwdb`.
+-- The words after `hwdb`.
 use Rattle.std.specs.Prelude.{Bool, not, ◌&&◌, ◌||◌, if◌then◌else◌, List, [], ◌∷◌, filter, Option, Some, None, Result, Ok, Err, is_some, codes}
 use Rattle.std.specs.Option.{option_or}
 use Rattle.std.specs.List.{list_any}
@@ -11,7 +11,7 @@ use Rattle.text_core.specs.declared.item.Item.{Item}
 use Rattle.eval_state.specs.Texts.{or_empty}
 use Rattle.eval_acts.specs.declared.hwdb.Hwdb.{Hwdb}
 
--- what stands behind the `=` of an option, where it is the one with this name
+-- what follows the `=` of an option, where it is the one with this name
 abbrev pub value_beside : Text → Option (Text × Text) → Option Text
 value_beside name None = None
 value_beside name (Some cut) = if same_text cut.0 name then Some cut.1 else None
@@ -29,7 +29,7 @@ last_value name (word ∷ words) = option_or (last_value name words) (value_in n
 abbrev pub subsystem_option : Text
 subsystem_option = codes "--subsystem"
 
--- the option whose text stands before each modalias
+-- the option whose text comes before each modalias
 abbrev pub prefix_option : Text
 prefix_option = codes "--lookup-prefix"
 
@@ -79,7 +79,7 @@ with_parts words (Some modalias) (Some keys) = Some (record {
 })
 with_parts words modalias keys = None
 
--- the options of the words behind `hwdb`: none where one of them is unknown, where there are two modaliases, or where the last filter is no pattern
+-- the options of the words after `hwdb`: none where one of them is unknown, where there are two modaliases, or where the last filter is no pattern
 unfoldable pub hwdb_of : List Text → Option Hwdb
 hwdb_of words =
     if list_any is_unknown words then None

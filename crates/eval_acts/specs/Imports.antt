@@ -22,12 +22,12 @@ use Rattle.eval_state.specs.Scenes.{noted, with_env}
 use Rattle.eval_state.specs.declared.note_kind.NoteKind.TheVariants.{BadHwdbArguments, BuiltinNotRun, ImportNotRun}
 use Rattle.eval_state.specs.declared.scene.Scene.{Scene}
 
--- properties with others set one behind another; for udev an empty value takes its property away
+-- properties with others set one after another; for udev an empty value takes its property away
 abbrev pub with_found : Profile → List Pair → List Pair → List Pair
 with_found Manual env properties = with_values env properties
 with_found Udev env properties = properties_set env properties
 
--- properties are set one behind another; it was done where there are any
+-- properties are set one after another; it was done where there are any
 abbrev pub taken : List Pair → Scene → Scene × Bool
 taken properties s = (with_env (with_found s.state.event.profile s.state.env properties) s, not (length properties == 0))
 

@@ -67,7 +67,7 @@ abbrev pub modaliases : Hwdb → Option Text → State → List Text
 modaliases hwdb None state = modaliases_of hwdb.subsystem (candidates state)
 modaliases hwdb (Some modalias) state = modalias ∷ []
 
--- the texts to look up: each modalias behind the prefix
+-- the texts to look up: each modalias after the prefix
 abbrev pub texts : Hwdb → State → List Text
 texts hwdb state = map (λ modalias. hwdb.prefix ++ modalias) (modaliases hwdb hwdb.modalias state)
 

@@ -25,7 +25,7 @@ abbrev pub is_found : Text → Option DeviceValue → Bool
 is_found name None = false
 is_found name (Some device) = has_file device name
 
--- TEST of a file of the device at a place of the chain; it is not made where the device that is asked for stands at none
+-- TEST of a file of the device at a place of the chain; it is not made where the device that is asked for is at none
 abbrev pub tested_at : Option ℕ → Rule → Text → Text → Scene → Scene × Bool
 tested_at None r name path s = (noted r TestNotMade path s, false)
 tested_at (Some place) r name path s = (s, is_found name (device_at s.state.event place))

@@ -35,7 +35,7 @@ ended cut = record { place = Between; word = cut.word; words = cut.words ++ cut.
 abbrev pub emptied : Cut → Cut
 emptied cut = record { place = cut.place; word = []; words = cut.words }
 
--- a byte behind a quote
+-- a byte after a quote
 abbrev pub quoted : ℕ → ℕ → Cut → Cut
 quoted quote b cut =
     if b == quote then record { place = InWord; word = cut.word; words = cut.words }

@@ -63,7 +63,7 @@ fn path_by(profile: Profile, device: &Device<'_>, text: Rendered) -> Rendered
 }
 
 /// The path of TEST. In an event of udev's it may have 1,023 bytes, and so may a relative one with `/sys`, the path of
-/// the event device and a slash before it. The error comes where memory is refused.
+/// the event device and a slash before it.
 pub fn test_text(
     alloc: Global,
     template: &Template,
@@ -92,7 +92,7 @@ fn render_without_result(
 }
 
 /// The command of PROGRAM. In an event of udev's it may have 16,383 bytes, and the earlier result is empty in it. The state
-/// is the same before and behind; the error comes where memory is refused.
+/// is the same before and after; the error comes where memory runs out.
 pub fn program_text(
     alloc: Global,
     template: &Template,
@@ -110,8 +110,7 @@ pub fn program_text(
     }
 }
 
-/// The value of an IMPORT, rendered, which in an event of udev's may have so many bytes. The error comes where memory is
-/// refused.
+/// The value of an IMPORT, rendered, which in an event of udev's may have so many bytes.
 pub fn import_text(
     alloc: Global,
     most: usize,
@@ -124,7 +123,7 @@ pub fn import_text(
     Ok(within_by(state.event.event().profile(), most, text))
 }
 
-/// The value of IMPORT{parent} as udev renders it, of at most 1,023 bytes. The error comes where memory is refused.
+/// The value of IMPORT{parent} as udev renders it, of at most 1,023 bytes.
 pub fn names_text(alloc: Global, text: &[u8], state: &State<'_>) -> Result<Rendered, AllocError>
     ensures { IfOk result (λ rendered. rendered ≡ names_text text.now state.now) }
 {

@@ -238,7 +238,7 @@ fn perform<L: Lookup>(
 /// the note `text too long`, and stops the rule with either operator; so does a TEST whose path has over
 /// 1,023 bytes with `/sys`, the path of the event device and a slash before it.
 ///
-/// The error comes where memory is refused; nothing is then left of the scene but its event.
+/// Where memory runs out, nothing is left of the scene but its event.
 #[tactic(auto, unfolding(crate::specs::Acts::act_step))]
 pub fn act_step<L: Lookup>(
     alloc: Global,

@@ -27,11 +27,11 @@ pub enum Builtin {
     /// Another builtin, which is not run: the first word of the command, empty where it has none; for udev
     /// the whole name of the builtin, and where the command means none the command.
     Other(Bytes),
-    /// A quote stays open, whatever the builtin; or the words behind `hwdb` are not its arguments.
+    /// A quote stays open, whatever the builtin; or the words after `hwdb` are not its arguments.
     BadArguments,
 }
 
-/// What the words behind `hwdb` ask for.
+/// What the words after `hwdb` ask for.
 fn hwdb_asked(alloc: Global, arguments: &[Bytes]) -> Result<Builtin, AllocError>
     ensures { IfOk result (λ b. b ≡ hwdb_asked (hwdb_of arguments.now)) }
 {
@@ -100,7 +100,7 @@ impl Builtin {
     /// `--filter=PATTERN`, of each the last, and at most one modalias; a word that begins with `-` and is
     /// no such option, a second modalias and a last filter that is no pattern are bad arguments. For udev
     /// (systemd 257) the first word is the beginning of a name, that of the first builtin which has it,
-    /// and another builtin has its whole name. The error comes where memory is refused.
+    /// and another builtin has its whole name.
     pub fn read(alloc: Global, profile: Profile, command: &[u8]) -> Result<Builtin, AllocError>
         ensures { IfOk result (λ b. b ≡ builtin profile command.now) }
     {

@@ -13,7 +13,7 @@ use text_core::{GlobFault, Pattern};
 pub struct Hwdb {
     /// `--subsystem=NAME`: the subsystem of the devices that are looked up.
     pub subsystem: Option<Bytes>,
-    /// `--lookup-prefix=TEXT`: what stands before each modalias; empty without the option.
+    /// `--lookup-prefix=TEXT`: what comes before each modalias; empty without the option.
     pub prefix: Bytes,
     /// `--filter=PATTERN`: which keys count; all of them without the option.
     pub filter: Option<Pattern>,
@@ -135,7 +135,7 @@ fn copy_of(alloc: Global, text: Option<&[u8]>) -> Result<Option<Bytes>, AllocErr
     }
 }
 
-/// The options that the words behind `hwdb` are, if they are good ones.
+/// The options that the words after `hwdb` are, if they are good ones.
 #[tactic(auto, unfolding(crate::specs::Hwdb::hwdb_of))]
 pub(crate) fn hwdb_of(alloc: Global, words: &[Bytes]) -> Result<Option<Hwdb>, AllocError>
     ensures { IfOk result (λ hwdb. hwdb ≡ hwdb_of words.now) }

@@ -1,4 +1,7 @@
-//! What TEST, PROGRAM and IMPORT do, what a builtin's command asks for, and what a match leaves that is reached.
+//! What TEST, PROGRAM and IMPORT do, which builtin a command names with which options, and what a match leaves after
+//! once it is reached.
+//!
+//! Functions that allocate return `AllocError` when memory runs out.
 #![tactic(auto)]
 
 mod act_texts;

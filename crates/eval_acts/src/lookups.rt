@@ -28,7 +28,7 @@ fn modaliases<'a>(
     }
 }
 
-/// A modalias behind a prefix.
+/// A modalias after a prefix.
 fn prefixed(alloc: Global, prefix: &[u8], modalias: &[u8]) -> Result<Vec<u8>, AllocError>
     ensures { IfOk result (λ text. text.items ≡ prefix.now ++ modalias.now) }
 {
@@ -68,13 +68,11 @@ fn answer<'l, L: Lookup>(
 }
 
 /// What `hwdb` finds in a database for an event, as udev(7) has it: the answer to the first of these
-/// texts that has one. With a modalias it is the one text, behind the prefix; else it is the property
+/// texts that has one. With a modalias it is the one text, after the prefix; else it is the property
 /// MODALIAS of each device, nearest first, that has a subsystem (the one named, if any) and this
-/// property, behind the prefix. The event device is taken by its properties as they are now. A device
+/// property, after the prefix. The event device is taken by its properties as they are now. A device
 /// of the subsystem `usb` whose property DEVTYPE is `usb_device` and that has the subsystem named, if
 /// any, is the last one looked at, with or without a modalias. Only keys that fit the filter count.
-///
-/// The error comes where memory is refused.
 #[tactic(auto, unfolding(crate::specs::LookUps::found))]
 pub fn look_up<'l, L: Lookup>(
     alloc: Global,

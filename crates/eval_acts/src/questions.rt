@@ -20,7 +20,7 @@ fn is_found(alloc: Global, device: Option<&Device<'_>>, name: &[u8]) -> Result<b
     }
 }
 
-/// TEST of a file of the device at a place of the chain, which is not made where the device stands at none.
+/// TEST of a file of the device at a place of the chain, which is not made where the device is at none.
 fn look_at(
     alloc: Global,
     rule: &Rule,

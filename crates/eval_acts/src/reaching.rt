@@ -27,8 +27,7 @@ fn attribute_reached(
 /// Leaves what a match of the event leaves when it is reached, whether it holds or not: that of SYSCTL,
 /// which a dry run does not read, the note `sysctl not read` with the parameter's name; that of an
 /// attribute which udev would read and a dry run does not the note `attribute not read` with its name,
-/// in an event of udev's alone; any other nothing. The error comes where memory is refused; the scene
-/// then stays as it is.
+/// in an event of udev's alone; any other nothing. Where memory runs out, the scene stays as it is.
 pub fn reached(
     alloc: Global,
     rule: &Rule,

@@ -15,7 +15,7 @@ pub enum Place {
     Between,
     /// In a word, outside of quotes.
     InWord,
-    /// In a word, behind such a quote.
+    /// In a word, after such a quote.
     Quoted(u8),
 }
 
@@ -99,7 +99,7 @@ impl Cutter {
         }
     }
 
-    /// Takes the next byte behind a quote.
+    /// Takes the next byte after a quote.
     fn take_quoted(&mut self, quote: u8, byte: u8) -> Result<(), AllocError>
         ensures { OnOk result (self.new ≡ quoted quote byte self.old) }
     {

@@ -18,7 +18,7 @@ module _ (test : List ℕ → Bool) where
   held_more held t ts = append_assoc held (filter test (t ∷ [])) (filter test ts) ∙ ap (λ us. held ++ us) (first_of t ts)
 
   module _ (byte : ℕ) where
-    -- what stands before the next such byte, and then the parts behind it
+    -- what comes before the next such byte, and then the parts after it
     more_at : (held : List (List ℕ)) (rest front behind : List ℕ) (place : ℕ) → position (λ b. b == byte) rest ≡ Some place → front ≡ take place rest → behind ≡ drop (place + 1) rest
         → (held ++ filter test (front ∷ [])) ++ filter test (slice_split (λ b. b == byte) behind) ≡ held ++ filter test (slice_split (λ b. b == byte) rest)
     more_at held rest front behind place at f b =

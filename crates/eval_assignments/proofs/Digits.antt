@@ -1,4 +1,4 @@
--- A mode that is told as four octal digits is read back.
+-- A mode that is reported as four octal digits is read back.
 use Rattle.std.proofs.Common.{◌≡◌, ◌<◌, ◌^◌, ◌+◌, ◌*◌, ◌/◌, ◌%◌, ℕ, ◌==◌, true, false, cond, [], ◌∷◌, drop, nat_le, nat_lt, Some, None, refl, ap, ◌∙◌, arith}
 use Rattle.std.specs.List.{list_all, prefix_len}
 use Rattle.std.proofs.lemmas.Bool.{and_from, le-leb, lt-ltb, ne_eqb, or_from}

@@ -9,7 +9,7 @@ use Rattle.text_bytes.specs.Texts.{begins_with}
 use Rattle.text_tables.specs.Texts.{Text, same_text}
 use Rattle.eval_assignments.specs.Links.{behind_dev, below_dev, components, is_barred, is_step, path_of, plain_link}
 
--- what stands between the slashes of a text
+-- what is between the slashes of a text
 abbrev parts : Text → List Text
 parts path = slice_split (λ b. b == slash) path
 
@@ -30,7 +30,7 @@ whole_parts (b ∷ path) = by (b == slash) refl (whole_parts path)
     by true e k = All-cons IsWhole [] (parts path) (All-nil (λ c. (c == slash) ≡ false)) k
     by false e k = onto b (parts path) e k
 
--- a component as it may stand in a link
+-- a component as it may be in a link
 record IsPlain (component : Text) : Type 0 where
   step : is_step component ≡ true
   free : is_barred component ≡ false
@@ -77,7 +77,7 @@ starts_plain c cs h = by c cs (All-head IsPlain c cs h)
     by (b ∷ c) [] k = All-head (λ b. (b == slash) ≡ false) b c k.whole
     by (b ∷ c) (d ∷ cs) k = All-head (λ b. (b == slash) ≡ false) b c k.whole
 
--- a link by its components, as they stand below /dev
+-- a link by its components, as they are below /dev
 by_components : (path : Text) (c : Text) (cs : List Text) → components path ≡ c ∷ cs → begins_with slash path ≡ false → All IsPlain (c ∷ cs) → plain_link path ≡ Some (join_with_byte slash (c ∷ cs))
 by_components path c cs e relative h =
     ap (λ found. cond (list_any is_barred found) None (path_of (cond (begins_with slash path) (behind_dev found) found))) e
@@ -90,7 +90,7 @@ components_again c cs h = ap (filter is_step) (parts_again c cs h) ∙ kept_all 
 kept_again : (c : Text) (cs : List Text) → All IsPlain (c ∷ cs) → plain_link (join_with_byte slash (c ∷ cs)) ≡ Some (join_with_byte slash (c ∷ cs))
 kept_again c cs h = by_components (join_with_byte slash (c ∷ cs)) c cs (components_again c cs h) (starts_plain c cs h) h
 
--- the same behind `/dev/`
+-- the same after `/dev/`
 kept_below : (c : Text) (cs : List Text) → All IsPlain (c ∷ cs) → plain_link (codes "/dev/" ++ join_with_byte slash (c ∷ cs)) ≡ Some (join_with_byte slash (c ∷ cs))
 kept_below c cs h =
     ap (λ found. cond (list_any is_barred found) None (path_of found)) (components_again c cs h)

@@ -28,7 +28,7 @@ own_attribute_set r name t s =
     if nat_lt most_name_bytes (length (attribute_path s.state.event name)) then noted_key r TextTooLong key.Attr (Some name) s
     else attribute_put r name (starred s.state.event.device name) t s
 
--- a value is assigned to an attribute of the device at a place of the chain, if there is one: of one above the event device it is told with
+-- a value is assigned to an attribute of the device at a place of the chain, if there is one: of one above the event device it is reported with
 -- its whole name
 abbrev pub attribute_set_at : Option ℕ → NamedValue → Rule → Text → Text → Scene → Scene
 attribute_set_at None n r name t s = own_attribute_set r name t s

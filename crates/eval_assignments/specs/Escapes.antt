@@ -15,7 +15,7 @@ use Rattle.eval_rendering.specs.declared.rendered.Mode.TheVariants.{Plain, Link}
 use Rattle.eval_assignments.specs.declared.escapes.Escape.{Escape}
 use Rattle.eval_assignments.specs.declared.escapes.Escape.TheVariants.{Usual, Keep, Replace}
 
--- how a rule treats the bytes of links and names behind one assignment more: `string_escape` says so anew
+-- how a rule treats the bytes of links and names after one assignment more: `string_escape` says so anew
 abbrev pub escape_after : Escape → Change → Escape
 escape_after e (change.Option KeepEscapes) = Keep
 escape_after e (change.Option ReplaceEscapes) = Replace

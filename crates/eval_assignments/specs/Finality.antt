@@ -53,7 +53,7 @@ abbrev pub settled : Option FinalKey → Scene → Scene
 settled None s = s
 settled (Some k) s = record s { finals = made_final s.finals k }
 
--- what stands behind an assignment that was made: `:=` makes its key final
+-- what follows an assignment that was made: `:=` makes its key final
 abbrev pub finally : AssignOperator → Option FinalKey → Scene → Scene
 finally AssignFinal k s = settled k s
 finally _ k s = s

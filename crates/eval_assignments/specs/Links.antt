@@ -12,7 +12,7 @@ use Rattle.eval_state.specs.declared.note_kind.NoteKind.TheVariants.{LinkIgnored
 use Rattle.eval_state.specs.declared.scene.Scene.{Scene}
 use Rattle.eval_assignments.specs.Lists.{changed, not_empty}
 
--- whether a byte stands between two words for udev
+-- whether a byte is between two words for udev
 abbrev pub is_between : ℕ → Bool
 is_between b = b == space || (b == tab || (b == newline || b == carriage_return))
 
@@ -36,7 +36,7 @@ most_component_bytes = 255
 abbrev pub is_barred : Text → Bool
 is_barred component = same_text component (codes "..") || nat_lt most_component_bytes (length component)
 
--- the components behind `dev`, where that is the first one
+-- the components after `dev`, where that is the first one
 abbrev pub behind_dev : List Text → List Text
 behind_dev [] = []
 behind_dev (component ∷ others) = if same_text component (codes "dev") then others else []

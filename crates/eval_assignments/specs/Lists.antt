@@ -11,7 +11,7 @@ use Rattle.rule_types.specs.declared.roles.AssignOperator.TheVariants.{Assign, A
 abbrev pub without_texts : List Text → List Text → List Text
 without_texts texts gone = fold without_text texts gone
 
--- texts as an operator changes them: made anew, added behind where they are not there, taken away
+-- texts as an operator changes them: made anew, added after where they are not there, taken away
 abbrev pub changed : AssignOperator → List Text → List Text → List Text
 changed Assign given texts = with_texts [] given
 changed AssignFinal given texts = with_texts [] given

@@ -20,7 +20,7 @@ use Rattle.eval_assignments.specs.Escapes.{turned}
 use Rattle.eval_assignments.specs.declared.escapes.Escape.{Escape}
 use Rattle.eval_assignments.specs.declared.escapes.Escape.TheVariants.{Replace}
 
--- a text behind a value, with a space between them, unless that is too long; a value without a byte gives its place to the text
+-- a text after a value, with a space between them, unless that is too long; a value without a byte gives its place to the text
 abbrev pub appended : Text → Text → Option Text
 appended [] t = Some t
 appended (b ∷ value) t = bounded ((b ∷ value) ++ space ∷ t)
@@ -30,7 +30,7 @@ abbrev pub property_joined : Rule → Text → Option Text → Scene → Scene
 property_joined r name None s = noted r TextTooLong (word_of_key key.Env (Some name)) s
 property_joined r name (Some value) s = with_env (with_value s.state.env name value) s
 
--- a text is put behind the value of a property; the empty one changes nothing
+-- a text is put after the value of a property; the empty one changes nothing
 abbrev pub property_added : Rule → Text → Text → Scene → Scene
 property_added r name [] s = s
 property_added r name (b ∷ t) s = property_joined r name (appended (or_empty (value_of s.state.env name)) (b ∷ t)) s
@@ -53,7 +53,7 @@ env_text e t = t
 abbrev pub short_value : Text → Option Text
 short_value t = if nat_lt most_value_bytes (length t) then None else Some t
 
--- a text behind a value, with a space between them, as udev puts it together; without a value it is the text
+-- a text after a value, with a space between them, as udev puts it together; without a value it is the text
 abbrev pub extended : Option Text → Text → Option Text
 extended None t = short_value t
 extended (Some value) t = short_value (value ++ space ∷ t)
@@ -63,7 +63,7 @@ abbrev pub property_put : Rule → Text → Option Text → Scene → Scene
 property_put r name None s = noted r TextTooLong (word_of_key key.Env (Some name)) s
 property_put r name (Some value) s = with_env (property_set name value s.state.env) s
 
--- a text is put behind the value of a property of udev's; one that is written empty changes nothing
+-- a text is put after the value of a property of udev's; one that is written empty changes nothing
 abbrev pub property_extended : Rule → Text → Text → Text → Scene → Scene
 property_extended r name [] t s = s
 property_extended r name (b ∷ written) t s = property_put r name (extended (value_of s.state.env name) t) s

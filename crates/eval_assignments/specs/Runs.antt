@@ -36,12 +36,12 @@ abbrev pub made_before : AssignOperator → List MadeRun → List MadeRun
 made_before Add made = made
 made_before _ made = []
 
--- a command is taken in behind the others, by the words that it has: without one it leaves a note
+-- a command is taken in after the others, by the words that it has: without one it leaves a note
 abbrev pub command_made : Rule → Option RunType → Template → Text → List Text → Scene → Scene
 command_made r braces template text [] s = noted_key r NoValue key.Run (option_map run_name braces) s
 command_made r braces template text (word ∷ more) s = record s { made = s.made ++ record { run = run_of r braces template s; text = text } ∷ [] }
 
--- a RUN once it is rendered is taken in behind the others; one that is too long leaves a note
+-- a RUN once it is rendered is taken in after the others; one that is too long leaves a note
 abbrev pub run_made : Rule → Option RunType → Template → Rendered → Scene → Scene
 run_made r braces template rendered.TooLong s = noted_key r TextTooLong key.Run (option_map run_name braces) s
 run_made r braces template (rendered.Text text) s = command_made r braces template text (words text) s

@@ -41,7 +41,7 @@ abbrev pub text_given : Profile → Rule → Escape → AssignOperator → Targe
 text_given profile r e o about written t s =
     if is_ignored profile about s then noted r NameIgnored t s else finally o (final_target about) (assigned profile r e o about written t s)
 
--- what stands behind an assignment of a text that is too long: for the manual nothing is made final, for udev all the same
+-- what follows an assignment of a text that is too long: for the manual nothing is made final, for udev all the same
 abbrev pub finally_too_long : Profile → AssignOperator → Target → Scene → Scene
 finally_too_long Manual o about s = s
 finally_too_long Udev o about s = finally o (final_target about) s

@@ -13,7 +13,7 @@ use Rattle.eval_state.specs.declared.note_kind.NoteKind.TheVariants.{NoValue, Ta
 use Rattle.eval_state.specs.declared.scene.Scene.{Scene}
 use Rattle.eval_assignments.specs.Lists.{without_texts}
 
--- whether a byte may stand in a tag of udev's
+-- whether a byte may be in a tag of udev's
 abbrev pub is_tag_byte : ℕ → Bool
 is_tag_byte b = is_ascii_alphanumeric b || (b == minus || b == underscore)
 
@@ -25,7 +25,7 @@ most_tag_bytes = 255
 abbrev pub is_tag : Text → Bool
 is_tag t = nat_le (length t) most_tag_bytes && list_all is_tag_byte t
 
--- the tags that stand in the end: those that were not taken away
+-- the tags that are in the end: those that were not taken away
 abbrev pub current_tags : Scene → List Text
 current_tags s = without_texts s.state.tags s.gone
 

@@ -79,7 +79,8 @@ fn set_named_attribute(
 }
 
 /// Assigns a value to an attribute as udev finds it (systemd 257): `[SUBSYSTEM/KERNEL]ATTRIBUTE` is one of the device of the
-/// chain that is named so, where that is there, and a component `*` with others behind it stands for the first folder that
+/// chain that is named so, where that is there, and a component `*` with others after it stands for the first folder
+/// that
 /// fits. A name that fits nothing leaves a note, and so does a path of over 1,023 bytes.
 pub(crate) fn set_attribute(
     alloc: Global,

@@ -18,7 +18,7 @@ pub enum Escape {
     Replace,
 }
 
-/// How a rule treats bytes behind one assignment more.
+/// How a rule treats bytes after one assignment more.
 fn escape_after(escape: Escape, change: &Change) -> Escape
     ensures { result ≡ escape_after escape change.now }
 {

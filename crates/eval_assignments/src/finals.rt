@@ -1,4 +1,4 @@
-//! Which key an assignment makes final behind `:=`.
+//! Which key an assignment makes final after `:=`.
 ghost use Rattle.std.specs.Prelude.{◌≡◌};
 ghost use Rattle.eval_assignments.specs.Finality.{final_key, final_option, final_priority, final_target, finally, is_settled, settled};
 
@@ -73,7 +73,7 @@ fn settle(key: Option<FinalKey>, scene: &mut Scene<'_>)
     }
 }
 
-/// What stands behind an assignment that was made: `:=` makes its key final.
+/// What follows an assignment that was made: `:=` makes its key final.
 pub(crate) fn finish(operator: AssignOperator, key: Option<FinalKey>, scene: &mut Scene<'_>)
     ensures { scene.new ≡ finally operator key scene.old }
 {

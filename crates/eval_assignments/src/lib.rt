@@ -1,8 +1,10 @@
-//! What the assignments of a rule change, as udev(7) has them under "assign keys".
+//! What the assignments of a rule change, as described in udev(7) under "assign keys".
 //!
-//! A definition has one row for each key, and the code one arm; what an arm needs beyond a line has a
-//! function of its own. A key that is final is looked at before all else, so that nothing is rendered
-//! for an assignment that is not made.
+//! A definition has one row for each key, and the code one arm; if an arm needs more than a line, it has a function of
+//! its own. Whether a key is final is checked before anything else, so that nothing is rendered for an assignment that
+//! is not made.
+//!
+//! Functions that allocate return `AllocError` when memory runs out.
 #![tactic(auto)]
 
 mod assigning;

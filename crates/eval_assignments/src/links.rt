@@ -15,7 +15,7 @@ use text_bytes::{Bytes, begins_with, split_once};
 /// The most bytes of a component of a link.
 const MOST_COMPONENT_BYTES: usize = 255;
 
-/// Whether a byte stands between two words for udev.
+/// Whether a byte is between two words for udev.
 fn is_between(byte: u8) -> bool
     ensures { result ≡ is_between byte }
 {
@@ -49,7 +49,7 @@ fn is_step(component: &[u8]) -> bool
     !component.is_empty() && component != b".".as_slice()
 }
 
-/// Puts a component behind others, if it leads somewhere.
+/// Puts a component after others, if it leads somewhere.
 fn push_step<'a>(steps: &mut Vec<&'a [u8]>, component: &'a [u8]) -> Result<(), AllocError>
     ensures { OnOk result (map (λ t. t.now) steps.new.items ≡ map (λ t. t.now) steps.old.items ++ filter is_step (component.now ∷ [])) }
 {
@@ -99,7 +99,7 @@ fn is_dev(component: &[u8]) -> bool
     component == b"dev".as_slice()
 }
 
-/// The components behind `dev`, where that is the first one.
+/// The components after `dev`, where that is the first one.
 fn behind_dev<'s, 'a>(components: &'s [&'a [u8]]) -> &'s [&'a [u8]]
     ensures { map (λ t. t.now) result.now ≡ behind_dev (map (λ t. t.now) components.now) }
 {
@@ -138,7 +138,7 @@ fn path_of(alloc: Global, components: &[&[u8]]) -> Result<Option<Bytes>, AllocEr
     Ok(Some(joined(alloc, components)?))
 }
 
-/// A link as udev keeps it: without slashes that repeat or stand at an end, without `.`, and below `/dev`.
+/// A link as udev keeps it: without slashes that repeat or are at an end, without `.`, and below `/dev`.
 /// None where the path leads out of `/dev`, where a component is `..`, and where one has over 255 bytes.
 fn plain_link(alloc: Global, path: &[u8]) -> Result<Option<Bytes>, AllocError>
     ensures { IfOk result (λ link. link ≡ plain_link path.now) }
@@ -192,7 +192,7 @@ fn links_of<'a>(alloc: Global, words: &[&'a [u8]]) -> Result<Links<'a>, AllocErr
     Ok(links)
 }
 
-/// Lends texts.
+/// Returns texts.
 fn lent(alloc: Global, texts: &[Bytes]) -> Result<Vec<&[u8]>, AllocError>
     ensures { IfOk result (λ lent. map (λ t. t.now) lent.items ≡ texts.now) }
 {
@@ -220,7 +220,7 @@ fn note_link(
 }
 
 /// Changes the links by an operator as udev does (systemd 257): each word of the text is a link, kept as its plain path
-/// below `/dev`; one that is none is left out, and the first of these is told in a note.
+/// below `/dev`; one that is none is left out, and the first of these is reported in a note.
 pub(crate) fn change_udev_links(
     alloc: Global,
     rule: &Rule,

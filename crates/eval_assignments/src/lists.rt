@@ -65,7 +65,7 @@ pub(crate) fn change_tags(
     }
 }
 
-/// Puts a name behind others, unless it is empty.
+/// Puts a name after others, unless it is empty.
 pub(crate) fn push_name<'a>(names: &mut Vec<&'a [u8]>, name: &'a [u8]) -> Result<(), AllocError>
     ensures { OnOk result (map (λ t. t.now) names.new.items ≡ map (λ t. t.now) names.old.items ++ not_empty (name.now ∷ [])) }
 {

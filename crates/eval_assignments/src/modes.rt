@@ -30,7 +30,8 @@ fn four_digits(alloc: Global, mode: u32) -> Result<Bytes, AllocError>
     Bytes::copy_of(alloc, &digits)
 }
 
-/// Sets the mode of the device's node as udev does (systemd 257): what octal digits write, told as four of them. A text that is
+/// Sets the mode of the device's node as udev does (systemd 257): what octal digits write, reported as four of them. A
+/// text that is
 /// no mode leaves a note, and the mode before stays.
 pub(crate) fn set_mode(
     alloc: Global,

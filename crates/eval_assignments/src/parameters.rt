@@ -31,7 +31,7 @@ fn exchanged(byte: u8) -> u8
     }
 }
 
-/// How many bytes stand before the first separator.
+/// How many bytes come before the first separator.
 fn first_len(name: &[u8]) -> usize
     ensures value { result ≡ prefix_len (λ b. not (is_separator b)) name.now }
     ensures within { result ≤ length name.now }
@@ -57,7 +57,8 @@ fn with_slashes(alloc: Global, name: &[u8]) -> Result<Vec<u8>, AllocError>
     }
 }
 
-/// The name of a parameter as udev tells it (systemd 257): its path below `/proc/sys`, without slashes that repeat or stand at
+/// The name of a parameter as udev tells it (systemd 257): its path below `/proc/sys`, without slashes that repeat or
+/// are at
 /// an end, and without `.`.
 fn parameter_name(alloc: Global, name: &[u8]) -> Result<Bytes, AllocError>
     ensures { IfOk result (λ made. made ≡ parameter_name name.now) }
@@ -96,7 +97,8 @@ fn put_parameter(
     }
 }
 
-/// Assigns a value to a kernel parameter as udev does (systemd 257): its name is rendered and told with slashes. A name of over
+/// Assigns a value to a kernel parameter as udev does (systemd 257): its name is rendered and reported with slashes. A
+/// name of over
 /// 1,023 bytes leaves a note.
 pub(crate) fn set_parameter(
     alloc: Global,

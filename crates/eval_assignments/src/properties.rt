@@ -14,7 +14,7 @@ use text_bytes::Bytes;
 /// The most bytes of a value that is put together.
 const MOST_BYTES: usize = 16384;
 
-/// A text behind a value, with a space between them; `None` where that is too long. A value without a
+/// A text after a value, with a space between them; `None` where that is too long. A value without a
 /// byte gives its place to the text.
 fn appended(alloc: Global, value: &[u8], text: &[u8]) -> Result<Option<Bytes>, AllocError>
     ensures { IfOk result (λ joined. joined ≡ appended value.now text.now) }
@@ -48,7 +48,7 @@ fn set_joined(
     }
 }
 
-/// Puts a text behind the value of a property; the empty one changes nothing.
+/// Puts a text after the value of a property; the empty one changes nothing.
 fn add_to_property(
     alloc: Global,
     rule: &Rule,
@@ -119,7 +119,7 @@ fn short_value(text: Bytes) -> Option<Bytes>
     }
 }
 
-/// A text behind a value, with a space between them.
+/// A text after a value, with a space between them.
 fn spaced(alloc: Global, value: &[u8], text: &[u8]) -> Result<Bytes, AllocError>
     ensures { IfOk result (λ whole. whole ≡ value.now ++ space ∷ text.now) }
 {
@@ -129,7 +129,7 @@ fn spaced(alloc: Global, value: &[u8], text: &[u8]) -> Result<Bytes, AllocError>
     Ok(Bytes::new(whole))
 }
 
-/// A text behind a value as udev puts it together; `None` where that is too long. Without a value it is the text.
+/// A text after a value as udev puts it together; `None` where that is too long. Without a value it is the text.
 fn extended(alloc: Global, value: Option<&Bytes>, text: Bytes) -> Result<Option<Bytes>, AllocError>
     ensures { IfOk result (λ whole. whole ≡ extended (option_map (λ v. v.now) value.entry) text) }
 {
@@ -156,7 +156,7 @@ fn put_property(
     }
 }
 
-/// Puts a text behind the value of a property of udev's; one that is written empty changes nothing.
+/// Puts a text after the value of a property of udev's; one that is written empty changes nothing.
 fn extend_property(
     alloc: Global,
     rule: &Rule,
@@ -175,7 +175,8 @@ fn extend_property(
     put_property(alloc, rule, name, value, scene)
 }
 
-/// Changes a property by an operator as udev does (systemd 257): `+=` puts a space and the text behind the value that is there,
+/// Changes a property by an operator as udev does (systemd 257): `+=` puts a space and the text after the value that
+/// is there,
 /// and changes nothing where the text is written empty. Over 511 bytes together a note is left.
 pub(crate) fn change_udev_property(
     alloc: Global,

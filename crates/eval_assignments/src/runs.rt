@@ -34,7 +34,7 @@ pub(crate) fn keep_run<'a>(
     Ok(())
 }
 
-/// Leaves a note about a RUN, which names its type where that stands in braces.
+/// Leaves a note about a RUN, which names its type where that is in braces.
 fn note_run(
     alloc: Global,
     rule: &Rule,
@@ -51,7 +51,7 @@ fn note_run(
     }
 }
 
-/// Takes a command in behind the others; one without a word leaves a note.
+/// Takes a command in after the others; one without a word leaves a note.
 fn make_command<'a>(
     alloc: Global,
     rule: &'a Rule,
@@ -70,7 +70,7 @@ fn make_command<'a>(
     scene.made.push(MadeRun { run, text })
 }
 
-/// Takes a RUN in behind the others once it is rendered; one that is too long leaves a note.
+/// Takes a RUN in after the others once it is rendered; one that is too long leaves a note.
 fn make_run<'a>(
     alloc: Global,
     rule: &'a Rule,

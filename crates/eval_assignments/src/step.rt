@@ -54,7 +54,7 @@ fn set_given(
     Ok(())
 }
 
-/// What stands behind an assignment of a text that is too long: for udev `:=` makes its key final all the same.
+/// What follows an assignment of a text that is too long: for udev `:=` makes its key final all the same.
 fn finish_too_long(
     profile: Profile,
     operator: AssignOperator,
@@ -321,7 +321,7 @@ fn set_open<'a>(
     step_by(alloc, profile, rule, escape, assignment, scene)
 }
 
-/// Makes the assignments of a rule, one behind another. How the rule treats bytes is looked for once.
+/// Makes the assignments of a rule, one after another. How the rule treats bytes is looked for once.
 fn set_each<'a>(alloc: Global, rule: &'a Rule, scene: &mut Scene<'a>) -> Result<(), AllocError>
     ensures scene { OnOk result (scene.new ≡ fold (set_step rule.now) scene.old rule.now.sets) }
     ensures refused { OnErr result (scene.new.state.event ≡ scene.old.state.event) }
@@ -333,19 +333,19 @@ fn set_each<'a>(alloc: Global, rule: &'a Rule, scene: &mut Scene<'a>) -> Result<
     Ok(())
 }
 
-/// Makes the assignments of a rule, one behind another, each unless its key is final: udev(7), "assign
+/// Makes the assignments of a rule, one after another, each unless its key is final: udev(7), "assign
 /// keys".
 ///
 /// A text is rendered first. One of more than 16,384 bytes leaves a note and changes nothing, and so
 /// does a NAME for what is no network device. A RUN is kept as it is written, with the device that is
-/// selected now. Behind a `:=` that was made, its key is final.
+/// selected now. After a `:=` that was made, its key is final.
 ///
 /// Of an event of udev's they are made as udev makes them (systemd 257). A text has 511, 1,023 or 16,383 bytes at most, by its
 /// key; one of more is final with `:=` all the same, and SYMLINK and RUN with `=` or `:=` have taken away what was there. Links,
 /// modes, tags, names and the names of attributes and parameters are as udev keeps them; what it refuses leaves a note, and so
 /// does what is said of a node of a device without a number. A RUN is rendered at its rule.
 ///
-/// The error comes where memory is refused; nothing is then left of the scene but its event.
+/// Where memory runs out, nothing is left of the scene but its event.
 pub fn set_all<'a>(alloc: Global, rule: &'a Rule, scene: &mut Scene<'a>) -> Result<(), AllocError>
     ensures scene { OnOk result (scene.new ≡ fold (set_step rule.now) scene.old rule.now.sets) }
     ensures refused { OnErr result (scene.new ≡ blank scene.old.state.event) }
@@ -360,7 +360,7 @@ pub fn set_all<'a>(alloc: Global, rule: &'a Rule, scene: &mut Scene<'a>) -> Resu
 /// Makes one assignment of a rule, unless its key is final, as `set_all` makes each of them. How the rule treats bytes is
 /// looked for anew.
 ///
-/// The error comes where memory is refused; nothing is then left of the scene but its event.
+/// Where memory runs out, nothing is left of the scene but its event.
 pub fn set_one<'a>(
     alloc: Global,
     rule: &'a Rule,

@@ -10,14 +10,14 @@ use std::alloc::{AllocError, Global};
 /// The most bytes of a tag.
 const MOST_TAG_BYTES: usize = 255;
 
-/// Whether a byte may stand in a tag of udev's.
+/// Whether a byte may be in a tag of udev's.
 fn is_tag_byte(byte: u8) -> bool
     ensures { result ≡ is_tag_byte byte }
 {
     byte.is_ascii_alphanumeric() || byte == b'-' || byte == b'_'
 }
 
-/// Whether all bytes of a text may stand in a tag of udev's.
+/// Whether all bytes of a text may be in a tag of udev's.
 fn are_tag_bytes(text: &[u8]) -> bool
     ensures { result ≡ list_all is_tag_byte text.now }
 {

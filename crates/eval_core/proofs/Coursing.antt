@@ -48,7 +48,7 @@ use Rattle.eval_core.proofs.Ruling.{attribute_missed, missed, nothing_known, rul
 
 -- ---- rules that are matches of the event alone
 
--- a rule has nothing behind its matches
+-- a rule has nothing after its matches
 record IsDone (r : Rule) : Type 0 where
   pub acts : r.acts ≡ []
   pub results : r.results ≡ []

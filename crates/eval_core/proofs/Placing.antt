@@ -10,7 +10,7 @@ pub length-passed_over : (rules : List Rule) → length (passed_over rules) ≡ 
 length-passed_over [] = refl
 length-passed_over (r ∷ rs) = ap (λ n. suc n) (length-passed_over rs)
 
--- what stands at the place of a rule
+-- what is at the place of a rule
 pub at_place : (rules : List Rule) (i : ℕ) (r : Rule) (e : ℕ) → i < length rules → get_or (passed_over rules) i e ≡ over (get_or rules i r).goto (drop (i + 1) rules)
 at_place [] i r e h = absurd (omega (arith, h))
 at_place (x ∷ rs) zero r e h = refl
@@ -22,7 +22,7 @@ over_within : (goto : Option Text) (below : List Rule) → over goto below ≤ l
 over_within None below = omega arith
 over_within (Some name) below = prefix_len-le-length (λ r. not (is_named name r.label)) below
 
--- a jump ends at a rule, or behind the last one
+-- a jump ends at a rule, or after the last one
 pub stays_within : (rules : List Rule) (i e : ℕ) → i < length rules → i + 1 + get_or (passed_over rules) i e ≤ length rules
 stays_within [] i e h = absurd (omega (arith, h))
 stays_within (r ∷ rs) zero e h = let few = over_within r.goto rs in omega (arith, few)

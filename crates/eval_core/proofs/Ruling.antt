@@ -96,7 +96,7 @@ attribute_missed wanted found (Some v) e other =
 
 -- ---- what is seen of an event
 
--- what stands at the slot of an attribute
+-- what is at the slot of an attribute
 attribute_at : (names : List Text) (name : Text) (event : EventValue) (place : ℕ) → position (same_text name) names ≡ Some place → slice_get (seen names event) (place + 5) ≡ Some (attribute_seen event.device name)
 attribute_at names name event place found =
     let five : place + 5 ≡ suc (suc (suc (suc (suc place)))) = omega arith in

@@ -16,7 +16,7 @@ use Rattle.eval_state.specs.Chains.{kernel_of}
 use Rattle.eval_state.specs.Texts.{or_empty, trimmed}
 use Rattle.eval_core.specs.declared.checks.Check.{Check}
 
--- where an attribute stands among what is seen, by its place among the names: behind five others
+-- where an attribute stands among what is seen, by its place among the names: after five others
 abbrev pub behind_five : Option ℕ → Option ℕ
 behind_five None = None
 behind_five (Some place) = Some (place + 5)
@@ -26,7 +26,7 @@ abbrev pub attribute_slot : List Text → Text → Option ℕ
 attribute_slot names name = behind_five (position (same_text name) names)
 
 -- where what a key looks at stands among what is seen: the action, the kernel's name, the subsystem, the driver, and
--- behind the first byte of the kernel's name attributes
+-- after the first byte of the kernel's name attributes
 abbrev pub slot_of : List Text → PlainKey → Option ℕ
 slot_of names plain.Action = Some 0
 slot_of names plain.Kernel = Some 1
@@ -84,7 +84,7 @@ abbrev pub is_other : ℕ → Option ℕ → Bool
 is_other wanted None = true
 is_other wanted (Some found) = not (found == wanted)
 
--- whether what stands at a slot is not what is wanted there; where nothing is known, nothing is said
+-- whether what is at a slot is not what is wanted there; where nothing is known, nothing is said
 abbrev pub differs : Option (Option ℕ) → ℕ → Bool
 differs None wanted = false
 differs (Some found) wanted = is_other wanted found

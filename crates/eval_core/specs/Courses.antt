@@ -81,7 +81,7 @@ abbrev pub search_in : List PlainMatch → List UpMatch → UpMatch → Course
 search_in [] parts part = searched (option_or (last_mark parts) (part_mark part))
 search_in (other ∷ plain) parts part = Open
 
--- whether a rule has nothing behind its matches of the event and of a device
+-- whether a rule has nothing after its matches of the event and of a device
 abbrev pub has_no_more : Rule → Bool
 has_no_more r = is_empty r.acts && is_empty r.results && is_empty r.sets
 

@@ -12,7 +12,7 @@ subsystem = 1
 abbrev pub driver : ℕ
 driver = 2
 
--- the mark of a thing with a value, each told by a number
+-- the mark of a thing with a value, each reported by a number
 unfoldable pub mark : ℕ → ℕ → ℕ
 mark thing value = ((thing % 2048) * 31 + value % 2048) % 2048
 

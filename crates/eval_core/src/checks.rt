@@ -2,7 +2,7 @@
 //!
 //! Most rules begin with a match that asks for one text of something that no rule changes: the action,
 //! the kernel's name, the subsystem, the driver or an attribute of the event device. Where the event has
-//! another text there, told by its sketch, the rule changes nothing, and need not be looked at. Of a
+//! another text there, reported by its sketch, the rule changes nothing, and need not be looked at. Of a
 //! pattern for the kernel's name the first byte is known, nearly always.
 ghost use Rattle.std.specs.Prelude.{◌≡◌, ◌<◌, ◌≤◌, length, position, IfOk, IfSome};
 ghost use Rattle.text_tables.specs.Texts.{same_text};
@@ -35,7 +35,7 @@ fn place_of(names: &[Bytes], name: &[u8]) -> Option<usize>
     names.iter().position(|known| name == known.as_slice())
 }
 
-/// Where an attribute stands among what is seen of an event: behind five others.
+/// Where an attribute stands among what is seen of an event: after five others.
 fn attribute_slot(names: &[Bytes], name: &[u8]) -> Option<usize>
     ensures { result ≡ attribute_slot names.now name.now }
 {
@@ -111,8 +111,7 @@ fn first_attribute(rule: &Rule) -> Option<&[u8]> {
     }
 }
 
-/// The names of the attributes that rules look at first, as many as are looked up for each event. The
-/// error comes where memory is refused.
+/// The names of the attributes that rules look at first, as many as are looked up for each event.
 pub(crate) fn first_attributes(alloc: Global, rules: &[Rule]) -> Result<Vec<Bytes>, AllocError>
     ensures { IfOk result (λ names. length names.items ≤ 60) }
 {

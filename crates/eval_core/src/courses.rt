@@ -134,7 +134,7 @@ fn search_in(plain: &[PlainMatch], parts: &[UpMatch], part: &UpMatch) -> Course
     }
 }
 
-/// Whether a rule has nothing behind its matches of the event and of a device.
+/// Whether a rule has nothing after its matches of the event and of a device.
 fn has_no_more(rule: &Rule) -> bool
     ensures { result ≡ has_no_more rule.now }
 {
@@ -167,7 +167,7 @@ fn course_of(names: &[Bytes], rule: &Rule) -> Course
     }
 }
 
-/// The course of each rule. The error comes where memory is refused.
+/// The course of each rule.
 pub(crate) fn courses(
     alloc: Global,
     names: &[Bytes],

@@ -1,9 +1,11 @@
-//! Programs: rules laid out for evaluation, which answer as the rules that were read, sooner.
+//! Programs: rules laid out for evaluation, which give the same answers as the rules that were read, faster.
 //!
-//! What is decided once is decided when rules are laid out: for each rule how many rules its jump passes
-//! over, the check by which it can be passed over without a look at it, and its course, by which it is
-//! known without a look at it how it ends. What rules can't change of an event is looked up once for each
-//! event. Over an event of udev's only the jumps are known beforehand, and each rule is looked at.
+//! What can be decided once is decided when rules are laid out: for each rule, how many rules its jump skips, the check
+//! by which the rule can be skipped without being looked at, and its course, by which its end is known without being
+//! looked at. Facts about an event that rules can't change are looked up once for each event. For events under udev's
+//! profile, only the jumps are computed in advance, and each rule is looked at.
+//!
+//! Functions that allocate return `AllocError` when memory runs out.
 #![tactic(auto)]
 
 mod checks;

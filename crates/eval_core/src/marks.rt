@@ -21,7 +21,7 @@ pub(crate) const SUBSYSTEM: u64 = 1;
 /// The number that stands for drivers.
 pub(crate) const DRIVER: u64 = 2;
 
-/// The mark of a thing with a value, each told by a number.
+/// The mark of a thing with a value, each reported by a number.
 #[tactic(auto, unfolding(crate::specs::Marks::mark))]
 pub(crate) fn mark(thing: u64, value: u64) -> usize
     ensures value { result ≡ mark thing value }

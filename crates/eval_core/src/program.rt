@@ -40,7 +40,7 @@ impl Model for Program {
 
 /// Lays the rules of a set out for evaluation; its messages are dropped.
 ///
-/// The error comes where memory is refused; the rules are dropped then.
+/// The error comes where memory runs out; the rules are dropped then.
 pub fn compile(alloc: Global, rules: RuleSet) -> Result<Program, AllocError>
     ensures { IfOk result (λ program. program ≡ rules.rules) }
 {
@@ -78,8 +78,6 @@ fn evaluate<'a, L: Lookup>(
 
 impl Program {
     /// What an event comes to by the rules, as `evaluate_plain` has it.
-    ///
-    /// The error comes where memory is refused.
     pub fn evaluate<L: Lookup>(
         &self,
         alloc: Global,

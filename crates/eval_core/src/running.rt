@@ -1,4 +1,4 @@
-//! Rules one behind another, by their numbers.
+//! Rules one after another, by their numbers.
 ghost use Rattle.std.specs.Prelude.{◌≡◌, ◌+◌, ◌<◌, ◌≤◌, None, IfOk, OnOk, length, get_or, if◌then◌else◌};
 ghost use Rattle.rule_jumps.specs.Passed.{passed_over};
 ghost use Rattle.eval_rules.specs.Jumps.{run};
@@ -29,7 +29,7 @@ pub(crate) struct Layout<'a> {
     pub courses: &'a [Course],
 }
 
-/// The number of the rule behind one that was evaluated: the next, or that to which it jumps.
+/// The number of the rule after one that was evaluated: the next, or that to which it jumps.
 fn behind(rules: &[Rule], passes: &[usize], place: usize, reached: bool) -> usize
     requires is { passes.now ≡ passed_over rules.now }
     requires within { place < length rules.now }
@@ -42,7 +42,7 @@ fn behind(rules: &[Rule], passes: &[usize], place: usize, reached: bool) -> usiz
 }
 
 /// Evaluates a rule of which it is known, as far as that goes, what comes of it, and answers whether its
-/// end was reached. The error comes where memory is refused.
+/// end was reached.
 fn step<'a, L: Lookup>(
     alloc: Global,
     rule: &'a Rule,
@@ -64,8 +64,8 @@ fn step<'a, L: Lookup>(
     }
 }
 
-/// Evaluates rules, one behind another: those that are ruled out are passed over, and so are those
-/// between a rule that jumps and the one to which it does. The error comes where memory is refused.
+/// Evaluates rules, one after another: those that are ruled out are passed over, and so are those
+/// between a rule that jumps and the one to which it does.
 pub(crate) fn run<'a, L: Lookup>(
     alloc: Global,
     layout: Layout<'a>,

@@ -17,8 +17,8 @@ fn attribute_seen(device: &Device<'_>, name: &[u8]) -> Option<u64>
     Some(sketch(trimmed(device.attrs().get(name)?)))
 }
 
-/// The sketches of an event's action and of its device's kernel name, subsystem and driver, the first
-/// byte of that name, and the sketches of the attributes of these names. The error comes where memory is refused.
+/// The sketches of an event's action and of its device's kernel name, subsystem and driver, the first byte of
+/// that name, and the sketches of the attributes of these names.
 pub(crate) fn seen(
     alloc: Global,
     names: &[Bytes],

@@ -1,4 +1,4 @@
--- Names that are set one behind another, each once, stand as they came.
+-- Names that are set one after another, each once, stand as they came.
 use Rattle.std.proofs.Common.{◌≡◌, Bool, true, false, List, [], ◌∷◌, cond, refl, ap, sym, ◌∙◌, true≢false}
 use Rattle.std.specs.Cmp.Lexicographic.{bytes_decides}
 use Rattle.std.specs.List.{AllByRecursion, IsDistinct}

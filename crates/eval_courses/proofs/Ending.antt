@@ -16,12 +16,12 @@ use Rattle.eval_courses.specs.Courses.{course, end_of, end_reached, keys_told}
 use Rattle.eval_courses.specs.Inner.{idle_end, idle_told, steps_told}
 use Rattle.eval_courses.specs.Laws.{last_of}
 
--- what holds anyway holds behind an error
+-- what holds anyway holds after an error
 pub on_err : {T E P : Type 0} (r : Result T E) → P → OnErr r P
 on_err (Ok x) p = tt
 on_err (Err e) p = p
 
--- the text behind all others is the last
+-- the text after all others is the last
 pub behind_all : (texts : List Text) (text : Text) → last_of (texts ++ text ∷ []) ≡ Some text
 behind_all [] text = refl
 behind_all (t ∷ []) text = refl
@@ -31,7 +31,7 @@ behind_all (t ∷ u ∷ ts) text = behind_all (u ∷ ts) text
 abbrev below_stops : Text → Bool
 below_stops text = nat_lt (get_or text 0 0) 115
 
--- a rule whose end is reached is not told as one that stops
+-- a rule whose end is reached is not reported as one that stops
 not_stopped : (texts : List Text) → ending_of texts ≡ codes "stops there" → ⊥
 not_stopped [] e = true≢false (ap below_stops e)
 not_stopped (t ∷ ts) e = true≢false (ap below_stops e)
@@ -49,7 +49,7 @@ ends : (idle : Bool) (since : Since) (r : Rule) (s : Scene) (b : Bool) → (Some
 ends idle since r s true = (λ e. absurd (end_not_stopped idle since r s (ap (λ (o : Option Text). unwrap_or o []) e)), λ h. absurd (true≢false h))
 ends idle since r s false = (λ e. refl, λ h. refl)
 
--- what is told last
+-- what is reported last
 last_is : (entries : List Entry) (since : Since) (r : Rule) (s : Scene) → last_of (course entries since r s) ≡ Some (end_of (is_idle r s.state.event) since r (before_sets entries r s))
 unfolding course
 last_is entries since r s = behind_all (keys_told entries r s) (end_of (is_idle r s.state.event) since r (before_sets entries r s))
@@ -118,7 +118,7 @@ module _ (entries : List Entry) (r : Rule) (s t : Scene) (on : Bool) (is : (t, o
   pub event_kept : (u : Scene) → on ≡ true → u ≡ fold (set_step r) t r.sets → u.state.event ≡ s.state.event
   event_kept u e made = ap (λ (w : Went). w.0.state.event) (goes_on u e made) ∙ steps_stay entries r s
 
-  -- the course is what was told of the keys, and the end
+  -- the course is what was reported for the keys, and the end
   pub course_is : (since : Since) (before told now : List Text) (b : Bool) (text : Text) → on ≡ b → told ≡ before ++ keys_told entries r s → text ≡ end_of false since r (t, b) → now ≡ told ++ text ∷ []
       → now ≡ before ++ steps_told entries since r s
   unfolding steps_told

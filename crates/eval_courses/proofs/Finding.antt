@@ -1,4 +1,4 @@
--- What is told of a search, by which device meets all of the matches.
+-- What is reported for a search, by which device meets all of the matches.
 use Rattle.std.proofs.Common.{◌≡◌, ℕ, zero, suc, ◌-◌, ◌<◌, Bool, true, false, cond, List, [], ◌∷◌, ◌++◌, length, map, filter, Option, Some, None, codes, append_assoc, arith, refl, ap, sym, ◌∙◌, true≢false}
 use Rattle.std.specs.List.{list_all, list_any, position, range_with_len}
 use Rattle.text_tables.specs.Texts.{Text}

@@ -1,4 +1,4 @@
--- What a match looked at is told alike, by whose word it is compared.
+-- What a match looked at is reported alike, by whose word it is compared.
 use Rattle.std.proofs.Common.{◌≡◌, List, refl}
 use Rattle.text_bytes.specs.declared.profile.Profile.{Profile}
 use Rattle.text_bytes.specs.declared.profile.Profile.TheVariants as profile

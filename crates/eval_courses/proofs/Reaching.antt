@@ -1,4 +1,4 @@
--- What is told of the keys of a rule, and what the rule comes to, by how far it came.
+-- What is reported for the keys of a rule, and what the rule comes to, by how far it came.
 use Rattle.std.proofs.Common.{◌≡◌, Bool, true, false, List, [], ◌++◌, append_assoc, ap, sym, ◌∙◌}
 use Rattle.std.proofs.lemmas.List.{append-nil}
 use Rattle.text_tables.specs.Texts.{Text}
@@ -11,7 +11,7 @@ use Rattle.eval_rules.specs.Steps as steps
 use Rattle.eval_courses.specs.Courses.{acts_told, event_told, keys_told, results_told, told_onward}
 use Rattle.eval_courses.specs.Upward.{search_told}
 
--- what is told of four steps, of which the first comes to this
+-- what is reported for four steps, of which the first comes to this
 abbrev told_from : (f g h : Scene → List Text) (second third : Scene → Went) → List Text → Went → List Text
 told_from f g h second third told went = told ++ told_onward f went ++ told_onward g (onward second went) ++ told_onward h (onward third (onward second went))
 

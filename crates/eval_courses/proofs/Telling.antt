@@ -39,12 +39,12 @@ module _ {P : Type 0} (step : P → Scene → Went) (told : P → Scene → Text
   unfolding told_walk
   told_end before s h = sym (ap (λ ps. before ++ told_walk step told ps s) (drop_all i parts h) ∙ append-nil before)
 
--- what is told of an act that was done, by what it came to
+-- what is reported for an act that was done, by what it came to
 pub done_is : (act : Act) (before : ToldBefore) (t : Scene) (on : Bool) (went : Went) → (t, on) ≡ went → act_key act ++ met on ++ told_behind before t.state.env ≡ done_told act before went
 unfolding done_told
 done_is act before t on went e = ap (λ (w : Went). act_key act ++ met w.1 ++ told_behind before w.0.state.env) e
 
--- what is told of an act is what was told before it, and what it set
+-- what is reported for an act is what was reported before it, and what it set
 pub act_is : (entries : List Entry) (r : Rule) (act : Act) (s : Scene) (before : ToldBefore)
     → ((env : List Pair) → told_behind before env ≡ deed_told act.deed s.state env) → done_told act before (act_step entries r act s) ≡ act_told entries r act s
 unfolding act_told done_told

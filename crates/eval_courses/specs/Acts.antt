@@ -1,4 +1,4 @@
--- What TEST, PROGRAM and IMPORT met, by the scene before them and the scene behind.
+-- What TEST, PROGRAM and IMPORT met, by the scene before them and the scene after.
 use Rattle.std.specs.Prelude.{ℕ, Bool, false, not, ◌||◌, if◌then◌else◌, List, [], ◌∷◌, ◌++◌, map, filter, Option, Some, None, is_none, is_some, codes, decimal}
 use Rattle.text_bytes.specs.Names.{equals, slash, space}
 use Rattle.text_bytes.specs.Texts.{begins_with, is_empty}
@@ -28,17 +28,17 @@ use Rattle.eval_effects.specs.Shown.{joined, shown}
 use Rattle.eval_courses.specs.Keys.{act_key}
 use Rattle.eval_courses.specs.Looks.{met}
 
--- what is told of a rendered text
+-- what is reported for a rendered text
 abbrev pub on_rendered : (Text → Text) → Rendered → Text
 on_rendered told (rendered.Text text) = told text
 on_rendered told rendered.TooLong = codes "too long"
 
--- whether a device that is named does not stand in the chain
+-- whether a device that is named is not in the chain
 abbrev pub is_elsewhere : EventValue → Option NamedValue → Bool
 is_elsewhere event None = false
 is_elsewhere event (Some n) = is_none (named_place n event)
 
--- whether a TEST asks for a file of a device that does not stand in the chain; the manual knows no such paths
+-- whether a TEST asks for a file of a device that is not in the chain; the manual knows no such paths
 abbrev pub asks_elsewhere : Profile → Text → EventValue → Bool
 asks_elsewhere profile.Manual path event = false
 asks_elsewhere profile.Udev path event = is_elsewhere event (named path)
@@ -51,7 +51,7 @@ is_unmade has_mask path event = has_mask || (begins_with slash path || asks_else
 abbrev pub path_told : Bool → EventValue → Text → Text
 path_told has_mask event path = if is_unmade has_mask path event then codes "not made: " ++ shown path else shown path
 
--- a text behind a space; an empty one is left out with its space
+-- a text after a space; an empty one is left out with its space
 abbrev pub spaced : Text → Text
 spaced text = if is_empty text then [] else space ∷ shown text
 
@@ -76,7 +76,7 @@ newly_set before now = filter (λ property. not (stands property before)) now
 abbrev pub taken_told : List Pair → List Pair → Text
 taken_told before now = set_told (map property_told (newly_set before now))
 
--- what an IMPORT{parent} met, by the properties behind it; udev renders its value
+-- what an IMPORT{parent} met, by the properties after it; udev renders its value
 abbrev pub parent_told : Profile → Text → State → List Pair → Text
 parent_told profile.Manual value s env = taken_told s.env env
 parent_told profile.Udev value s env = on_rendered (λ names. taken_told s.env env) (names_text value s)
@@ -86,7 +86,7 @@ abbrev pub unrun_told : Profile → ℕ → Template → State → Text
 unrun_told profile.Manual most template s = codes "not run"
 unrun_told profile.Udev most template s = on_rendered (λ text. codes "not run") (import_text most template s)
 
--- what an IMPORT met, by the properties behind it
+-- what an IMPORT met, by the properties after it
 abbrev pub import_told : Import → State → List Pair → Text
 import_told (import.Builtin template) s env =
     on_rendered (λ command. shown command ++ space ∷ taken_told s.env env) (import_text most_command_bytes template s)
@@ -96,7 +96,7 @@ import_told (import.File template) s env = unrun_told s.event.profile most_path_
 import_told (import.Cmdline name) s env = codes "not run"
 import_told (import.Db name) s env = codes "not run"
 
--- what an act met, by the properties behind it
+-- what an act met, by the properties after it
 abbrev pub deed_told : Deed → State → List Pair → Text
 deed_told (deed.Test mask template) s env = on_rendered (path_told (is_some mask) s.event) (test_text template s)
 deed_told (deed.Program template) s env = on_rendered (λ command. answer_told command (value_of s.event.programs command)) (program_text template s)

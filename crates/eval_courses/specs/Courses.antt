@@ -16,11 +16,11 @@ use Rattle.eval_courses.specs.Acts.{act_told}
 use Rattle.eval_courses.specs.Looks.{plain_told, result_told}
 use Rattle.eval_courses.specs.Upward.{search_told}
 
--- what is told behind something that stops the rule, or lets it go on
+-- what is reported after something that stops the rule, or lets it go on
 abbrev pub told_onward : (Scene → List Text) → Went → List Text
 told_onward told went = if went.1 then told went.0 else []
 
--- the parts of a rule that are of one step, told one behind another, up to the first that stops the rule
+-- the parts of a rule that are of one step, told one after another, up to the first that stops the rule
 unfoldable pub told_walk : {P : Type 0} → (P → Scene → Went) → (P → Scene → Text) → List P → Scene → List Text
 told_walk step told [] s = []
 told_walk step told (p ∷ ps) s = told p s ∷ told_onward (told_walk step told ps) (step p s)
@@ -37,7 +37,7 @@ acts_told entries r parts s = told_walk (act_step entries r) (act_told entries r
 abbrev pub results_told : List Comparison → Scene → List Text
 results_told parts s = told_walk result_step (λ part s. result_told part s.state) parts s
 
--- what a rule comes to behind the matches of the event, behind the search, and behind what acts
+-- what a rule comes to after the matches of the event, after the search, and after what acts
 abbrev pub matched : Rule → Scene → Went
 matched r s = walk (plain_step r) r.plain s
 

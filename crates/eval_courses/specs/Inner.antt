@@ -20,7 +20,7 @@ use Rattle.eval_courses.specs.declared.acts.ToldBefore.TheVariants as before
 use Rattle.eval_courses.specs.declared.subjects.Subject as lent
 use Rattle.eval_courses.specs.declared.subjects.Subject.TheVariants as lent_as
 
--- what is told of an act, by the properties behind it
+-- what is reported for an act, by the properties after it
 abbrev pub told_behind : ToldBefore → List Pair → Text
 told_behind (before.Whole text) env = text
 told_behind (before.Taking text properties) env = text ++ taken_told properties env

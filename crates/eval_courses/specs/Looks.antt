@@ -10,7 +10,7 @@ use Rattle.eval_matching.specs.Subjects.{plain_subject}
 use Rattle.eval_effects.specs.Shown.{shown}
 use Rattle.eval_courses.specs.Keys.{plain_key, result_key}
 
--- whether a rule goes on behind a key
+-- whether a rule goes on after a key
 abbrev pub met : Bool → Text
 met true = codes ": holds, "
 met false = codes ": fails, "

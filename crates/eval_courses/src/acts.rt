@@ -1,6 +1,7 @@
 //! What acts, and what it met.
 //!
-//! What an act looks at is rendered before it is done, and what it sets is known behind it: what is told of it is made in
+//! What an act looks at is rendered before it is done, and what it sets is known after it: what is reported it is made
+//! in
 //! two parts.
 ghost use Rattle.std.specs.Prelude.{◌≡◌, ◌∷◌, ◌++◌, [], IfOk, OnOk, List, None, Some, codes, option_copied};
 ghost use Rattle.text_bytes.specs.Escapes.{escape_text};
@@ -33,16 +34,16 @@ use std::alloc::{AllocError, Global};
 use text_bytes::{Bytes, Profile, begins_with, escape};
 use text_tables::OwnedPairs;
 
-/// What is told of an act before it is done.
+/// What is reported for an act before it is done.
 #[derive(Drop)]
 pub enum ToldBefore {
     /// All that there is to tell.
     Whole(Bytes),
-    /// The start of it, and the properties as they are before: behind that start those are told that the act sets.
+    /// The start of it, and the properties as they are before: after that start those are told that the act sets.
     Taking(Bytes, OwnedPairs),
 }
 
-/// Whether a TEST asks for a file of a device that does not stand in the chain.
+/// Whether a TEST asks for a file of a device that is not in the chain.
 fn asks_elsewhere(path: &[u8], chain: &Chain<'_>) -> bool
     ensures { result ≡ asks_elsewhere chain.now.profile path.now chain.now }
 {
@@ -52,7 +53,7 @@ fn asks_elsewhere(path: &[u8], chain: &Chain<'_>) -> bool
     }
 }
 
-/// What is told of the path of a TEST.
+/// What is reported for the path of a TEST.
 fn path_told(
     alloc: Global,
     has_mask: bool,
@@ -69,7 +70,7 @@ fn path_told(
     Ok(Bytes::new(text))
 }
 
-/// What is told of a TEST.
+/// What is reported for a TEST.
 fn test_told(
     alloc: Global,
     has_mask: bool,
@@ -84,7 +85,7 @@ fn test_told(
     }
 }
 
-/// Puts what a program wrote behind a text.
+/// Puts what a program wrote after a text.
 fn push_spaced(alloc: Global, text: &mut Vec<u8>, written: &[u8]) -> Result<(), AllocError>
     ensures { OnOk result (text.new.items ≡ text.old.items ++ spaced written.now) }
 {
@@ -95,14 +96,14 @@ fn push_spaced(alloc: Global, text: &mut Vec<u8>, written: &[u8]) -> Result<(), 
     push_shown(alloc, text, written)
 }
 
-/// Puts an escaped text behind another.
+/// Puts an escaped text after another.
 fn push_escaped(alloc: Global, text: &mut Vec<u8>, about: &[u8]) -> Result<(), AllocError>
     ensures { OnOk result (text.new.items ≡ text.old.items ++ escape_text about.now) }
 {
     text.extend_from_slice(&escape(alloc, about)?)
 }
 
-/// Puts the command of a PROGRAM and the answer to it behind a text.
+/// Puts the command of a PROGRAM and the answer to it after a text.
 fn push_answered(
     alloc: Global,
     text: &mut Vec<u8>,
@@ -117,7 +118,7 @@ fn push_answered(
     push_spaced(alloc, text, answer.text())
 }
 
-/// Puts the command of a PROGRAM behind a text, where there is no answer to it.
+/// Puts the command of a PROGRAM after a text, where there is no answer to it.
 fn push_unanswered(alloc: Global, text: &mut Vec<u8>, command: &[u8]) -> Result<(), AllocError>
     ensures { OnOk result (text.new.items ≡ text.old.items ++ answer_told command.now None) }
 {
@@ -125,7 +126,7 @@ fn push_unanswered(alloc: Global, text: &mut Vec<u8>, command: &[u8]) -> Result<
     push_escaped(alloc, text, command)
 }
 
-/// Puts the command of a PROGRAM, by what the event's block answers to it, behind a text.
+/// Puts the command of a PROGRAM, by what the event's block answers to it, after a text.
 fn push_answer(
     alloc: Global,
     text: &mut Vec<u8>,
@@ -147,7 +148,7 @@ fn answer_to<'a>(state: &State<'a>, command: &[u8]) -> Option<&'a ProgramAnswer<
     state.event.event().programs().get(command)
 }
 
-/// What is told of the command of a PROGRAM.
+/// What is reported for the command of a PROGRAM.
 fn command_asked(alloc: Global, command: &[u8], state: &State<'_>) -> Result<Bytes, AllocError>
     ensures { IfOk result (λ text. text ≡ answer_told command.now (value_of state.now.event.programs command.now)) }
 {
@@ -156,7 +157,7 @@ fn command_asked(alloc: Global, command: &[u8], state: &State<'_>) -> Result<Byt
     Ok(Bytes::new(text))
 }
 
-/// What is told of a PROGRAM.
+/// What is reported for a PROGRAM.
 fn program_told(
     alloc: Global,
     template: &Template,
@@ -171,7 +172,7 @@ fn program_told(
     }
 }
 
-/// The start of what is told of a builtin's command: the command itself.
+/// The start of what is reported for a builtin's command: the command itself.
 fn command_told(alloc: Global, command: &[u8]) -> Result<Bytes, AllocError>
     ensures { IfOk result (λ text. text ≡ shown command.now ++ space ∷ []) }
 {
@@ -181,7 +182,7 @@ fn command_told(alloc: Global, command: &[u8]) -> Result<Bytes, AllocError>
     Ok(Bytes::new(text))
 }
 
-/// What is told of an IMPORT{builtin} before it is done.
+/// What is reported for an IMPORT{builtin} before it is done.
 fn builtin_told_before(
     alloc: Global,
     template: &Template,
@@ -198,14 +199,14 @@ fn builtin_told_before(
     }
 }
 
-/// What is told of an IMPORT{parent} before it is done, by the properties as they are.
+/// What is reported for an IMPORT{parent} before it is done, by the properties as they are.
 fn taking(alloc: Global, state: &State<'_>) -> Result<ToldBefore, AllocError>
     ensures { IfOk result (λ o. (env : List Pair) → told_behind o env ≡ taken_told state.now.env env) }
 {
     Ok(ToldBefore::Taking(Bytes::new(Vec::new(alloc)), copied(alloc, &state.env)?))
 }
 
-/// What is told of an IMPORT{parent} of udev's before it is done.
+/// What is reported for an IMPORT{parent} of udev's before it is done.
 fn names_told_before(
     alloc: Global,
     value: &[u8],
@@ -219,7 +220,7 @@ fn names_told_before(
     }
 }
 
-/// What is told of an IMPORT{parent} before it is done.
+/// What is reported for an IMPORT{parent} before it is done.
 fn parent_told_before(
     alloc: Global,
     value: &[u8],
@@ -233,7 +234,7 @@ fn parent_told_before(
     }
 }
 
-/// What is told of an IMPORT of udev's that is not run, by its value.
+/// What is reported for an IMPORT of udev's that is not run, by its value.
 fn unrun_value_told(alloc: Global, text: &Rendered) -> Result<Bytes, AllocError>
     ensures { IfOk result (λ told. told ≡ on_rendered (λ t. codes "not run") text.now) }
 {
@@ -243,7 +244,7 @@ fn unrun_value_told(alloc: Global, text: &Rendered) -> Result<Bytes, AllocError>
     }
 }
 
-/// What is told of an IMPORT that is not run, the value of which udev renders all the same.
+/// What is reported for an IMPORT that is not run, the value of which udev renders all the same.
 fn unrun_told(
     alloc: Global,
     most: usize,
@@ -258,7 +259,7 @@ fn unrun_told(
     }
 }
 
-/// What is told of an IMPORT before it is done.
+/// What is reported for an IMPORT before it is done.
 fn import_told_before(
     alloc: Global,
     from: &Import,
@@ -287,7 +288,7 @@ fn import_told_before(
     }
 }
 
-/// What is told of an act before it is done.
+/// What is reported for an act before it is done.
 fn told_before(alloc: Global, deed: &Deed, state: &mut State<'_>) -> Result<ToldBefore, AllocError>
     ensures told { IfOk result (λ o. (env : List Pair) → told_behind o env ≡ deed_told deed.now state.old env) }
     ensures kept { state.new ≡ state.old }
@@ -304,7 +305,7 @@ fn told_before(alloc: Global, deed: &Deed, state: &mut State<'_>) -> Result<Told
     }
 }
 
-/// Puts what is told of an act that was done behind a text.
+/// Puts what is reported for an act that was done after a text.
 fn push_behind(
     alloc: Global,
     text: &mut Vec<u8>,
@@ -339,7 +340,7 @@ fn act_met(
     Ok(Bytes::new(text))
 }
 
-/// Does what an act asks for, and tells what it met, by what was told before.
+/// Does what an act asks for, and tells what it met, by what was reported before.
 #[tactic(auto, using(eval_rules::proofs::Staying::act_stays, crate::proofs::Telling::done_is))]
 fn tell_done<L: Lookup>(
     alloc: Global,

@@ -188,15 +188,17 @@ fn tell_rule<'a, L: Lookup>(
 }
 
 /// Evaluates a rule as `apply` does, and tells its course: a text for each key that was reached, with what it met, and one
-/// for how the rule ended. The texts are those that stand behind `why FILE:LINE: ` in an answer.
+/// for how the rule ended. The texts are those that follow `why FILE:LINE: ` in an answer.
 ///
-/// A match of the event and one of the result is told with whether it holds and what it looked at; a match of one device
-/// with what it met at each device of the chain, and behind all of these which device meets them all, or how many each
-/// device meets; what acts with whether the rule goes on, what was asked, and what was set. Nothing is told behind a key
+/// A match of the event and one of the result is reported with whether it holds and what it looked at; a match of one
+/// device
+/// with what it met at each device of the chain, and after all of these which device meets them all, or how many each
+/// device meets; what acts with whether the rule goes on, what was asked, and what was set. Nothing is reported after
+/// a key
 /// that stops the rule but `stops there`; where no key stops a rule that is passed over, since nothing in it counts for the
 /// event, its end is `nothing in it counts for this device`. `since` says since which rule each key is final.
 ///
-/// The error comes where memory is refused; nothing is then left of the scene but its event.
+/// Where memory runs out, nothing is left of the scene but its event.
 pub fn tell_course<'a, L: Lookup>(
     alloc: Global,
     rule: &'a Rule,

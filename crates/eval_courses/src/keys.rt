@@ -23,7 +23,7 @@ fn case_mark(blind: bool) -> &'static [u8]
     if blind { b"i" } else { b"" }
 }
 
-/// Puts what a key is compared with behind a text.
+/// Puts what a key is compared with after a text.
 #[tactic(auto, unfolding(crate::specs::Keys::wanted_text))]
 fn push_wanted(
     alloc: Global,
@@ -42,7 +42,7 @@ fn push_wanted(
     Ok(())
 }
 
-/// Puts a comparison behind a text.
+/// Puts a comparison after a text.
 fn push_comparison(alloc: Global, text: &mut Vec<u8>, wanted: &Comparison) -> Result<(), AllocError>
     ensures { OnOk result (text.new.items ≡ text.old.items ++ comparison_text wanted.now) }
 {
@@ -55,7 +55,7 @@ fn push_comparison(alloc: Global, text: &mut Vec<u8>, wanted: &Comparison) -> Re
     )
 }
 
-/// Puts a match of the event behind a text.
+/// Puts a match of the event after a text.
 pub(crate) fn push_plain_key(
     alloc: Global,
     text: &mut Vec<u8>,
@@ -67,7 +67,7 @@ pub(crate) fn push_plain_key(
     push_comparison(alloc, text, &part.wanted)
 }
 
-/// Puts a match of one device behind a text.
+/// Puts a match of one device after a text.
 pub(crate) fn push_up_key(
     alloc: Global,
     text: &mut Vec<u8>,
@@ -79,7 +79,7 @@ pub(crate) fn push_up_key(
     push_comparison(alloc, text, &part.wanted)
 }
 
-/// Puts a match of the result behind a text.
+/// Puts a match of the result after a text.
 pub(crate) fn push_result_key(
     alloc: Global,
     text: &mut Vec<u8>,
@@ -116,7 +116,7 @@ fn value_of_deed(deed: &Deed) -> &[u8]
     }
 }
 
-/// Puts an act behind a text.
+/// Puts an act after a text.
 pub(crate) fn push_act_key(alloc: Global, text: &mut Vec<u8>, act: &Act) -> Result<(), AllocError>
     ensures { OnOk result (text.new.items ≡ text.old.items ++ act_key act.now) }
 {

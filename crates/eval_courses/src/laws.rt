@@ -24,12 +24,12 @@ pub fn course_tells_what_is_passed_over()
     ensures { (entries : List Entry) (since : finals.Since) (r : rules.Rule) (s : Scene) → is_idle r s.state.event ≡ true → (last_of (course entries since r s) ≡ Some (codes "nothing in it counts for this device")) ↔ ((before_sets entries r s).1 ≡ true) }
 {}
 
-/// What is told of a search names the nearest device that meets all of the matches.
+/// What is reported for a search names the nearest device that meets all of the matches.
 pub fn search_names_the_first_to_meet()
     ensures { (part : UpMatch) (parts : List UpMatch) (state : State) (place : ℕ) → IsFirstToMeet (part ∷ parts) state place → last_of (search_told (part ∷ parts) state) ≡ Some (name_at state place ++ codes " meets all") }
 {}
 
-/// What is told of a search that finds none begins with `no device meets `.
+/// What is reported for a search that finds none begins with `no device meets `.
 pub fn search_names_no_device_where_none_meets()
     ensures { (part : UpMatch) (parts : List UpMatch) (state : State) → NoneMeets (part ∷ parts) state → (rest : Text) × (last_of (search_told (part ∷ parts) state) ≡ Some (codes "no device meets " ++ rest)) }
 {}

@@ -1,7 +1,10 @@
-//! The course of a rule over an event: its keys that were reached, each with what it met, and how the rule ended.
+//! The course of a rule over an event: the keys that were reached, what each of them found, and how the rule ended.
 //!
-//! A rule is evaluated in the steps of `eval_rules`, by the same functions, and each key is told beside its step: what a
-//! match looks at before it, what an act sets behind it. Nothing is told behind a key that stops the rule but that it stops.
+//! A rule is evaluated in the steps of `eval_rules`, by the same functions, and each key is reported beside its step:
+//! what a match looks at before the step, and what an act sets after it. After a key that stops the rule, only the fact
+//! that it stops is reported.
+//!
+//! Functions that allocate return `AllocError` when memory runs out.
 #![tactic(auto)]
 
 mod acts;

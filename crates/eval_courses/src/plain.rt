@@ -13,7 +13,7 @@ use rule_types::{Comparison, PlainMatch, Rule};
 use std::alloc::{AllocError, Global};
 use text_bytes::Bytes;
 
-/// Puts whether a rule goes on behind a text.
+/// Puts whether a rule goes on after a text.
 pub(crate) fn push_met(text: &mut Vec<u8>, goes_on: bool) -> Result<(), AllocError>
     ensures { OnOk result (text.new.items ≡ text.old.items ++ met goes_on) }
 {

@@ -1,4 +1,4 @@
-//! Which properties stand only behind an act.
+//! Which properties stand only after an act.
 ghost use Rattle.std.specs.Prelude.{◌≡◌, ◌++◌, IfOk, OnOk, map};
 ghost use Rattle.eval_effects.specs.Items.{stands};
 ghost use Rattle.eval_courses.specs.Acts.{newly_set, property_told, set_told};
@@ -58,7 +58,7 @@ pub(crate) fn newly_set(
     Ok(texts)
 }
 
-/// Puts which properties were set behind a text.
+/// Puts which properties were set after a text.
 pub(crate) fn push_set(text: &mut Vec<u8>, properties: &[Bytes]) -> Result<(), AllocError>
     ensures { OnOk result (text.new.items ≡ text.old.items ++ set_told properties.now) }
 {

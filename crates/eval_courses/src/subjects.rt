@@ -137,7 +137,7 @@ pub(crate) fn is_absent(subject: &Subject<'_, '_>) -> bool
     }
 }
 
-/// Puts a text that may be absent behind another.
+/// Puts a text that may be absent after another.
 fn push_value(alloc: Global, text: &mut Vec<u8>, value: Option<&[u8]>) -> Result<(), AllocError>
     ensures { OnOk result (text.new.items ≡ text.old.items ++ value_told (option_map (λ t. t.now) value.entry)) }
 {
@@ -147,7 +147,7 @@ fn push_value(alloc: Global, text: &mut Vec<u8>, value: Option<&[u8]>) -> Result
     }
 }
 
-/// Puts texts as rules left them behind a text, a space between.
+/// Puts texts as rules left them after a text, a space between.
 fn push_members(alloc: Global, text: &mut Vec<u8>, members: &[Vec<u8>]) -> Result<(), AllocError>
     ensures { OnOk result (text.new.items ≡ text.old.items ++ members_told (map (λ t. t.items) members.now)) }
 {
@@ -162,7 +162,7 @@ fn push_members(alloc: Global, text: &mut Vec<u8>, members: &[Vec<u8>]) -> Resul
     Ok(())
 }
 
-/// Puts texts as the event gave them behind a text, a space between.
+/// Puts texts as the event gave them after a text, a space between.
 fn push_given(alloc: Global, text: &mut Vec<u8>, members: &[&[u8]]) -> Result<(), AllocError>
     ensures { OnOk result (text.new.items ≡ text.old.items ++ members_told (map (λ t. t.now) members.now)) }
 {
@@ -177,7 +177,7 @@ fn push_given(alloc: Global, text: &mut Vec<u8>, members: &[&[u8]]) -> Result<()
     Ok(())
 }
 
-/// Puts an attribute behind a text.
+/// Puts an attribute after a text.
 fn push_attribute(
     alloc: Global,
     text: &mut Vec<u8>,
@@ -191,7 +191,7 @@ fn push_attribute(
     }
 }
 
-/// Puts what a match looked at behind a text.
+/// Puts what a match looked at after a text.
 #[tactic(auto, using(crate::proofs::Looking::looked_subsystem, crate::proofs::Looking::looked_members))]
 pub(crate) fn push_looked(
     alloc: Global,

@@ -18,7 +18,7 @@ use rule_types::UpMatch;
 use std::alloc::{AllocError, Global};
 use text_bytes::Bytes;
 
-/// Puts the kernel's name of the device at a place behind a text.
+/// Puts the kernel's name of the device at a place after a text.
 fn push_name(
     alloc: Global,
     text: &mut Vec<u8>,
@@ -30,7 +30,7 @@ fn push_name(
     push_shown(alloc, text, kernel_at(state, place))
 }
 
-/// Puts what a match that fails met behind a text.
+/// Puts what a match that fails met after a text.
 fn push_failing(
     alloc: Global,
     text: &mut Vec<u8>,
@@ -45,7 +45,7 @@ fn push_failing(
     push_looked(alloc, text, subject)
 }
 
-/// Puts what a match met at the device at a place behind a text.
+/// Puts what a match met at the device at a place after a text.
 fn push_met_at(
     alloc: Global,
     text: &mut Vec<u8>,
@@ -168,7 +168,7 @@ fn partly_all_told(
     Ok(texts)
 }
 
-/// Puts what no device meets behind a text: any of the matches, or all of them, with the devices that meet some.
+/// Puts what no device meets after a text: any of the matches, or all of them, with the devices that meet some.
 fn push_unmet(text: &mut Vec<u8>, devices: &[Bytes]) -> Result<(), AllocError>
     ensures { OnOk result (text.new.items ≡ text.old.items ++ unmet devices.now) }
 {

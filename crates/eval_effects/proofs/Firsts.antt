@@ -1,4 +1,4 @@
--- The rule since which a key is final is the first one behind which it is.
+-- The rule since which a key is final is the first one after which it is.
 use Rattle.std.proofs.Common.{◌≡◌, Bool, true, false, cond, List, [], ◌∷◌, Option, Some, None, option_map, find, refl, ap, ◌∙◌}
 use Rattle.rule_types.specs.Rules.{Rule}
 use Rattle.eval_state.specs.Finals.{is_final}
@@ -34,7 +34,7 @@ none key.Priority = refl
 none key.Watch = refl
 
 module _ (k : FinalKey) where
-  -- the first rule of some stages behind which the key is final
+  -- the first rule of some stages after which the key is final
   abbrev among : List (Rule × Finals) → Option Rule
   among stages = option_map (λ stage. stage.0) (find (λ stage. is_final stage.1 k) stages)
 

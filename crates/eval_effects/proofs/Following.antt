@@ -1,4 +1,4 @@
--- Assignments told one behind another.
+-- Assignments told one after another.
 use Rattle.std.proofs.Common.{◌≡◌, ℕ, ◌+◌, ◌<◌, List, [], ◌∷◌, ◌++◌, length, drop, get_or, append_assoc, ap, sym, ◌∙◌}
 use Rattle.std.proofs.lemmas.List.{drop_more}
 use Rattle.text_tables.specs.Texts.{Text}
@@ -9,7 +9,7 @@ use Rattle.eval_assignments.specs.Steps.{set_step}
 use Rattle.eval_effects.specs.Effects.{effect, effects}
 use Rattle.eval_effects.specs.Since.{Since}
 
--- one assignment more is told
+-- one assignment more is reported
 pub told_more : (since : Since) (r : Rule) (s t : Scene) (sets : List Assignment) (i : ℕ) (a : Assignment) (told : List Text) (text : Text) (all : List Text) → i < length sets → a ≡ get_or sets i a
     → t ≡ set_step r s a → text ≡ effect since r s a → told ++ effects since r s (drop i sets) ≡ all → (told ++ text ∷ []) ++ effects since r t (drop (i + 1) sets) ≡ all
 told_more since r s t sets i a told text all within is made said h =

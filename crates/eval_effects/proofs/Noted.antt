@@ -1,4 +1,4 @@
--- The note that is left stands behind those that there were.
+-- The note that is left follows those that there were.
 use Rattle.std.proofs.Common.{◌≡◌, true, false, cond, List, [], ◌∷◌, ◌++◌, length, slice_get, Option, Some, None, option_map, refl, ap, ◌∙◌}
 use Rattle.text_bytes.specs.declared.profile.Profile.{Profile}
 use Rattle.text_bytes.specs.declared.profile.Profile.TheVariants.{Manual, Udev}
@@ -38,7 +38,7 @@ one_behind (note ∷ notes) last = one_behind notes last
 pub tells_none : TellsNone
 tells_none s t same = ap (λ notes. option_map (λ (note : Note). note.kind) (slice_get notes (length s.notes))) same ∙ ap (option_map (λ (note : Note). note.kind)) (none_behind s.notes)
 
--- a note that stands behind those that there were
+-- a note that follows those that there were
 told : (kind : NoteKind) (word : Text) (r : Rule) (s t : Scene) → t.notes ≡ s.notes ++ note_about r kind word ∷ [] → note_left (length s.notes) t ≡ Some kind
 told kind word r s t e =
     ap (λ notes. option_map (λ (note : Note). note.kind) (slice_get notes (length s.notes))) e

@@ -27,13 +27,13 @@ removed_same now =
     let same : (item : Pair) → removed_item (table_of now) item ≡ removed_item now item = λ item. ap (λ value. cond (is_some value) [] (removed_text item.0 ∷ [])) (values now item.0) in
     λ i item. same item i
 
--- what is told by tables is what is told by the items
+-- what is reported by tables is what is reported by the items
 changes_same : (was now : List Pair) → flat_map (set_item (table_of was)) now ++ flat_map (removed_item (table_of now)) was ≡ item_changes was now
 changes_same was now =
     ap (λ tell. flat_map tell now ++ flat_map (removed_item (table_of now)) was) (set_same was)
     ∙ ap (λ tell. flat_map (set_item was) now ++ flat_map tell was) (removed_same now)
 
--- the same, one behind another behind what was told before
+-- the same, one after another after what was reported before
 pub told_same : (start mid end : List Text) (was now was_table now_table : List Pair) → was_table ≡ table_of was → now_table ≡ table_of now
     → mid ≡ start ++ flat_map (set_item was_table) now → end ≡ mid ++ flat_map (removed_item now_table) was → end ≡ start ++ item_changes was now
 told_same start mid end was now was_table now_table w n first second =

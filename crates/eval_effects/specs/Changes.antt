@@ -32,7 +32,7 @@ value_part (byte ∷ value) = equals ∷ shown (byte ∷ value) ++ codes " set"
 abbrev pub set_text : Pair → Text
 set_text item = shown item.0 ++ value_part item.1
 
--- an item of those that stand now is told unless it stood so before
+-- an item of those that stand now is reported unless it stood so before
 abbrev pub set_item : List Pair → Pair → List Text
 set_item was item = if stands item was then [] else set_text item ∷ []
 
@@ -40,7 +40,7 @@ set_item was item = if stands item was then [] else set_text item ∷ []
 abbrev pub removed_text : Text → Text
 removed_text name = shown name ++ codes " removed"
 
--- an item of those that stood before is told where its name no longer stands
+-- an item of those that stood before is reported where its name no longer stands
 abbrev pub removed_item : List Pair → Pair → List Text
 removed_item now item = if is_some (value_of now item.0) then [] else removed_text item.0 ∷ []
 
@@ -56,11 +56,11 @@ is_kept runs run = list_any (λ other. same_run other run) runs
 unfoldable pub run_text : RunValue → Text
 run_text run = codes "run " ++ run_name (run_kind run.braces) ++ space ∷ shown run.template.written
 
--- a RUN of those now is told unless it was there before
+-- a RUN of those now is reported unless it was there before
 abbrev pub added_run : List RunValue → RunValue → List Text
 added_run was run = if is_kept was run then [] else (run_text run ++ codes " added") ∷ []
 
--- a RUN of those before is told where it is no longer there
+-- a RUN of those before is reported where it is no longer there
 abbrev pub removed_run : List RunValue → RunValue → List Text
 removed_run now run = if is_kept now run then [] else (run_text run ++ codes " removed") ∷ []
 

@@ -27,7 +27,7 @@ settled_key finals (Some key) = if is_final finals key then Some key else None
 abbrev pub final_text : FinalKey → Rule → Text
 final_text key r = final_name key ++ codes " is final since " ++ rule_place r
 
--- what the note is that an assignment left, if it left one: the one behind those that there were
+-- what the note is that an assignment left, if it left one: the one after those that there were
 abbrev pub note_left : ℕ → Scene → Option NoteKind
 note_left count s = option_map (λ note. note.kind) (slice_get s.notes count)
 
@@ -36,11 +36,11 @@ abbrev pub changed_text : Change → List Text → Text
 changed_text c [] = change_key c ++ codes " changes nothing"
 changed_text c (text ∷ more) = joined (text ∷ more)
 
--- the note behind so many, if there is one
+-- the note after so many, if there is one
 abbrev pub note_behind : ℕ → Scene → Option Note
 note_behind count s = slice_get s.notes count
 
--- what a note of an assignment is told as
+-- what a note of an assignment is reported as
 abbrev pub said_of : Change → NoteKind → Text → List Text
 said_of c TextTooLong word = (change_key c ++ codes " left out, too long") ∷ []
 said_of c NameIgnored word = codes "NAME ignored, no network device" ∷ []
@@ -52,16 +52,16 @@ said_of c TagIgnored word = (change_key c ++ codes " ignored, no tag") ∷ []
 said_of c AttributeNotFound word = (change_key c ++ codes " ignored, no such attribute") ∷ []
 said_of c kind word = []
 
--- what the note of an assignment is told as, if it left one
+-- what the note of an assignment is reported as, if it left one
 abbrev pub said_left : Change → Option Note → List Text
 said_left c None = []
 said_left c (Some note) = said_of c note.kind note.word
 
--- an assignment that was made or left a note, by what stood before it and the scene behind it: what changed, and what was left out
+-- an assignment that was made or left a note, by what stood before it and the scene after it: what changed, and what was left out
 abbrev pub made_text : Change → Standing → Scene → Text
 made_text c was s = changed_text c (changes was s ++ said_left c (note_behind was.notes s))
 
--- an assignment, by its key where that was final, what stood before it, and the scene behind it; a key that no earlier rule made
+-- an assignment, by its key where that was final, what stood before it, and the scene after it; a key that no earlier rule made
 -- final is final since the rule itself
 abbrev pub effect_by : Since → Rule → Change → Option FinalKey → Standing → Scene → Text
 effect_by since r c (Some key) was s = final_text key (unwrap_or (since_of since key) r)

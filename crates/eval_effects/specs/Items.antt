@@ -1,4 +1,4 @@
--- What stands in a scene, as items: each has a name, the word of its line with what it is about, and a value.
+-- What is in a scene, as items: each has a name, the word of its line with what it is about, and a value.
 use Rattle.std.specs.Prelude.{ℤ, Bool, true, false, List, [], ◌∷◌, ◌++◌, map, Option, Some, None, codes}
 use Rattle.std.specs.Fmt.{signed_decimal}
 use Rattle.text_bytes.specs.Names.{space}

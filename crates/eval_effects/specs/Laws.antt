@@ -1,4 +1,4 @@
--- Laws: what the note that an assignment leaves tells of it.
+-- Laws: what the note that an assignment leaves says about it.
 use Rattle.std.specs.Prelude.{◌≡◌, Bool, true, false, length, Option, Some, None}
 use Rattle.text_bytes.specs.declared.profile.Profile.{Profile}
 use Rattle.text_bytes.specs.declared.profile.Profile.TheVariants.{Manual, Udev}
@@ -39,20 +39,20 @@ note_of r o about template s = note_left (length s.notes) (set_step r s (record 
 abbrev pub TellsNone : Type 0
 TellsNone = (s t : Scene) → t.notes ≡ s.notes → note_left (length s.notes) t ≡ None
 
--- an assignment that is passed over is told as that, unless its key is final
+-- an assignment that is passed over is reported as that, unless its key is final
 abbrev pub TellsPassedOver : Type 0
 TellsPassedOver =
     (r : Rule) (o : AssignOperator) (about : Target) (template : Template) (s : Scene) → is_settled (final_target about) s.finals ≡ false → is_passed_over s.state.event.profile about s ≡ true
     → note_of r o about template s ≡ Some NoDeviceNumber
 
--- a text that is too long is told as that, unless its key is final or it is passed over
+-- a text that is too long is reported as that, unless its key is final or it is passed over
 abbrev pub TellsTooLong : Type 0
 TellsTooLong =
     (r : Rule) (o : AssignOperator) (about : Target) (template : Template) (s : Scene) → is_settled (final_target about) s.finals ≡ false → is_passed_over s.state.event.profile about s ≡ false
     → rendered_of s.state.event.profile r o about template s ≡ rendered.TooLong
     → note_of r o about template s ≡ Some TextTooLong
 
--- a NAME that is ignored is told as that, unless its key is final or its text too long
+-- a NAME that is ignored is reported as that, unless its key is final or its text too long
 abbrev pub TellsIgnored : Type 0
 TellsIgnored =
     (r : Rule) (o : AssignOperator) (about : Target) (template : Template) (s : Scene) (t : Text) → is_settled (final_target about) s.finals ≡ false → is_passed_over s.state.event.profile about s ≡ false

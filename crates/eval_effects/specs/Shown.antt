@@ -12,7 +12,7 @@ most_shown = 200
 unfoldable pub cut : Text → Text
 cut text = escape_text (take most_shown text) ++ codes ".. (" ++ decimal (length text) ++ codes " bytes)"
 
--- a text as it stands between quotes: escaped, or cut where it is long
+-- a text as it is between quotes: escaped, or cut where it is long
 abbrev pub shortened : Text → Text
 shortened text = if nat_lt most_shown (length text) then cut text else escape_text text
 
@@ -21,7 +21,7 @@ abbrev pub shown : Text → Text
 shown [] = double_quote ∷ double_quote ∷ []
 shown (byte ∷ text) = shortened (byte ∷ text)
 
--- texts, each behind a comma
+-- texts, each after a comma
 abbrev pub behind_commas : List Text → Text
 behind_commas texts = flat_map (λ text. codes ", " ++ text) texts
 

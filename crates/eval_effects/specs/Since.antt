@@ -1,4 +1,4 @@
--- Since which rule each key is final: the first one behind which the key no longer changes.
+-- Since which rule each key is final: the first one after which the key no longer changes.
 use Rattle.std.specs.Prelude.{Bool, if◌then◌else◌, List, Option, Some, None, fold}
 use Rattle.rule_types.specs.Rules.{Rule}
 use Rattle.eval_state.specs.declared.finals.FinalKey.{FinalKey}
@@ -31,12 +31,12 @@ since_of since key.Run = since.run
 since_of since key.Priority = since.priority
 since_of since key.Watch = since.watch
 
--- the rule since which a key is final behind one rule more: the one that is known, or that rule where the key is final now
+-- the rule since which a key is final after one rule more: the one that is known, or that rule where the key is final now
 abbrev pub since_either : Option Rule → Bool → Rule → Option Rule
 since_either (Some first) final r = Some first
 since_either None final r = if final then Some r else None
 
--- the same of all keys, by those that are final behind the rule
+-- the same of all keys, by those that are final after the rule
 abbrev pub since_behind : Since → Rule → Finals → Since
 since_behind since r finals = record {
   owner = since_either since.owner finals.owner r;
@@ -49,6 +49,6 @@ since_behind since r finals = record {
   watch = since_either since.watch finals.watch r;
 }
 
--- behind rules one behind another, each with the keys that are final behind it
+-- after rules one after another, each with the keys that are final after it
 abbrev pub since_over : List (Rule × Finals) → Since
 since_over stages = fold (λ since stage. since_behind since stage.0 stage.1) no_since stages

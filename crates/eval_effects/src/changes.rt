@@ -46,7 +46,7 @@ fn is_named(items: &Pairs<'_>, name: &[u8]) -> bool
     items.get(name).is_some()
 }
 
-/// Puts what becomes of an item that takes a value behind a text.
+/// Puts what becomes of an item that takes a value after a text.
 fn push_value(alloc: Global, text: &mut Vec<u8>, value: &[u8]) -> Result<(), AllocError>
     ensures { OnOk result (text.new.items ≡ text.old.items ++ value_part value.now) }
 {
@@ -78,7 +78,7 @@ fn removed_text(alloc: Global, name: &[u8]) -> Result<Bytes, AllocError>
     Ok(Bytes::new(text))
 }
 
-/// Tells an item behind other texts, unless it stood so before.
+/// Tells an item after other texts, unless it stood so before.
 fn push_set(
     alloc: Global,
     told: &mut Vec<Bytes>,
@@ -93,7 +93,7 @@ fn push_set(
     Ok(())
 }
 
-/// Tells an item of before behind other texts, where its name no longer stands.
+/// Tells an item of before after other texts, where its name no longer stands.
 fn push_removed(
     alloc: Global,
     told: &mut Vec<Bytes>,
@@ -108,7 +108,7 @@ fn push_removed(
     Ok(())
 }
 
-/// Tells the items that did not stand so before, behind other texts.
+/// Tells the items that did not stand so before, after other texts.
 fn push_all_set(
     alloc: Global,
     told: &mut Vec<Bytes>,
@@ -123,7 +123,7 @@ fn push_all_set(
     Ok(())
 }
 
-/// Tells the items whose names no longer stand, behind other texts.
+/// Tells the items whose names no longer stand, after other texts.
 fn push_all_removed(
     alloc: Global,
     told: &mut Vec<Bytes>,
@@ -138,7 +138,7 @@ fn push_all_removed(
     Ok(())
 }
 
-/// Tells what changed of items, behind other texts.
+/// Tells what changed of items, after other texts.
 pub(crate) fn push_item_changes(
     alloc: Global,
     told: &mut Vec<Bytes>,

@@ -1,4 +1,4 @@
-//! The assignments of a rule, each told as it is made.
+//! The assignments of a rule, each reported as it is made.
 ghost use Rattle.std.specs.Prelude.{◌≡◌, ◌++◌, ◌∷◌, [], codes, IfOk, OnOk, OnErr, fold, option_map};
 ghost use Rattle.eval_state.specs.Scenes.{blank};
 ghost use Rattle.eval_assignments.specs.Steps.{set_step};
@@ -41,7 +41,7 @@ fn final_text(alloc: Global, key: FinalKey, rule: &Rule) -> Result<Bytes, AllocE
     Ok(Bytes::new(text))
 }
 
-/// The note behind so many, if there is one.
+/// The note after so many, if there is one.
 fn note_behind<'s>(count: usize, scene: &'s Scene<'_>) -> Option<&'s Note>
     ensures { option_map (λ note. note.now) result ≡ note_behind count scene.now }
 {
@@ -91,7 +91,7 @@ fn link_told(alloc: Global, link: &[u8]) -> Result<Bytes, AllocError>
     Ok(Bytes::new(text))
 }
 
-/// Tells the key of an assignment and what is said of it, behind other texts.
+/// Tells the key of an assignment and what is said of it, after other texts.
 fn push_with_key(
     alloc: Global,
     told: &mut Vec<Bytes>,
@@ -104,7 +104,7 @@ fn push_with_key(
     Ok(())
 }
 
-/// Tells what a note of an assignment says, behind other texts.
+/// Tells what a note of an assignment says, after other texts.
 fn push_said(
     alloc: Global,
     told: &mut Vec<Bytes>,
@@ -137,7 +137,7 @@ fn push_said(
     }
 }
 
-/// Tells what the note of an assignment says behind other texts, if it left one.
+/// Tells what the note of an assignment says after other texts, if it left one.
 fn push_left(
     alloc: Global,
     told: &mut Vec<Bytes>,
@@ -152,7 +152,7 @@ fn push_left(
     }
 }
 
-/// An assignment that was made or left a note, by what stood before it and the scene behind it.
+/// An assignment that was made or left a note, by what stood before it and the scene after it.
 fn made_text(
     alloc: Global,
     change: &Change,
@@ -189,7 +189,7 @@ fn set_told<'a>(
     }
 }
 
-/// Makes the assignments of a rule, one behind another, and tells what each did.
+/// Makes the assignments of a rule, one after another, and tells what each did.
 fn set_all_told<'a>(
     alloc: Global,
     rule: &'a Rule,
@@ -239,12 +239,12 @@ fn end_open<'a>(
 /// Makes the assignments of a rule whose end is reached, as `set_all` does, and tells what each of them did: udev(7),
 /// "assign keys".
 ///
-/// The text is `reached its end`, and behind a colon for each assignment, in the order of evaluation: that its key is
+/// The text is `reached its end`, and after a colon for each assignment, in the order of evaluation: that its key is
 /// final, and since which rule; or what it changed of links, tags, properties and all else that stands, and of what is to
 /// be run, and that its text was too long or was ignored. Since which rules keys are final is asked of `since`;
 /// a key that no rule there made final is so since this rule.
 ///
-/// The error comes where memory is refused; nothing is then left of the scene but its event.
+/// Where memory runs out, nothing is left of the scene but its event.
 pub fn end_told<'a>(
     alloc: Global,
     rule: &'a Rule,

@@ -1,4 +1,4 @@
-//! What stands in a scene, as items.
+//! What is in a scene, as items.
 ghost use Rattle.std.specs.Prelude.{◌≡◌, ◌++◌, ◌∷◌, [], codes, IfOk, OnOk};
 ghost use Rattle.eval_assignments.specs.Tags.{current_tags};
 ghost use Rattle.eval_effects.specs.Inner.{tag_item};
@@ -11,7 +11,7 @@ use std::marker::Model;
 use text_bytes::Bytes;
 use text_tables::{OwnedPairs, OwnedTexts};
 
-/// Something that stands in a scene: its name is the word of its line, behind which stands what it is about, where several
+/// Something that is in a scene: its name is the word of its line, after which stands what it is about, where several
 /// items have the word.
 #[derive(Drop)]
 pub struct Item {
@@ -28,14 +28,14 @@ impl Model for Item {
 }
 
 impl Item {
-    /// Lends its name.
+    /// Returns its name.
     pub fn name(&self) -> &[u8]
         ensures { result.now ≡ self.now.0 }
     {
         self.name.as_slice()
     }
 
-    /// Lends its value; empty where a name says all.
+    /// Returns its value; empty where a name says all.
     pub fn value(&self) -> &[u8]
         ensures { result.now ≡ self.now.1 }
     {
@@ -51,8 +51,7 @@ impl Item {
     }
 }
 
-/// The name of an item that is one of several of its word: the word, a space, and which of them it is. The error comes
-/// where memory is refused.
+/// The name of an item that is one of several of its word: the word, a space, and which of them it is.
 pub fn item_name(alloc: Global, word: &[u8], about: &[u8]) -> Result<Bytes, AllocError>
     ensures { IfOk result (λ name. name ≡ item_name word.now about.now) }
 {
@@ -62,7 +61,7 @@ pub fn item_name(alloc: Global, word: &[u8], about: &[u8]) -> Result<Bytes, Allo
     Ok(Bytes::new(name))
 }
 
-/// Puts an item behind others.
+/// Puts an item after others.
 fn push_item(
     alloc: Global,
     items: &mut Vec<Item>,
@@ -76,7 +75,7 @@ fn push_item(
     Ok(())
 }
 
-/// Puts an item that has its word alone behind others.
+/// Puts an item that has its word alone after others.
 fn push_word(
     alloc: Global,
     items: &mut Vec<Item>,
@@ -88,7 +87,7 @@ fn push_word(
     push_item(alloc, items, Bytes::copy_of(alloc, word)?, value)
 }
 
-/// Puts a text that may not be there behind others.
+/// Puts a text that may not be there after others.
 fn push_given(
     alloc: Global,
     items: &mut Vec<Item>,
@@ -103,7 +102,7 @@ fn push_given(
     }
 }
 
-/// Puts texts behind others.
+/// Puts texts after others.
 fn push_texts(
     alloc: Global,
     items: &mut Vec<Item>,
@@ -118,7 +117,7 @@ fn push_texts(
     Ok(())
 }
 
-/// Puts a tag behind others, unless it was taken away.
+/// Puts a tag after others, unless it was taken away.
 fn push_tag(
     alloc: Global,
     items: &mut Vec<Item>,
@@ -133,7 +132,7 @@ fn push_tag(
     Ok(())
 }
 
-/// Puts the tags that were not taken away behind others.
+/// Puts the tags that were not taken away after others.
 fn push_tags(alloc: Global, items: &mut Vec<Item>, scene: &Scene<'_>) -> Result<(), AllocError>
     ensures { OnOk result (items.new.items ≡ items.old.items ++ text_items (codes "tag") (current_tags scene.now)) }
 {
@@ -143,7 +142,7 @@ fn push_tags(alloc: Global, items: &mut Vec<Item>, scene: &Scene<'_>) -> Result<
     Ok(())
 }
 
-/// Puts names with their values behind others.
+/// Puts names with their values after others.
 fn push_pairs(
     alloc: Global,
     items: &mut Vec<Item>,
@@ -163,7 +162,7 @@ fn push_pairs(
     Ok(())
 }
 
-/// Puts a priority behind others, where one was assigned.
+/// Puts a priority after others, where one was assigned.
 fn push_priority(
     alloc: Global,
     items: &mut Vec<Item>,
@@ -189,7 +188,7 @@ fn watch_word(watched: bool) -> &'static [u8]
     if watched { b"watch" } else { b"nowatch" }
 }
 
-/// Puts the word on watching behind others, where it was assigned.
+/// Puts the word on watching after others, where it was assigned.
 fn push_watch(alloc: Global, items: &mut Vec<Item>, watch: Option<bool>) -> Result<(), AllocError>
     ensures { OnOk result (items.new.items ≡ items.old.items ++ watch_item watch) }
 {
@@ -199,7 +198,7 @@ fn push_watch(alloc: Global, items: &mut Vec<Item>, watch: Option<bool>) -> Resu
     }
 }
 
-/// Puts that what is known of the device stays behind others.
+/// Puts that what is known of the device stays after others.
 fn push_persist(alloc: Global, items: &mut Vec<Item>, persist: bool) -> Result<(), AllocError>
     ensures { OnOk result (items.new.items ≡ items.old.items ++ persist_item persist) }
 {
@@ -209,7 +208,7 @@ fn push_persist(alloc: Global, items: &mut Vec<Item>, persist: bool) -> Result<(
     Ok(())
 }
 
-/// Puts the items of the device's node behind others.
+/// Puts the items of the device's node after others.
 #[tactic(auto, unfolding(crate::specs::Items::node_items))]
 fn push_node(alloc: Global, items: &mut Vec<Item>, scene: &Scene<'_>) -> Result<(), AllocError>
     ensures { OnOk result (items.new.items ≡ items.old.items ++ node_items scene.now) }
@@ -224,7 +223,7 @@ fn push_node(alloc: Global, items: &mut Vec<Item>, scene: &Scene<'_>) -> Result<
     Ok(())
 }
 
-/// All items of a scene. The error comes where memory is refused.
+/// All items of a scene.
 #[tactic(auto, unfolding(crate::specs::Items::items))]
 pub fn items_of(alloc: Global, scene: &Scene<'_>) -> Result<Vec<Item>, AllocError>
     ensures { IfOk result (λ found. found.items ≡ items scene.now) }

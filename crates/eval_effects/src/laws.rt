@@ -9,7 +9,7 @@ ghost use Rattle.eval_state.specs.declared.finals.Finals.{Finals};
 ghost use Rattle.eval_effects.specs.Laws.{TellsIgnored, TellsNone, TellsPassedOver, TellsTooLong};
 ghost use Rattle.eval_effects.specs.Since.{since_of, since_over};
 
-/// A key is final since the first rule behind which it is final.
+/// A key is final since the first rule after which it is final.
 pub fn final_since_the_first_rule()
     ensures { (stages : List (Rule × Finals)) (key : FinalKey) → since_of (since_over stages) key ≡ option_map (λ stage. stage.0) (find (λ stage. is_final stage.1 key) stages) }
 {}

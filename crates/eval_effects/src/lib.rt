@@ -1,8 +1,10 @@
-//! What the assignments of a rule did, told as text while they are made.
+//! What the assignments of a rule did, as text, while they are made.
 //!
-//! Each assignment is made by itself, and what stands before and behind it is compared: the items of the scene, and the
-//! RUNs. An assignment that was left out is told with its cause. How texts are shown in lines that tell why, and how keys
-//! and rules are named there, stands here too.
+//! Each assignment is made alone, and the scene's items and RUNs before and after it are compared. An assignment that
+//! was left out is reported with its cause. This crate also says how lines of `--why` show texts and name keys and
+//! rules.
+//!
+//! Functions that allocate return `AllocError` when memory runs out.
 #![tactic(auto)]
 
 mod changes;

@@ -26,7 +26,7 @@ fn stayed(was: &[MadeRun<'_>], now: &[MadeRun<'_>]) -> usize
         .count()
 }
 
-/// Tells RUNs and what became of them, behind other texts.
+/// Tells RUNs and what became of them, after other texts.
 fn push_each(
     alloc: Global,
     told: &mut Vec<Bytes>,
@@ -41,7 +41,7 @@ fn push_each(
     Ok(())
 }
 
-/// Tells the RUNs that are no longer there, behind other texts: one by one, unless none stayed.
+/// Tells the RUNs that are no longer there, after other texts: one by one, unless none stayed.
 fn push_removed(
     alloc: Global,
     told: &mut Vec<Bytes>,
@@ -61,7 +61,7 @@ fn push_removed(
     push_each(alloc, told, b" removed", was.split_at(stayed).1)
 }
 
-/// Tells what changed of RUNs that udev made, behind other texts.
+/// Tells what changed of RUNs that udev made, after other texts.
 pub(crate) fn push_made_changes(
     alloc: Global,
     told: &mut Vec<Bytes>,

@@ -35,7 +35,7 @@ pub(crate) fn run_told(alloc: Global, run: &Run<'_>, became: &[u8]) -> Result<By
     Ok(Bytes::new(text))
 }
 
-/// Tells a RUN behind other texts, unless it was there before.
+/// Tells a RUN after other texts, unless it was there before.
 fn push_added(
     alloc: Global,
     told: &mut Vec<Bytes>,
@@ -50,7 +50,7 @@ fn push_added(
     Ok(())
 }
 
-/// Tells a RUN of before behind other texts, where it is no longer there.
+/// Tells a RUN of before after other texts, where it is no longer there.
 fn push_removed(
     alloc: Global,
     told: &mut Vec<Bytes>,
@@ -65,7 +65,7 @@ fn push_removed(
     Ok(())
 }
 
-/// Tells the RUNs that were not there before, behind other texts.
+/// Tells the RUNs that were not there before, after other texts.
 fn push_all_added(
     alloc: Global,
     told: &mut Vec<Bytes>,
@@ -80,7 +80,7 @@ fn push_all_added(
     Ok(())
 }
 
-/// Tells one by one the RUNs that are no longer there, behind other texts.
+/// Tells one by one the RUNs that are no longer there, after other texts.
 fn push_each_removed(
     alloc: Global,
     told: &mut Vec<Bytes>,
@@ -95,7 +95,7 @@ fn push_each_removed(
     Ok(())
 }
 
-/// Tells the RUNs that are no longer there, behind other texts: one by one, unless none of them stayed.
+/// Tells the RUNs that are no longer there, after other texts: one by one, unless none of them stayed.
 fn push_all_removed(
     alloc: Global,
     told: &mut Vec<Bytes>,
@@ -111,7 +111,7 @@ fn push_all_removed(
     Ok(())
 }
 
-/// Tells what changed of RUNs, behind other texts.
+/// Tells what changed of RUNs, after other texts.
 pub(crate) fn push_run_changes(
     alloc: Global,
     told: &mut Vec<Bytes>,

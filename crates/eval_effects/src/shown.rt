@@ -9,7 +9,7 @@ use text_bytes::{Bytes, escape};
 /// The most bytes of a text that are shown.
 const MOST_SHOWN: usize = 200;
 
-/// Puts the start of a long text behind another one, with how many bytes the whole has.
+/// Puts the start of a long text after another one, with how many bytes the whole has.
 #[tactic(auto, unfolding(crate::specs::Shown::cut))]
 fn push_cut(alloc: Global, text: &mut Vec<u8>, about: &[u8]) -> Result<(), AllocError>
     requires { MOST_SHOWN ≤ length about.now }
@@ -22,8 +22,8 @@ fn push_cut(alloc: Global, text: &mut Vec<u8>, about: &[u8]) -> Result<(), Alloc
     text.extend_from_slice(b" bytes)")
 }
 
-/// Puts a text behind another one as it stands between quotes: escaped, and of one over 200 bytes the first 200, and then
-/// `.. (N bytes)`. The error comes where memory is refused.
+/// Puts a text after another one as it is between quotes: escaped, and of one over 200 bytes the first 200, and then
+/// `.. (N bytes)`.
 pub fn push_shortened(alloc: Global, text: &mut Vec<u8>, about: &[u8]) -> Result<(), AllocError>
     ensures { OnOk result (text.new.items ≡ text.old.items ++ shortened about.now) }
 {
@@ -34,8 +34,7 @@ pub fn push_shortened(alloc: Global, text: &mut Vec<u8>, about: &[u8]) -> Result
     }
 }
 
-/// Puts a text behind another one as it is shown: as `push_shortened` does, and an empty one as two quotes. The error
-/// comes where memory is refused.
+/// Puts a text after another one as it is shown: as `push_shortened` does, and an empty one as two quotes.
 pub fn push_shown(alloc: Global, text: &mut Vec<u8>, about: &[u8]) -> Result<(), AllocError>
     ensures { OnOk result (text.new.items ≡ text.old.items ++ shown about.now) }
 {
@@ -46,7 +45,7 @@ pub fn push_shown(alloc: Global, text: &mut Vec<u8>, about: &[u8]) -> Result<(),
     }
 }
 
-/// Puts texts behind another one, each behind a comma.
+/// Puts texts after another one, each after a comma.
 fn push_behind_commas(text: &mut Vec<u8>, more: &[Bytes]) -> Result<(), AllocError>
     ensures { OnOk result (text.new.items ≡ text.old.items ++ behind_commas more.now) }
 {
@@ -57,7 +56,7 @@ fn push_behind_commas(text: &mut Vec<u8>, more: &[Bytes]) -> Result<(), AllocErr
     Ok(())
 }
 
-/// Puts texts behind another one, with commas between them. The error comes where memory is refused.
+/// Puts texts after another one, with commas between them.
 pub fn push_joined(text: &mut Vec<u8>, texts: &[Bytes]) -> Result<(), AllocError>
     ensures { OnOk result (text.new.items ≡ text.old.items ++ joined texts.now) }
 {

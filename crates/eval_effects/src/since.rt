@@ -6,7 +6,7 @@ use eval_state::{FinalKey, Finals};
 use rule_types::Rule;
 use std::marker::Model;
 
-/// Of each key that `:=` made final the rule behind which it was final first.
+/// Of each key that `:=` made final the rule after which it was final first.
 #[derive(Drop)]
 pub struct Since<'a> {
     owner: Option<&'a Rule>,
@@ -37,7 +37,7 @@ impl<'a> Model for Since<'a> {
     } };
 }
 
-/// The rule since which a key is final behind one rule more: the one that is known, or that rule where the key is final
+/// The rule since which a key is final after one rule more: the one that is known, or that rule where the key is final
 /// now.
 fn since_either<'a>(first: Option<&'a Rule>, is_final: bool, rule: &'a Rule) -> Option<&'a Rule>
     ensures { option_map (λ r. r.now) result ≡ since_either (option_map (λ r. r.now) first.entry) is_final rule.now }
@@ -65,7 +65,7 @@ impl<'a> Since<'a> {
         }
     }
 
-    /// Takes in a rule, with the keys that are final behind it.
+    /// Takes in a rule, with the keys that are final after it.
     pub fn tell(&mut self, rule: &'a Rule, finals: Finals)
         ensures { self.new ≡ since_behind self.old rule.now finals }
     {

@@ -65,7 +65,7 @@ fn copied_made<'a>(alloc: Global, made: &[MadeRun<'a>]) -> Result<Vec<MadeRun<'a
 }
 
 impl<'a> Standing<'a> {
-    /// What stands in a scene. The error comes where memory is refused.
+    /// What is in a scene.
     pub(crate) fn of(alloc: Global, scene: &Scene<'a>) -> Result<Standing<'a>, AllocError>
         ensures { IfOk result (λ s. s ≡ standing scene.now) }
     {
@@ -77,21 +77,21 @@ impl<'a> Standing<'a> {
         })
     }
 
-    /// Lends the items.
+    /// Returns the items.
     pub(crate) fn items(&self) -> &[Item]
         ensures { result.now ≡ self.now.items }
     {
         &self.items
     }
 
-    /// Lends the RUNs.
+    /// Returns the RUNs.
     pub(crate) fn runs(&self) -> &[Run<'a>]
         ensures { result.now ≡ self.now.runs }
     {
         &self.runs
     }
 
-    /// Lends the RUNs that udev made at their rules.
+    /// Returns the RUNs that udev made at their rules.
     pub(crate) fn made(&self) -> &[MadeRun<'a>]
         ensures { result.now ≡ self.now.made }
     {

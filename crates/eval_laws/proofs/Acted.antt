@@ -1,4 +1,4 @@
--- What a scene weighs behind an act of a rule.
+-- What a scene weighs after an act of a rule.
 use Rattle.std.proofs.Common.{◌≡◌, ℕ, ◌+◌, ◌≤◌, nat_le, Bool, true, false, ◌==◌, List, [], ◌∷◌, length, Option, Some, None, is_some, ◌||◌, ap, codes, if◌then◌else◌, refl, arith}
 use Rattle.std.proofs.lemmas.Bool.{leb-true}
 use Rattle.std.proofs.lemmas.List.Sums.{sum_by-cons}

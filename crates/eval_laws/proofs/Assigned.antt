@@ -1,4 +1,4 @@
--- What a scene weighs behind an assignment.
+-- What a scene weighs after an assignment.
 use Rattle.std.proofs.Common.{◌≡◌, ℕ, zero, suc, ◌+◌, ◌≤◌, Bool, true, false, not, nat_lt, ltb-false, refl, List, [], ◌∷◌, ◌++◌, length, Option, Some, None, ◌==◌, if◌then◌else◌, ap, arith}
 use Rattle.std.proofs.lemmas.List.Sums.{sum_by-cons}
 use Rattle.std.specs.List.{slice_split}
@@ -104,7 +104,7 @@ extended_short (Some value) t short = by (nat_lt most_value_bytes (length (value
     by true e = tt
     by false e = let a = ltb-false most_value_bytes (length (value ++ space ∷ t)) e in omega (arith, a)
 
--- the attributes of the event device stand in the event
+-- the attributes of the event device are in the event
 own_light : (event : EventValue) → pairs_weight event.device.attrs ≤ event_weight event
 unfolding event_weight device_weight
 own_light event = let a = sum_by-cons device_weight event.device event.parents in omega (arith, a)

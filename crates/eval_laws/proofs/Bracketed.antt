@@ -41,7 +41,7 @@ module _ (byte : ℕ) where
       ∙ ap (λ (l : Text). Some (l, drop (length front + 1) whole)) before
       ∙ ap (λ (l : Text). Some (front, l)) behind
 
-  -- What a cut gives: the byte stands between the two parts, and not in the first.
+  -- What a cut gives: the byte is between the two parts, and not in the first.
   pub record IsCut (text : Text) (cut : Text × Text) : Type 0 where
     pub whole : text ≡ cut.0 ++ byte ∷ cut.1
     pub none : HasNone byte cut.0

@@ -1,4 +1,4 @@
--- Tags and links behind `=`, `+=` and `-=`.
+-- Tags and links after `=`, `+=` and `-=`.
 use Rattle.std.proofs.Common.{◌≡◌, Bool, true, false, cond, not, ◌||◌, ◌&&◌, List, [], ◌∷◌, ◌++◌, filter, refl, ap, sym, ◌∙◌, append_assoc}
 use Rattle.std.proofs.lemmas.List.{append-nil}
 use Rattle.std.specs.Cmp.Lexicographic.{bytes_decides}
@@ -66,7 +66,7 @@ known texts m x there = by (same_text x m) refl
     by true e = ap not (ap (is_among texts) (is_same x m e) ∙ there)
     by false e = refl
 
--- and one that was put behind is not new any more
+-- and one that was put after is not new any more
 behind_last : (texts : List Text) (m x : Text) → is_among texts m ≡ false → is_new (texts ++ m ∷ []) x ≡ (is_new (m ∷ []) x && is_new texts x)
 behind_last texts m x missing =
     ap not (sym (ap (λ b. is_among (cond b texts (texts ++ m ∷ [])) x) missing) ∙ among_added texts m x) ∙ by (is_among texts x) (same_text x m)
@@ -77,7 +77,7 @@ behind_last texts m x missing =
     by false true = refl
     by false false = refl
 
--- the new ones stand behind what is there, in the order in which they come, each once
+-- the new ones follow what is there, in the order in which they come, each once
 pub behind : (more texts : List Text) → with_texts texts more ≡ texts ++ filter (is_new texts) (with_texts [] more)
 behind [] texts = sym (append-nil texts)
 behind (m ∷ more) texts =

@@ -145,7 +145,7 @@ module _ (w : Note → ℕ) (v : RunValue → ℕ) (c : Rule → ℕ) (light : (
   notes_count : (entries : List Entry) (r : Rule) (s : Scene) → counted (onward (note_all r) (before_sets entries r s)).0 ≤ counted s + parts_most (c r) r
   notes_count entries r s = went_counts entries r (note_step r) (note_counts r) s
 
--- ---- rules one behind another
+-- ---- rules one after another
 
 module _ (w : Note → ℕ) (c : Rule → ℕ) (light : (r : Rule) (kind : NoteKind) (text : Text) → w (note_about r kind text) ≤ c r) where
   -- the notes of a rule that is passed over

@@ -9,7 +9,7 @@ use Rattle.device_core.specs.Holding.{begins_after}
 use Rattle.device_core.proofs.Law.{complete_runs-append, rest_of-append, byte_stays, byte_ends, begins_after-push}
 use Rattle.device_core.proofs.Chunks.{GoesOn, chunk_stays}
 
--- where no byte is the newline of an empty line, no two newlines stand in a row
+-- where no byte is the newline of an empty line, no two newlines are in a row
 goes_on-in_a_row : (start : Bool) (before behind : List ℕ) → GoesOn start (before ++ 10 ∷ 10 ∷ behind) → ⊥
 goes_on-in_a_row start [] behind g = let both : true ≡ false = g.1.0 in absurd cc
 goes_on-in_a_row start (byte ∷ before) behind g = goes_on-in_a_row (byte == 10) before behind g.1
@@ -83,7 +83,7 @@ cut-is text (run ∷ runs) rest cut =
 nothing_open : HasNoEmptyLine []
 nothing_open = no_empty_line [] tt
 
--- a text behind which a line begins ends in a newline
+-- a text after which a line begins ends in a newline
 ends_in_newline : (start : Bool) (byte : ℕ) (text : List ℕ) → begins_after start (byte ∷ text) ≡ true → (before : List ℕ) × (byte ∷ text ≡ before ++ 10 ∷ [])
 ends_in_newline start byte [] e = ([], ap (λ b. b ∷ []) (eqb-true byte 10 e))
 ends_in_newline start byte (next ∷ text) e = let later = ends_in_newline (byte == 10) next text e in (byte ∷ later.0, ap (λ l. byte ∷ l) later.1)
@@ -99,7 +99,7 @@ cut_byte_stays text (run ∷ runs) rest byte cut unbroken = (
   cut_byte_stays cut.1 runs rest byte cut.4 unbroken,
 )
 
--- the newline of an empty line, behind newlines and a rest
+-- the newline of an empty line, after newlines and a rest
 last_ends : (count : ℕ) (rest : List ℕ) → HasNoEmptyLine rest → true ≡ begins_after true rest → IsCutInto ((replicate count 10 ++ rest) ++ 10 ∷ []) (not_empty (rest ∷ [])) []
 last_ends count [] unbroken ends = (
   count + 1,

@@ -235,7 +235,7 @@ step_keeps k r a s lasts h = by (is_settled (final_key s.state.event.profile a.c
       stays = change_stays k r s.state.event.profile a.operator a.change s h;
     }
 
--- and through assignments one behind another
+-- and through assignments one after another
 pub fold_keeps : (k : FinalKey) (r : Rule) (sets : List Assignment) (s : Scene) → Lasts k s → is_final s.finals k ≡ true → Keeps k s (fold (set_step r) s sets)
 fold_keeps k r [] s lasts h = record { same = itself (value k) s; stays = h }
 fold_keeps k r (a ∷ sets) s lasts h =

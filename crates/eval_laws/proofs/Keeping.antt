@@ -208,7 +208,7 @@ search_same : (parts : List UpMatch) (s : Scene) → Same s (search parts s).0
 search_same [] s = refl
 search_same (part ∷ parts) s = refl
 
--- ---- steps, and rules one behind another
+-- ---- steps, and rules one after another
 
 onward_same : (f : Scene → Went) → ((s : Scene) → Same s (f s).0) → (s : Scene) (w : Went) → Same s w.0 → Same s (onward f w).0
 onward_same f h s w k = by w.1

@@ -28,7 +28,7 @@ not_space b e = by_quote_sign (or_cases (b == single_quote) (b == double_quote) 
   by_quote_sign (inl one) = ap (λ n. n == space) (eqb-true b single_quote one)
   by_quote_sign (inr two) = ap (λ n. n == space) (eqb-true b double_quote two)
 
--- behind a quote the bytes are taken as they are, up to that quote
+-- after a quote the bytes are taken as they are, up to that quote
 quoted_run : (quote : ℕ) (inside word : Text) (words : List Text) (rest : Text) → HasNo quote inside
     → fold took (at (Quoted quote) word words) (inside ++ quote ∷ rest) ≡ fold took (at InWord (word ++ inside) words) rest
 quoted_run quote [] word words rest none =
@@ -195,7 +195,7 @@ open_read (group mark within ∷ pieces) in_one word words quote inside each is 
 abbrev Whole : Text → Type 0
 Whole text = (pieces : List Piece) × (text ≡ flat_map written pieces) × All IsPiece pieces
 
--- a text has such a quote, and what stands behind it is one of the two
+-- a text has such a quote, and what follows it is one of the two
 record Closes (quote : ℕ) (text : Text) : Type 0 where
   pub inside : Text
   pub rest : Text

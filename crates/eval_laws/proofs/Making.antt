@@ -1,4 +1,4 @@
--- What is final behind an assignment, and what OWNER, GROUP, MODE and RUN leave.
+-- What is final after an assignment, and what OWNER, GROUP, MODE and RUN leave.
 use Rattle.std.proofs.Common.{◌≡◌, ℕ, Bool, true, false, cond, not, ◌||◌, ◌&&◌, List, [], ◌∷◌, ◌++◌, Option, Some, None, is_some, option_map, if◌then◌else◌, refl, ap, sym, ◌∙◌}
 use Rattle.std.specs.List.{fold, list_any}
 use Rattle.text_bytes.specs.Texts.{is_empty}
@@ -379,7 +379,7 @@ run_taken r o braces template s manual open_key =
     ∙ ap (λ (p : Profile). (run_step p r o braces template s).runs) manual
     ∙ finally_runs o (Some key.Run) (record s { runs = runs_after o s.runs (run_of r braces template s) })
 
--- by udev a command stands behind those that stay
+-- by udev a command follows those that stay
 pub run_rendered_last : (r : Rule) (o : AssignOperator) (braces : Option RunType) (template : Template) (s : Scene) (text : Text) → s.state.event.profile ≡ Udev → is_final s.finals key.Run ≡ false
     → within most_command_bytes (render template s.state Plain) ≡ rendered.Text text → is_empty (words text) ≡ false
     → (set_step r s (record { operator = o; change = change.Run braces template })).made ≡ made_before o s.made ++ record { run = run_of r braces template s; text = text } ∷ []

@@ -1,4 +1,4 @@
--- Where a rule goes on behind its search, one device meets all matches along the chain.
+-- Where a rule goes on after its search, one device meets all matches along the chain.
 use Rattle.std.proofs.Common.{◌≡◌, ℕ, Bool, true, false, cond, List, [], ◌∷◌, Option, Some, None, is_some, length, refl, ap, sym, subst, ◌∙◌, true≢false}
 use Rattle.std.specs.List.{list_all}
 use Rattle.hwdb_lookup.specs.declared.entry.Entry.{Entry}
@@ -30,7 +30,7 @@ searched part parts s = by (found_place (part ∷ parts) s.state) refl
     by None e h = absurd (true≢false (sym h))
     by (Some place) e h = record { place = place; first = met (part ∷ parts) s.state place e }
 
--- a rule that goes on behind a step went on before it
+-- a rule that goes on after a step went on before it
 went_on : (f : Scene → Went) (s : Scene) (b : Bool) → (onward f (s, b)).1 ≡ true → (b ≡ true) × ((f s).1 ≡ true)
 went_on f s true h = (refl, h)
 went_on f s false h = absurd (true≢false (sym h))

@@ -31,7 +31,7 @@ priority_short (Some priority) fits =
     let b = number_short priority fits in
     omega (arith, a, b)
 
--- lines behind others
+-- lines after others
 pub behind : (others one : Text) (m n : ℕ) → length others ≤ m → length one ≤ n → length (others ++ one) ≤ m + n
 behind others one m n a b = let c = length-append others one in omega (arith, a, b, c)
 

@@ -82,7 +82,7 @@ sets_kept : (r : Rule) (sets : List Assignment) (s : Scene) → SetsFit sets →
 sets_kept r [] s fits h = h
 sets_kept r (a ∷ sets) s fits h = sets_kept r sets (set_step r s a) fits.1 (set_kept r a s fits.0 h)
 
--- ---- rules one behind another
+-- ---- rules one after another
 
 steps_kept : (es : List Entry) (r : Rule) (s : Scene) → SetsFit r.sets → Fits s → Fits (steps es r s).0
 unfolding steps

@@ -1,4 +1,4 @@
--- What a scene weighs behind a rule, and behind all rules.
+-- What a scene weighs after a rule, and after all rules.
 use Rattle.std.proofs.Common.{◌≡◌, ℕ, ◌+◌, ◌≤◌, Bool, true, false, List, [], ◌∷◌, length, fold, Option, None, if◌then◌else◌, arith}
 use Rattle.std.proofs.lemmas.List.Sums.{sum_by-cons}
 use Rattle.std.specs.List.{sum_by}
@@ -35,7 +35,7 @@ use Rattle.eval_laws.proofs.Stepped.{set_within}
 use Rattle.eval_laws.proofs.Acted.{act_within}
 
 module _ (event : EventValue) where
-  -- one step behind another
+  -- one step after another
   onward_within : (next : Scene → Went) (k n : ℕ) (went : Went) → Within event n went.0 → ((s : Scene) → Within event n s → Within event (n + k) (next s).0) → Within event (n + k) (onward next went).0
   onward_within next k n went h each = by went.1
     where

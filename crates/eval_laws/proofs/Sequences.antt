@@ -1,4 +1,4 @@
--- A UTF-8 sequence is told by its own bytes.
+-- A UTF-8 sequence is reported by its own bytes.
 use Rattle.std.proofs.Common.{◌≡◌, ℕ, ◌<◌, ◌≤◌, ◌==◌, ◌&&◌, Bool, true, false, cond, nat_lt, is_some, if◌then◌else◌, List, [], ◌∷◌, length, slice_index, refl, sym, subst, ap, ◌∙◌, arith}
 use Rattle.bstr.specs.Utf8.{Decoded, bad, good, decoded, decoded_by, second, continues, code_of_2, code_of_3, code_of_4}
 use Rattle.bstr.proofs.lemmas.PieceLemmas.{piece-bounds, size-within}

@@ -22,7 +22,7 @@ numbers_light : (number : Option NumberValue) → given_weight (option_map (λ n
 numbers_light None = omega arith
 numbers_light (Some number) = omega arith
 
--- lists one behind another
+-- lists one after another
 four_light : (first second third fourth : List Pair) → pairs_weight (first ++ second ++ third ++ fourth) ≡ pairs_weight first + pairs_weight second + pairs_weight third + pairs_weight fourth
 four_light first second third fourth =
     let a = sum_by-append pair_weight (first ++ second ++ third) fourth in
@@ -46,7 +46,7 @@ two_light action path rest =
     let b = sum_by-cons pair_weight (codes "DEVPATH", path) rest in
     omega (arith, a, b)
 
--- what an event says of its device stands in the event once
+-- what an event says of its device is in the event once
 event_told : (event : EventValue) → pairs_weight (told_by event) ≤ text_weight event.action + text_weight event.device.path + given_weight event.device.subsystem + given_weight event.device.node + number_weight event.device.number + 50
 event_told event =
     let a = two_light event.action event.device.path

@@ -142,7 +142,7 @@ in_sequence-again marks t k e = go (in_is_reached t k e)
     go (inr (inl r)) = reached_is_in (safe marks t) k 2 (omega arith) (reached-again marks t k 2 r)
     go (inr (inr r)) = reached_is_in (safe marks t) k 3 (omega arith) (reached-again marks t k 3 r)
 
--- a backslash with an `x` behind it is there still
+-- a backslash with an `x` after it is there still
 hex_escape-again : (marks t : List ℕ) (k : ℕ) → k < length t → stays marks t k ≡ true → is_hex_escape t k ≡ true → is_hex_escape (safe marks t) k ≡ true
 unfolding is_hex_escape
 hex_escape-again marks t k within kept e =

@@ -1,4 +1,4 @@
--- What a scene weighs behind one assignment of a rule.
+-- What a scene weighs after one assignment of a rule.
 use Rattle.std.proofs.Common.{◌≡◌, ℕ, ◌+◌, ◌≤◌, Bool, true, false, List, [], ◌∷◌, ◌++◌, length, Option, Some, None, ◌||◌, if◌then◌else◌, option_map, ap, subst, arith}
 use Rattle.std.proofs.lemmas.List.Sums.{sum_by_push}
 use Rattle.std.specs.List.{sum_by, list_any}

@@ -38,7 +38,7 @@ all_rest : (a b : Bool) → (a && b) ≡ true → b ≡ true
 all_rest true b e = e
 all_rest false b e = absurd (true≢false (sym e))
 
--- what is cut behind a byte that is whitespace, and behind one that is not
+-- what is cut after a byte that is whitespace, and after one that is not
 split_at_gap : (b : ℕ) (t : Text) → is_whitespace b ≡ true → slice_split is_whitespace (b ∷ t) ≡ [] ∷ slice_split is_whitespace t
 split_at_gap b t e = ap (λ w. cond w ([] ∷ slice_split is_whitespace t) (onto_first b (slice_split is_whitespace t))) e
 
@@ -77,7 +77,7 @@ gap_more b t (word ∷ more) e (behind, h, rest) = (
   rest,
 )
 
--- What goes on at the start of a text: a part without whitespace, perhaps none, and behind it the further words.
+-- What goes on at the start of a text: a part without whitespace, perhaps none, and after it the further words.
 record GoesOn (t : Text) : Type 0 where
   behind : Text
   whole : t ≡ front (slice_split is_whitespace t) ++ behind
@@ -152,7 +152,7 @@ cut_behind (b ∷ word) behind e ends =
       further = ap (λ ps. kept (others ps)) cut ∙ ap kept (others_onto b parts) ∙ on.further;
     }
 
--- a word is the first, and the words behind it follow
+-- a word is the first, and the words after it follow
 words_with_first : (word behind : Text) → is_empty word ≡ false → HasNoWhitespace word → BeginsWithGap behind → words (word ++ behind) ≡ word ∷ words behind
 words_with_first [] behind some e ends = absurd (true≢false some)
 words_with_first (b ∷ word) behind some e ends =
@@ -194,7 +194,7 @@ abbrev Stops : (ℕ → Bool) → Text → Type 0
 Stops test [] = Unit {0}
 Stops test (b ∷ t) = test b ≡ false
 
--- what passes at the start of a text, and what stands behind it
+-- what passes at the start of a text, and what follows it
 record IsPassed (test : ℕ → Bool) (t : Text) : Type 0 where
   passes : list_all test (take (prefix_len test t) t) ≡ true
   stops : Stops test (drop (prefix_len test t) t)
@@ -244,7 +244,7 @@ words_behind_start t =
     sym (words_behind_gap (take (prefix_len is_whitespace t) t) (skip_while is_whitespace t) (passed is_whitespace t).passes)
     ∙ ap words (take-append-drop (prefix_len is_whitespace t) t)
 
--- The first word of a text that begins with one, and the words behind it.
+-- The first word of a text that begins with one, and the words after it.
 record IsFirstWord (t : Text) : Type 0 where
   word : take (word_len t) t ≡ or_empty (slice_get (words t) 0)
   behind : words (drop (word_len t) t) ≡ drop 1 (words t)

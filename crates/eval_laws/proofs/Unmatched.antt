@@ -49,7 +49,7 @@ onward_same : (f : Scene → Went) (notes : List Note) → ((t : Scene) → noti
 onward_same f notes h s t true e = h t ∙ e
 onward_same f notes h s t false e = e
 
--- matches one behind another change nothing else
+-- matches one after another change nothing else
 pub walk_same : (r : Rule) (parts : List PlainMatch) (notes : List Note) (s : Scene) → noting notes (walk (plain_step r) parts s).0 ≡ noting notes s
 unfolding walk
 walk_same r [] notes s = refl

@@ -386,7 +386,7 @@ module _ (k : Kept) (r : Rule) where
       let made : Scene = run_made r braces template (within most_command_bytes (render template s.state Plain)) fewer in
       same_finally k s made o (Some key.Run) (through k s fewer made (same_runs k s s.runs (made_before o s.made) other) (made_same braces template (within most_command_bytes (render template s.state Plain)) fewer other))
 
--- what is final behind a text that is assigned, before `:=` makes its key final
+-- what is final after a text that is assigned, before `:=` makes its key final
 watched : (about : Target) → Other (value key.Watch) (final_target about)
 watched target.Owner h = cc
 watched target.Group h = cc

@@ -194,7 +194,7 @@ starred_by (Some place) device name =
 pub starred_light : (device : DeviceValue) (name : Text) → IsNoLonger (length name + pairs_weight device.attrs) (starred device name)
 starred_light device name = starred_by (star_place name) device name
 
--- what stands behind a cut is no longer than this, if there is a cut
+-- what follows a cut is no longer than this, if there is a cut
 abbrev IsCutWithin : ℕ → Option (Text × Text) → Type 0
 IsCutWithin most None = Unit {0}
 IsCutWithin most (Some cut) = length cut.1 ≤ most
@@ -241,6 +241,6 @@ named_short (b ∷ text) = by (begins_with open_bracket (b ∷ text))
     by true = within_named (length text) (length (b ∷ text)) (omega arith) (named_behind (split_once slash text)) (named_behind_short (length text) (split_once slash text) (split_short slash text))
     by false = tt
 
--- the attribute of a device that is named stands in the name
+-- the attribute of a device that is named is in the name
 pub named_shorter : (name : Text) (is : NamedValue) → named name ≡ Some is → length is.attribute ≤ length name
 named_shorter name is e = subst (IsNamedWithin (length name)) e (named_short name)

@@ -1,11 +1,11 @@
--- Calls of `take` in a row, each with what is handed to it: pieces of an input, and what is left of them.
+-- Calls of `take` in a row, each with what is passed to it: pieces of an input, and what is left of them.
 use Rattle.std.specs.Prelude.{◌≡◌, ◌<◌, List, ℕ, [], ◌∷◌, ◌++◌, length, take}
 use Rattle.device_core.specs.Runs.{complete_runs, rest_of, runs}
 use Rattle.device_core.specs.RunBlocks.{blocks_of, is_too_long, most_bytes, line_of_excess}
 use Rattle.device_core.specs.Splits.{Split, Takes, given}
 use Rattle.device_core.specs.declared.splitter.Taken.{Taken}
 
--- a call: the piece, what came of it, and the splitter behind it
+-- a call: the piece, what came of it, and the splitter after it
 pub record Call : Type 0 where
   pub piece : List ℕ
   pub taken : Taken

@@ -50,7 +50,7 @@ IsWhitespaceItem i = (b : ℕ) × (i ≡ item.Byte b) × IsWhitespace b
 abbrev pub EndsInWhitespace : List (List Item) → Type 0
 EndsInWhitespace choice = HasLast (HasLast IsWhitespaceItem) choice
 
--- A text is a shorter one and whitespace behind it, and the shorter one does not end in whitespace.
+-- A text is a shorter one and whitespace after it, and the shorter one does not end in whitespace.
 pub record IsWithoutItsEnd (text short : Text) : Type 0 where
   pub end : Text
   pub whole : text ≡ short ++ end

@@ -43,7 +43,7 @@ pub record IsGroup (group : List Row) : Type 0 where
   pub begins : is_kind Device head ≡ true
   pub alone : has_device tail ≡ false
 
--- lines are some that are no `P:`, and then the groups one behind another
+-- lines are some that are no `P:`, and then the groups one after another
 pub record AreGrouped (rows : List Row) : Type 0 where
   pub whole : rows ≡ before_device rows ++ flat_map (λ group. group) (groups rows)
   pub before : has_device (before_device rows) ≡ false

@@ -6,7 +6,7 @@ use Rattle.text_bytes.specs.Texts.{is_empty}
 use Rattle.text_tables.specs.Texts.{Text}
 use Rattle.eval_acts.specs.Words.{command_words, is_quote}
 
--- a piece of a command: a space, a byte that means itself, or what stands between two quotes
+-- a piece of a command: a space, a byte that means itself, or what is between two quotes
 pub data Piece : Type 0 where
   gap : Piece
   byte : ℕ → Piece
@@ -24,7 +24,7 @@ meant gap = []
 meant (byte b) = b ∷ []
 meant (group quote inside) = inside
 
--- no such quote stands in a text
+-- no such quote is in a text
 abbrev pub HasNo : ℕ → Text → Type 0
 HasNo quote text = list_any (λ b. b == quote) text ≡ false
 
@@ -34,7 +34,7 @@ IsPiece gap = Unit {0}
 IsPiece (byte b) = ((b == space) ≡ false) × (is_quote b ≡ false)
 IsPiece (group quote inside) = (is_quote quote ≡ true) × HasNo quote inside
 
--- whether a piece stands between words
+-- whether a piece is between words
 abbrev pub is_gap : Piece → Bool
 is_gap gap = true
 is_gap piece = false
@@ -50,7 +50,7 @@ pub record HasWords (command : Text) (words : List Text) : Type 0 where
   pub each : All IsPiece pieces
   pub cut : words ≡ words_of pieces
 
--- In a command a quote stays open: behind some pieces it stands, and no such quote behind it.
+-- In a command a quote stays open: after some pieces it stands, and no such quote after it.
 pub record HasOpenQuote (command : Text) : Type 0 where
   pub pieces : List Piece
   pub quote : ℕ

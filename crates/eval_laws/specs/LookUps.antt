@@ -17,7 +17,7 @@ pub record IsFirstAnswer (entries : List Entry) (hwdb : Hwdb) (texts : List Text
   pub nothing : flat_map (answer entries hwdb) before ≡ []
   pub gives : answer entries hwdb text ≡ properties
 
--- the texts of devices, nearest first: the modalias of each that is wanted and has one, behind the prefix
+-- the texts of devices, nearest first: the modalias of each that is wanted and has one, after the prefix
 abbrev pub texts_of : Hwdb → List Candidate → List Text
 texts_of hwdb devices = map (λ modalias. hwdb.prefix ++ modalias) (filter_map (λ device. device.modalias) (filter (is_wanted hwdb.subsystem) devices))
 

@@ -7,15 +7,15 @@ use Rattle.device_core.specs.Values.{EventValue, chain}
 use Rattle.eval_state.specs.Chains.{device_at}
 use Rattle.eval_state.specs.Named.{NamedValue, is_named}
 
--- a byte does not stand in a text
+-- a byte is not in a text
 abbrev pub HasNone : ℕ → Text → Type 0
 HasNone byte text = list_any (λ b. b == byte) text ≡ false
 
--- a subsystem and a kernel's name in brackets, and a text behind them
+-- a subsystem and a kernel's name in brackets, and a text after them
 abbrev pub bracketed : Text → Text → Text → Text
 bracketed subsystem kernel behind = open_bracket ∷ (subsystem ++ slash ∷ (kernel ++ close_bracket ∷ behind))
 
--- A name is written so: the subsystem has no slash and the kernel's name no `]`, and the attribute stands behind them, perhaps behind a slash.
+-- A name is written so: the subsystem has no slash and the kernel's name no `]`, and the attribute follows them, perhaps after a slash.
 pub record IsWrittenSo (name : Text) (is : NamedValue) : Type 0 where
   pub subsystem : HasNone slash is.subsystem
   pub kernel : HasNone close_bracket is.kernel

@@ -15,7 +15,7 @@ pub record IsInCharacter (text : List ℕ) (place : ℕ) : Type 0 where
   pub decodes : (decoded (drop start text)).char ≡ Some char
   pub reaches : place < start + (decoded (drop start text)).size
 
--- The byte at a place is an ASCII letter or digit, one of the marks, a space, a backslash with an `x` behind it, or part
+-- The byte at a place is an ASCII letter or digit, one of the marks, a space, a backslash with an `x` after it, or part
 -- of a UTF-8 sequence of several bytes.
 pub data IsSafeByte (marks text : List ℕ) (place : ℕ) : Type 0 where
   letter_or_digit : is_ascii_alphanumeric (slice_index text place) ≡ true → IsSafeByte marks text place

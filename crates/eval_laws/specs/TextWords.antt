@@ -10,7 +10,7 @@ use Rattle.text_links.specs.Underscores.{words}
 abbrev pub IsGap : Text → Type 0
 IsGap text = list_all is_whitespace text ≡ true
 
--- no whitespace stands in a text
+-- no whitespace is in a text
 abbrev pub HasNoWhitespace : Text → Type 0
 HasNoWhitespace text = list_any is_whitespace text ≡ false
 
@@ -24,7 +24,7 @@ abbrev pub BeginsWithWord : Text → Type 0
 BeginsWithWord [] = Unit {0}
 BeginsWithWord (b ∷ text) = is_whitespace b ≡ false
 
--- A word stands at the first place of a text that is no whitespace, and reaches up to the next whitespace or to the end.
+-- A word is at the first place of a text that is no whitespace, and reaches up to the next whitespace or to the end.
 pub record HasFirst (text word behind : Text) : Type 0 where
   pub gap : Text
   pub whole : text ≡ gap ++ (word ++ behind)
@@ -33,7 +33,7 @@ pub record HasFirst (text word behind : Text) : Type 0 where
   pub unbroken : HasNoWhitespace word
   pub ends : BeginsWithGap behind
 
--- a text has these words, one behind another, and whitespace around them
+-- a text has these words, one after another, and whitespace around them
 abbrev pub HasWords : Text → List Text → Type 0
 HasWords text [] = IsGap text
 HasWords text (word ∷ more) = (behind : Text) × HasFirst text word behind × HasWords behind more

@@ -48,8 +48,8 @@ pub fn runs_that_are_there_stay_alone()
     ensures { (runs : List RunValue) (run : RunValue) → list_any (same_run run) runs ≡ true → runs_after Add runs run ≡ runs }
 {}
 
-/// With udev a tag that `-=` takes away is not told, and matches of tags go on to meet it. `+=` leaves a tag
-/// that is told and met, whether it was taken away before or not, and so does `=`.
+/// With udev a tag that `-=` takes away is not reported, and matches of tags go on to meet it. `+=` leaves a tag
+/// that is reported and met, whether it was taken away before or not, and so does `=`.
 pub fn a_tag_that_is_taken_away_is_met_and_not_told()
     ensures met { (r : Rule) (template : templates.Parts) (s : Scene) (t : Text) → s.state.event.profile ≡ Udev → within most_name_bytes (render template s.state Plain) ≡ rendered.Text t → (set_step r s (record { operator = Remove; change = change.Text target.Tag template })).state.tags ≡ s.state.tags }
     ensures not_told { (r : Rule) (template : templates.Parts) (s : Scene) (t : Text) → s.state.event.profile ≡ Udev → within most_name_bytes (render template s.state Plain) ≡ rendered.Text t → is_among (current_tags (set_step r s (record { operator = Remove; change = change.Text target.Tag template }))) t ≡ false }

@@ -1,4 +1,4 @@
-//! What holds of runs and blocks whatever text they stand in, and of a splitter's calls however an
+//! What holds of runs and blocks whatever text they are in, and of a splitter's calls however an
 //! input is cut. Each law is the contract of a function that does nothing.
 ghost use Rattle.std.specs.Prelude.{◌≡◌, ◌<◌, ◌+◌, ◌↔◌, ◌⊎◌, List, ℕ, Bool, true, ◌++◌, length, take};
 ghost use Rattle.device_core.specs.Runs.{lines_inclusive, complete_runs, rest_of, runs};
@@ -41,7 +41,7 @@ pub fn other_faults_end_the_blocks_sooner()
         → blocks_of is_faulty input ≡ up_to_faulty is_faulty (blocks_of is_too_long input) }
 {}
 
-/// The first byte too many of a run stands in the last line of its first 65,537 bytes.
+/// The first byte too many of a run is in the last line of its first 65,537 bytes.
 pub fn excess_stands_in_the_last_line()
     ensures { (run : List ℕ) → most_bytes < length run
         → line_of_excess run ≡ length (lines_inclusive (take (most_bytes + 1) run)) }

@@ -6,7 +6,7 @@ ghost use Rattle.eval_laws.specs.Grammar.{IsRead};
 ///
 /// A command is written in pieces: spaces, bytes that mean themselves, and groups between two quotes.
 /// Its words are the longest runs of pieces without a space, and it has none exactly where a quote
-/// stands behind some pieces and no such quote behind it.
+/// follows some pieces and no such quote after it.
 pub fn words_are_what_a_command_writes()
     ensures { (command : List ℕ) → IsRead command }
 {}

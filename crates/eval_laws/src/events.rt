@@ -36,7 +36,7 @@ pub fn unmatched_events_stay_as_they_are()
 {}
 
 /// A rule that jumps and whose end is reached is followed by the next rule that has the label, which is
-/// evaluated; the rules between them are passed over. That this rule stands in the same file is a law of
+/// evaluated; the rules between them are passed over. That this rule is in the same file is a law of
 /// rules as they are read, `jumps_stay_in_their_files`.
 pub fn jumps_lead_to_the_next_label()
     ensures { (entries : List Entry) (name : Text) (landing : Rule) (behind : List Rule) → landing.label ≡ Some name → (r : Rule) (between : List Rule) (s : Scene) → r.goto ≡ Some name → (apply entries r s).1 ≡ true → ¬ HasLabel name between → run entries None (r ∷ (between ++ landing ∷ behind)) s ≡ run entries None (landing ∷ behind) (apply entries r s).0 }

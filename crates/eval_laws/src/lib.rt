@@ -1,6 +1,6 @@
-//! Laws of events: of blocks and devices, of what a rule changes, and of how much an answer weighs.
+//! Laws of events: of blocks and devices, of what a rule changes, and of the weight of an answer.
 //!
-//! A law is the contract of a function with an empty body. Nothing stands on this crate.
+//! A law is the contract of a function with an empty body. No crate depends on this one.
 #![tactic(auto)]
 
 pub mod acts;

@@ -21,8 +21,8 @@ pub fn the_first_answer_is_found()
     ensures none { (entries : List Entry) (hwdb : Hwdb) (state : State) → (found entries hwdb state ≡ []) ↔ (flat_map (answer entries hwdb) (texts hwdb state) ≡ []) }
 {}
 
-/// A modalias that is given is the only text, behind the prefix. Without one, the texts are the modaliases
-/// of the wanted devices, nearest first, each behind the prefix: up to the first wanted device whose
+/// A modalias that is given is the only text, after the prefix. Without one, the texts are the modaliases
+/// of the wanted devices, nearest first, each after the prefix: up to the first wanted device whose
 /// subsystem is `usb` and whose DEVTYPE is `usb_device`, with that one, and where there is none, of all.
 pub fn no_device_behind_a_usb_device_is_asked()
     ensures given { (hwdb : Hwdb) (state : State) (modalias : Text) → hwdb.modalias ≡ Some modalias → texts hwdb state ≡ (hwdb.prefix ++ modalias) ∷ [] }

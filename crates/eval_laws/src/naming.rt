@@ -9,7 +9,7 @@ ghost use Rattle.eval_state.specs.Chains.{device_at};
 ghost use Rattle.eval_state.specs.Named.{NamedValue, is_named, named, named_place};
 ghost use Rattle.eval_laws.specs.Naming.{HasNone, IsNearestNamed, IsWrittenSo, bracketed};
 
-/// A name that begins with `[SUBSYSTEM/KERNEL]` names a device and, behind that, its attribute, where the
+/// A name that begins with `[SUBSYSTEM/KERNEL]` names a device and, after that, its attribute, where the
 /// subsystem has no slash and the kernel's name no `]`. One slash before the attribute is no part of it. No
 /// other name names a device.
 pub fn a_name_in_brackets_names_a_device()

@@ -24,7 +24,7 @@ ghost use Rattle.eval_laws.specs.SafeTexts.{IsSafe};
 use crate::safe_texts::safe_texts_are_safe;
 
 /// A text that is rendered for a link has only ASCII letters and digits, marks, spaces, backslashes with
-/// an `x` behind them, and bytes over 127 that are part of a UTF-8 sequence; it does nothing when it is
+/// an `x` after them, and bytes over 127 that are part of a UTF-8 sequence; it does nothing when it is
 /// called.
 pub fn rendered_links_are_safe()
     ensures { (template : templates.Parts) (state : states.State) (text : Text) → render template state Link ≡ rendered.Text text → IsSafe link_marks text }

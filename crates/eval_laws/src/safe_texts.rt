@@ -4,7 +4,7 @@ ghost use Rattle.text_links.specs.Safe.{attribute_marks, link_marks, safe};
 ghost use Rattle.eval_laws.specs.SafeTexts.{IsMadeSafe, IsSafe};
 
 /// A text that was made safe has only ASCII letters and digits, marks, spaces, backslashes with an `x`
-/// behind them, and bytes over 127 that are part of a UTF-8 sequence.
+/// after them, and bytes over 127 that are part of a UTF-8 sequence.
 pub fn safe_texts_are_safe()
     ensures link { (text : List ℕ) → IsSafe link_marks (safe link_marks text) }
     ensures attribute { (text : List ℕ) → IsSafe attribute_marks (safe attribute_marks text) }

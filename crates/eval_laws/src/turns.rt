@@ -1,4 +1,4 @@
-//! What becomes of rules one behind another, and of what they leave, whatever the rules, the event and
+//! What becomes of rules one after another, and of what they leave, whatever the rules, the event and
 //! the database are.
 //!
 //! Each function here is empty: its contract is the law.
@@ -19,7 +19,7 @@ ghost use Rattle.eval_rules.specs.Idle.{is_idle};
 ghost use Rattle.eval_rules.specs.Outcomes.{by_name, commands, made_command, outcome_of};
 ghost use Rattle.eval_rules.specs.Steps.{apply};
 
-/// A rule of assignments alone makes them, one behind another, and its end is reached. udev does so
+/// A rule of assignments alone makes them, one after another, and its end is reached. udev does so
 /// where the rule is not one that it passes over.
 pub fn a_rule_of_assignments_makes_them()
     ensures manual { (entries : List Entry) (r : Rule) (s : Scene) → s.state.event.profile ≡ Manual → r.plain ≡ [] → r.up ≡ [] → r.acts ≡ [] → r.results ≡ [] → apply entries r s ≡ (fold (set_step r) s r.sets, true) }
@@ -39,7 +39,7 @@ pub fn sorted_properties_have_their_values()
 
 /// A RUN that is kept when no rule is left is a command at its place among the others, rendered by what
 /// is then known of the event, with the device that was selected when its rule was reached. Those that
-/// udev rendered at their rules stand behind them, in their order.
+/// udev rendered at their rules follow them, in their order.
 pub fn commands_are_rendered_in_the_end()
     ensures kept { (s : Scene) (before behind : List RunValue) (kept : RunValue) (text : Text) → s.runs ≡ before ++ kept ∷ behind → render kept.template (record s.state { selected = kept.selected }) Plain ≡ rendered.Text text → (outcome_of s).runs ≡ commands s.state before ++ record { kind = run_kind kept.braces; text = text } ∷ (commands s.state behind ++ map made_command s.made) }
     ensures made { (s : Scene) → s.runs ≡ [] → (outcome_of s).runs ≡ map made_command s.made }

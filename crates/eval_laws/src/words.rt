@@ -15,7 +15,7 @@ pub fn a_text_has_its_words()
 {}
 
 /// A text as one word has no whitespace; it is the words of the text in their order, with one `_`
-/// between each two and none before the first or behind the last.
+/// between each two and none before the first or after the last.
 pub fn words_are_joined_by_underscores()
     ensures joined { (text : Text) (found : List Text) → HasWords text found → underscored text ≡ join_with_byte underscore found }
     ensures whole { (text : Text) → HasNoWhitespace (underscored text) }

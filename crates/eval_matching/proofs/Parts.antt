@@ -40,7 +40,7 @@ append_none : (text : Text) → text ++ [] ≡ text
 append_none [] = refl
 append_none (b ∷ text) = ap (λ t. b ∷ t) (append_none text)
 
--- no bar stands at the start
+-- no bar is at the start
 no_bar : (part rest : Text) → list_any is_bar part ≡ false → is_empty part ≡ false → prefix_len is_bar (part ++ rest) ≡ 0
 no_bar [] rest h some = no_byte (sym some)
 no_bar (b ∷ part) rest h some = by (is_bar b) h
@@ -54,7 +54,7 @@ before : (part rest : Text) → list_any is_bar part ≡ false → prefix_len (�
 before part rest h stops =
     ap (λ n. take n (part ++ rest)) (passing (λ b. not (is_bar b)) part rest (others part h) stops) ∙ take-append_seam part rest
 
--- what stands behind bars
+-- what follows bars
 behind : (bars rest : Text) → list_all is_bar bars ≡ true → prefix_len is_bar rest ≡ 0 → drop (prefix_len is_bar (bars ++ rest)) (bars ++ rest) ≡ rest
 behind bars rest h stops = ap (λ n. drop n (bars ++ rest)) (passing is_bar bars rest h stops) ∙ drop_run bars rest
 

@@ -23,7 +23,7 @@ attribute_of event name place = option_and_then (λ device. value_of device.attr
 abbrev pub has_sign : Text → Bool
 has_sign name = list_any (λ b. b == dollar || b == percent) name
 
--- whether a name is that of an attribute of a device that does not stand in the chain
+-- whether a name is that of an attribute of a device that is not in the chain
 abbrev pub is_elsewhere : EventValue → Option NamedValue → Bool
 is_elsewhere event None = false
 is_elsewhere event (Some n) = not (is_empty n.attribute) && is_none (named_place n event)
@@ -42,7 +42,7 @@ is_not_read_by profile.Udev name event = is_unknown name event
 unfoldable pub is_not_read : Text → EventValue → Bool
 is_not_read name event = is_not_read_by event.profile name event
 
--- an attribute of the device that stands at a place, if a place was found: empty where the device has none, and cut
+-- an attribute of the device that is at a place, if a place was found: empty where the device has none, and cut
 abbrev pub found_value : EventValue → Text → Option ℕ → Option Text
 found_value event name found = option_map (λ place. capped (or_empty (attribute_of event name place))) found
 

@@ -39,7 +39,7 @@ fn has_sign(name: &[u8]) -> bool
     name.iter().any(|byte| *byte == b'$' || *byte == b'%')
 }
 
-/// Whether a name is that of an attribute of a device that does not stand in the chain.
+/// Whether a name is that of an attribute of a device that is not in the chain.
 fn is_elsewhere(chain: &Chain<'_>, named: Option<Named<'_>>) -> bool
     ensures { result ≡ is_elsewhere chain.now named.entry }
 {
@@ -61,7 +61,7 @@ fn is_unknown(name: &[u8], chain: &Chain<'_>) -> bool
 }
 
 /// Whether a match of ATTR or ATTRS asks for an attribute that udev of systemd 257 would read, and that is not read
-/// here: one of a device that does not stand in the chain, named `[SUBSYSTEM/KERNEL]ATTRIBUTE`, or one whose name has a
+/// here: one of a device that is not in the chain, named `[SUBSYSTEM/KERNEL]ATTRIBUTE`, or one whose name has a
 /// `$` or a `%`. Never by the manual, which knows no such names.
 #[tactic(auto, unfolding(crate::specs::Attributes::is_not_read))]
 pub fn is_not_read(name: &[u8], chain: &Chain<'_>) -> bool
@@ -83,7 +83,7 @@ fn value_at<'a>(chain: &Chain<'a>, name: &[u8], place: usize) -> &'a [u8]
     }
 }
 
-/// An attribute of the device that stands at a place, if a place was found.
+/// An attribute of the device that is at a place, if a place was found.
 fn found_value<'a>(chain: &Chain<'a>, name: &[u8], found: Option<usize>) -> Option<&'a [u8]>
     ensures { option_map (λ value. value.now) result ≡ found_value chain.now name.now found }
 {

@@ -25,7 +25,7 @@ pub fn an_absent_attribute_fails_both()
 {}
 
 /// A name that names a device of the chain, and an attribute, looks at that attribute of that device, and the device's
-/// own attribute does not matter; it is empty where the device has none. Of a device that does not stand in the chain it is
+/// own attribute does not matter; it is empty where the device has none. Of a device that is not in the chain it is
 /// not read.
 pub fn a_named_device_is_looked_at()
     ensures there { (text : Text) (event : EventValue) (own : Option Text) (n : NamedValue) (place : ℕ) (device : DeviceValue) → named (open_bracket ∷ text) ≡ Some n → is_empty n.attribute ≡ false → named_place n event ≡ Some place → device_at event place ≡ Some device → udev_subject (open_bracket ∷ text) event own ≡ udev_attribute (Some (capped (or_empty (value_of device.attrs n.attribute)))) }
@@ -41,7 +41,7 @@ pub fn a_plain_name_looks_at_the_device()
     ensures substituted { (name : Text) (event : EventValue) (own : Option Text) → begins_with open_bracket name ≡ false → has_sign name ≡ true → udev_subject name event own ≡ udev_unread }
 {}
 
-/// The first part of a value stands behind its first bars, and before the next one or its end.
+/// The first part of a value follows its first bars, and before the next one or its end.
 pub fn the_first_part_stands_between_bars()
     ensures last { (bars part : Text) → list_all is_bar bars ≡ true → list_any is_bar part ≡ false → first_part (bars ++ part) ≡ part }
     ensures others { (bars part rest : Text) → list_all is_bar bars ≡ true → list_any is_bar part ≡ false → is_empty part ≡ false → first_part (bars ++ (part ++ bar ∷ rest)) ≡ part }

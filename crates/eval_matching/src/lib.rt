@@ -1,8 +1,8 @@
 //! Matches: whether a part of a rule holds, and the search for a device along the chain.
 //!
-//! Each key is told by what it looks at, in one line; how a comparison then holds is told once, by the
-//! kind of that. The search is for one device at which all matches hold together, so that no match can
-//! be met at another. Nothing here takes memory.
+//! Each key has one line that says what it looks at; how a comparison then holds is defined once for each kind of
+//! comparison. The search is for one device for which all matches hold, so that no two matches can be met by different
+//! devices. Nothing in this crate allocates.
 #![tactic(auto)]
 
 mod attributes;

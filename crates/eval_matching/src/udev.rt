@@ -112,7 +112,7 @@ fn leading_bars(text: &[u8]) -> usize
     text.iter().take_while(|byte| **byte == b'|').count()
 }
 
-/// How many bytes stand before the first bar of a text.
+/// How many bytes come before the first bar of a text.
 fn before_bar(text: &[u8]) -> usize
     ensures value { result ≡ prefix_len (λ b. not (is_bar b)) text.now }
     ensures within { result ≤ length text.now }

@@ -14,7 +14,7 @@ bounded_longer a b h = grind (arith, nat_tests, length-append a b)
 longer_behind : (t a : List ℕ) → nat_lt most_bytes (length a) ≡ true → nat_lt most_bytes (length (t ++ a)) ≡ true
 longer_behind t a h = grind (arith, nat_tests, length-append t a)
 
--- whatever stands before it
+-- whatever comes before it
 too_long_behind : (t a : List ℕ) → nat_lt most_bytes (length a) ≡ true → bounded (t ++ a) ≡ None
 too_long_behind t a h = rw (longer_behind t a h) refl
 
@@ -26,12 +26,12 @@ joined_bounded a b = by (nat_lt most_bytes (length a)) refl
     by true h = rw (bounded_longer a b h) refl
     by false h = refl
 
--- what is joined one behind another is joined at once
+-- what is joined one after another is joined at once
 pub joined_twice : (s : Option Text) (a b : Text) → joined (joined s a) b ≡ joined s (a ++ b)
 joined_twice None a b = refl
 joined_twice (Some t) a b = joined_bounded (t ++ a) b ∙ ap bounded (append_assoc t a b)
 
--- behind a text that fits nothing is joined at no cost
+-- after a text that fits nothing is joined at no cost
 pub joined_nothing : (s : Option Text) (a : Text) → joined (joined s a) [] ≡ joined s a
 joined_nothing s a = joined_twice s a [] ∙ ap (joined s) (append-nil a)
 
@@ -39,7 +39,7 @@ joined_nothing s a = joined_twice s a [] ∙ ap (joined s) (append-nil a)
 pub too_long_in_front : (a b : Text) → bounded a ≡ None → bounded (a ++ b) ≡ None
 too_long_in_front a b h = sym (joined_bounded a b) ∙ ap (λ s. joined s b) h
 
--- what stands at a place, between what stands before and behind it
+-- what is at a place, between what comes before and after it
 parted : {P : Type 0} (f : P → Text) (ps : List P) (k : ℕ) (p : P) → k < length ps → p ≡ get_or ps k p
     → flat_map f ps ≡ (flat_map f (take k ps) ++ f p) ++ flat_map f (drop (suc k) ps)
 parted f [] k p within is = absurd (omega arith)
@@ -63,7 +63,7 @@ too_long_at f ps k p s t within is before now long =
     ∙ too_long_in_front here (flat_map f (drop (suc k) ps))
     (sym (now ∙ ap (λ u. joined u (f p)) before ∙ joined_bounded (flat_map f (take k ps)) (f p)) ∙ none_there t long)
 
--- texts that are the same, unless both are too long, are so behind any text
+-- texts that are the same, unless both are too long, are so after any text
 pub joined_same : (s : Option Text) (a b : Text) → bounded a ≡ bounded b → joined s a ≡ joined s b
 joined_same None a b h = refl
 joined_same (Some t) a b h = by (nat_lt most_bytes (length a)) refl (nat_lt most_bytes (length b)) refl h
@@ -74,7 +74,7 @@ joined_same (Some t) a b h = by (nat_lt most_bytes (length a)) refl (nat_lt most
     by false short true long h = cc
     by false short false fits h = let same : a ≡ b = cc in ap (λ u. bounded (t ++ u)) same
 
--- texts behind a space each, seen as what they hold
+-- texts after a space each, seen as what they hold
 pub others_seen : {V : Type 0} (items : V → List ℕ) (vs : List V) → flat_map (λ v. space ∷ items v) vs ≡ flat_map (λ u. space ∷ u) (map items vs)
 others_seen items [] = refl
 others_seen items (v ∷ vs) = ap (λ t. (space ∷ items v) ++ t) (others_seen items vs)

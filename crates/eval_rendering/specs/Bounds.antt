@@ -12,7 +12,7 @@ most_bytes = 16384
 abbrev pub bounded : Text → Option Text
 bounded text = if nat_lt most_bytes (length text) then None else Some text
 
--- a text with more behind it; one that is too long stays that
+-- a text with more after it; one that is too long stays that
 abbrev pub joined : Option Text → Text → Option Text
 joined None more = None
 joined (Some text) more = bounded (text ++ more)

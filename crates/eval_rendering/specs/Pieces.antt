@@ -1,4 +1,4 @@
--- What stands in a text in place of each substitution.
+-- What is in a text in place of each substitution.
 use Rattle.std.specs.Prelude.{ℕ, ◌-◌, Bool, false, nat_lt, if◌then◌else◌, List, [], length, take, Option, Some, None, option_map, unwrap_or, codes}
 use Rattle.std.specs.List.{list_any}
 use Rattle.std.specs.Option.{option_and_then}
@@ -49,7 +49,7 @@ attribute_named event n = if is_empty n.attribute then None else option_map (att
 abbrev pub named_attribute : Text → EventValue → Option Text
 named_attribute name event = option_and_then (attribute_named event) (named name)
 
--- the attribute that stands in a text, as the device has it; udev looks for a device that is named, too, and cuts its attribute off
+-- the attribute that is in a text, as the device has it; udev looks for a device that is named, too, and cuts its attribute off
 abbrev pub attribute_as : Profile → Text → State → Text
 attribute_as Manual name state = or_empty (attribute name state)
 attribute_as Udev name state = unwrap_or (option_map (take most_attribute_bytes) (named_attribute name state.event)) (or_empty (attribute name state))
@@ -68,7 +68,7 @@ own_name Udev device = unwrap_or device.node (kernel_of device)
 abbrev pub parent_node : State → Option Text
 parent_node state = option_and_then (λ parent. parent.node) (device_at state.event 1)
 
--- what stands in place of each piece, as it is
+-- what is in place of each piece, as it is
 abbrev pub piece_text : State → Piece → Text
 piece_text state (piece.Plain text) = text
 piece_text state piece.Kernel = kernel_of state.event.device

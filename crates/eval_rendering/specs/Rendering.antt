@@ -15,7 +15,7 @@ use Rattle.eval_rendering.specs.declared.rendered.Mode.TheVariants.{Plain, Link}
 use Rattle.eval_rendering.specs.declared.rendered.Rendered.{Rendered}
 use Rattle.eval_rendering.specs.declared.rendered.Rendered.TheVariants as rendered
 
--- whether a piece stands in a link as it is: what is written in the template, and the result of a program
+-- whether a piece is in a link as it is: what is written in the template, and the result of a program
 abbrev pub is_raw : Piece → Bool
 is_raw (piece.Plain text) = true
 is_raw piece.Result = true
@@ -28,7 +28,7 @@ abbrev pub is_word : Mode → Piece → Bool
 is_word Plain p = false
 is_word Link p = not (is_raw p)
 
--- what stands in place of a piece
+-- what is in place of a piece
 abbrev pub text_in : Mode → State → Piece → Text
 text_in mode state p = if is_word mode p then underscored (piece_text state p) else piece_text state p
 

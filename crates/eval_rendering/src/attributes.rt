@@ -1,4 +1,4 @@
-//! The attributes that stand in texts.
+//! The attributes that are in texts.
 ghost use Rattle.std.specs.Prelude.{◌≡◌, option_copied, option_map, take};
 ghost use Rattle.std.specs.List.{list_any};
 ghost use Rattle.std.specs.Option.{option_and_then};
@@ -80,7 +80,7 @@ fn cut_off(value: &[u8]) -> &[u8]
 }
 
 /// The attribute that udev puts in, as the device has it: that of a device of the chain which the name
-/// names, too, cut off behind its first 511 bytes, or else that of the event device or the selected one.
+/// names, too, cut off after its first 511 bytes, or else that of the event device or the selected one.
 fn udev_attribute<'a>(state: &State<'a>, name: &[u8]) -> &'a [u8]
     ensures { result.now ≡ attribute_as Profile.Udev name.now state.now }
 {
@@ -90,7 +90,7 @@ fn udev_attribute<'a>(state: &State<'a>, name: &[u8]) -> &'a [u8]
     }
 }
 
-/// The attribute that stands in a text, as the device has it; empty where there is none.
+/// The attribute that is in a text, as the device has it; empty where there is none.
 pub(crate) fn attribute_as<'a>(profile: Profile, state: &State<'a>, name: &[u8]) -> &'a [u8]
     ensures { result.now ≡ attribute_as profile name.now state.now }
 {

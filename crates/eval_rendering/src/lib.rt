@@ -1,4 +1,6 @@
-//! Texts with substitutions rendered over an event, and what becomes of the bytes of a text in a link or of an attribute.
+//! Renders texts with substitutions over an event, and replaces the bytes that may not be in a link or an attribute.
+//!
+//! Functions that allocate return `AllocError` when memory runs out.
 #![tactic(auto)]
 
 mod attributes;

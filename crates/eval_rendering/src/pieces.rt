@@ -1,4 +1,4 @@
-//! What stands in a text in place of each substitution.
+//! What is in a text in place of each substitution.
 //!
 //! Most of it is lent by the event or its state; what has to be changed is made. The links, which can have any number
 //! of bytes, are put together no further than a rendered text may go.
@@ -34,7 +34,7 @@ pub(crate) enum PieceText<'s> {
 }
 
 impl<'s> PieceText<'s> {
-    /// Puts the text behind another one.
+    /// Puts the text after another one.
     pub(crate) fn push_to(&self, text: &mut BoundedText) -> Result<(), AllocError>
         ensures { OnOk result (text.new ≡ joined text.old (shown self.now)) }
     {
@@ -137,7 +137,7 @@ fn devnode(alloc: Global, node: Option<&[u8]>) -> Result<Vec<u8>, AllocError>
     }
 }
 
-/// What stands in place of a piece.
+/// What is in place of a piece.
 pub(crate) fn piece_text<'s>(
     alloc: Global,
     state: &'s State<'_>,

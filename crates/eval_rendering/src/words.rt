@@ -34,7 +34,7 @@ fn from_first_word(text: &[u8]) -> &[u8]
     text.split_at(leading_whitespace(text)).1
 }
 
-/// A text without its first word and the whitespace behind that.
+/// A text without its first word and the whitespace after that.
 fn from_next_word(text: &[u8]) -> &[u8]
     ensures { result.now ≡ skip_while is_whitespace (drop (word_len text.now) text.now) }
 {

@@ -227,7 +227,7 @@ module _ {K : Type 0} (text value : K → Text) where
   none_held [] = tt
   none_held (k ∷ ks) = (refl, none_held ks)
 
-  -- names that are once are set one behind another
+  -- names that are once are set one after another
   pub set_in_order : (ks : List K) → IsDistinct same_text (map text ks) → set_each [] ks ≡ shown ks
   set_in_order ks d = set_behind_all [] ks (none_held ks) d
 

@@ -58,7 +58,7 @@ stilled s t = record t { notes = s.notes; finals = s.finals; state = with_select
 abbrev pub Still : Scene → Scene → Type 0
 Still s t = stilled s t ≡ s
 
--- one scene behind another
+-- one scene after another
 pub then_still : (s t u : Scene) → Still t u → Still s t → Still s u
 then_still s t u h k = ap (stilled s) h ∙ k
 

@@ -1,4 +1,4 @@
--- Rules one behind another, those of all files as one list, with their jumps.
+-- Rules one after another, those of all files as one list, with their jumps.
 use Rattle.std.specs.Prelude.{Bool, false, not, if◌then◌else◌, List, [], ◌∷◌, Option, Some, None}
 use Rattle.text_tables.specs.Texts.{Text, same_text}
 use Rattle.hwdb_lookup.specs.declared.entry.Entry.{Entry}
@@ -16,11 +16,11 @@ abbrev pub is_passed : Option Text → Rule → Bool
 is_passed None r = false
 is_passed (Some name) r = not (is_label name r.label)
 
--- the label that is sought behind a rule: that of its GOTO, where the rule's end was reached
+-- the label that is sought after a rule: that of its GOTO, where the rule's end was reached
 abbrev pub sought_after : Bool → Rule → Option Text
 sought_after reached r = if reached then r.goto else None
 
--- rules one behind another, perhaps while a label is sought: the first that has it is evaluated, and those above it are
+-- rules one after another, perhaps while a label is sought: the first that has it is evaluated, and those above it are
 -- passed over
 unfoldable pub run : List Entry → Option Text → List Rule → Scene → Scene
 run entries sought [] s = s

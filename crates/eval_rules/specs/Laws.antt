@@ -30,6 +30,6 @@ pub record IsMetByOneDevice (parts : List UpMatch) (state : State) : Type 0 wher
   pub place : ℕ
   pub first : IsFirstToMeet parts state place
 
--- each name of properties comes before all later ones, so that none stands there twice
+-- each name of properties comes before all later ones, so that none is there twice
 abbrev pub NamesRise : List Pair → Type 0
 NamesRise pairs = IsStrictlySortedBy text_order (names pairs)

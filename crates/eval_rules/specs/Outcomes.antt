@@ -60,7 +60,7 @@ abbrev pub by_name : List Pair → List Pair
 by_name pairs = fold put [] pairs
 
 -- what a scene comes to when no rule is left: without the tags that were taken away, and with the commands that were made at their rules
--- behind those that are rendered now
+-- after those that are rendered now
 unfoldable pub outcome_of : Scene → Outcome
 outcome_of s = record {
   name = s.state.name;

@@ -22,7 +22,7 @@ Went = Scene × Bool
 abbrev pub onward : (Scene → Went) → Went → Went
 onward next went = if went.1 then next went.0 else went
 
--- the parts of a rule that are of one step, one behind another
+-- the parts of a rule that are of one step, one after another
 unfoldable pub walk : {P : Type 0} → (P → Scene → Went) → List P → Scene → Went
 walk step [] s = (s, true)
 walk step (p ∷ ps) s = onward (walk step ps) (step p s)

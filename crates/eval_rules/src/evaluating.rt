@@ -20,8 +20,7 @@ use std::mem;
 use text_bytes::Bytes;
 use text_tables::{OwnedPairs, OwnedTexts};
 
-/// Renders a RUN with the device that its rule had selected, which is selected from then on. The error comes where
-/// memory is refused.
+/// Renders a RUN with the device that its rule had selected, which is selected from then on.
 pub fn run_text(
     alloc: Global,
     kept: &Run<'_>,
@@ -34,7 +33,7 @@ pub fn run_text(
     render(alloc, kept.template(), state, Mode::Plain)
 }
 
-/// What stands in the braces of a RUN, if it has any.
+/// What is in the braces of a RUN, if it has any.
 fn braces(kept: &Run<'_>) -> Option<&'static [u8]>
     ensures { option_map (λ text. text.now) result ≡ option_map run_name kept.now.braces }
 {
@@ -61,7 +60,7 @@ fn take_run(
     }
 }
 
-/// Renders what is to be run, one behind another.
+/// Renders what is to be run, one after another.
 fn render_runs(
     alloc: Global,
     runs: &[Run<'_>],
@@ -78,7 +77,7 @@ fn render_runs(
     Ok(commands)
 }
 
-/// A RUN that was rendered at its rule, as a command. The error comes where memory is refused.
+/// A RUN that was rendered at its rule, as a command.
 pub fn made_command(alloc: Global, made: &MadeRun<'_>) -> Result<Command, AllocError>
     ensures { IfOk result (λ command. command ≡ made_command made.now) }
 {
@@ -88,7 +87,7 @@ pub fn made_command(alloc: Global, made: &MadeRun<'_>) -> Result<Command, AllocE
     })
 }
 
-/// Adds what was rendered at its rule behind other commands.
+/// Adds what was rendered at its rule after other commands.
 fn add_made(alloc: Global, made: &[MadeRun<'_>], commands: &mut Commands) -> Result<(), AllocError>
     ensures { OnOk result (commands.new ≡ commands.old ++ map made_command made.now) }
 {
@@ -98,7 +97,7 @@ fn add_made(alloc: Global, made: &[MadeRun<'_>], commands: &mut Commands) -> Res
     Ok(())
 }
 
-/// All commands: what is to be run, rendered, and behind that what was rendered at its rule.
+/// All commands: what is to be run, rendered, and after that what was rendered at its rule.
 fn all_commands(
     alloc: Global,
     runs: &[Run<'_>],
@@ -183,7 +182,6 @@ fn outcome_with(scene: Scene<'_>, commands: Commands, env: OwnedPairs) -> Outcom
 }
 
 /// What a scene comes to when no rule is left: what is to be run is rendered, and properties are sorted.
-/// The error comes where memory is refused.
 pub fn finish(alloc: Global, mut scene: Scene<'_>) -> Result<Outcome, AllocError>
     ensures { IfOk result (λ outcome. outcome ≡ outcome_of scene.entry) }
 {
@@ -220,8 +218,6 @@ fn evaluate<'a, L: Lookup>(
 /// RUN rendered with what is known in the end. Programs, builtins other than `hwdb` and files are not
 /// run or read, and leave notes. An event of udev's profile is evaluated as udev of systemd 257 itself
 /// does it.
-///
-/// The error comes where memory is refused.
 pub fn evaluate_plain<L: Lookup>(
     alloc: Global,
     rules: &RuleSet,

@@ -148,7 +148,7 @@ fn note_each<'a>(alloc: Global, rule: &'a Rule, scene: &mut Scene<'a>) -> Result
 /// The end of a rule that is passed over: where its keys let it go on to its assignments, those that do
 /// not apply to the device leave their notes, and none is made.
 ///
-/// The error comes where memory is refused; the event then stays.
+/// The error comes where memory runs out; the event then stays.
 pub fn note_all<'a>(
     alloc: Global,
     rule: &'a Rule,

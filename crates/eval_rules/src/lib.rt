@@ -1,10 +1,12 @@
 //! All rules over one event, as they were read.
 //!
-//! A rule is five steps, each of them parts one behind another that may stop it; the rules of all files are one list, and a
-//! jump passes rules over until one has its label. Both are told as folds over what an event has come to, so that what
-//! holds of each step holds of all rules. What is to be run is rendered when no rule is left, and only then is the outcome
-//! made. By udev's own way a rule in which nothing counts for the event is passed over, and what is to be run was rendered at
-//! its rule.
+//! A rule is evaluated in five steps, each a sequence of parts that may stop the rule. The rules of all files are one
+//! list, and a jump skips rules up to the one with its label. Both are defined as folds over the scene, so that what
+//! holds for each step holds for all rules. Commands are rendered when no rule is left, and only then is the outcome
+//! made. Under udev's profile, a rule with nothing that counts for the event is skipped, and commands are rendered at
+//! their rule.
+//!
+//! Functions that allocate return `AllocError` when memory runs out.
 #![tactic(auto)]
 
 mod evaluating;

@@ -49,7 +49,7 @@ impl Commands {
         Commands { held }
     }
 
-    /// Gives the vector back.
+    /// Returns the vector.
     pub fn into_vec(self) -> Vec<Command>
         ensures { result.items ≡ self }
     {
@@ -57,7 +57,7 @@ impl Commands {
         held
     }
 
-    /// Adds a command at the end. Where memory is refused, the commands stay as they are.
+    /// Adds a command at the end. Where memory runs out, the commands stay as they are.
     pub(crate) fn push(&mut self, command: Command) -> Result<(), AllocError>
         ensures commands { OnOk result (self.new ≡ self.old ++ command ∷ []) }
         ensures refused { OnErr result (self.new ≡ self.old) }
@@ -66,7 +66,7 @@ impl Commands {
         Ok(())
     }
 
-    /// Lends the commands, in their order.
+    /// Returns the commands, in their order.
     pub fn as_slice(&self) -> &[Command]
         ensures { result.now ≡ self.now }
     {

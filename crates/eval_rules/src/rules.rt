@@ -1,7 +1,7 @@
-//! Rules one behind another, with their jumps.
+//! Rules one after another, with their jumps.
 //!
 //! The rules of all files are one list: a jump looks for its label below its rule, and the next rule
-//! that has it stands in the same file. Most rules end without a jump, and then the next one follows.
+//! that has it is in the same file. Most rules end without a jump, and then the next one follows.
 ghost use Rattle.std.specs.Prelude.{◌≡◌, ◌≤◌, None, OnOk, length, option_map};
 ghost use Rattle.std.specs.List.{prefix_len};
 ghost use Rattle.eval_rules.specs.Jumps.{is_passed, run, sought_after};
@@ -24,7 +24,7 @@ pub fn is_passed(sought: Option<&[u8]>, rule: &Rule) -> bool
     }
 }
 
-/// The label that is sought behind a rule: that of its GOTO, if its end was reached.
+/// The label that is sought after a rule: that of its GOTO, if its end was reached.
 pub fn sought_after(reached: bool, rule: &Rule) -> Option<&[u8]>
     ensures { option_map (λ t. t.now) result ≡ sought_after reached rule.now }
 {
@@ -52,9 +52,8 @@ fn landing(sought: Option<&[u8]>, rules: &[Rule], from: usize) -> usize
     from + passed_len(sought, behind)
 }
 
-/// Evaluates rules, one behind another. Behind a rule whose end was reached and that jumps, those are
-/// passed over that stand between it and the next one with the label. The error comes where memory is
-/// refused.
+/// Evaluates rules, one after another. After a rule whose end was reached and that jumps, those are
+/// passed over that are between it and the next one with the label.
 #[tactic(auto, using(crate::proofs::Running::run_end))]
 pub(crate) fn run<'a, L: Lookup>(
     alloc: Global,

@@ -1,6 +1,6 @@
 //! Properties, sorted by name.
 //!
-//! While rules run, properties stand in the order in which they came; only what is answered is sorted,
+//! While rules run, properties are in the order in which they came; only what is answered is sorted,
 //! once.
 ghost use Rattle.std.specs.Prelude.{◌≡◌, IfOk};
 ghost use Rattle.eval_rules.specs.Outcomes.{by_name};
@@ -8,7 +8,7 @@ ghost use Rattle.eval_rules.specs.Outcomes.{by_name};
 use std::alloc::AllocError;
 use text_tables::OwnedPairs;
 
-/// The same properties, sorted by name, byte by byte. The error comes where memory is refused.
+/// The same properties, sorted by name, byte by byte.
 pub(crate) fn by_name(pairs: OwnedPairs) -> Result<OwnedPairs, AllocError>
     ensures { IfOk result (λ sorted. sorted ≡ by_name pairs) }
 {

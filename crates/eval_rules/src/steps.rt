@@ -20,7 +20,7 @@ use std::alloc::{AllocError, Global};
 
 /// Reaches a match of the event, and answers whether it holds. One of SYSCTL leaves its note.
 ///
-/// The error comes where memory is refused; the scene then stays as it is.
+/// Where memory runs out, the scene stays as it is.
 #[tactic(auto, unfolding(crate::specs::Steps::plain_step))]
 pub fn plain_step(
     alloc: Global,
@@ -189,7 +189,7 @@ fn evaluate<'a, L: Lookup>(
 /// what was changed until then stays. Over an event of udev's, a rule in which nothing counts for the
 /// event is passed over: it leaves its notes and changes nothing else, and its end is not reached.
 ///
-/// The error comes where memory is refused; nothing is then left of the scene but its event.
+/// Where memory runs out, nothing is left of the scene but its event.
 pub fn apply<'a, L: Lookup>(
     alloc: Global,
     rule: &'a Rule,

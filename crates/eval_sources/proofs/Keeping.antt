@@ -60,7 +60,7 @@ module _ (before : List (Text × Kept)) (source : Source) where
       by false e None = refl
       by false e (Some x) = refl
 
-  -- what is kept behind a stage
+  -- what is kept after a stage
   pub kept_is : (items : List Pair) (name : Text) → value_of (kept_behind before source items) name ≡ option_map (told name) (value_of items name)
   unfolding kept_behind
   kept_is items name = kept_all items [] name
@@ -99,7 +99,7 @@ module _ (was : List Pair) (source : Source) where
       by None = refl
       by (Some v) = same v (same_text v value) refl
 
-  -- what is kept behind one stage more
+  -- what is kept after one stage more
   pub keeps_on : (now : List Pair) (held held_now : List (Text × Kept)) → held_now ≡ kept_behind held source now → GoesOn was source now held held_now
   unfolding GoesOn Keeps
   keeps_on now held held_now is before last keeps name = ap (λ h. value_of h name) is ∙ kept_is held source now name ∙ by (value_of now name) refl
@@ -127,7 +127,7 @@ module _ (was : List Pair) (source : Source) where
           (source_more (name, value) before (last, was) (source, now) (ap (λ o. is_value o value) e ∙ same_self value)
           ∙ ap (λ b. cond b (source_of (before ++ (last, was) ∷ []) (name, value)) source) (stood value e)))
 
--- what is kept in the end tells of each item
+-- what is kept in the end says about each item
 pub tells : (before : List Stage) (last : Source) (items : List Pair) (held : List (Text × Kept)) → Keeps (before ++ (last, items) ∷ []) items held → Tells (before ++ (last, items) ∷ []) held
 unfolding Keeps Tells
 tells before last items held keeps item = ap (λ o. source_by o None item.1) (keeps item.0) ∙ by (value_of items item.0) refl

@@ -1,4 +1,4 @@
--- Rules one behind another, with what is kept behind each.
+-- Rules one after another, with what is kept after each.
 use Rattle.std.proofs.Common.{◌≡◌, ℕ, ◌+◌, ◌<◌, ◌≤◌, Bool, true, false, List, [], ◌∷◌, ◌++◌, length, drop, get_or, Option, Some, None, append_assoc, cond, refl, ap, subst, sym, ◌∙◌}
 use Rattle.std.proofs.lemmas.List.{drop_more, drop_all}
 use Rattle.text_tables.specs.Texts.{Text}

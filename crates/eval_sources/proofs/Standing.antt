@@ -9,12 +9,12 @@ and_false true = refl
 and_false false = refl
 
 module _ (item : Pair) where
-  -- where it does not stand at the last stage, it does not stand throughout
+  -- where it is not at the last stage, it does not stand throughout
   not_throughout : (before : List Stage) (last : Stage) → stands item last.1 ≡ false → stands_throughout item (before ++ last ∷ []) ≡ false
   not_throughout [] last h = ap (λ b. b && true) h
   not_throughout (stage ∷ before) last h = ap (λ b. stands item stage.1 && b) (not_throughout before last h) ∙ and_false (stands item stage.1)
 
-  -- an item that does not stand in the end comes from nowhere
+  -- an item that is not in the end comes from nowhere
   pub source_none : (before : List Stage) (last : Stage) → stands item last.1 ≡ false → source_of (before ++ last ∷ []) item ≡ None
   unfolding source_of
   source_none [] last h = ap (λ b. cond (b && true) last.0 None) h
@@ -25,7 +25,7 @@ module _ (item : Pair) where
   throughout_more [] last next h = ap (λ b. stands item last.1 && (b && true)) h
   throughout_more (stage ∷ before) last next h = ap (λ b. stands item stage.1 && b) (throughout_more before last next h)
 
-  -- an item that stands at one stage more comes from where it came from, if it stood at the last one, and else from the new one
+  -- an item that is at one stage more comes from where it came from, if it stood at the last one, and else from the new one
   pub source_more : (before : List Stage) (last next : Stage) → stands item next.1 ≡ true
       → source_of (before ++ last ∷ next ∷ []) item ≡ cond (stands item last.1) (source_of (before ++ last ∷ []) item) next.0
   unfolding source_of

@@ -15,7 +15,7 @@ use Rattle.eval_sources.specs.Told.{stages_from, stages_over}
 unfoldable pub Keeps : List Stage → List Pair → List (Text × Kept) → Type 0
 Keeps stages items held = (name : Text) → value_of held name ≡ option_map (λ value. (value, source_of stages (name, value))) (value_of items name)
 
--- what is kept where these items stand is followed by what is kept behind one stage more, whatever stages came before
+-- what is kept where these items stand is followed by what is kept after one stage more, whatever stages came before
 unfoldable pub GoesOn : List Pair → Source → List Pair → List (Text × Kept) → List (Text × Kept) → Type 0
 GoesOn was source now held held_now =
     (before : List Stage) (last : Source) → Keeps (before ++ (last, was) ∷ []) was held → Keeps (before ++ (last, was) ∷ (source, now) ∷ []) now held_now

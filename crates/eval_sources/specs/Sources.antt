@@ -10,15 +10,15 @@ use Rattle.eval_effects.specs.Items.{stands}
 abbrev pub Source : Type 0
 Source = Option Rule
 
--- a stage: a rule and the items that stand behind it, or no rule and those that stand at the start
+-- a stage: a rule and the items that follow it, or no rule and those that are at the start
 abbrev pub Stage : Type 0
 Stage = Source × List Pair
 
--- whether an item stands at all of these stages
+-- whether an item is at all of these stages
 abbrev pub stands_throughout : Pair → List Stage → Bool
 stands_throughout item stages = list_all (λ stage. stands item stage.1) stages
 
--- where an item comes from: the first of these stages from which on it stands at all of them
+-- where an item comes from: the first of these stages from which on it is at all of them
 unfoldable pub source_of : List Stage → Pair → Source
 source_of [] item = None
 source_of (stage ∷ later) item = if stands_throughout item (stage ∷ later) then stage.0 else source_of later item
@@ -40,14 +40,14 @@ source_in held source item = source_by (value_of held item.0) source item.1
 abbrev pub with_kept : List (Text × Kept) → Text → Kept → List (Text × Kept)
 with_kept held name kept = if named held name then held else with_value held name kept
 
--- what is kept of an item that stands behind a rule, by what was kept before that rule
+-- what is kept of an item that follows a rule, by what was kept before that rule
 abbrev pub kept_of : List (Text × Kept) → Source → Pair → Kept
 kept_of before source item = (item.1, source_in before source item)
 
--- what is kept behind one rule more, of the items that stand behind it
+-- what is kept after one rule more, of the items that follow it
 unfoldable pub kept_behind : List (Text × Kept) → Source → List Pair → List (Text × Kept)
 kept_behind before source items = fold (λ held item. with_kept held item.0 (kept_of before source item)) [] items
 
--- what is kept tells of each item where it comes from
+-- what is kept says about each item where it comes from
 unfoldable pub Tells : List Stage → List (Text × Kept) → Type 0
 Tells stages held = (item : Pair) → source_in held None item ≡ source_of stages item

@@ -16,14 +16,14 @@ use Rattle.eval_rules.specs.declared.outcome.Command.{Command}
 use Rattle.eval_effects.specs.Items.{items}
 use Rattle.eval_sources.specs.Sources.{Stage}
 
--- a stage for each rule that is come to, perhaps while a label is sought, with the items that stand behind it
+-- a stage for each rule that is come to, perhaps while a label is sought, with the items that follow it
 unfoldable pub stages_from : List Entry → Option Text → List Rule → Scene → List Stage
 stages_from entries sought [] s = []
 stages_from entries sought (r ∷ rs) s =
     if is_passed sought r then stages_from entries sought rs s
     else (Some r, items (apply entries r s).0) ∷ stages_from entries (sought_after (apply entries r s).1 r) rs (apply entries r s).0
 
--- all stages from a scene on: what stands there, and behind each rule that is come to
+-- all stages from a scene on: what is there, and after each rule that is come to
 abbrev pub stages_over : List Entry → List Rule → Scene → List Stage
 stages_over entries rules s = (None, items s) ∷ stages_from entries None rules s
 

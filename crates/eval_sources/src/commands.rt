@@ -28,14 +28,14 @@ impl<'a> Model for SourcedCommand<'a> {
 }
 
 impl<'a> SourcedCommand<'a> {
-    /// Lends the command.
+    /// Returns the command.
     pub fn command(&self) -> &Command
         ensures { result.now ≡ self.now.0 }
     {
         &self.command
     }
 
-    /// Lends the rule that added it.
+    /// Returns the rule that added it.
     pub fn rule(&self) -> &'a Rule
         ensures { result.now ≡ self.now.1 }
     {
@@ -65,8 +65,7 @@ fn take_run<'a>(
     Ok(())
 }
 
-/// Renders what is to be run, one behind another. Another device may be selected then. The error comes where memory is
-/// refused.
+/// Renders what is to be run, one after another. Another device may be selected then.
 pub(crate) fn sourced_commands<'a>(
     alloc: Global,
     runs: &[Run<'a>],
@@ -83,7 +82,7 @@ pub(crate) fn sourced_commands<'a>(
     Ok(done)
 }
 
-/// Adds what was rendered at its rule behind other commands, each with that rule. The error comes where memory is refused.
+/// Adds what was rendered at its rule after other commands, each with that rule.
 pub(crate) fn add_made<'a>(
     alloc: Global,
     made: &[MadeRun<'a>],

@@ -49,10 +49,8 @@ fn run_sourced<'a, L: Lookup>(
 
 /// What an event comes to by the rules as they are read, as `evaluate_plain` has it, and where it comes from. An item,
 /// that is a link, a tag, the value of a property and what else has a line, comes from the first rule from behind which
-/// on it stands as it stands in the end; from none, if it stood so from the start. A command comes from the rule that
+/// on it stands as it is in the end; from none, if it stood so from the start. A command comes from the rule that
 /// added it.
-///
-/// The error comes where memory is refused.
 pub fn evaluate_sources<'a, L: Lookup>(
     alloc: Global,
     rules: &'a RuleSet,

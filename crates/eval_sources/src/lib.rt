@@ -1,8 +1,10 @@
-//! Where what an event comes to comes from: the rule behind each item of it.
+//! Where the parts of an outcome come from: the rule that is responsible for each item.
 //!
-//! Rules are evaluated as they were read. Beside them a table keeps what stands, each item with the rule that changed it
-//! last; behind each rule that can have changed something it is made anew. What is told of it needs no walk: an item comes
-//! from the first rule from behind which on it stands as it stands in the end.
+//! Rules are evaluated as they were read, while a table keeps the current items, each with the rule that changed it
+//! last; after each rule that may have changed something, the table is made anew. The definition needs no walk: an item
+//! comes from the first rule after which it is present, unchanged, until the end.
+//!
+//! Functions that allocate return `AllocError` when memory runs out.
 #![tactic(auto)]
 
 mod commands;

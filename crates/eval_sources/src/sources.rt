@@ -68,7 +68,7 @@ impl<'a> Sources<'a> {
         }
     }
 
-    /// Lends what is kept of a name.
+    /// Returns what is kept of a name.
     fn get(&self, name: &[u8]) -> Option<&Kept<'a>>
         ensures { option_map (λ k. k.now) result ≡ value_of self.now name.now }
     {
@@ -115,7 +115,7 @@ impl<'a> Sources<'a> {
         self.put(name.into_vec(), kept)
     }
 
-    /// Keeps an item that stands behind a rule, or at the start, by what was kept before.
+    /// Keeps an item that follows a rule, or at the start, by what was kept before.
     fn keep(
         &mut self,
         before: &Sources<'a>,
@@ -129,7 +129,7 @@ impl<'a> Sources<'a> {
         self.add(name, Kept { value, rule })
     }
 
-    /// Keeps the items that stand behind one rule more, and no others. The error comes where memory is refused.
+    /// Keeps the items that follow one rule more, and no others.
     #[tactic(auto, unfolding(crate::specs::Sources::kept_behind))]
     pub(crate) fn tell(
         &mut self,

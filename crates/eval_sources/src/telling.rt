@@ -1,4 +1,4 @@
-//! Rules one behind another, and what is kept behind each.
+//! Rules one after another, and what is kept after each.
 ghost use Rattle.std.specs.Prelude.{◌≡◌, ◌∷◌, [], None, Some, IfOk, OnOk};
 ghost use Rattle.eval_rules.specs.Jumps.{run};
 ghost use Rattle.eval_rules.specs.Steps.{apply};
@@ -22,7 +22,7 @@ fn can_change(reached: bool, rule: &Rule) -> bool
     !rule.acts().is_empty() || (reached && !rule.sets().is_empty())
 }
 
-/// Keeps what stands at the start of an event. The error comes where memory is refused.
+/// Keeps what is at the start of an event.
 pub(crate) fn begin<'a>(alloc: Global, scene: &Scene<'_>) -> Result<Sources<'a>, AllocError>
     ensures { IfOk result (λ kept. Keeps ((None, items scene.now) ∷ []) (items scene.now) kept) }
 {
@@ -32,7 +32,7 @@ pub(crate) fn begin<'a>(alloc: Global, scene: &Scene<'_>) -> Result<Sources<'a>,
     Ok(sources)
 }
 
-/// Evaluates a rule, keeps what stands behind it, and answers whether its end was reached.
+/// Evaluates a rule, keeps what follows it, and answers whether its end was reached.
 fn step<'a, L: Lookup>(
     alloc: Global,
     rule: &'a Rule,
@@ -52,9 +52,8 @@ fn step<'a, L: Lookup>(
     Ok(reached)
 }
 
-/// Evaluates rules, one behind another, and keeps where what stands comes from. Behind a rule whose end was reached and
-/// that jumps, those are passed over that stand between it and the next one with the label. The error comes where memory
-/// is refused.
+/// Evaluates rules, one after another, and keeps where what stands comes from. After a rule whose end was reached and
+/// that jumps, those are passed over that are between it and the next one with the label.
 pub(crate) fn run<'a, L: Lookup>(
     alloc: Global,
     rules: &'a [Rule],

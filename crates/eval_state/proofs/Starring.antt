@@ -29,7 +29,7 @@ behind_two front rest =
     ap (λ b. cond b (Some (drop (length front) (front ++ rest))) None) ((bytes_decides _ _).1 (take-append_seam front rest))
     ∙ ap (λ t. Some t) (drop-append_seam front rest)
 
--- a path that lies behind a folder lies behind it with more in front
+-- a path that lies after a folder lies after it with more in front
 lies_behind : (front text rest : Text) → lies_at rest text ≡ true → lies_at (front ++ rest) (front ++ text) ≡ true
 lies_behind front text rest h = by (behind rest text) refl h
   where
@@ -43,7 +43,7 @@ lies_behind front text rest h = by (behind rest text) refl h
 component_in : (path : Text) → first_component path ++ behind_component path ≡ path
 component_in path = take-append-drop (prefix_len (λ b. not (b == slash)) path) path
 
--- a folder that stands before a path in another one
+-- a folder that comes before a path in another one
 before_is : (rest path folder : Text) → folder_before rest path ≡ Some folder → lies_at (folder ++ rest) path ≡ true
 before_is rest path folder = by (is_folder (first_component path)) (lies_at rest (behind_component path)) refl
   where
@@ -55,7 +55,7 @@ before_is rest path folder = by (is_folder (first_component path)) (lies_at rest
     by true false h e = absurd (none-some folder e)
     by false b h e = absurd (none-some folder e)
 
--- a folder that stands between two texts in a name
+-- a folder that is between two texts in a name
 between_is : (front rest name folder : Text) → folder_between front rest name ≡ Some folder → lies_at (front ++ folder ++ rest) name ≡ true
 between_is front rest name folder = by (behind front name) refl
   where

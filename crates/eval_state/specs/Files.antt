@@ -8,7 +8,7 @@ use Rattle.text_tables.specs.Texts.{Text, same_text}
 use Rattle.text_tables.specs.Pairs.{names}
 use Rattle.device_core.specs.Values.{DeviceValue}
 
--- whether a whole component `*` stands at a place of a name, and a slash behind it
+-- whether a whole component `*` is at a place of a name, and a slash after it
 abbrev pub is_star : Text → ℕ → Bool
 is_star name place = starts_with nat_eq (drop place name) (star ∷ slash ∷ []) && (place == 0 || slice_index name (place - 1) == slash)
 
@@ -16,15 +16,15 @@ is_star name place = starts_with nat_eq (drop place name) (star ∷ slash ∷ []
 unfoldable pub star_place : Text → Option ℕ
 star_place name = position (is_star name) (range_with_len 0 (length name))
 
--- what stands behind the front of a text, where it begins with that
+-- what follows the front of a text, where it begins with that
 abbrev pub behind : Text → Text → Option Text
 behind front text = if same_text (take (length front) text) front then Some (drop (length front) text) else None
 
--- the first component of a path: what stands before its first slash
+-- the first component of a path: what comes before its first slash
 abbrev pub first_component : Text → Text
 first_component path = take (prefix_len (λ b. not (b == slash)) path) path
 
--- what stands behind that
+-- what follows that
 abbrev pub behind_component : Text → Text
 behind_component path = drop (prefix_len (λ b. not (b == slash)) path) path
 
@@ -41,12 +41,12 @@ is_end (Some rest) = is_empty rest || begins_with slash rest
 abbrev pub lies_at : Text → Text → Bool
 lies_at path other = is_end (behind path other)
 
--- the folder that a path begins with, where `*` stands for it and a path lies behind it
+-- the folder that a path begins with, where `*` stands for it and a path lies after it
 abbrev pub folder_before : Text → Text → Option Text
 folder_before rest path =
     if is_folder (first_component path) && lies_at rest (behind_component path) then Some (first_component path) else None
 
--- the folder that stands in a name between two texts
+-- the folder that is in a name between two texts
 abbrev pub folder_between : Text → Text → Text → Option Text
 folder_between front rest name = option_and_then (folder_before rest) (behind front name)
 

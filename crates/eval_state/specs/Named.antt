@@ -22,13 +22,13 @@ abbrev pub named_by : Text → Option (Text × Text) → Option NamedValue
 named_by subsystem None = None
 named_by subsystem (Some cut) = Some (record { subsystem = subsystem; kernel = cut.0; attribute = behind_slash cut.1 })
 
--- what stands behind `[`, cut at its first slash
+-- what follows `[`, cut at its first slash
 abbrev pub named_behind : Option (Text × Text) → Option NamedValue
 named_behind None = None
 named_behind (Some cut) = named_by cut.0 (split_once close_bracket cut.1)
 
--- what a name of an attribute names, where it names a device: the subsystem stands before the first slash, the kernel's name before the
--- first `]` behind that, and one slash behind it is no part of the attribute
+-- what a name of an attribute names, where it names a device: the subsystem comes before the first slash, the kernel's name before the
+-- first `]` after that, and one slash after it is no part of the attribute
 unfoldable pub named : Text → Option NamedValue
 named [] = None
 named (b ∷ text) = if begins_with open_bracket (b ∷ text) then named_behind (split_once slash text) else None

@@ -18,7 +18,7 @@ pub record RunValue : Type 0 where
   pub template : Template
   pub selected : Option ℕ
 
--- the type of a RUN: a program unless another one stands in its braces
+-- the type of a RUN: a program unless another one is in its braces
 abbrev pub run_kind : Option RunType → RunType
 run_kind None = Program
 run_kind (Some kind) = kind

@@ -37,11 +37,11 @@ blank event = record {
 abbrev pub start : EventValue → Scene
 start event = record (blank event) { state = states.start event }
 
--- one note more: that something of a rule was not done, told with a text
+-- one note more: that something of a rule was not done, reported with a text
 abbrev pub noted : Rule → NoteKind → Text → Scene → Scene
 noted r kind text s = record s { notes = s.notes ++ note_about r kind text ∷ [] }
 
--- one note more, told with a key
+-- one note more, reported with a key
 abbrev pub noted_key : Rule → NoteKind → Key → Option Text → Scene → Scene
 noted_key r kind key attribute s = noted r kind (word_of_key key attribute) s
 

@@ -40,7 +40,7 @@ fn kernel_names(alloc: Global, devices: &[Device<'_>]) -> Result<Vec<Bytes>, All
 }
 
 impl<'a> Chain<'a> {
-    /// The chain of an event. The error comes where memory is refused.
+    /// The chain of an event.
     pub fn new(alloc: Global, event: &'a Event<'_>) -> Result<Chain<'a>, AllocError>
         ensures { IfOk result (λ chain. chain ≡ event.now) }
     {
@@ -51,21 +51,21 @@ impl<'a> Chain<'a> {
         })
     }
 
-    /// Lends the event.
+    /// Returns the event.
     pub fn event(&self) -> &'a Event<'a>
         ensures { result.now ≡ self.now }
     {
         self.event
     }
 
-    /// Lends the event device.
+    /// Returns the event device.
     pub fn device(&self) -> &'a Device<'a>
         ensures { result.now ≡ self.now.device }
     {
         self.event.device()
     }
 
-    /// Lends the device at a place of the chain, where there is one; the event device stands at 0.
+    /// Returns the device at a place of the chain, where there is one; the event device is at 0.
     pub fn device_at(&self, place: usize) -> Option<&'a Device<'a>>
         ensures { option_copied result ≡ device_at self.now place }
     {
@@ -90,7 +90,7 @@ impl<'a> Chain<'a> {
     }
 }
 
-/// Lends the name at a place of a list, where there is one.
+/// Returns the name at a place of a list, where there is one.
 fn kept_at(names: &[Bytes], place: usize) -> Option<&[u8]>
     ensures { option_map (λ name. name.now) result ≡ slice_get names.now place }
 {

@@ -10,7 +10,7 @@ use std::alloc::{AllocError, Global};
 use text_bytes::{Bytes, begins_with};
 use text_tables::Pairs;
 
-/// Whether a whole component `*` stands at a place of a name, and a slash behind it.
+/// Whether a whole component `*` is at a place of a name, and a slash after it.
 fn is_star(name: &[u8], place: usize) -> bool
     requires { place < length name.now }
     ensures { result ≡ is_star name.now place }
@@ -27,7 +27,7 @@ fn star_place(name: &[u8]) -> Option<usize>
     (0..name.len()).position(|place| is_star(name, place))
 }
 
-/// What stands behind the front of a text, where it begins with that.
+/// What follows the front of a text, where it begins with that.
 fn behind<'a>(front: &[u8], text: &'a [u8]) -> Option<&'a [u8]>
     ensures { option_map (λ t. t.now) result ≡ behind front.now text.now }
 {
@@ -42,7 +42,7 @@ fn component_len(path: &[u8]) -> usize
     path.iter().take_while(|byte| **byte != b'/').count()
 }
 
-/// The first component of a path, and what stands behind it.
+/// The first component of a path, and what follows it.
 fn cut_component(path: &[u8]) -> (&[u8], &[u8])
     ensures first { result.0.now ≡ first_component path.now }
     ensures behind { result.1.now ≡ behind_component path.now }
@@ -67,7 +67,7 @@ fn lies_at(path: &[u8], other: &[u8]) -> bool
     }
 }
 
-/// The folder that a path begins with, where `*` stands for it and a path lies behind it.
+/// The folder that a path begins with, where `*` stands for it and a path lies after it.
 fn folder_before<'a>(rest: &[u8], path: &'a [u8]) -> Option<&'a [u8]>
     ensures { option_map (λ t. t.now) result ≡ folder_before rest.now path.now }
 {
@@ -79,7 +79,7 @@ fn folder_before<'a>(rest: &[u8], path: &'a [u8]) -> Option<&'a [u8]>
     }
 }
 
-/// The folder that stands in a name between two texts.
+/// The folder that is in a name between two texts.
 fn folder_between<'a>(front: &[u8], rest: &[u8], name: &'a [u8]) -> Option<&'a [u8]>
     ensures { option_map (λ t. t.now) result ≡ folder_between front.now rest.now name.now }
 {
@@ -100,7 +100,7 @@ fn first_folder<'a>(front: &[u8], rest: &[u8], pairs: &Pairs<'a>) -> Option<&'a 
 
 /// A name as udev (systemd 257) looks it up below a device: its first component `*` that is not its last stands for a
 /// folder, the first of the device's attributes in which the rest of the name is a file or a folder. `None` where there
-/// is no such folder; a name without such a component is itself. The error comes where memory is refused.
+/// is no such folder; a name without such a component is itself.
 pub fn starred(alloc: Global, device: &Device<'_>, name: &[u8]) -> Result<Option<Bytes>, AllocError>
     ensures { IfOk result (λ found. found ≡ starred device.now name.now) }
 {
@@ -139,8 +139,7 @@ fn has_name(device: &Device<'_>, name: &[u8]) -> bool
 
 /// Whether udev (systemd 257) finds a file or a folder of a device by a name, as far as the names of the device's
 /// attributes tell: a name is there where an attribute has it or lies in a folder of it, and the empty one is the
-/// device's own folder. A first component `*` stands for a folder, as in [`starred`]. The error comes where memory is
-/// refused.
+/// device's own folder. A first component `*` stands for a folder, as in [`starred`].
 pub fn has_file(alloc: Global, device: &Device<'_>, name: &[u8]) -> Result<bool, AllocError>
     ensures { IfOk result (λ found. found ≡ has_file device.now name.now) }
 {

@@ -1,4 +1,6 @@
-//! What an event has come to while rules run: what is known of it, and what rules have collected.
+//! The state of an event while rules run: what is known about it, and what the rules have collected.
+//!
+//! Functions that allocate return `AllocError` when memory runs out.
 #![tactic(auto)]
 
 mod chain;

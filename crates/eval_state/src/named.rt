@@ -38,7 +38,7 @@ fn behind_slash(text: &[u8]) -> &[u8]
     }
 }
 
-/// What stands behind `[`, read up to its first slash and the first `]` behind that.
+/// What follows `[`, read up to its first slash and the first `]` after that.
 fn named_behind(text: &[u8]) -> Option<Named<'_>>
     ensures { result ≡ named_behind (split_once slash text.now) }
 {
@@ -53,8 +53,8 @@ fn named_behind(text: &[u8]) -> Option<Named<'_>>
 
 impl<'a> Named<'a> {
     /// What a name of an attribute names, where it has the form `[SUBSYSTEM/KERNEL]ATTRIBUTE`, as udev reads it: the
-    /// subsystem stands before the first slash, the kernel's name, which may have slashes, before the first `]` behind
-    /// that, and one slash behind it is no part of the attribute.
+    /// subsystem comes before the first slash, the kernel's name, which may have slashes, before the first `]` after
+    /// that, and one slash after it is no part of the attribute.
     #[tactic(auto, unfolding(crate::specs::Named::named))]
     pub fn read(name: &'a [u8]) -> Option<Named<'a>>
         ensures { result ≡ named name.now }

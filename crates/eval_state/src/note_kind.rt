@@ -10,7 +10,7 @@ pub enum NoteKind {
     /// IMPORT of a builtin that is not run, or of none; the word is the command's first one, for udev the name of the
     /// builtin.
     BuiltinNotRun,
-    /// The words behind `hwdb` are none that it takes; the word is the command.
+    /// The words after `hwdb` are none that it takes; the word is the command.
     BadHwdbArguments,
     /// The block does not say what a PROGRAM answers; the word is the command.
     NoAnswer,
@@ -40,7 +40,8 @@ pub enum NoteKind {
     /// Of udev alone: an assignment to an attribute whose name has a `*/` that fits no name of the block; the word is the
     /// attribute's name.
     AttributeNotFound,
-    /// Of udev alone: a builtin asked for what the kernel tells of each such device, and the block does not have it; the
+    /// Of udev alone: a builtin asked for what the kernel says about each such device, and the block does not have it;
+    /// the
     /// word is the builtin's name, a colon, a space and what it asked for.
     BuiltinNeeds,
 }

@@ -24,8 +24,7 @@ pub struct Note {
 }
 
 impl Note {
-    /// The note that something of a rule was not done, told with a text. The error comes where memory
-    /// is refused.
+    /// The note that something of a rule was not done, reported with a text.
     pub fn about(
         alloc: Global,
         rule: &Rule,
@@ -75,7 +74,7 @@ impl Notes {
         Notes { held }
     }
 
-    /// Gives the vector back.
+    /// Returns the vector.
     pub fn into_vec(self) -> Vec<Note>
         ensures { result.items ≡ self }
     {
@@ -83,14 +82,14 @@ impl Notes {
         held
     }
 
-    /// Lends the notes, in their order.
+    /// Returns the notes, in their order.
     pub fn as_slice(&self) -> &[Note]
         ensures { result.now ≡ self.now }
     {
         &self.held
     }
 
-    /// Adds a note at the end. Where memory is refused, the notes stay as they are.
+    /// Adds a note at the end. Where memory runs out, the notes stay as they are.
     pub fn add(&mut self, note: Note) -> Result<(), AllocError>
         ensures notes { OnOk result (self.new ≡ self.old ++ note ∷ []) }
         ensures refused { OnErr result (self.new ≡ self.old) }
@@ -100,8 +99,7 @@ impl Notes {
     }
 }
 
-/// A key as a note names it: with its attribute in braces, if it has one. The error comes where
-/// memory is refused.
+/// A key as a note names it: with its attribute in braces, if it has one.
 pub(crate) fn word_of_key(
     alloc: Global,
     key: Key,

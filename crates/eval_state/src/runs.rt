@@ -59,14 +59,14 @@ impl<'a> Run<'a> {
         }
     }
 
-    /// Lends the rule that it stands in.
+    /// Returns the rule that it is in.
     pub fn rule(&self) -> &'a Rule
         ensures { result.now ≡ self.now.rule }
     {
         self.rule
     }
 
-    /// The type that stands in its braces, if it has any.
+    /// The type that is in its braces, if it has any.
     pub fn braces(&self) -> Option<RunType>
         ensures { result ≡ self.now.braces }
     {
@@ -83,7 +83,7 @@ impl<'a> Run<'a> {
         }
     }
 
-    /// Lends the command, its substitutions not yet made.
+    /// Returns the command, its substitutions not yet made.
     pub fn template(&self) -> &'a Template
         ensures { result.now ≡ self.now.template }
     {
@@ -155,7 +155,7 @@ impl<'a> Runs<'a> {
         }
     }
 
-    /// Lends what is to be run, in order.
+    /// Returns what is to be run, in order.
     pub fn as_slice(&self) -> &[Run<'a>]
         ensures { result.now ≡ self.now }
     {
@@ -169,8 +169,8 @@ impl<'a> Runs<'a> {
         self.held.clear();
     }
 
-    /// Adds a RUN at the end, unless it is there or its written text is empty. Where memory is
-    /// refused, the runs stay as they are.
+    /// Adds a RUN at the end, unless it is there or its written text is empty. Where memory runs
+    /// out, the runs stay as they are.
     fn add(&mut self, run: Run<'a>) -> Result<(), AllocError>
         ensures runs { OnOk result (self.new ≡ with_run self.old run.entry) }
         ensures refused { OnErr result (self.new ≡ self.old) }
@@ -182,7 +182,7 @@ impl<'a> Runs<'a> {
         Ok(())
     }
 
-    /// One RUN alone, or nothing where its written text is empty. The error comes where memory is refused.
+    /// One RUN alone, or nothing where its written text is empty.
     fn alone(alloc: Global, run: Run<'a>) -> Result<Runs<'a>, AllocError>
         ensures { IfOk result (λ runs. runs ≡ with_run [] run.entry) }
     {
@@ -194,7 +194,7 @@ impl<'a> Runs<'a> {
     /// Takes a RUN in by its operator: `+=` adds it unless the same one is there, any other operator
     /// makes it the only one. One whose written text is empty is not taken in.
     ///
-    /// The error comes where memory is refused; the runs then stay as they are.
+    /// Where memory runs out, the runs stay as they are.
     pub fn change(
         &mut self,
         alloc: Global,

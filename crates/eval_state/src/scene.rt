@@ -56,7 +56,7 @@ pub struct Scene<'a> {
 
 impl<'a> Scene<'a> {
     /// What an event has come to before any rule has run: its state as it begins, and nothing
-    /// collected. The error comes where memory is refused.
+    /// collected.
     pub fn new(alloc: Global, event: &'a Event<'_>) -> Result<Scene<'a>, AllocError>
         ensures { IfOk result (λ scene. scene ≡ start event.now) }
     {
@@ -80,7 +80,7 @@ impl<'a> Scene<'a> {
         })
     }
 
-    /// Forgets all but the event itself: what is called where memory was refused, so that nothing half
+    /// Forgets all but the event itself: what is called where memory ran out, so that nothing half
     /// done is taken for what the event has come to.
     pub fn clear(&mut self, alloc: Global)
         ensures { self.new ≡ blank self.old.state.event }
@@ -103,8 +103,8 @@ impl<'a> Scene<'a> {
         self.ran = Ran::none();
     }
 
-    /// Leaves a note that something of a rule was not done, told with a text. The error comes where
-    /// memory is refused; the scene then stays as it is.
+    /// Leaves a note that something of a rule was not done, reported with a text. Where memory runs
+    /// out, the scene stays as it is.
     pub fn note(
         &mut self,
         alloc: Global,
@@ -118,8 +118,8 @@ impl<'a> Scene<'a> {
         self.notes.add(Note::about(alloc, rule, kind, text)?)
     }
 
-    /// Leaves a note that names a key, with its attribute if it has one. The error comes where memory is refused; the
-    /// scene then stays as it is.
+    /// Leaves a note that names a key, with its attribute if it has one. Where memory runs out, the scene stays as it
+    /// is.
     pub fn note_key(
         &mut self,
         alloc: Global,
@@ -136,7 +136,7 @@ impl<'a> Scene<'a> {
     }
 
     /// Leaves a note that a text of a key was too long; the note names the key, with its attribute if
-    /// it has one. The error comes where memory is refused; the scene then stays as it is.
+    /// it has one. Where memory runs out, the scene stays as it is.
     pub fn note_too_long(
         &mut self,
         alloc: Global,

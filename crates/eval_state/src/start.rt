@@ -26,7 +26,7 @@ fn set_given(
     }
 }
 
-/// The path of a node below `/dev`. The error comes where memory is refused.
+/// The path of a node below `/dev`.
 pub fn node_path(alloc: Global, node: &[u8]) -> Result<Bytes, AllocError>
     ensures { IfOk result (λ path. path ≡ node_path node.now) }
 {
@@ -100,8 +100,6 @@ impl<'a> State<'a> {
     /// What is known of an event before any rule has run, as udev(7) has it: the properties of its
     /// device with ACTION, DEVPATH and, where given, SUBSYSTEM, DEVNAME (`/dev/` and the node), MAJOR
     /// and MINOR set over them; its links and its tags; no result, no name and no selected device.
-    ///
-    /// The error comes where memory is refused.
     pub fn new(alloc: Global, event: &'a Event<'_>) -> Result<State<'a>, AllocError>
         ensures { IfOk result (λ state. state ≡ start event.now) }
     {

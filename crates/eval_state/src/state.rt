@@ -15,7 +15,7 @@ pub struct State<'a> {
     /// The event: what happened, the device and its parents.
     pub event: Chain<'a>,
     /// The place in the chain of the device that the last search found, if it found one; the event
-    /// device stands at 0.
+    /// device is at 0.
     pub selected: Option<usize>,
     /// What the last program answered; empty where none did.
     pub result: Bytes,
@@ -30,7 +30,7 @@ pub struct State<'a> {
 }
 
 impl<'a> State<'a> {
-    /// Lends the value of a property as it is now, empty where it has none.
+    /// Returns the value of a property as it is now, empty where it has none.
     pub fn property(&self, name: &[u8]) -> &[u8]
         ensures { result.now ≡ or_empty (value_of self.now.env name.now) }
     {

@@ -119,7 +119,7 @@ same_part {T} a b p q r e h = subst (λ (x : Found). Adds {T = T} a b x r) e h
 pub same_failed : (a : Held) (p q : Found) (e : HwdbFault) → p ≡ q → FailsAt a p e → FailsAt a q e
 same_failed a p q e f h = subst (λ (x : Found). FailsAt a x e) f h
 
--- a fault is handed on
+-- a fault is passed on
 pub returned : {T : Type 0} (a b : Held) (p : Found) (r : Result T HwdbFault) (y e : HwdbFault) → r ≡ Err y → y ≡ e → FailsAt a p e → Adds a b p r
 returned {T} a b p r y e f g h = subst (λ (x : Result T HwdbFault). Adds {T = T} a b p x) (sym (f ∙ ap Err g)) h
 

@@ -30,7 +30,7 @@ all_flat : {X A : Type 0} (P : A → Type 0) (f : X → List A) (xs : List X) �
 all_flat P f [] h = no_item P
 all_flat P f (x ∷ xs) h = All-append P (f x) (flat_map f xs) (h x) (all_flat P f xs h)
 
--- what stands before an `=` that is not at the front
+-- what comes before an `=` that is not at the front
 has_key : (t : List ℕ) (at : ℕ) → position (λ b. b == equals) t ≡ Some at → (at == 0) ≡ false → take at t ≢ []
 has_key t at e first n =
     let found = position_some (λ b. b == equals) t at e in

@@ -12,7 +12,7 @@ use Rattle.text_core.specs.declared.reading.Reading.TheVariants.{Exact}
 use Rattle.hwdb_core.proofs.Finding.{position_none}
 use Rattle.hwdb_core.specs.Ruling.{IsPassed, differs_at_front, is_faultless, is_ruled_out, is_special, passes_over}
 
--- what stands in front of a text, where its first byte means itself
+-- what is in front of a text, where its first byte means itself
 plain_front : (at b : ℕ) (t : List ℕ) → is_special b ≡ false → items_at Exact (b ∷ t) zero at ≡ with_item (Byte b) (items_at Exact t zero (at + 1))
 unfolding front
 plain_front at b t e = by_star (b == star) (b == question_mark) (b == open_bracket) refl refl refl e where

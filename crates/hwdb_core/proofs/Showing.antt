@@ -16,7 +16,7 @@ use Rattle.hwdb_core.specs.Found.{Found, found_in, join, nothing, only_messages}
 use Rattle.hwdb_core.specs.Parts.{bare_found, cut_found, early_found, match_found, pair_found, property_found, rest_found}
 use Rattle.hwdb_core.proofs.Joining.{found_as, found_in_is, found_in_messages, found_in_properties, same_found}
 
--- an element stands before what is behind it
+-- an element comes before what is after it
 pub drop_item : {X : Type 0} (xs : List X) (i : ℕ) (x : X) → i < length xs → x ≡ get_or xs i x → drop i xs ≡ x ∷ drop (i + 1) xs
 drop_item {X = X} xs i x h e =
     let next : i + 1 ≡ suc i = omega arith in

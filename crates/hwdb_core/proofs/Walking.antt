@@ -54,7 +54,7 @@ file_ended file p o =
     ∙ ap (λ (ps : List (List NumberedLine)). found_in (paragraph_found file) (filter has_lines ps)) (slice_split_none is_empty_line p o)
     ∙ one_more file p [] ∙ join_nothing (paragraph_found file p)
 
--- what was found, and what is to be found in the open paragraph and the lines behind it, is what is to be found in all
+-- what was found, and what is to be found in the open paragraph and the lines after it, is what is to be found in all
 pub record Walks (file : List ℕ) (all now : Held) (p ls : List NumberedLine) : Type 0 where
   pub open_lines : Open p
   pub same : onto now (lines_found file (p ++ clean_lines ls)) ≡ all

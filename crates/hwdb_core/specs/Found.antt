@@ -25,7 +25,7 @@ nothing = record { properties = []; messages = []; match_bytes = 0 }
 abbrev pub only_messages : List Message → Found
 only_messages ms = record { properties = []; messages = ms; match_bytes = 0 }
 
--- what was found, and behind it more
+-- what was found, and after it more
 unfoldable pub join : Found → Found → Found
 join a b = record { properties = a.properties ++ b.properties; messages = a.messages ++ b.messages; match_bytes = a.match_bytes + b.match_bytes }
 
@@ -58,7 +58,7 @@ abbrev pub counting : Option (List ℕ) → List Entry → List Entry
 counting None entries = entries
 counting (Some modalias) entries = fitting entries modalias
 
--- what is held, and behind it what was found in a part
+-- what is held, and after it what was found in a part
 unfoldable pub onto : Held → Found → Held
 onto h a = record {
   wanted = h.wanted;

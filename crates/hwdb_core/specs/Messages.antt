@@ -11,7 +11,7 @@ use Rattle.text_bytes.specs.Lines.{NumberedLine}
 use Rattle.hwdb_core.specs.Paragraphs.{Cut}
 use Rattle.hwdb_core.specs.Properties.{Pair, pair_of, property_text}
 
--- a property that no match stands before
+-- a property that no match comes before
 abbrev pub about_early : List ℕ → NumberedLine → Message
 about_early file l = message file l.number PropertyWithoutMatch (property_text l)
 

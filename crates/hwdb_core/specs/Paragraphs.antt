@@ -13,7 +13,7 @@ is_empty_line l = length l.text == 0
 abbrev pub has_lines : List NumberedLine → Bool
 has_lines ls = not (is_empty ls)
 
--- the longest runs of lines that are not empty: what stands between the empty lines, where that has lines
+-- the longest runs of lines that are not empty: what is between the empty lines, where that has lines
 abbrev pub paragraphs : List NumberedLine → List (List NumberedLine)
 paragraphs ls = filter has_lines (slice_split is_empty_line ls)
 
@@ -27,7 +27,7 @@ is_match l = not (is_property l)
 
 -- the four parts of a paragraph
 pub record Cut : Type 0 where
-  -- properties that no match stands before
+  -- properties that no match comes before
   pub early : List NumberedLine
   -- the matches
   pub matches : List NumberedLine

@@ -10,7 +10,7 @@ use Rattle.hwdb_core.specs.Messages.{about_bare, about_early, about_match, about
 use Rattle.hwdb_core.specs.Sources.{cuts_of}
 use Rattle.hwdb_core.specs.Found.{Found, found_in, only_messages}
 
--- a property that no match stands before adds its message
+-- a property that no match comes before adds its message
 abbrev pub early_found : List ℕ → NumberedLine → Found
 early_found file l = only_messages (about_early file l ∷ [])
 

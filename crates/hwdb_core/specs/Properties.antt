@@ -17,7 +17,7 @@ pub record Pair : Type 0 where
   pub key : List ℕ
   pub value : List ℕ
 
--- what a text says whose first `=` stands at a place: the key stands before it, and may not be empty, the value behind it
+-- what a text says whose first `=` is at a place: the key comes before it, and may not be empty, the value after it
 abbrev pub pair_at : List ℕ → Option ℕ → Result Pair MessageKind
 pair_at t None = Err NoEquals
 pair_at t (Some at) = if at == 0 then Err EmptyKey else Ok (record { key = take at t; value = drop (at + 1) t })

@@ -29,7 +29,7 @@ pub struct Database {
 ///
 /// The entries are fit for a database: their orders rise from 0, and no key is empty. A line that is
 /// wrong costs a message, and what it says is ignored. `TooMany` comes exactly where the files hold
-/// more than its bounds, and `Memory` only where a growth was refused.
+/// more than its bounds, and `Memory` only where an allocation fails.
 pub fn read_sources(alloc: Global, files: &[SourceFile]) -> Result<Database, HwdbFault>
     ensures entries { IfOk result (λ d. d.entries.items ≡ entries_of files.now) }
     ensures rising { IfOk result (λ d. Rising d.entries.items) }

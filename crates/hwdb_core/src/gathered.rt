@@ -126,7 +126,7 @@ impl Gathered {
         Ok(())
     }
 
-    /// Puts an entry behind those that are kept.
+    /// Puts an entry after those that are kept.
     fn keep(&mut self, entry: Entry) -> Result<(), AllocError>
         ensures { OnOk result (self.new ≡ with_entry entry self.old) }
     {

@@ -58,7 +58,7 @@ fn read_paragraph(
     read_rest(alloc, found, file, parts.rest)
 }
 
-/// Tells of the properties that no match stands before.
+/// Tells of the properties that no match comes before.
 fn read_early(
     alloc: Global,
     found: &mut Gathered,

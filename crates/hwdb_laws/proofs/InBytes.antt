@@ -1,4 +1,4 @@
--- The texts that an index answers with stand in its bytes.
+-- The texts that an index answers with are in its bytes.
 use Rattle.std.proofs.Common.{◌≡◌, ℕ, ◌+◌, List, ◌∷◌, [], ◌++◌, take, drop, map, refl, sym, inl, inr, ◌∙◌, ap, subst, arith, append_assoc}
 use Rattle.std.specs.List.{All}
 use Rattle.std.proofs.Math.ListN.{get_or-eq_default}

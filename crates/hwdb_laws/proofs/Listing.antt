@@ -107,7 +107,7 @@ module _ (es : List Entry) where
       let inside : i < length (draft_of es).nodes = omega (arith, counted, nodes_len es) in
       get_or-map (said_node sets) (draft_of es).nodes i no_node nowhere inside ∙ ap (said_node sets) (node_is es i no_node inside)
 
-  -- a label is said as it stands in the path
+  -- a label is said as it is in the path
   label_told : (i : ℕ) (x : Item) (q : List Item) → IsIn (x ∷ q) all_paths → (y : Item) → last_label (x ∷ q) ≡ y → said_label sets (image_node es i (x ∷ q)) ≡ y
   label_told i x q among (Byte b) e = rw e refl
   label_told i x q among One e = rw e refl

@@ -39,7 +39,7 @@ module _ (nodes : List Node) where
       (j, within, get_or-range_with_len (node_at nodes p).first (node_at nodes p).count j i child.inside ∙ sym child.place)
 
 module _ (nodes : List Node) (s : Shape nodes) where
-  -- a child stands behind its parent, and among the nodes
+  -- a child follows its parent, and among the nodes
   behind : (p i : ℕ) → Contains (children nodes p) i → p < i
   behind p i w =
       let child : (j : ℕ) × IsChild nodes i p j = child_of nodes p i w in

@@ -58,14 +58,14 @@ lines_parted : (low : ℕ) (xs ys : List NumberedLine) (high : ℕ) → LinesRis
 lines_parted low [] ys high r = (low, omega arith, r)
 lines_parted low (l ∷ xs) ys high r = let rest = lines_parted (l.number + 1) xs ys high r.1 in (rest.0, (r.0, rest.1), rest.2)
 
--- the greatest number that is told
+-- the greatest number that is reported
 abbrev top : ℕ
 top = 2 ^ 32 - 1
 
 told_number : (n : ℕ) → n ≤ top → capped n ≡ n
 told_number n h = omega arith
 
--- what is told of each line is told at its own places
+-- what is reported for each line is reported at its own places
 each_line : (f : NumberedLine → List Message) → ((l : NumberedLine) → l.number ≤ top → Rise (8 * l.number) (f l) (8 * (l.number + 1))) → (low : ℕ) (ls : List NumberedLine) (high : ℕ)
     → LinesRise low ls high → high ≤ top → Rise (8 * low) (flat_map f ls) (8 * high)
 each_line f told low [] high r h = omega (arith, r)
@@ -79,7 +79,7 @@ each_line f told low (l ∷ ls) high r h =
 early_told : (file : List ℕ) (l : NumberedLine) → l.number ≤ top → Rise (8 * l.number) (about_early file l ∷ []) (8 * (l.number + 1))
 early_told file l h = let same = told_number l.number h in (omega arith, omega (arith, same), omega (arith, same))
 
--- a match is told of behind what is told of its paragraph at the same line
+-- a match is reported for after what is reported for its paragraph at the same line
 spelled_told : (file : List ℕ) (l : NumberedLine) (r : Result (List Item) GlobFault) → l.number ≤ top → Rise (8 * l.number + 3) (about_spelled file l r) (8 * (l.number + 1))
 spelled_told file l (Ok pattern) h = omega arith
 spelled_told file l (Err fault) h = let same = told_number l.number h in (omega arith, omega (arith, same), omega (arith, same))
@@ -97,7 +97,7 @@ property_told file l h = by_place (position (λ b. b == equals) (property_text l
   by_place None = let same = told_number l.number h in (omega arith, omega (arith, same), omega (arith, same))
   by_place (Some at) = by_first at (at == 0) _
 
--- what is told of the matches, of the paragraph at the first of them among it
+-- what is reported for the matches, of the paragraph at the first of them among it
 matches_told : (file : List ℕ) (low : ℕ) (matches properties : List NumberedLine) (high : ℕ) → LinesRise low matches high → high ≤ top
     → Rise (8 * low) (about_bare file matches properties ++ flat_map (about_match file) matches) (8 * high)
 matches_told file low [] properties high r h = by_test (length properties == 0) where
@@ -149,7 +149,7 @@ cut_told file low p high r h =
     (subst (λ (ms : List Message). Rise (8 * one.0) ms (8 * high)) (append_assoc (about_bare file c.matches c.properties) (flat_map (about_match file) c.matches) (flat_map (about_property file) c.properties ++ about_rest file c.rest))
     (rise_on (8 * one.0) (about_bare file c.matches c.properties ++ flat_map (about_match file) c.matches) (8 * two.0) _ (8 * high) (matches_told file one.0 c.matches c.properties two.0 two.1 (omega arith)) last))
 
--- paragraphs, one behind the other
+-- paragraphs, one after another
 abbrev ParagraphsRise : ℕ → List (List NumberedLine) → ℕ → Type 0
 ParagraphsRise low [] high = low ≤ high
 ParagraphsRise low (p ∷ ps) high = (mid : ℕ) × LinesRise low p mid × ParagraphsRise mid ps high
@@ -215,7 +215,7 @@ file_told f h =
     subst (λ (ms : List Message). Rise 8 ms (8 * (1 + length (lines f.bytes)))) (sym (append-nil (flat_map (cut_messages f.name) (cuts_of f))))
     (paragraphs_told f.name 1 (paragraphs (lines_of f.bytes)) (1 + length (lines f.bytes)) rises (omega arith))
 
--- all messages stand behind a place
+-- all messages follow a place
 behind_all : (m : Message) → code_number m.kind < 8 → (low : ℕ) (ms : List Message) (high : ℕ) → place m < low → Rise low ms high → All (StandsBefore m) ms
 behind_all m small low [] high h r = All-nil (StandsBefore m)
 behind_all m small low (n ∷ ms) high h r =

@@ -1,8 +1,8 @@
--- Texts that stand in the bytes of a file.
+-- Texts that are in the bytes of a file.
 use Rattle.std.specs.Prelude.{◌≡◌, ℕ, List, ◌++◌}
 use Rattle.hwdb_lookup.specs.Query.{Origin}
 
--- a text is a part of others' bytes: these are what stands before it, the text, and what stands behind it
+-- a text is a part of others' bytes: these are what comes before it, the text, and what follows it
 pub record IsPartOf (bytes text : List ℕ) : Type 0 where
   pub before : List ℕ
   pub behind : List ℕ

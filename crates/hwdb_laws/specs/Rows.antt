@@ -4,7 +4,7 @@ use Rattle.text_core.specs.declared.item.Item.TheVariants.{Byte, Many}
 use Rattle.hwdb_lookup.specs.declared.entry.Entry.{Entry}
 use Rattle.index_reading.specs.Numbers.{number_bytes}
 
--- numbers, one behind another
+-- numbers, one after another
 abbrev pub numbers_bytes : List ℕ → List ℕ
 numbers_bytes [] = []
 numbers_bytes (n ∷ ns) = number_bytes n ++ numbers_bytes ns

@@ -1,6 +1,6 @@
 -- The index file of version 1, said of it alone: what a file has to be, and what it lists; the names end in 1. The header,
 -- the nodes, their shape and how a number is read are those of both versions. Whatever depends on the length of a value,
--- or on what stands in one, is said here again.
+-- or on what is in one, is said here again.
 use Rattle.std.specs.Prelude.{◌≡◌, ℕ, ◌+◌, ◌*◌, ◌<◌, ◌≤◌, ◌==◌, if◌then◌else◌, List, [], IsTrue, flat_map, length, map, nat_eq, take, drop}
 use Rattle.std.specs.List.{range_with_len, starts_with}
 use Rattle.text_core.specs.declared.item.Item.{Item}
@@ -17,7 +17,7 @@ use Rattle.index_reading.specs.declared.fault.IndexFault.{IndexFault}
 use Rattle.index_reading.specs.declared.fault.IndexFault.TheVariants.{Short, Magic, Version, Size, Shape, Label, Text, Order}
 use Rattle.index_reading.specs.declared.records.NodeRecord.{NodeRecord}
 
--- Behind a header of 32 bytes stand the nodes, of 24 bytes each, the values, of 20, the sets, of 32, and the text: where
+-- After a header of 32 bytes stand the nodes, of 24 bytes each, the values, of 20, the sets, of 32, and the text: where
 -- value j, set s and the text begin, and how long the file is.
 abbrev pub value_start_1 : List ℕ → ℕ → ℕ
 value_start_1 bytes j = 32 + 24 * (header_of bytes).nodes + 20 * j

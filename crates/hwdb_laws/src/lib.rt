@@ -1,6 +1,6 @@
 //! Laws of the database: of its files, of the paths of its trie, and of its index.
 //!
-//! A law is the contract of a function with an empty body. Nothing stands on this crate.
+//! A law is the contract of a function with an empty body. No crate depends on this one.
 #![tactic(auto)]
 
 pub mod bounds;

@@ -17,20 +17,20 @@ pub fn paths_stand_once()
 {}
 
 /// The children of a tree's paths, path by path, are all its paths but the root's: so nodes that
-/// stand in the order of their paths have their children one behind another.
+/// are in the order of their paths have their children one after another.
 pub fn trees_stand_level_by_level()
     ensures { (ps : List (List Item)) → IsTree ps → IsLevelByLevel ps }
 {}
 
 /// The paths of patterns are those of a tree; all of them but the root's are children, and the
-/// children of each stand behind it.
+/// children of each follow it.
 pub fn paths_are_a_tree()
     ensures tree { (patterns : List (List Item)) → IsTree (paths_among patterns) }
     ensures children { (patterns : List (List Item)) → 1 + sum_by (λ p. count_by (is_child p) (paths_among patterns)) (paths_among patterns) ≡ length (paths_among patterns) }
     ensures later { (patterns : List (List Item)) (i : ℕ) → i < length (paths_among patterns) → i < 1 + sum_by (λ p. count_by (is_child p) (paths_among patterns)) (take i (paths_among patterns)) }
 {}
 
-/// A trie has at most one node more than its patterns have labels, a pattern that stands there twice
+/// A trie has at most one node more than its patterns have labels, a pattern that is there twice
 /// counted once; at most as many sets as nodes; and its files' names are no longer than those of the
 /// files that it comes from.
 pub fn a_trie_is_small()

@@ -41,7 +41,7 @@ pub fn indexes_of_version_1_are_kept()
 
 /// The law of the texts of answers; it does nothing when it is called.
 ///
-/// Each text of an answer, the names of files too, stands in the bytes of the file that was asked.
+/// Each text of an answer, the names of files too, is in the bytes of the file that was asked.
 pub fn answers_stand_in_the_file()
     ensures query { (bytes modalias : List ℕ) → All (λ p. IsPartOf bytes p.0 × IsPartOf bytes p.1) (query (listed (contents bytes).nodes (contents bytes).values) modalias) }
     ensures sources { (bytes modalias : List ℕ) → All (StandsIn bytes) (sourced (listed (contents bytes).nodes (contents bytes).values) modalias) }

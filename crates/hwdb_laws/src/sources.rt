@@ -13,7 +13,7 @@ pub fn a_paragraph_is_cut_one_way()
 {}
 
 /// Messages stand by file, in the order of the files, by line and by code. A file whose last lines
-/// have numbers over 2^32 - 1, which are all told as that one, is left out of the second law.
+/// have numbers over 2^32 - 1, which are all reported as that one, is left out of the second law.
 pub fn messages_stand_in_order()
     ensures files { (files later : List SourceFile) → messages_of (files ++ later) ≡ messages_of files ++ messages_of later }
     ensures rise { (file : SourceFile) → length file.bytes < 2 ^ 32 - 1 → AllPairs StandsBefore (messages_of (file ∷ [])) }

@@ -98,11 +98,11 @@ module _ (m : List ℕ) where
             (others_still es e (x ∷ xs) counts apart)
 
 module _ {A : Type 0} where
-  -- an element behind another
+  -- an element after another
   pub behind : (x : A) (xs : List A) (y : A) → Contains xs y → Contains (x ∷ xs) y
   behind x xs y c = (suc c.0, omega (arith, c.1), c.2)
 
-  -- an element is the first, or behind it
+  -- an element is the first, or after it
   pub first_or : (x : A) (xs : List A) (y : A) → Contains (x ∷ xs) y → (x ≡ y) ⊎ Contains xs y
   first_or x xs y c = at c.0 c.1 c.2 where
     at : (k : ℕ) → k < length (x ∷ xs) → get_or (x ∷ xs) k y ≡ y → (x ≡ y) ⊎ Contains xs y
@@ -116,7 +116,7 @@ keys es = map (λ (e : Entry). e.key) es
 winner_key : (x e : Entry) → x.key ≡ e.key → (winner x e).key ≡ e.key
 winner_key x e same = elim (nat_lt e.order x.order) as (λ b. (cond b x e).key ≡ e.key) [ true ↦ same | false ↦ refl ]
 
--- what is put stands there by its key
+-- what is put is there by its key
 put_has : (xs : List Entry) (e : Entry) → Contains (keys (put xs e)) e.key
 put_has [] e = (zero, omega arith, refl)
 put_has (x ∷ xs) e = by (put_has xs e) (key_order x.key e.key) refl where

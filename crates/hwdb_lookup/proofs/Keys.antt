@@ -9,7 +9,7 @@ use Rattle.hwdb_lookup.specs.Query.{key_order}
 pub before_trans : (a b c : List ℕ) → key_order a b ≡ Less → key_order b c ≡ Less → key_order a c ≡ Less
 before_trans a b c h k = nat_list_cmp_total.trans a b c h k
 
--- a key that comes behind another has that one before it
+-- a key that comes after another has that one before it
 pub turned : (a b : List ℕ) → key_order a b ≡ Greater → key_order b a ≡ Less
 turned a b h = nat_list_cmp_total.antisymm b a ∙ ap ordering_reverse h
 

@@ -23,7 +23,7 @@ there : (ws : List Found) (i : ℕ) (r old : Found) → i < length (all_seen ws)
 there ws i r old within is =
     get_or_default (all_seen ws) i (seen r) (seen old) within ∙ get_or-map (λ (b : Found). seen b) ws i old ∙ ap (λ (b : Found). seen b) (sym is)
 
--- r, which has the key of what stands at i, wins over what is there
+-- r, which has the key of what is at i, wins over what is there
 pub wins : (ws : List Found) (i : ℕ) (r old : Found) → KeysRise (all_seen ws) → (i < length (all_seen ws)) × HoldsAt (λ (x : Entry). x.key ≡ (seen r).key) (all_seen ws) i
     → old ≡ get_or ws i old → (seen old).order ≤ (seen r).order → all_seen (set ws i r) ≡ put (all_seen ws) (seen r)
 wins ws i r old rises found is up =
@@ -54,7 +54,7 @@ pub other_last : (ws : List Found) (last : Found) (key : List ℕ) → last ≡ 
 other_last ws last key is apart other some is_too same =
     apart (ap (λ (f : Found). (seen f).key) (is ∙ get_or_default ws (length ws - 1) last other (omega arith) ∙ sym is_too) ∙ same)
 
--- one whose key is not the last's comes in behind all
+-- one whose key is not the last's comes in after all
 pub enters : (ws : List Found) (r : Found) → KeysRise (all_seen ws) → NoneBehind (all_seen ws) (seen r).key
     → ((last : Found) → 0 < length ws → last ≡ get_or ws (length ws - 1) last → (seen last).key ≢ (seen r).key) → all_seen (ws ++ r ∷ []) ≡ put (all_seen ws) (seen r)
 enters ws r rises behind apart =

@@ -27,14 +27,14 @@ put_found (x ∷ xs) (suc i) e rises within same =
     ap (λ (o : Ordering). placed o e x xs (put xs e)) below
     ∙ ap (λ (l : List Entry). x ∷ l) (put_found xs i e (λ a b d l w. rises (suc a) (suc b) d (omega arith) (omega arith)) (omega arith) same)
 
--- an entry whose key comes behind all others
+-- an entry whose key comes after all others
 pub put_behind : (xs : List Entry) (e : Entry) → All (λ (x : Entry). key_order x.key e.key ≡ Less) xs → put xs e ≡ xs ++ e ∷ []
 put_behind [] e low = refl
 put_behind (x ∷ xs) e low =
     ap (λ (o : Ordering). placed o e x xs (put xs e)) (low zero x (omega arith))
     ∙ ap (λ (l : List Entry). x ∷ l) (put_behind xs e (All-tail (λ (x : Entry). key_order x.key e.key ≡ Less) x xs low))
 
--- where keys rise, a key that comes before none of them, and is not the last, comes behind all
+-- where keys rise, a key that comes before none of them, and is not the last, comes after all
 pub all_before : (xs : List Entry) (key : List ℕ) → KeysRise xs → NoneBehind xs key → ((x : Entry) → 0 < length xs → x ≡ get_or xs (length xs - 1) x → x.key ≢ key)
     → All (λ (x : Entry). key_order x.key key ≡ Less) xs
 all_before xs key rises behind apart k d within = by (key_order (get_or xs k d).key key) refl where
@@ -61,7 +61,7 @@ rises_cons x xs first rest zero (suc j) d less within = first j d (omega arith)
 rises_cons x xs first rest (suc i) zero d less within = absurd (omega arith)
 rises_cons x xs first rest (suc i) (suc j) d less within = rest i j d (omega arith) (omega arith)
 
--- the entries behind the first
+-- the entries after the first
 pub rises_tail : (x : Entry) (xs : List Entry) → KeysRise (x ∷ xs) → KeysRise xs
 rises_tail x xs rises i j d less within = rises (suc i) (suc j) d (omega arith) (omega arith)
 

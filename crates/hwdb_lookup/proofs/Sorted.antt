@@ -39,7 +39,7 @@ module _ (sorted : List Found) (i : ℕ) (d : Found) (within : i < length sorted
   abbrev next : Found
   next = get_or sorted i d
 
-  -- none of those that count so far has a key behind the next
+  -- none of those that count so far has a key after the next
   pub first_came : (won : List Entry) → won ≡ fold put [] (all_seen (take i sorted)) → IsSortedBy before sorted → NoneBehind won (seen next).key
   first_came won is up =
       subst (λ (l : List Entry). NoneBehind l (seen next).key) (sym is) (fold_all (λ (e : Entry). is_lt (key_order (seen next).key e.key) ≡ false) [] (all_seen (take i sorted)) (λ k e inside. absurd (omega arith))

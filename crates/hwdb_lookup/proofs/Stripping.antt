@@ -24,7 +24,7 @@ pub same_stripped : {A : Type 0} (f : Entry → A) → ((e : Entry) → f (strip
 same_stripped f same [] = refl
 same_stripped f same (e ∷ es) = ap (λ x. x ∷ map f (map stripped es)) (same e) ∙ ap (λ l. f e ∷ l) (same_stripped f same es)
 
--- what is told of those that count, where they were found without their patterns
+-- what is reported for those that count, where they were found without their patterns
 pub told_of_winners : {A : Type 0} (f : Entry → A) → ((e : Entry) → f (stripped e) ≡ f e) → (won es : List Entry) (m : List ℕ)
     → won ≡ fold put [] (map stripped (fitting es m)) → map f won ≡ map f (winners es m)
 told_of_winners f same won es m is = ap (map f) (is ∙ sym (fold_same [] (fitting es m))) ∙ same_stripped f same (winners es m)

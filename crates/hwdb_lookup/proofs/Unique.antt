@@ -16,7 +16,7 @@ use Rattle.hwdb_lookup.proofs.Keys.{before_trans}
 use Rattle.hwdb_lookup.proofs.Placing.{rises_head, rises_tail}
 
 module _ (es : List Entry) (m : List ℕ) where
-  -- of two entries that count with one key, none is listed behind the other
+  -- of two entries that count with one key, none is listed after the other
   not_behind : (w v : Entry) (c : Counts es m w) (d : Counts es m v) → w.key ≡ v.key → length c.before < length d.before → ⊥
   not_behind w v c d same less =
       let j : ℕ = length d.before - (length c.before + 1) in

@@ -1,4 +1,4 @@
--- Serves inner proofs only: a key that comes after none of those that stand before it.
+-- Serves inner proofs only: a key that comes after none of those that come before it.
 use Rattle.std.specs.Prelude.{◌≡◌, ℕ, false, List, All}
 use Rattle.std.specs.Ordering.{is_lt}
 use Rattle.hwdb_lookup.specs.Query.{key_order}

@@ -5,7 +5,7 @@ use Rattle.text_core.specs.Fits.{fits}
 use Rattle.hwdb_lookup.specs.Query.{key_order}
 use Rattle.hwdb_lookup.specs.declared.entry.Entry.{Entry}
 
--- each key comes before all later ones, so that none stands there twice
+-- each key comes before all later ones, so that none is there twice
 abbrev pub KeysRise : List Entry → Type 0
 KeysRise entries = AllPairs (λ (e later : Entry). key_order e.key later.key ≡ Less) entries
 

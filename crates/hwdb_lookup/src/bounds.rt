@@ -1,6 +1,6 @@
 //! How much a database may hold.
 //!
-//! The bounds stand beside the entries, since whoever reads them from files, builds a trie of them
+//! The bounds are beside the entries, since whoever reads them from files, builds a trie of them
 //! or writes them as an index keeps to the same ones.
 
 /// How many entries there may be.

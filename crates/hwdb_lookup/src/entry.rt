@@ -6,7 +6,7 @@ use text_core::Pattern;
 /// A property for the devices whose modalias a pattern fits.
 #[derive(Debug, Drop)]
 pub struct Entry {
-    /// The match that it stands below.
+    /// The match that it is below.
     pub pattern: Pattern,
     /// The property's name, never empty.
     pub key: Bytes,

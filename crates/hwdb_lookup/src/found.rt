@@ -57,7 +57,7 @@ pub fn settle<'a>(alloc: Global, mut found: Vec<Found<'a>>) -> Result<Vec<Found<
     Ok(won)
 }
 
-/// Puts a property behind those that count, none of whose keys comes after its own: it takes the place
+/// Puts a property after those that count, none of whose keys comes after its own: it takes the place
 /// of the last one if that has its key, unless that is of a greater order.
 fn put_last<'a>(won: &mut Vec<Found<'a>>, found: Found<'a>) -> Result<(), AllocError>
     requires rise { KeysRise (all_seen won.old.items) }

@@ -1,7 +1,9 @@
-//! The hardware database as entries, and what a lookup in them answers.
+//! The hardware database as entries, and what a lookup among them answers.
 //!
-//! It stands below the crate that reads database files and below those that hold the entries in
-//! another form, so that all of them speak of the same list.
+//! This crate is below the one that reads database files and below those that hold the entries in another form, so that
+//! all of them speak of the same list.
+//!
+//! Functions that allocate return `AllocError` when memory runs out.
 #![tactic(auto)]
 
 mod bounds;

@@ -29,7 +29,7 @@ impl Model for PlainDb {
 impl PlainDb {
     /// The database of these entries, without a copy and without taking memory. Their orders have
     /// to rise strictly, and no key may be empty: as entries that were read from files are, and as
-    /// [`rising`](crate::rising) tells of others.
+    /// [`rising`](crate::rising) says about others.
     pub fn new(listed: Vec<Entry>) -> PlainDb
         requires { Rising listed.items }
         ensures { result ≡ listed.items }
@@ -37,7 +37,7 @@ impl PlainDb {
         PlainDb { listed }
     }
 
-    /// Gives the entries back, in order, without taking memory.
+    /// Returns the entries, in order, without taking memory.
     pub fn into_entries(self) -> Vec<Entry>
         ensures { result.items ≡ self }
     {

@@ -1,4 +1,4 @@
--- The bytes of a set, as they stand in an index.
+-- The bytes of a set, as they are in an index.
 use Rattle.std.proofs.Common.{◌≡◌, ℕ, ◌+◌, ◌/◌, ◌%◌, ◌^◌, ◌<◌, eqb, List, take, drop, get_or, sym, ◌∙◌, ap, bit_and}
 use Rattle.std.proofs.lemmas.List.{get_or-take, get_or-drop}
 use Rattle.std.proofs.lemmas.Nat.Bits.{shr_and_one}

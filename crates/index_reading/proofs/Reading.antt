@@ -8,7 +8,7 @@ use Rattle.index_reading.specs.declared.records.NodeRecord.{NodeRecord}
 use Rattle.index_reading.specs.declared.records.ValueRecord.{ValueRecord}
 use Rattle.index_reading.specs.declared.records.Span.{Span}
 
--- a number that stands in front
+-- a number that is in front
 pub number_read : (x : ℕ) (rest : List ℕ) → IsSmall x → number_at (number_bytes x ++ rest) 0 ≡ x
 unfolding number_at
 number_read x rest h = little_number-reads_back 4 x rest h
@@ -22,7 +22,7 @@ same_node n a b c d e f g h i j =
     ap (λ x. numbered n x b c d e) f ∙ ap (λ x. numbered n n.set x c d e) g ∙ ap (λ x. numbered n n.set n.first x d e) h
     ∙ ap (λ x. numbered n n.set n.first n.count x e) i ∙ ap (λ x. numbered n n.set n.first n.count n.first_value x) j
 
--- a node that stands in front
+-- a node that is in front
 pub node_read : (n : NodeRecord) (rest : List ℕ) → IsSmallNode n → node_at (node_bytes n ++ rest) 0 ≡ n
 unfolding number_at
 node_read n rest h =
@@ -37,7 +37,7 @@ node_read n rest h =
 same_span : (s : Span) (a b : ℕ) → a ≡ s.place → b ≡ s.len → (let t : Span = record { place = a; len = b } in t) ≡ s
 same_span s a b f g = ap (λ x. record { place = x; len = b }) f ∙ ap (λ x. record { place = s.place; len = x }) g
 
--- a part of the text that stands in front
+-- a part of the text that is in front
 pub span_read : (s : Span) (rest : List ℕ) → IsSmallSpan s → span_at (span_bytes s ++ rest) 0 ≡ s
 unfolding number_at
 span_read s rest h =
@@ -53,7 +53,7 @@ same_value v key value file order line a b c d e =
     ap (λ x. made x value order file line) a ∙ ap (λ x. made v.key x order file line) b ∙ ap (λ x. made v.key v.value x file line) c
     ∙ ap (λ x. made v.key v.value v.order x line) d ∙ ap (λ x. made v.key v.value v.order v.file x) e
 
--- a value that stands in front
+-- a value that is in front
 pub value_read : (v : ValueRecord) (rest : List ℕ) → IsSmallValue v → value_at 2 (value_bytes v ++ rest) 0 ≡ v
 unfolding number_at
 value_read v rest h =

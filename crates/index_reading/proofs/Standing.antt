@@ -16,7 +16,7 @@ use Rattle.index_reading.specs.declared.records.ValueRecord.{ValueRecord}
 use Rattle.index_reading.specs.declared.records.Span.{Span}
 use Rattle.index_reading.proofs.Reading.{node_read, value_read}
 
--- pieces of one length, one behind another
+-- pieces of one length, one after another
 module _ {X : Type 0} (f : X → List ℕ) (len : ℕ) where
   one_more : (x : X) (xs : List X) (rest : List ℕ) (i : ℕ) → length (f x) ≡ len → drop (len * suc i) ((f x ++ flat_map f xs) ++ rest) ≡ drop (len * i) (flat_map f xs ++ rest)
   one_more x xs rest i here =
@@ -36,7 +36,7 @@ module _ {X : Type 0} (f : X → List ℕ) (len : ℕ) where
   piece_at (x ∷ xs) rest (suc i) d all h =
       one_more x xs rest i (all zero x (omega arith)) ∙ piece_at xs rest i d (λ k e w. all (suc k) e (omega arith)) (omega arith)
 
-  -- the bytes behind all pieces
+  -- the bytes after all pieces
   pub behind_all : (xs : List X) (rest : List ℕ) → All (λ x. length (f x) ≡ len) xs → drop (len * length xs) (flat_map f xs ++ rest) ≡ rest
   behind_all [] rest all = none rest
   behind_all (x ∷ xs) rest all = one_more x xs rest (length xs) (all zero x (omega arith)) ∙ behind_all xs rest (λ k e w. all (suc k) e (omega arith))
@@ -134,7 +134,7 @@ module _ (d : Draft) (w : IsWritable d) where
   value_pieces : All (λ v. length (value_bytes v) ≡ 32) d.values
   value_pieces k v h = refl
 
-  -- the bytes behind the header, from a place on
+  -- the bytes after the header, from a place on
   behind_header : (n : ℕ) → drop (32 + n) (written d) ≡ drop n (written_nodes d)
   unfolding written
   behind_header n = drop-append-add (header_bytes (draft_header d)) (written_nodes d) n

@@ -1,4 +1,4 @@
--- The sum over a front and the element behind it is no more than the whole.
+-- The sum over a front and the element after it is no more than the whole.
 use Rattle.std.proofs.Common.{ℕ, zero, suc, ◌+◌, ◌<◌, ◌≤◌, List, [], ◌∷◌, length, take, get_or, arith}
 use Rattle.std.specs.List.{sum_by}
 use Rattle.std.proofs.lemmas.List.Sums.{sum_by-cons}

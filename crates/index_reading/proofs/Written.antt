@@ -1,4 +1,4 @@
--- What stands behind a list once all of another one is written there, or nothing where that was refused.
+-- What follows a list once all of another one is written there, or nothing where that was refused.
 use Rattle.std.proofs.Common.{◌≡◌, ◌++◌, List, Result, Ok, Err, OnOk, ap, ◌∙◌, cond}
 use Rattle.std.specs.Result.{is_ok}
 

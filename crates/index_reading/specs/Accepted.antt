@@ -37,8 +37,8 @@ children_before bytes i = sum (map (λ k. (node bytes k).count) (range_with_len 
 abbrev pub values_before : List ℕ → ℕ → ℕ
 values_before bytes i = sum (map (λ k. (node bytes k).values) (range_with_len 0 i))
 
--- Node i has its children behind those of the nodes before it, the root being no child, and behind itself, and its
--- values behind those of the nodes before it.
+-- Node i has its children after those of the nodes before it, the root being no child, and after itself, and its
+-- values after those of the nodes before it.
 pub record IsInPlace (i children values : ℕ) (n : NodeRecord) : Type 0 where
   pub first : n.first ≡ 1 + children
   pub later : i < n.first

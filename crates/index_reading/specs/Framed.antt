@@ -18,6 +18,6 @@ pub record AreRecords (a : Inside) : Type 0 where
   pub header : a.header ≡ header_of a.bytes.now
   pub places : a.places ≡ places_of (header_of a.bytes.now)
 
--- the bytes that they stand in
+-- the bytes that they are in
 abbrev pub recorded : Inside → List ℕ
 recorded a = a.bytes.now

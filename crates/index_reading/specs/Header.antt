@@ -1,4 +1,4 @@
--- The header of an index, field by field, and where the parts behind it stand.
+-- The header of an index, field by field, and where the parts after it stand.
 use Rattle.std.specs.Prelude.{ℕ, ◌+◌, ◌*◌, List, ◌++◌, codes}
 use Rattle.hwdb_lookup.specs.Bounds.{header_len, node_len, set_len, value_len}
 use Rattle.index_reading.specs.Numbers.{number_at, number_bytes}
@@ -26,7 +26,7 @@ header_bytes h =
     magic ++ number_bytes h.version ++ number_bytes h.nodes ++ number_bytes h.values
     ++ number_bytes h.sets ++ number_bytes h.text ++ number_bytes h.reserved
 
--- the nodes stand behind the header, then the values, the sets and the text
+-- the nodes follow the header, then the values, the sets and the text
 abbrev pub values_start : Header → ℕ
 values_start h = header_len + node_len * h.nodes
 

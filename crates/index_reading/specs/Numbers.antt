@@ -2,11 +2,11 @@
 use Rattle.std.specs.Prelude.{ℕ, ◌^◌, ◌<◌, List, drop, slice_index}
 use Rattle.byteorder.specs.Endian.{little_bytes, little_number}
 
--- the byte that stands at a place
+-- the byte that is at a place
 abbrev pub byte_at : List ℕ → ℕ → ℕ
 byte_at bytes at = slice_index bytes at
 
--- the number that stands at a place
+-- the number that is at a place
 unfoldable pub number_at : List ℕ → ℕ → ℕ
 number_at bytes at = little_number 4 (drop at bytes)
 

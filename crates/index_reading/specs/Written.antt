@@ -11,7 +11,7 @@ use Rattle.index_reading.specs.declared.records.NodeRecord.{NodeRecord}
 use Rattle.index_reading.specs.declared.records.ValueRecord.{ValueRecord}
 use Rattle.index_reading.specs.declared.records.Span.{Span}
 
--- what is to be written behind the header, in its order
+-- what is to be written after the header, in its order
 pub record Draft : Type 0 where
   pub nodes : List NodeRecord
   pub values : List ValueRecord
@@ -72,7 +72,7 @@ pub record IsWritable (d : Draft) : Type 0 where
   pub few_sets : IsSmall (length d.sets)
   pub short : IsSmall (length d.text)
 
--- The bytes of an index say what a draft says: its records, one behind another, and the parts of its text.
+-- The bytes of an index say what a draft says: its records, one after another, and the parts of its text.
 pub record SaysDraft (bytes : List ℕ) (d : Draft) : Type 0 where
   pub header : header_of bytes ≡ draft_header d
   pub whole : length bytes ≡ whole_len (header_of bytes)

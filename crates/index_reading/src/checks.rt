@@ -9,7 +9,7 @@ use crate::fault::IndexFault;
 use crate::kinds::{AMONG, BYTE, ROOT};
 use crate::records::{NodeRecord, Span, ValueRecord};
 
-/// Whether a node has its children and its values behind those of the nodes before it.
+/// Whether a node has its children and its values after those of the nodes before it.
 fn is_in_place(node: &NodeRecord, i: u32, children: usize, values: usize) -> bool
     ensures { IsTrue result ↔ IsInPlace i children values node.now }
 {

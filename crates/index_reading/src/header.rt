@@ -21,7 +21,7 @@ pub const NODE_LEN: usize = 24;
 /// How many bytes a set has.
 pub const SET_LEN: usize = 32;
 
-/// What a header says behind its first eight bytes.
+/// What a header says after its first eight bytes.
 #[derive(Clone, Copy, Debug, PartialEq, Eq)]
 pub struct Header {
     /// The version of the format.
@@ -38,7 +38,7 @@ pub struct Header {
     pub reserved: u32,
 }
 
-/// Where the parts of an index stand: the nodes come directly behind the header.
+/// Where the parts of an index stand: the nodes come directly after the header.
 #[derive(Clone, Copy, Debug, PartialEq, Eq)]
 pub struct Places {
     /// Where the values begin.

@@ -1,6 +1,9 @@
-//! The index file: its format, the checks that a file has to pass, and an index asked in place.
+//! The index file: its format, the checks that a file has to pass, and lookups in an index in place.
 //!
-//! An index is checked once, when it is opened; each later look relies on that, and takes no memory for what it finds.
+//! An index is checked once, when it is opened. Every later lookup relies on that, and allocates nothing for what it
+//! finds.
+//!
+//! Functions that allocate return `AllocError` when memory runs out.
 #![tactic(auto)]
 
 mod checked_records;

@@ -4,7 +4,7 @@ ghost use Rattle.index_reading.specs.Numbers.{number_at, number_bytes};
 
 use byteorder::{ByteOrder, LittleEndian};
 
-/// The number that stands at a place.
+/// The number that is at a place.
 #[tactic(auto, unfolding(crate::specs::Numbers::number_at))]
 pub(crate) fn number_at(bytes: &[u8], at: usize) -> u32
     requires { at + 4 ≤ length bytes.now }
@@ -13,7 +13,7 @@ pub(crate) fn number_at(bytes: &[u8], at: usize) -> u32
     LittleEndian::read_u32(&bytes[at..])
 }
 
-/// Puts numbers into bytes, one behind another.
+/// Puts numbers into bytes, one after another.
 pub(crate) fn put_numbers(bytes: &mut [u8], numbers: &[u32])
     requires { length bytes.old ≡ 4 * length numbers.now }
     ensures { bytes.new ≡ flat_map number_bytes numbers.now }

@@ -1,6 +1,6 @@
 //! The records of an index: nodes and values.
 //!
-//! A record is what stands in the bytes, whether or not it makes sense.
+//! A record is what is in the bytes, whether or not it makes sense.
 ghost use Rattle.std.specs.Prelude.{◌≡◌, ◌+◌, ◌≤◌, ◌++◌, OnOk, OnErr, length};
 ghost use Rattle.hwdb_lookup.specs.Bounds.{node_len, value_len};
 ghost use Rattle.index_reading.specs.Records.{node_at, node_bytes, span_at, value_at, value_bytes};

@@ -245,7 +245,7 @@ fn push_numbers(bytes: &mut Vec<u8>, numbers: &[u32]) -> Result<(), AllocError> 
     Ok(())
 }
 
-/// The index, in version 1, of nodes one below another, each but the root behind `a` and with `K=V`.
+/// The index, in version 1, of nodes one below another, each but the root after `a` and with `K=V`.
 fn chain(alloc: Global) -> Result<Vec<u8>, AllocError> {
     let mut bytes = Vec::from_slice(alloc, b"devdryhw")?;
     push_numbers(&mut bytes, &[1, LAST + 1, LAST, 0, 2, 0])?;
@@ -298,7 +298,7 @@ fn with_zero(alloc: Global, at: usize) -> Result<Vec<u8>, AllocError> {
 fn an_index_answers_its_caller(rt: HostRuntime) -> Result<(), Fail> {
     let alloc = rt.alloc();
     let index = Index::open(WITH_FILE).map_err(|_fault| "no index")?;
-    // the root alone, the byte and the star behind a, the star behind b and behind c
+    // the root alone, the byte and the star after a, the star after b and after c
     let (active, sum) = index.visits(alloc, b"abc")?;
     assert!(rt; active.last() == Some(&2) && sum == 5);
     let behind_nul = with_zero(alloc, 57)?;

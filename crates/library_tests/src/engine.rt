@@ -9,7 +9,7 @@ use std::alloc::{AllocError, Global};
 use std::test::Fail;
 use text_bytes::Bytes;
 
-/// A block of 57 bytes, and the empty line behind it.
+/// A block of 57 bytes, and the empty line after it.
 const DISK: &[u8] = b"C: add\nP: /devices/pci0/block/sda\nU: block\nN: sda\nD: 8:0\n\n";
 
 /// Its answer.

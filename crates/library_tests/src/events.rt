@@ -8,7 +8,7 @@ use std::alloc::{AllocError, Global};
 use std::test::Fail;
 use text_bytes::Bytes;
 
-/// The blocks of an input that comes in pieces of a size, each with a `|` behind it, and the fault.
+/// The blocks of an input that comes in pieces of a size, each with a `|` after it, and the fault.
 fn blocks_of(
     alloc: Global,
     input: &[u8],

@@ -1,10 +1,11 @@
-//! Tests of what only a caller of the libraries can ask: places in a text, which of several faults was
-//! found, what a type lends and what it is made from, what is counted and not printed, and calls one
-//! by one.
+//! Tests of what only a caller of the libraries can ask: places in a text, which of several faults was found, what a
+//! type returns and is made from, what is counted and not printed, and single calls.
 //!
-//! What the program itself can be asked stands in the tables of tests/tables. These tests show what no
-//! contract says: that a call does succeed where memory is ample, and that the definitions mean what
-//! their readers take them to mean. Expected values are written by hand.
+//! What can be asked of the program itself is in the tables of tests/tables. These tests show what no contract states:
+//! that a call succeeds when memory is ample, and that the definitions mean what their readers think they mean. The
+//! expected values were written by hand.
+//!
+//! Functions that allocate return `AllocError` when memory runs out.
 #![tactic(auto)]
 
 #[cfg(test)]

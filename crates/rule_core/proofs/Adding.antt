@@ -1,4 +1,4 @@
--- Rules put behind others, part by part.
+-- Rules put after others, part by part.
 use Rattle.std.proofs.Common.{◌≡◌, ℕ, ◌+◌, ◌^◌, ◌<◌, ◌≤◌, List, ◌∷◌, [], ◌++◌, length, get_or, take, drop, map, sym, ◌∙◌, ap, subst, arith, Result, Err, IfErr, suc}
 use Rattle.std.specs.List.{flat_map}
 use Rattle.std.proofs.Math.Seq.{drop-cons}
@@ -14,7 +14,7 @@ use Rattle.rule_core.specs.Gathering.{Adds, FailsAt}
 use Rattle.rule_core.specs.declared.fault.RulesFault.{RulesFault}
 use Rattle.rule_core.specs.declared.fault.RulesFault.TheVariants.{TooMany, Memory}
 
--- an element stands between those before it and those behind it
+-- an element is between those before it and those after it
 split_at : {X : Type 0} (xs : List X) (i : ℕ) (x : X) → i < length xs → x ≡ get_or xs i x → xs ≡ take i xs ++ x ∷ drop (i + 1) xs
 split_at {X = X} xs i x h e =
     let next : i + 1 ≡ suc i = omega arith in
@@ -24,7 +24,7 @@ split_at {X = X} xs i x h e =
 flat_map_at : {X Y : Type 0} (f : X → List Y) (xs : List X) (i : ℕ) (x : X) → i < length xs → x ≡ get_or xs i x → flat_map f xs ≡ flat_map f (take i xs) ++ (f x ++ flat_map f (drop (i + 1) xs))
 flat_map_at {X = X} f xs i x h e = ap (flat_map f) (split_at xs i x h e) ∙ flat_map-append f (take i xs) (x ∷ drop (i + 1) xs)
 
--- where a part of rules can't be put behind others, all of them can't
+-- where a part of rules can't be put after others, all of them can't
 part_failed : (start now before part rest whole : List Rule) (e : RulesFault) → now ≡ start ++ before → whole ≡ before ++ (part ++ rest) → FailsAt now part e → FailsAt start whole e
 part_failed start now before part rest whole TooMany a b h =
     let one : tokens_in (now ++ part) ≡ tokens_in now + tokens_in part = sum_by-append rule_tokens now part in
@@ -35,11 +35,11 @@ part_failed start now before part rest whole TooMany a b h =
     omega (arith, one, two, three, four, five, h)
 part_failed start now before part rest whole Memory a b h = tt
 
--- a fault is handed on
+-- a fault is passed on
 pub returned : {T : Type 0} (a b p : List Rule) (r : Result T RulesFault) (y e : RulesFault) → r ≡ Err y → y ≡ e → FailsAt a p e → Adds a b p r
 returned {T} a b p r y e f g h = subst (λ (x : Result T RulesFault). Adds {T = T} a b p x) (sym (f ∙ ap Err g)) h
 
--- one of the rules of a list can't be put behind those before it
+-- one of the rules of a list can't be put after those before it
 pub turn_failed : {X : Type 0} (f : X → List Rule) (start now : List Rule) (xs : List X) (i : ℕ) (x : X) (e : RulesFault)
     → i < length xs → x ≡ get_or xs i x → now ≡ start ++ flat_map f (take i xs) → FailsAt now (f x) e → FailsAt start (flat_map f xs) e
 turn_failed f start now xs i x e h g n w =

@@ -10,14 +10,14 @@ use Rattle.text_bytes.specs.declared.profile.Profile.TheVariants.{Manual, Udev}
 use Rattle.rule_core.specs.Drafts.{Draft, act_in, again_in, assignment_in, first, given_again, given_again_behind, goto_in, label_again, label_among, label_in, last, plain_in, result_in, up_in}
 use Rattle.rule_core.specs.Taking.{again, first_given, label_given, label_said, with_part, written}
 
--- a part is one of these, behind those before it, or none
+-- a part is one of these, after those before it, or none
 one_behind : {X : Type 0} (is : Part → Option X) (parts : List Part) (p : Part) (x : X) → is p ≡ Some x → filter_map is (parts ++ p ∷ []) ≡ filter_map is parts ++ x ∷ []
 one_behind is parts p x e = rw e at (filter_map-append is parts (p ∷ []))
 
 none_behind : {X : Type 0} (is : Part → Option X) (parts : List Part) (p : Part) → is p ≡ None → filter_map is (parts ++ p ∷ []) ≡ filter_map is parts
 none_behind is parts p e = rw e at (filter_map-append is parts (p ∷ [])) ∙ append-nil (filter_map is parts)
 
--- what is to be said of a part goes behind what is said of those before it
+-- what is to be said of a part goes after what is said of those before it
 pub said_behind : (by : Profile) (before parts : List Part) (p : Part) → given_again_behind by before (parts ++ p ∷ []) ≡ given_again_behind by before parts ++ again_in by (before ++ parts) p
 said_behind by before [] p = append-nil (again_in by before p) ∙ ap (λ (ps : List Part). again_in by ps p) (sym (append-nil before))
 said_behind by before (q ∷ parts) p =
@@ -28,7 +28,7 @@ said_behind by before (q ∷ parts) p =
 pub none_said : (by : Profile) (parts : List Part) (p : Part) → again_in by parts p ≡ [] → given_again_behind by [] (parts ++ p ∷ []) ≡ given_again_behind by [] parts
 none_said by parts p e = said_behind by [] parts p ∙ ap (λ (fs : List Finding). given_again_behind by [] parts ++ fs) e ∙ append-nil (given_again_behind by [] parts)
 
--- a name behind others
+-- a name after others
 first_behind : (names : List (List ℕ)) (name : List ℕ) → first (names ++ name ∷ []) ≡ first_given (first names) name
 first_behind [] name = refl
 first_behind (other ∷ names) name = refl

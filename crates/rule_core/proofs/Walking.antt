@@ -19,7 +19,7 @@ behind_open (Some q) ps = piece q.number q.text true ∷ ps
 unfoldable pub whole : Profile → ℕ → SoFar → List Piece → Joined
 whole by last s ps = joined_as (s.lines ++ lines_of_runs by (runs (behind_open s.pending ps))) (open_of_runs by last (runs (behind_open s.pending ps)))
 
--- a piece alone is told by its number
+-- a piece alone is reported by its number
 number_alone : (by : Profile) (p : Piece) → run_number by (p ∷ []) ≡ p.number
 number_alone Manual p = refl
 number_alone Udev p = refl
@@ -32,7 +32,7 @@ closed by n (b ∷ u) v c rest e =
     ap (λ (x : List ℕ). cond (is_empty x) rest (record { number = capped (run_number by (piece n (b ∷ u) c ∷ [])); text = x } ∷ rest)) e
     ∙ ap (λ (k : ℕ). record { number = capped k; text = b ∷ u } ∷ rest) (number_alone by (piece n (b ∷ u) c))
 
--- two pieces of a run are told as one
+-- two pieces of a run are reported as one
 number_of_two : (by : Profile) (n m : ℕ) (u t w : List ℕ) (r : List Piece) → run_number by (piece (number_of_both by n m) w true ∷ r) ≡ run_number by (piece n u true ∷ piece m t true ∷ r)
 number_of_two Manual n m u t w r = refl
 number_of_two Udev n m u t w [] = refl

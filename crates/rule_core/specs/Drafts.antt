@@ -115,7 +115,7 @@ abbrev pub label_among : Profile → List (List ℕ) → Option (List ℕ)
 label_among Manual names = first names
 label_among Udev names = last names
 
--- a name, behind those that were given before it
+-- a name, after those that were given before it
 abbrev pub given_again : List (List ℕ) → List ℕ → List Finding
 given_again [] name = []
 given_again (other ∷ names) name = finding GivenTwice name ∷ []
@@ -125,18 +125,18 @@ abbrev pub lost_name : Option (List ℕ) → List Finding
 lost_name None = []
 lost_name (Some name) = finding GivenTwice name ∷ []
 
--- a label, behind those that were given before it: told is the one that does not count
+-- a label, after those that were given before it: told is the one that does not count
 abbrev pub label_again : Profile → List (List ℕ) → List ℕ → List Finding
 label_again Manual names name = given_again names name
 label_again Udev names name = lost_name (last names)
 
--- a part behind others: a second label is one too many, and so is a second jump
+-- a part after others: a second label is one too many, and so is a second jump
 abbrev pub again_in : Profile → List Part → Part → List Finding
 again_in by before (part.Label name) = label_again by (filter_map label_in before) name
 again_in by before (part.Goto name) = given_again (filter_map goto_in before) name
 again_in by before _ = []
 
--- the names that are given again among parts behind others, in written order
+-- the names that are given again among parts after others, in written order
 abbrev pub given_again_behind : Profile → List Part → List Part → List Finding
 given_again_behind by before [] = []
 given_again_behind by before (p ∷ parts) = again_in by before p ++ given_again_behind by (before ++ p ∷ []) parts

@@ -12,7 +12,7 @@ abbrev pub nul_size : List ℕ → ℕ
 nul_size [] = 0
 nul_size (b ∷ text) = if b == nul then 1 else 0
 
--- how many bytes go on with an end of a line behind its first byte: perhaps the other one of newline and carriage return, and perhaps a NUL
+-- how many bytes go on with an end of a line after its first byte: perhaps the other one of newline and carriage return, and perhaps a NUL
 abbrev pub more_size : ℕ → List ℕ → ℕ
 more_size other [] = 0
 more_size other (b ∷ text) = if b == other then 1 + nul_size text else nul_size (b ∷ text)
@@ -25,7 +25,7 @@ end_size (b ∷ text) =
     else (if b == carriage_return then 1 + more_size newline text
     else nul_size (b ∷ text))
 
--- the bytes behind so many of an end of a line, each further end as one newline
+-- the bytes after so many of an end of a line, each further end as one newline
 abbrev pub as_read_behind : ℕ → List ℕ → List ℕ
 as_read_behind passed [] = []
 as_read_behind (suc passed) (b ∷ text) = as_read_behind passed text

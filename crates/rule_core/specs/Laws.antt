@@ -23,7 +23,7 @@ pub record IsInOrder {X : Type 0} (turn : X → ℕ) (written sorted : List X) :
   pub each : (t : ℕ) → of_turn turn sorted t ≡ of_turn turn written t
   pub rises : RisesFrom turn 0 sorted
 
--- the acts and the assignments of each draft stand in the order of evaluation
+-- the acts and the assignments of each draft are in the order of evaluation
 pub record AreInOrder (by : Profile) (line : List ℕ) (parts : List Part) : Type 0 where
   pub acts : IsInOrder turn_of_act (filter_map act_in parts) (draft by line parts).acts
   pub sets : IsInOrder (turn_of_assignment by) (filter_map assignment_in parts) (draft by line parts).sets
@@ -48,7 +48,7 @@ pub record IsGivenAmong (parts : List Part) (p : Part) (name : List ℕ) : Type 
   pub cut : parts ≡ before ++ earlier ∷ behind
   pub again : GivesAgain earlier p name
 
--- Behind parts a part is told of by the manual as one given twice exactly where one of its key stands among them, and else nothing is said.
+-- After parts a part is reported by the manual as one given twice exactly where one of its key stands among them, and else nothing is said.
 pub record IsToldWhereAgain (parts : List Part) (p : Part) : Type 0 where
   pub again : (name : List ℕ) → IsGivenAmong parts p name → given_again_behind Manual [] (parts ++ p ∷ []) ≡ given_again_behind Manual [] parts ++ finding GivenTwice name ∷ []
   pub once : ((name : List ℕ) → IsGivenAmong parts p name → ⊥) → given_again_behind Manual [] (parts ++ p ∷ []) ≡ given_again_behind Manual [] parts
@@ -62,7 +62,7 @@ pub record IsPlainGap (gap : List ℕ) : Type 0 where
   pub blank_behind : AllAre is_blank behind
   pub some_behind : 0 < length behind
 
--- behind a place where a token ends, each gap is plain, no operator is read as `=`, and only blanks stand at the end
+-- after a place where a token ends, each gap is plain, no operator is read as `=`, and only blanks are at the end
 abbrev pub IsPlainBehind : List ℕ → ℕ → List Placed → Type 0
 IsPlainBehind line place [] = AllAre is_blank (drop place line)
 IsPlainBehind line place (t ∷ tokens) = IsPlainGap (between place t.span.start line) × (is_read_as_assign t ≡ false) × IsPlainBehind line t.span.end tokens

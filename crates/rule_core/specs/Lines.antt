@@ -41,7 +41,7 @@ abbrev pub is_open : List Piece → Bool
 is_open [] = true
 is_open (p ∷ ps) = p.continues && is_open ps
 
--- the texts of a run's pieces, one behind the other
+-- the texts of a run's pieces, one after another
 abbrev pub run_text : List Piece → List ℕ
 run_text [] = []
 run_text (p ∷ ps) = p.text ++ run_text ps
@@ -57,7 +57,7 @@ last_number [] = 0
 last_number (p ∷ []) = p.number
 last_number (p ∷ q ∷ ps) = last_number (q ∷ ps)
 
--- the number by which a run is told: that of its first line, for udev that of its last
+-- the number by which a run is reported: that of its first line, for udev that of its last
 abbrev pub run_number : Profile → List Piece → ℕ
 run_number Manual run = first_number run
 run_number Udev run = last_number run

@@ -15,12 +15,12 @@ abbrev pub findings_at_end : List ℕ → Option ℕ → List Finding
 findings_at_end line None = []
 findings_at_end line (Some place) = end_findings (drop place line)
 
--- the tokens behind the place where a token ends, or all of them
+-- the tokens after the place where a token ends, or all of them
 abbrev pub findings_from : Profile → List ℕ → Option ℕ → List Placed → List Finding
 findings_from by line None tokens = style_findings by line tokens
 findings_from by line (Some place) tokens = style_behind by line place tokens
 
--- behind a place where a token ends, gaps are blanks and commas, as in the grammar of lines
+-- after a place where a token ends, gaps are blanks and commas, as in the grammar of lines
 abbrev pub AreGapsBehind : List ℕ → ℕ → List Placed → Type 0
 AreGapsBehind line place [] = AllAre is_gap_byte (drop place line)
 AreGapsBehind line place (t ∷ tokens) = AllAre is_gap_byte (between place t.span.start line) × AreGapsBehind line t.span.end tokens

@@ -14,12 +14,12 @@ pub record SoFar : Type 0 where
 abbrev pub sofar : List NumberedLine → Option Piece → SoFar
 sofar ls o = record { lines = ls; pending = o }
 
--- the number by which two pieces in a row are told together
+-- the number by which two pieces in a row are reported together
 abbrev pub number_of_both : Profile → ℕ → ℕ → ℕ
 number_of_both Manual earlier later = earlier
 number_of_both Udev earlier later = later
 
--- a piece behind the open one, as one piece
+-- a piece after the open one, as one piece
 abbrev pub onto : Profile → Option Piece → Piece → Piece
 onto by None p = p
 onto by (Some q) p = record { number = number_of_both by q.number p.number; text = q.text ++ p.text; continues = p.continues }
@@ -32,12 +32,12 @@ line_of p = if is_empty p.text then [] else record { number = capped p.number; t
 abbrev pub after : Profile → SoFar → Piece → SoFar
 after by s p = if p.continues then sofar s.lines (Some (onto by s.pending p)) else sofar (s.lines ++ line_of (onto by s.pending p)) None
 
--- the number by which an open piece is told where the last line of its file has this one
+-- the number by which an open piece is reported where the last line of its file has this one
 abbrev pub told_open : Profile → ℕ → ℕ → ℕ
 told_open Manual last number = number
 told_open Udev last number = last
 
--- the number by which the open piece is told, if there is one
+-- the number by which the open piece is reported, if there is one
 abbrev pub open_at : Profile → ℕ → Option Piece → Option ℕ
 open_at by last None = None
 open_at by last (Some p) = Some (capped (told_open by last p.number))

@@ -27,7 +27,7 @@ abbrev pub has_blank_before_comma : List ℕ → Bool
 has_blank_before_comma [] = false
 has_blank_before_comma (b ∷ gap) = is_blank b && not (commas gap == 0)
 
--- a gap before a token, and that token's key: udev also tells of blanks before a comma
+-- a gap before a token, and that token's key: udev also says about blanks before a comma
 abbrev pub gap_findings : Profile → List ℕ → List ℕ → List Finding
 gap_findings Manual gap key = comma_findings gap key
 gap_findings Udev gap key = comma_findings gap key ++ (if has_blank_before_comma gap then finding BlankBeforeComma key ∷ [] else [])
@@ -37,11 +37,11 @@ abbrev pub front_findings : Profile → List ℕ → List Finding
 front_findings Manual gap = []
 front_findings Udev gap = if commas gap == 0 then [] else finding LeadingComma [] ∷ []
 
--- the gap behind the last token
+-- the gap after the last token
 abbrev pub end_findings : List ℕ → List Finding
 end_findings gap = if commas gap == 0 then [] else finding CommaExpected [] ∷ []
 
--- what is told of an operator that is read as `=`: a remark on style, for udev a fault
+-- what is reported for an operator that is read as `=`: a remark on style, for udev a fault
 abbrev pub read_as_assign_kind : Profile → MessageKind
 read_as_assign_kind Manual = ReadAsAssign
 read_as_assign_kind Udev = AssignExpected
@@ -54,7 +54,7 @@ operator_findings by t = if is_read_as_assign t then finding (read_as_assign_kin
 abbrev pub between : ℕ → ℕ → List ℕ → List ℕ
 between from to line = take (to - from) (drop from line)
 
--- the gaps and tokens of a line behind a place where a token ends
+-- the gaps and tokens of a line after a place where a token ends
 abbrev pub style_behind : Profile → List ℕ → ℕ → List Placed → List Finding
 style_behind by line place [] = end_findings (drop place line)
 style_behind by line place (t ∷ tokens) = gap_findings by (between place t.span.start line) t.parts.head.key ++ (operator_findings by t ++ style_behind by line t.span.end tokens)

@@ -3,7 +3,7 @@ use Rattle.std.specs.Prelude.{ℕ, List}
 use Rattle.rule_core.specs.declared.text.Held.{Held}
 use Rattle.rule_core.specs.declared.text.Held.TheVariants as held
 
--- the bytes of a text, one behind the other
+-- the bytes of a text, one after another
 abbrev pub held_bytes : Held → List ℕ
 held_bytes (held.Whole s) = s.now
 held_bytes (held.Joined v) = v.items

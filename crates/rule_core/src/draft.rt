@@ -1,7 +1,7 @@
-//! What one line tells of its rule.
+//! What one line says about its rule.
 //!
 //! Of several labels of a rule the first counts, and for udev the last; of several jumps the first.
-//! The others are told of, and the rule stays.
+//! The others are reported, and the rule stays.
 ghost use Rattle.std.specs.Prelude.{◌≡◌, ◌++◌, [], Some, IfOk, OnOk};
 ghost use Rattle.text_bytes.specs.declared.profile.Profile.TheVariants.{Manual};
 ghost use Rattle.rule_core.specs.Drafts.{lost_name};
@@ -53,8 +53,7 @@ impl Model for Draft {
 }
 
 impl Draft {
-    /// The parts of a rule by what they are for, all in written order. The error comes where memory
-    /// is refused.
+    /// The parts of a rule by what they are for, all in written order.
     #[tactic(auto, using(crate::proofs::Taking::one_more, crate::proofs::Taking::none_written))]
     pub(crate) fn of(alloc: Global, profile: Profile, parts: Vec<Part>) -> Result<Draft, AllocError>
         ensures { IfOk result (λ d. d ≡ written profile parts.items) }
@@ -82,7 +81,7 @@ impl Draft {
         }
     }
 
-    /// Takes one part more. The error comes where memory is refused.
+    /// Takes one part more.
     fn take(&mut self, alloc: Global, profile: Profile, part: Part) -> Result<(), AllocError>
         ensures { OnOk result (self.new ≡ with_part profile self.old part) }
     {
@@ -101,7 +100,7 @@ impl Draft {
     }
 }
 
-/// Gives a label, and tells of the one that does not count where one was given before.
+/// Gives a label, and says about the one that does not count where one was given before.
 fn give_label(
     alloc: Global,
     profile: Profile,
@@ -118,7 +117,7 @@ fn give_label(
     }
 }
 
-/// Gives a name in place of one that was given before, which is told of.
+/// Gives a name in place of one that was given before, which is reported.
 fn give_last(
     alloc: Global,
     given: &mut Option<Bytes>,

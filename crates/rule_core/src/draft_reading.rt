@@ -18,7 +18,7 @@ use text_bytes::{MessageKind, Profile};
 ///
 /// What is wrong is that the line has more than 16,384 bytes, or else it is the fault of the first
 /// token that has one. For udev a line of 16,384 bytes is too long, and one that is right is wrong
-/// where no token has an effect. `Memory` comes only where a growth was refused.
+/// where no token has an effect. `Memory` comes only where an allocation fails.
 pub fn read_draft(alloc: Global, profile: Profile, line: &[u8]) -> Result<Draft, PartFault>
     ensures { MatchResult result (λ d. draft_of profile line.now ≡ Ok d) (λ f. FaultOf f (draft_of profile line.now)) }
 {

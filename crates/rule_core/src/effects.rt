@@ -13,8 +13,7 @@ use rule_types::{Key, key_of};
 use std::alloc::{AllocError, Global};
 use text_bytes::Profile;
 
-/// Whether no token of a line has an effect, for which udev drops the rule; the manual keeps it. The
-/// error comes where memory is refused.
+/// Whether no token of a line has an effect, for which udev drops the rule; the manual keeps it.
 pub fn lacks_effect(alloc: Global, profile: Profile, line: &[u8]) -> Result<bool, AllocError>
     ensures { IfOk result (λ lacks. lacks ≡ lacks_effect profile (tokens_of (items_as profile line.now))) }
 {
@@ -39,7 +38,7 @@ fn some_has_effect(alloc: Global, line: &[u8]) -> Result<bool, AllocError>
 }
 
 /// Whether a token does more than compare: it assigns anything but an option that udev does not
-/// know, runs a command or takes properties. The error comes where memory is refused.
+/// know, runs a command or takes properties.
 #[tactic(auto, unfolding(crate::specs::Effects::has_effect))]
 pub fn has_effect(alloc: Global, token: &Token<'_>) -> Result<bool, AllocError>
     ensures { IfOk result (λ has. has ≡ has_effect token.now) }

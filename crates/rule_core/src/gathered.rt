@@ -45,7 +45,7 @@ impl Gathered {
     }
 
     /// Adds a rule. `TooMany` comes where more than 2^24 tokens are left with it, `Memory` where a
-    /// growth was refused.
+    /// allocation fails.
     pub fn add(&mut self, rule: Rule) -> Result<(), RulesFault>
         ensures { Adds self.old self.new (rule ∷ []) result }
     {

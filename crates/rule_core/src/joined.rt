@@ -23,7 +23,7 @@ impl<'a> Model for JoinedLine<'a> {
 }
 
 impl<'a> JoinedLine<'a> {
-    /// The joined line of a text that is told by the line of this number.
+    /// The joined line of a text that is reported by the line of this number.
     pub(crate) fn new(number: usize, text: Text<'a>) -> JoinedLine<'a>
         ensures { result ≡ record { number = capped number; text = text.entry } }
     {
@@ -34,7 +34,7 @@ impl<'a> JoinedLine<'a> {
     }
 
     /// The number of the first line of the file that is part of this one, and for udev of the last,
-    /// counted from 1; a number over 2^32 - 1 is given as that one. A comment before or behind it is
+    /// counted from 1; a number over 2^32 - 1 is given as that one. A comment before or after it is
     /// no part of it.
     pub fn number(&self) -> u32
         ensures { result ≡ self.now.number }
@@ -66,7 +66,7 @@ impl<'a> Model for JoinedLines<'a> {
 }
 
 impl<'a> JoinedLines<'a> {
-    /// The joined lines, and the number by which an open one is told.
+    /// The joined lines, and the number by which an open one is reported.
     pub(crate) fn new(lines: Vec<JoinedLine<'a>>, open_at: Option<u32>) -> JoinedLines<'a>
         ensures { result ≡ joined_as lines.entry.items open_at }
     {

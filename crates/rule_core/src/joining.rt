@@ -1,7 +1,7 @@
 //! Joining the lines of a rules file, as udev(7) says: a line that ends in a backslash is continued
 //! by the next, and comments are skipped wherever they stand.
 //!
-//! A continued line is told by the number of its first line, and for udev by that of its last.
+//! A continued line is reported by the number of its first line, and for udev by that of its last.
 ghost use Rattle.std.specs.Prelude.{◌≡◌, [], None, IfOk, OnOk, length};
 ghost use Rattle.rule_core.specs.Lines.{joined_lines, lines};
 ghost use Rattle.rule_core.specs.Steps.{after, ended, number_of_both, sofar, told_open};
@@ -86,7 +86,7 @@ impl<'a> Joining<'a> {
     }
 }
 
-/// The number by which two lines in a row are told together.
+/// The number by which two lines in a row are reported together.
 fn number_of_both(profile: Profile, earlier: usize, later: usize) -> usize
     ensures { result ≡ number_of_both profile earlier later }
 {
@@ -124,8 +124,7 @@ fn line_count(bytes: &[u8]) -> usize
 /// line around it. A line that ends in `\` loses it and is joined with the next line that is kept.
 /// What is then empty is dropped.
 ///
-/// A line that is continued by no other borrows the file's bytes. The error comes where memory is
-/// refused.
+/// A line that is continued by no other borrows the file's bytes.
 pub fn joined_lines<'a>(
     alloc: Global,
     profile: Profile,

@@ -1,10 +1,12 @@
-//! Rules, as udev(7) has them: the crate that the crates above read rules with.
+//! Rules, as described in udev(7): the crate with which the crates above read rules.
 //!
-//! A file is joined into lines, each line is read as a draft of a rule, and what becomes of the jumps of a file is looked
-//! up once for all its rules. What stands below comes with this crate.
+//! A file is joined into lines, each line is read as a draft of a rule, and the jumps of a file are resolved once for
+//! all its rules. The crates below come with this one.
 //!
-//! Where udev(7) and udev itself part, a `Profile` says by whose word rules are read. For udev the ends of lines are
-//! to be written as newlines first, by `files_as_read`.
+//! Where udev(7) and udev itself differ, a `Profile` says which of them to follow. For udev, line ends have to be
+//! turned into newlines first, by `files_as_read`.
+//!
+//! Functions that allocate return `AllocError` when memory runs out.
 #![tactic(auto)]
 
 mod draft;

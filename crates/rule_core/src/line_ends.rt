@@ -11,7 +11,7 @@ use text_bytes::{Bytes, Lines, Profile, SourceFile, capped};
 const TOO_MANY_BYTES: usize = 16_384;
 
 /// Files as they are read: for udev with the ends of their lines as `read_ends` has them, by the
-/// manual as they are. The error comes where memory is refused.
+/// manual as they are.
 pub fn files_as_read(
     alloc: Global,
     profile: Profile,
@@ -57,9 +57,8 @@ fn file_by_udev(alloc: Global, file: SourceFile) -> Result<SourceFile, AllocErro
 
 /// The bytes of a file with each end of a line written as one newline, as udev reads it.
 ///
-/// An end is a newline, a carriage return or both in either order, each perhaps with one NUL behind, or one NUL alone;
-/// where several stand at a place, the longest counts. A file that was so read is left as it is. The error comes where
-/// memory is refused.
+/// An end is a newline, a carriage return or both in either order, each perhaps with one NUL after, or one NUL alone;
+/// where several are at a place, the longest counts. A file that was so read is left as it is.
 #[tactic(auto, using(crate::proofs::Passing::at_start, crate::proofs::Passing::passed_one, crate::proofs::Passing::byte_read, crate::proofs::Passing::all_read))]
 pub fn read_ends(alloc: Global, bytes: &[u8]) -> Result<Vec<u8>, AllocError>
     ensures { IfOk result (λ read. read.items ≡ as_read bytes.now) }
@@ -92,7 +91,7 @@ fn end_size(text: &[u8]) -> usize
     }
 }
 
-/// How many bytes go on with an end of a line behind its first byte: perhaps the other one of newline and carriage
+/// How many bytes go on with an end of a line after its first byte: perhaps the other one of newline and carriage
 /// return, and perhaps a NUL.
 fn more_size(other: u8, text: &[u8]) -> usize
     ensures value { result ≡ more_size other text.now }

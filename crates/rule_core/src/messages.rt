@@ -17,7 +17,7 @@ pub struct Place<'a> {
     pub line: u32,
 }
 
-/// Puts a message about a line behind others. The error comes where memory is refused.
+/// Puts a message about a line after others.
 pub fn tell(
     alloc: Global,
     messages: &mut Vec<Message>,
@@ -35,8 +35,7 @@ pub fn tell(
     Ok(())
 }
 
-/// Puts a message about a line behind others for each of its findings. The error comes where memory
-/// is refused.
+/// Puts a message about a line after others for each of its findings.
 pub fn tell_all(
     alloc: Global,
     messages: &mut Vec<Message>,
@@ -51,8 +50,7 @@ pub fn tell_all(
     Ok(())
 }
 
-/// Puts a message about a name of a line behind others, if something is wrong with it. The error
-/// comes where memory is refused.
+/// Puts a message about a name of a line after others, if something is wrong with it.
 pub fn tell_if(
     alloc: Global,
     messages: &mut Vec<Message>,
@@ -74,8 +72,8 @@ pub fn tell_if(
     Ok(())
 }
 
-/// Puts a message about a line that is still open at its file's end behind others, if there is such
-/// a line. The error comes where memory is refused.
+/// Puts a message about a line that is still open at its file's end after others, if there is such
+/// a line.
 pub fn tell_open(
     alloc: Global,
     messages: &mut Vec<Message>,
@@ -93,8 +91,7 @@ pub fn tell_open(
     }
 }
 
-/// Puts the message about a file that is given up for a line behind others. The error comes where
-/// memory is refused.
+/// Puts the message about a file that is given up for a line after others.
 pub fn tell_given_up(
     alloc: Global,
     messages: &mut Vec<Message>,

@@ -21,7 +21,7 @@ use text_bytes::{Bytes, Message, MessageKind, Profile, SourceFile};
 /// Reads rules files as udev(7) writes them, in the order in which they are given.
 ///
 /// A line that is wrong costs a message and is no rule. `TooMany` comes exactly where more than 2^24
-/// tokens are left in the rules, and `Memory` only where a growth was refused.
+/// tokens are left in the rules, and `Memory` only where an allocation fails.
 pub fn read_rules(alloc: Global, files: &[SourceFile]) -> Result<RuleSet, RulesFault>
     ensures set { IfOk result (λ s. s ≡ set_of files.now) }
     ensures within { IfOk result (λ s. tokens_in (set_of files.now).rules ≤ 2 ^ 24) }

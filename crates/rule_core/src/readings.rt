@@ -44,7 +44,7 @@ impl Reading {
     }
 }
 
-/// Lends a name, if there is one.
+/// Returns a name, if there is one.
 fn lent(name: &Option<Bytes>) -> Option<&[u8]>
     ensures { option_map (λ t. t.now) result ≡ name.now }
 {
@@ -54,7 +54,7 @@ fn lent(name: &Option<Bytes>) -> Option<&[u8]>
     }
 }
 
-/// Reads joined lines as rules. The error comes where memory is refused.
+/// Reads joined lines as rules.
 pub fn read_lines(
     alloc: Global,
     profile: Profile,
@@ -84,7 +84,7 @@ fn read_line(alloc: Global, profile: Profile, line: &JoinedLine<'_>) -> Result<R
     })
 }
 
-/// What becomes of the jumps of lines. The error comes where memory is refused.
+/// What becomes of the jumps of lines.
 pub fn landings_of(alloc: Global, readings: &[Reading]) -> Result<Vec<Landing>, AllocError>
     ensures { IfOk result (λ found. found.items ≡ landings (map (λ r. names_of r.read) readings.now)) }
 {

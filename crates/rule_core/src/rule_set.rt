@@ -30,7 +30,7 @@ impl Model for RuleSet {
 }
 
 impl RuleSet {
-    /// Lends the rules, in the order of the files and their lines.
+    /// Returns the rules, in the order of the files and their lines.
     pub fn rules(&self) -> &[Rule]
         ensures lent { result.now ≡ self.now.rules }
         ensures within { tokens_in self.now.rules ≤ 2 ^ 24 }
@@ -38,7 +38,7 @@ impl RuleSet {
         &self.rules
     }
 
-    /// Lends the messages: by file, then by line; of one line the V by number and place, then the S
+    /// Returns the messages: by file, then by line; of one line the V by number and place, then the S
     /// by place and number, S4 last. For udev V24 stands among the S, by its place.
     pub fn messages(&self) -> &[Message]
         ensures { result.now ≡ self.now.messages }

@@ -133,7 +133,7 @@ fn add_operator(
     Ok(())
 }
 
-/// What is told of an operator that is read as `=`: a remark on style, for udev a fault.
+/// What is reported for an operator that is read as `=`: a remark on style, for udev a fault.
 pub fn read_as_assign_kind(profile: Profile) -> MessageKind
     ensures { result ≡ read_as_assign_kind profile }
 {
@@ -143,7 +143,7 @@ pub fn read_as_assign_kind(profile: Profile) -> MessageKind
     }
 }
 
-/// Adds what is to be said of the gap behind the last token, which begins at a place.
+/// Adds what is to be said of the gap after the last token, which begins at a place.
 fn add_end(
     alloc: Global,
     findings: &mut Vec<Finding>,

@@ -9,7 +9,7 @@ use std::marker::Model;
 pub enum Held<'a> {
     /// Those of one line, borrowed.
     Whole(&'a [u8]),
-    /// Those of several lines, copied one behind the other.
+    /// Those of several lines, copied one after another.
     Joined(Vec<u8>),
 }
 
@@ -38,7 +38,7 @@ impl<'a> Text<'a> {
         }
     }
 
-    /// The text with more bytes behind it.
+    /// The text with more bytes after it.
     pub fn continued(self, alloc: Global, more: &[u8]) -> Result<Text<'a>, AllocError>
         ensures { IfOk result (λ t. t ≡ self.entry ++ more.now) }
     {
@@ -52,7 +52,7 @@ impl<'a> Text<'a> {
         })
     }
 
-    /// Lends the bytes.
+    /// Returns the bytes.
     pub fn as_slice(&self) -> &[u8]
         ensures { result.now ≡ self.now }
     {

@@ -9,8 +9,7 @@ use rule_types::{Act, Assignment, Change, Deed, Import, RuleOption, RunType, Tar
 use std::alloc::AllocError;
 use text_bytes::Profile;
 
-/// Sorts acts into the order of evaluation; those of one turn keep their order. The error comes
-/// where memory is refused.
+/// Sorts acts into the order of evaluation; those of one turn keep their order.
 pub(crate) fn sort_acts(acts: &mut Vec<Act>) -> Result<(), AllocError>
     ensures { OnOk result (acts.new.items ≡ acts_by_turn acts.old.items) }
 {
@@ -18,8 +17,7 @@ pub(crate) fn sort_acts(acts: &mut Vec<Act>) -> Result<(), AllocError>
     Ok(())
 }
 
-/// Sorts assignments into the order of evaluation; those of one turn keep their order. The error
-/// comes where memory is refused.
+/// Sorts assignments into the order of evaluation; those of one turn keep their order.
 pub(crate) fn sort_assignments(
     profile: Profile,
     assignments: &mut Vec<Assignment>,

@@ -10,7 +10,7 @@ use Rattle.rule_types.specs.Rules.{Rule}
 use Rattle.rule_jumps.specs.Passed.{over, passed_over}
 use Rattle.rule_jumps.specs.Walks.{over_met, over_to, with_label}
 
--- how many rules stand below the first that has a label
+-- how many rules are below the first that has a label
 abbrev pub below_label : Text → List Rule → Option ℕ
 below_label name [] = None
 below_label name (r ∷ below) = cond (is_named name r.label) (Some (length below)) (below_label name below)

@@ -85,7 +85,7 @@ down_start waiting flags rules e f = record {
   so_far = ap (λ bs. bs ++ unused_flags [] rules) f;
 }
 
--- a rule stands before those behind it
+-- a rule comes before those after it
 rule_item : (rules : List Names) (i : ℕ) (r : Names) → i < length rules → r ≡ get_or rules i r → drop i rules ≡ r ∷ drop (i + 1) rules
 rule_item rules i r h e =
     let next : i + 1 ≡ suc i = omega arith in

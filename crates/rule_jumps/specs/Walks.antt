@@ -3,7 +3,7 @@ use Rattle.std.specs.Prelude.{ℕ, ◌-◌, List, Option, Some, None}
 use Rattle.text_tables.specs.Texts.{Text}
 use Rattle.text_tables.specs.Pairs.{value_of, with_value}
 
--- how many of these rules a jump passes over, by how many stand below the rule with its label
+-- how many of these rules a jump passes over, by how many are below the rule with its label
 abbrev pub over_to : Option ℕ → ℕ → ℕ
 over_to None below = below
 over_to (Some behind) below = below - behind - 1

@@ -1,4 +1,6 @@
-//! Jumps and labels: which jumps have no later label, which labels no jump, and how many rules each jump passes over.
+//! Jumps and labels: which jumps have no later label, which labels no jump, and how many rules each jump skips.
+//!
+//! Functions that allocate return `AllocError` when memory runs out.
 #![tactic(auto)]
 
 mod jumps;

@@ -10,8 +10,6 @@ use text_tables::{Table, Texts};
 
 /// What becomes of the jumps of a file's rules, in order, as udev(7) has it: a GOTO jumps to the next
 /// label of its name, in a later rule of the file. A label is used where such a jump ends at it.
-///
-/// The error comes where memory is refused.
 pub fn landings(alloc: Global, rules: &[Jump<'_>]) -> Result<Vec<Landing>, AllocError>
     ensures { IfOk result (λ found. found.items ≡ landings rules.now) }
 {
@@ -44,7 +42,7 @@ fn misses(names: &Texts<'_>, name: Option<&[u8]>) -> bool
     }
 }
 
-/// Adds a name, if there is one. The error comes where memory is refused.
+/// Adds a name, if there is one.
 fn add<'a>(names: &mut Texts<'a>, name: Option<&'a [u8]>) -> Result<(), AllocError>
     ensures { OnOk result (names.new ≡ with_name names.old (option_map (λ t. t.now) name.entry)) }
 {
@@ -78,8 +76,7 @@ fn leaves_unused(waiting: &Table<'_, bool>, label: Option<&[u8]>) -> bool
     }
 }
 
-/// Notes for a name, if there is one, whether a jump waits for its next label. The error comes
-/// where memory is refused.
+/// Notes for a name, if there is one, whether a jump waits for its next label.
 fn note<'a>(
     waiting: &mut Table<'a, bool>,
     name: Option<&'a [u8]>,

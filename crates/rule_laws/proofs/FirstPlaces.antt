@@ -7,7 +7,7 @@ use Rattle.rule_tokens.proofs.RunLemmas.{run_all}
 use Rattle.rule_core.specs.Drafts.{first_place}
 use Rattle.rule_laws.specs.Udev.{IsFirstPlace}
 
--- what stands behind a run of a class begins with another byte
+-- what follows a run of a class begins with another byte
 run_ends : (class : ℕ → Bool) (text : List ℕ) → BeginsOther class (drop (prefix_len class text) text)
 run_ends class [] = tt
 run_ends class (b ∷ rest) = by (class b) refl (run_ends class rest)

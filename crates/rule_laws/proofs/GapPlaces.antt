@@ -30,14 +30,14 @@ own_of text t rest s =
       spelled = s.head.spelled ∙ ap (λ (v : List ℕ). head ++ v) quoted ∙ sym (append_assoc head (front ++ double_quote ∷ []) rest);
     }
 
--- what follows a token stands in the line behind it
+-- what follows a token is in the line after it
 follows : (line text own rest : List ℕ) (at end : ℕ) → drop at line ≡ text → text ≡ own ++ rest → end ≡ at + (length text - length rest) → drop end line ≡ rest
 follows line text own rest at end d e f =
     let size : length text ≡ length own + length rest = ap length e ∙ length-append own rest in
     let place : end ≡ at + length own = omega arith in
     ap (λ (n : ℕ). drop n line) place ∙ sym (drop-drop (length own) at line) ∙ ap (drop (length own)) (d ∙ e) ∙ drop_at own rest (length own) refl
 
--- what is behind the gap stands in the line
+-- what is after the gap is in the line
 next_stands : (line rest : List ℕ) (end : ℕ) → drop end line ≡ rest → drop (end + prefix_len is_gap_byte rest) line ≡ skip_while is_gap_byte rest
 next_stands line rest end d = sym (drop-drop (prefix_len is_gap_byte rest) end line) ∙ ap (drop (prefix_len is_gap_byte rest)) d
 
@@ -89,7 +89,7 @@ some_item (suc n) at text h e = by (token_at text) e
 abbrev Stand : List ℕ → ℕ → List ℕ → ℕ → List Placed → Type 0
 Stand line at text n tokens = drop at line ≡ text → length text < n → items_within n at text ≡ answers tokens None → BeginAt at tokens × AreGaps line tokens
 
--- behind a token
+-- after a token
 behind_token : (line rest : List ℕ) (end n : ℕ) (more : List Placed) → drop end line ≡ rest → length rest < n
     → Stand line (end + prefix_len is_gap_byte rest) (skip_while is_gap_byte rest) n more
     → cond (length (skip_while is_gap_byte rest) == 0) [] (items_within n (end + prefix_len is_gap_byte rest) (skip_while is_gap_byte rest)) ≡ answers more None

@@ -14,7 +14,7 @@ use Rattle.rule_laws.proofs.Outcomes.{bears, named_so, read_by_line, so_bears}
 
 -- ---- in a file
 
--- each of these rules that jumps has its label behind it
+-- each of these rules that jumps has its label after it
 abbrev AllEnd : List Rule → Type 0
 AllEnd [] = Unit {0}
 AllEnd (r ∷ rules) = ((name : List ℕ) → r.goto ≡ Some name → HasLabel name rules) × AllEnd rules
@@ -63,11 +63,11 @@ nearest name (r ∷ rules) h = by (is_named name r.label) refl (nearest name rul
 
 -- ---- in several files
 
--- a rule of two lists stands in the first
+-- a rule of two lists is in the first
 abbrev InFirst : List Rule → List Rule → List Rule → Rule → List Rule → Type 0
 InFirst xs ys above r below = (near : List Rule) × (xs ≡ above ++ r ∷ near) × (below ≡ near ++ ys)
 
--- a rule of two lists stands in the second
+-- a rule of two lists is in the second
 abbrev InSecond : List Rule → List Rule → List Rule → Rule → List Rule → Type 0
 InSecond xs ys above r below = (near : List Rule) × (above ≡ xs ++ near) × (ys ≡ near ++ r ∷ below)
 

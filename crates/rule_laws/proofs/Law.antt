@@ -8,7 +8,7 @@ use Rattle.rule_templates.specs.declared.piece.Piece.{Piece}
 use Rattle.rule_templates.proofs.Spelled.{PieceWell, left_shorter, piece_well}
 use Rattle.rule_laws.proofs.TemplatesAgain.{fault_again, front_of, spelled_again}
 
--- pieces, and the fault behind them, if one is
+-- pieces, and the fault after them, if one is
 abbrev Trace : Type 0
 Trace = List Piece × Option TemplateFault
 

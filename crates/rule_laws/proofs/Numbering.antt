@@ -4,12 +4,12 @@ use Rattle.std.specs.List.{onto_first}
 use Rattle.text_bytes.specs.declared.profile.Profile.TheVariants.{Manual}
 use Rattle.rule_core.specs.Lines.{NumberedLine, Piece, capped, is_comment, is_empty, is_open, joined_lines, kept, lines, lines_of_runs, numbered_from, open_of_runs, piece_of, run_number, run_text, runs, unindented}
 
--- a number that is told stands behind another: it is not less, and the same only where that is the greatest
+-- a number that is reported follows another: it is not less, and the same only where that is the greatest
 pub record IsBehind (a b : ℕ) : Type 0 where
   pub order : a ≤ b
   pub same : a ≡ b → 2 ^ 32 - 1 ≤ a
 
--- each number stands behind the one before it, and the first behind this
+-- each number follows the one before it, and the first after this
 abbrev pub Rise : ℕ → List ℕ → Type 0
 Rise a [] = Unit {0}
 Rise a (b ∷ ns) = IsBehind a b × Rise b ns

@@ -1,4 +1,4 @@
--- The messages about a file stand in order.
+-- The messages about a file are in order.
 use Rattle.std.proofs.Common.{◌≡◌, ℕ, ◌≤◌, ◌==◌, Bool, true, false, cond, nat_lt, List, [], ◌∷◌, ◌++◌, length, map, drop, Option, Some, None, Result, Ok, Err, refl, sym, subst, arith, append_assoc}
 use Rattle.std.specs.List.{filter_map}
 use Rattle.text_bytes.specs.Names.{comma}
@@ -132,12 +132,12 @@ line_about : (file : List ℕ) (l : NumberedLine) (k : Landing) (read : Result D
 line_about file l k (Err wrong) e = (refl, omega arith, tt)
 line_about file l k (Ok d) e = about_line file l.number 0 14 (findings_of d k) (within_less 0 7 14 (findings_of d k) (omega arith) (rule_within d k (read_within l.text d e)))
 
--- the first of these messages, if there is one, is about a line behind this
+-- the first of these messages, if there is one, is about a line after this
 abbrev StartsBehind : ℕ → List Message → Type 0
 StartsBehind line [] = Unit {0}
 StartsBehind line (m ∷ ms) = IsBehind line m.line
 
--- messages in order, all about lines behind this
+-- messages in order, all about lines after this
 abbrev OrderedBehind : ℕ → List Message → Type 0
 OrderedBehind line ms = AreInOrder ms × StartsBehind line ms
 
@@ -147,7 +147,7 @@ starts_less a b (m ∷ ms) h s =
     let first : IsBehind b m.line = s in
     record { order = omega arith; same = λ e. omega arith }
 
--- messages about a line, and then those about lines behind it
+-- messages about a line, and then those about lines after it
 line_first : (line low : ℕ) (ms others : List Message) → AboutLine line low ms → OrderedBehind line others → AreInOrder (ms ++ others)
 line_first line low [] others a o = o.0
 line_first line low (m ∷ []) others a o = (before others o.1, o.0)

@@ -7,7 +7,7 @@ use Rattle.rule_jumps.specs.declared.jumps.Landing.{Landing}
 use Rattle.rule_laws.proofs.Labelled.{lost_so, so_lost}
 use Rattle.rule_laws.proofs.Reached.{so_unused, unused_so}
 
--- what becomes of a rule behind these and before those
+-- what becomes of a rule after these and before those
 abbrev landing_of : List Names → Names → List Names → Landing
 landing_of above rule below = record { lost = is_lost rule.goto below; unused = is_unused rule.label above }
 
@@ -51,7 +51,7 @@ same_landing : (before : List Names) (rule : Names) (behind : List Names) (l k :
 same_landing before rule behind l k p q =
     λ i. record { lost = same_test l.lost k.lost p.lost q.lost i; unused = same_test l.unused k.unused p.unused q.unused i }
 
--- a list with what becomes of each rule behind these is what is found of them
+-- a list with what becomes of each rule after these is what is found of them
 only_these : (above rules : List Names) (found : List Landing) → length found ≡ length rules
     → ((before : List Names) (rule : Names) (behind : List Names) → rules ≡ before ++ rule ∷ behind → (l : Landing) × (slice_get found (length before) ≡ Some l) × IsLanding (reverse above ++ before) rule behind l)
     → found ≡ landings_below above rules

@@ -18,7 +18,7 @@ pub record JumpsTo (leaving : Names) (between : List Names) (landing : Names) : 
   pub label : landing.label ≡ Some name
   pub next : ¬ HasLabel name between
 
--- a rule jumps to one of those behind it
+-- a rule jumps to one of those after it
 pub record Reaches (leaving : Names) (behind : List Names) : Type 0 where
   pub between : List Names
   pub landing : Names
@@ -34,7 +34,7 @@ pub record IsReached (before : List Names) (landing : Names) : Type 0 where
   pub stands : before ≡ farther ++ leaving ∷ between
   pub jumps : JumpsTo leaving between landing
 
--- a rule has a GOTO, and none of the rules behind it has the label
+-- a rule has a GOTO, and none of the rules after it has the label
 pub record IsLost (rule : Names) (behind : List Names) : Type 0 where
   pub name : List ℕ
   pub goto : rule.goto ≡ Some name
@@ -46,7 +46,7 @@ pub record IsUnused (before : List Names) (rule : Names) : Type 0 where
   pub label : rule.label ≡ Some name
   pub none : ¬ IsReached before rule
 
--- what becomes of a rule behind those before it and before those behind it
+-- what becomes of a rule after those before it and before those after it
 pub record IsLanding (before : List Names) (rule : Names) (behind : List Names) (found : Landing) : Type 0 where
   pub lost : IsTrue found.lost ↔ IsLost rule behind
   pub unused : IsTrue found.unused ↔ IsUnused before rule

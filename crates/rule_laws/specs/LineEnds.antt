@@ -4,7 +4,7 @@ use Rattle.std.specs.List.{list_all}
 use Rattle.text_bytes.specs.Names.{carriage_return, newline, nul}
 use Rattle.rule_core.specs.Ends.{as_read, end_size}
 
--- an end of a line: a newline or a carriage return, perhaps paired with the other one, and perhaps with a NUL behind; or one NUL
+-- an end of a line: a newline or a carriage return, perhaps paired with the other one, and perhaps with a NUL after; or one NUL
 pub data End : Type 0 where
   newline_first : Bool → Bool → End
   return_first : Bool → Bool → End

@@ -24,7 +24,7 @@ rank kind.ReadAsAssign = 13
 rank kind.LabelUnused = 14
 rank other = 0
 
--- a message stands rightly before another: its line is not behind the other's, and about one line its kind is not; lines over the greatest number that is told can't be told apart
+-- a message stands rightly before another: its line is not after the other's, and about one line its kind is not; lines over the greatest number that is reported can't be told apart
 pub record StandsBefore (m n : Message) : Type 0 where
   pub line : m.line ≤ n.line
   pub rank : m.line ≡ n.line → m.line < 2 ^ 32 - 1 → rank m.kind ≤ rank n.kind

@@ -1,4 +1,4 @@
--- What each joined line of a file comes to, its jump told by the rules behind it.
+-- What each joined line of a file comes to, its jump reported by the rules after it.
 use Rattle.std.specs.Prelude.{◌≡◌, ◌↔◌, ℕ, List, [], ◌∷◌, ◌++◌, ⊤, map, flat_map, Any, Some, Ok, Err}
 use Rattle.text_bytes.specs.declared.message.Message.{Message}
 use Rattle.text_bytes.specs.declared.source_file.SourceFile.{SourceFile}
@@ -31,7 +31,7 @@ messages_in (one_message m) = m ∷ []
 abbrev pub HasLabel : List ℕ → List Rule → Type 0
 HasLabel name rules = Any (λ r. r.label ≡ Some name) rules
 
--- a line is read as a rule, which has its jump exactly where a rule behind it bears the label
+-- a line is read as a rule, which has its jump exactly where a rule after it bears the label
 pub record IsRule (by : Profile) (file : List ℕ) (l : NumberedLine) (r : Rule) (messages : List Message) (behind : List Rule) : Type 0 where
   pub draft : Draft
   pub landing : Landing

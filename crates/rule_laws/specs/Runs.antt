@@ -16,7 +16,7 @@ abbrev pub open_run : List Piece → List (List Piece)
 open_run [] = []
 open_run (p ∷ ps) = (p ∷ ps) ∷ []
 
--- Pieces are these runs, one behind the other: closed ones, and then what is left, which all continues.
+-- Pieces are these runs, one after another: closed ones, and then what is left, which all continues.
 pub record AreRuns (ps : List Piece) (rs : List (List Piece)) : Type 0 where
   pub closed : List (List Piece)
   pub left : List Piece

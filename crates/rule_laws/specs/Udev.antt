@@ -6,12 +6,12 @@ use Rattle.rule_types.specs.declared.part.Part.{Part}
 use Rattle.rule_types.specs.declared.part.Part.TheVariants as part
 use Rattle.rule_core.specs.Drafts.{draft, given_again_behind, lost_name}
 
--- only commas and blanks stand before a place of a line, and none there
+-- only commas and blanks come before a place of a line, and none there
 pub record IsFirstPlace (line : List ℕ) (place : ℕ) : Type 0 where
   pub before : AllAre is_gap_byte (take place line)
   pub there : BeginsOther is_gap_byte (drop place line)
 
--- behind parts a label of this name counts, and the one that counted before is told of as lost
+-- after parts a label of this name counts, and the one that counted before is reported as lost
 pub record CountsInPlace (line : List ℕ) (parts : List Part) (name : List ℕ) : Type 0 where
   pub counts : (draft Udev line (parts ++ part.Label name ∷ [])).label ≡ Some name
   pub told : given_again_behind Udev [] (parts ++ part.Label name ∷ []) ≡ given_again_behind Udev [] parts ++ lost_name (draft Udev line parts).label

@@ -8,7 +8,7 @@ ghost use Rattle.rule_tokens.specs.Lines.{items_of};
 ghost use Rattle.rule_core.specs.Laws.{AreInOrder, IsPlain, IsToldWhereAgain, NoneIsLost};
 ghost use Rattle.rule_core.specs.Style.{style_findings};
 
-/// The acts and the assignments of a line stand in its draft in the order of their turns, those of
+/// The acts and the assignments of a line are in its draft in the order of their turns, those of
 /// one turn as they are written.
 pub fn parts_are_kept_in_order()
     ensures { (by : Profile) (line : List ℕ) (parts : List Part) → AreInOrder by line parts }
@@ -19,7 +19,7 @@ pub fn no_part_is_lost()
     ensures { (parts : List Part) → NoneIsLost parts }
 {}
 
-/// By the manual a LABEL is told of as given twice exactly where one stands before it in the line, and so is a
+/// By the manual a LABEL is reported as given twice exactly where one comes before it in the line, and so is a
 /// GOTO.
 pub fn names_given_again_are_told()
     ensures { (parts : List Part) (p : Part) → IsToldWhereAgain parts p }

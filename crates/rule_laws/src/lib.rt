@@ -1,6 +1,6 @@
-//! Laws of rules: of lines, tokens, parts, templates and jumps, and of all that is read of rules files.
+//! Laws of rules: of lines, tokens, parts, templates and jumps, and of all that is read from rules files.
 //!
-//! A law is the contract of a function with an empty body. No code stands on this crate.
+//! A law is the contract of a function with an empty body. No crate with code depends on this one.
 #![tactic(auto)]
 
 pub mod drafts;

@@ -1,4 +1,4 @@
-//! What holds of the rules of files, whatever stands in the files.
+//! What holds of the rules of files, whatever is in the files.
 //!
 //! Each function here is empty: its contract is the law.
 ghost use Rattle.std.specs.Prelude.{◌≡◌, [], List, ℕ, None, Some, All};
@@ -32,7 +32,7 @@ pub fn messages_stand_in_order()
     ensures { (file : SourceFile) → AreInOrder (file_messages Manual file) }
 {}
 
-/// Of the rules of all files the next behind a jump that bears its label stands in the jump's own
+/// Of the rules of all files the next after a jump that bears its label is in the jump's own
 /// file, also where two files have one name. So a jump is to drop the rules up to that one.
 pub fn jumps_stay_in_their_files()
     ensures { (files : List SourceFile) → JumpsStayInTheirFiles files }

@@ -22,8 +22,8 @@ pub fn value_has_no_nul()
     ensures { NoNul }
 {}
 
-/// The parts of a line's tokens stand in the line at their places, and each token begins where the
-/// one before it ends, or behind that; so does the fault.
+/// The parts of a line's tokens are in the line at their places, and each token begins where the
+/// one before it ends, or after that; so does the fault.
 #[tactic(auto, using(rule_tokens::proofs::PlaceLemmas::all_lie, rule_tokens::proofs::PlaceLemmas::all_rise))]
 pub fn parts_lie_in_line()
     ensures within { AllLie }

@@ -16,12 +16,12 @@ pub fn read_files_stay()
     ensures { (text : List ℕ) → StaysAsRead text }
 {}
 
-/// The first token of a line stands behind all commas and blanks in front.
+/// The first token of a line follows all commas and blanks in front.
 pub fn first_tokens_stand_behind_gaps()
     ensures { (line : List ℕ) → IsFirstPlace line (first_place Udev line) }
 {}
 
-/// A label behind others counts in place of the one that counted before it, which is told of.
+/// A label after others counts in place of the one that counted before it, which is reported.
 pub fn last_label_counts()
     ensures { (line : List ℕ) (parts : List Part) (name : List ℕ) → CountsInPlace line parts name }
 {}

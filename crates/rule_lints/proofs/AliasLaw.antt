@@ -15,7 +15,7 @@ Stand [] text = Unit {0}
 Stand (item ∷ items) [] = ⊥
 Stand (item ∷ items) (b ∷ text) = (takes item b ≡ true) × Stand items text
 
--- an item that takes one byte stands before those behind it
+-- an item that takes one byte comes before those after it
 place_kept : (item : Item) (items : List Item) → is_many item ≡ false → items_in_place (item ∷ items) ≡ item ∷ items_in_place items
 place_kept item items h =
     let size = prefix_len (λ x. not (is_many x)) items in
@@ -78,7 +78,7 @@ begins_so front items text s h =
     let both = and_parts (nat_le (length front) (length items)) (list_all (λ pair. is_byte_in pair.0 pair.0 pair.1) (zip front items)) h in
     begins front items text s (leb-true (length front) (length items) both.0) both.1
 
--- a device's numbers, behind what stands before them
+-- a device's numbers, after what comes before them
 numbers : (front : List ℕ) (size second : ℕ) (items : List Item) (text : List ℕ) → Stand items text
     → (begin_with front items && (has_small_digit 5 size items || has_small_digit second size items)) ≡ true
     → (starts_with nat_eq text front && (has_small 5 size text || has_small second size text)) ≡ true

@@ -22,7 +22,7 @@ record Parted (byte : ℕ) (text : List ℕ) : Type 0 where
   after : List ℕ
   whole : text ≡ before ++ byte ∷ after
 
--- where something stands behind the first such byte, the byte stands in the text, and it is behind that
+-- where something follows the first such byte, the byte is in the text, and it is after that
 record Opened (byte : ℕ) (text : List ℕ) : Type 0 where
   before : List ℕ
   whole : text ≡ before ++ byte ∷ behind byte text
@@ -80,7 +80,7 @@ from_signs text h =
       whole = outer.whole ∙ ap (λ (t : List ℕ). outer.before ++ open_brace ∷ t) (middle.whole ∙ ap (λ (t : List ℕ). middle.before ++ comma ∷ t) end.whole);
     }
 
--- what stands behind some such byte stands behind the first one
+-- what follows some such byte follows the first one
 record Kept (byte : ℕ) (text rest : List ℕ) : Type 0 where
   front : List ℕ
   whole : behind byte text ≡ front ++ rest

@@ -43,7 +43,7 @@ IsThere (Some w) = Unit {0}
 some_is_none : (w : WrittenPart) → Some w ≡ None → ⊥
 some_is_none w e = subst IsThere e tt
 
--- behind a token of a group, each is of that or of none
+-- after a token of a group, each is of that or of none
 all_behind : (group : Group) (tokens : List WrittenPart) → stranger_by (Some group) tokens ≡ None → NoneOther group tokens
 all_behind group [] h = tt
 all_behind group (w ∷ tokens) h = by (is_other group (group_of w)) refl h (λ g. all_behind group tokens g)

@@ -2,7 +2,7 @@
 use Rattle.std.proofs.Common.{◌≡◌, ℕ, List, [], ◌∷◌, Option, Some, refl}
 use Rattle.rule_core.specs.Drafts.{last}
 
--- the last of names behind one that was found before them
+-- the last of names after one that was found before them
 abbrev pub last_behind : Option (List ℕ) → List (List ℕ) → Option (List ℕ)
 last_behind found [] = found
 last_behind found (name ∷ names) = last (name ∷ names)

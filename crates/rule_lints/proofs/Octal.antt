@@ -7,7 +7,7 @@ use Rattle.std.specs.Str.Parse.{digits_value, digits_value_after}
 use Rattle.text_bytes.specs.Texts.{is_empty}
 use Rattle.rule_lints.specs.Modes.{greatest_mode, is_mode}
 
--- a number with the digits from a place on is that with the digit there, and then those behind it
+-- a number with the digits from a place on is that with the digit there, and then those after it
 number_on : (text : List ℕ) (i n : ℕ) → i < length text → digits_value_after 8 n (drop i text) ≡ digits_value_after 8 (n * 8 + digit_value (get_or text i 0)) (drop (i + 1) text)
 number_on text i n here = rw (drop-cons text i 0, add-one i) refl
 

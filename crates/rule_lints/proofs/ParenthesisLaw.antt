@@ -1,4 +1,4 @@
--- What stands behind the last such byte of a text.
+-- What follows the last such byte of a text.
 use Rattle.std.proofs.Common.{◌≡◌, ℕ, ◌+◌, ◌-◌, ◌==◌, suc, Bool, true, false, cond, not, ◌||◌, List, [], ◌∷◌, ◌++◌, length, drop, reverse, refl, ap, sym, ◌∙◌, ◌↔◌, arith, append_assoc, length-append, inl, inr, ◌⊎◌}
 use Rattle.std.proofs.lemmas.Bool.{or_cases, or_left, or_right, eqb-true, eq-eqb, false≢true}
 use Rattle.std.proofs.lemmas.List.{reverse-append, length-reverse}
@@ -66,7 +66,7 @@ behind_cut byte before rest h =
     let e : length text - suffix_len (is_other byte) text ≡ length before + 1 = omega (arith, size, same, all) in
     ap (λ (k : ℕ). drop k text) e ∙ drop_behind byte before rest
 
--- a text that has a byte, with what stands behind the last of it
+-- a text that has a byte, with what follows the last of it
 record Cut (byte : ℕ) (text : List ℕ) : Type 0 where
   before : List ℕ
   rest : List ℕ
@@ -127,7 +127,7 @@ from_sign text h = by (cut close_parenthesis text)
         of_rest (c.before ++ close_parenthesis ∷ []) text c.rest (c.whole ∙ sym (append_assoc c.before (close_parenthesis ∷ []) c.rest)) c.none
         (parted open_parenthesis c.rest (ap (has_byte open_parenthesis) (sym same) ∙ h))
 
--- nothing closes what stands behind
+-- nothing closes what follows
 open_none : (before behind : List ℕ) → has_byte close_parenthesis before ≡ false → has_byte close_parenthesis behind ≡ false → has_byte close_parenthesis (before ++ open_parenthesis ∷ behind) ≡ false
 open_none before behind h g =
     list_any-append (λ b. b == close_parenthesis) before (open_parenthesis ∷ behind)

@@ -34,7 +34,7 @@ turned_or false false = refl
 same_turned : (a b : Text) → same_text a b ≡ same_text a b
 same_turned a b = refl
 
--- what was added one behind another is there, and so is what was there before
+-- what was added one after another is there, and so is what was there before
 pub among_all : (more texts : List Text) (name : Text) → is_among (with_texts texts more) name ≡ (is_among texts name || is_among more name)
 among_all [] texts name = turned_or false (is_among texts name)
 among_all (t ∷ more) texts name =
@@ -100,7 +100,7 @@ down_start above spots rules e f = record {
   so_far = ap (λ x. x ++ file_spots rules) f;
 }
 
--- a rule stands before those behind it
+-- a rule comes before those after it
 rule_item : (rules : List LandedRule) (i : ℕ) (r : LandedRule) → i < length rules → r ≡ get_or rules i r → drop i rules ≡ r ∷ drop (i + 1) rules
 rule_item rules i r h e =
     let next : i + 1 ≡ suc i = omega arith in

@@ -11,12 +11,12 @@ use Rattle.rule_lints.specs.FileRules.{with_parts, written_part}
 use Rattle.rule_lints.specs.Steps.{part_in}
 use Rattle.rule_lints.specs.Written.{WrittenPart}
 
--- tokens behind others, if they are there
+-- tokens after others, if they are there
 abbrev pub behind : List WrittenPart → Option (List WrittenPart) → Option (List WrittenPart)
 behind before None = None
 behind before (Some more) = Some (before ++ more)
 
--- what the items of a line give behind tokens that are read
+-- what the items of a line give after tokens that are read
 abbrev pub read_behind : Profile → List ℕ → List WrittenPart → List Item → Option (List WrittenPart)
 read_behind by line before items = behind before (with_parts (tokens_of items) (parts_of by line items))
 

@@ -6,7 +6,7 @@ use Rattle.rule_lints.specs.Commands.{has_shell_sign, has_sign_behind, is_quote,
 use Rattle.rule_lints.specs.Laws.{HasSignOutside, IsPiece, Piece, bare, quoted, written}
 use Rattle.rule_lints.specs.Texts.{has_byte}
 
--- behind a quote that is open, all up to its next byte is passed over
+-- after a quote that is open, all up to its next byte is passed over
 passed_quote : (quote : ℕ) (within text : List ℕ) → has_byte quote within ≡ false → has_sign_behind None text ≡ true → has_sign_behind (Some quote) (within ++ quote ∷ text) ≡ true
 passed_quote quote [] text h e = subst (λ (b : Bool). has_sign_behind (cond b None (Some quote)) text ≡ true) (sym (eq-eqb quote quote refl)) e
 passed_quote quote (b ∷ within) text h e = by (b == quote) refl h (λ g. passed_quote quote within text g e)
@@ -35,7 +35,7 @@ told command s =
     ap has_shell_sign s.whole
     ∙ all_passed s.before (s.sign ∷ s.behind) s.pieces (or_left (is_shell_sign s.sign s.behind) _ s.is_sign)
 
--- a text that ends a quoted part, with a sign behind it
+-- a text that ends a quoted part, with a sign after it
 record EndsQuoted (quote : ℕ) (text : List ℕ) : Type 0 where
   within : List ℕ
   behind : List ℕ
@@ -43,7 +43,7 @@ record EndsQuoted (quote : ℕ) (text : List ℕ) : Type 0 where
   none : has_byte quote within ≡ false
   outside : HasSignOutside behind
 
--- what has a sign, behind the quote that is open
+-- what has a sign, after the quote that is open
 abbrev Found : Option ℕ → List ℕ → Type 0
 Found None text = HasSignOutside text
 Found (Some quote) text = EndsQuoted quote text

@@ -50,7 +50,7 @@ command_of _ = None
 abbrev pub is_quote : ℕ → Bool
 is_quote b = b == single_quote || b == double_quote
 
--- the quote that is open behind a byte, by that which is open before it
+-- the quote that is open after a byte, by that which is open before it
 abbrev pub open_behind : Option ℕ → ℕ → Option ℕ
 open_behind None b = if is_quote b then Some b else None
 open_behind (Some quote) b = if b == quote then None else Some quote
@@ -60,7 +60,7 @@ abbrev pub is_word_end : List ℕ → Bool
 is_word_end [] = true
 is_word_end (b ∷ text) = is_blank b
 
--- whether a text goes on as one behind a `>` of the shell: with the end of a word, a path, a `&` or one more `>`
+-- whether a text goes on as one after a `>` of the shell: with the end of a word, a path, a `&` or one more `>`
 abbrev pub is_redirected : List ℕ → Bool
 is_redirected text = (is_word_end text || begins_with slash text) || (begins_with ampersand text || begins_with greater text)
 
@@ -81,7 +81,7 @@ has_shell_sign command = has_sign_behind None command
 abbrev pub first_word : List ℕ → List ℕ
 first_word command = let words = unindented command in take (prefix_len (λ b. not (is_blank b)) words) words
 
--- the name of the program of a command: what stands behind the last `/` of its first word
+-- the name of the program of a command: what follows the last `/` of its first word
 abbrev pub program_name : List ℕ → List ℕ
 program_name command = behind_last slash (first_word command)
 
@@ -93,11 +93,11 @@ shells = codes "sh" ∷ codes "ash" ∷ codes "bash" ∷ codes "dash" ∷ codes 
 abbrev pub lacks_shell : List ℕ → Option (List ℕ)
 lacks_shell command = if has_shell_sign command && not (is_among shells (program_name command)) then Some command else None
 
--- the value that W2 is told of
+-- the value that W2 is reported
 abbrev pub shell_command : Part → Option (List ℕ)
 shell_command p = option_and_then lacks_shell (command_of p)
 
--- commands that stand in /usr/bin or /usr/sbin, and not in /usr/lib/udev, where udev looks for a program without a path
+-- commands that are in /usr/bin or /usr/sbin, and not in /usr/lib/udev, where udev looks for a program without a path
 abbrev pub commands_elsewhere : List (List ℕ)
 commands_elsewhere =
     codes "bash" ∷ codes "chgrp" ∷ codes "chmod" ∷ codes "chown" ∷ codes "cp" ∷ codes "date" ∷ codes "echo" ∷ codes "ethtool"
@@ -110,6 +110,6 @@ commands_elsewhere =
 abbrev pub lacks_path : List ℕ → Option (List ℕ)
 lacks_path command = if is_among commands_elsewhere (first_word command) then Some command else None
 
--- the value that W3 is told of
+-- the value that W3 is reported
 abbrev pub relative_program : Part → Option (List ℕ)
 relative_program p = option_and_then lacks_path (option_and_then run_command (change_of p))

@@ -82,7 +82,7 @@ abbrev pub meant_spots : List Text → WrittenPart → Option Valued → List Li
 meant_spots compared w None = []
 meant_spots compared w (Some v) = if is_among compared (text_of v) then key_spot MeantToCompare v.name w.token ∷ [] else []
 
--- the assignments among tokens behind which a match stands, where what they give is compared
+-- the assignments among tokens after which a match stands, where what they give is compared
 abbrev pub meant_to_compare : List Text → List WrittenPart → List LintSpot
 meant_to_compare compared [] = []
 meant_to_compare compared (w ∷ tokens) =

@@ -73,6 +73,6 @@ stranger_by first [] = None
 stranger_by None (w ∷ tokens) = stranger_by (group_of w) tokens
 stranger_by (Some group) (w ∷ tokens) = if is_other group (group_of w) then Some w else stranger_by (Some group) tokens
 
--- the token that W5 is told of
+-- the token that W5 is reported
 abbrev pub stranger : List WrittenPart → Option WrittenPart
 stranger tokens = stranger_by None tokens

@@ -20,7 +20,7 @@ abbrev pub is_read : Result Draft Finding → Bool
 is_read (Ok d) = true
 is_read (Err wrong) = false
 
--- where a match is told of in a rule below others, the nearest first, its property is imported by this rule or further down, and neither given nor perhaps given by one of the others
+-- where a match is reported in a rule below others, the nearest first, its property is imported by this rule or further down, and neither given nor perhaps given by one of the others
 pub record IsImportedBelow (above : List LandedRule) (r : LandedRule) (below : List LandedRule) (name : Text) : Type 0 where
   pub here : has_property (imported_names (r ∷ below)) name ≡ true
   pub before : is_given (given_names above) name ≡ false
@@ -30,11 +30,11 @@ ImportsFurtherDown =
     (above : List LandedRule) (r : LandedRule) (below : List LandedRule) (w : WrittenPart) (told : LintSpot)
     → imported_below (imported_names (reverse above ++ r ∷ below)) (given_names above) w ≡ told ∷ [] → IsImportedBelow above r below told.word
 
--- assignments behind the last match of a rule are not told of
+-- assignments after the last match of a rule are not reported
 abbrev pub NoneBehindMatches : Type 0
 NoneBehindMatches = (compared : List Text) (tokens : List WrittenPart) → list_any (λ w. is_match w.part) tokens ≡ false → meant_to_compare compared tokens ≡ []
 
--- where no rule compares, nothing is told of
+-- where no rule compares, nothing is reported
 abbrev pub NoneUncompared : Type 0
 NoneUncompared = (tokens : List WrittenPart) → meant_to_compare [] tokens ≡ []
 
@@ -42,19 +42,19 @@ NoneUncompared = (tokens : List WrittenPart) → meant_to_compare [] tokens ≡ 
 abbrev pub FirstIsReached : Type 0
 FirstIsReached = (r : LandedRule) → never_reached (jumps_above []) r ≡ []
 
--- so is a rule behind one that may end before it jumps
+-- so is a rule after one that may end before it jumps
 abbrev pub ReachedBehindMatches : Type 0
 ReachedBehindMatches = (nearest : LandedRule) (farther : List LandedRule) (r : LandedRule) → list_any (λ w. may_end_at w.part) nearest.rule.tokens ≡ true → never_reached (jumps_above (nearest ∷ farther)) r ≡ []
 
--- so is a rule behind one whose label no later rule has
+-- so is a rule after one whose label no later rule has
 abbrev pub ReachedBehindLostJumps : Type 0
 ReachedBehindLostJumps = (nearest : LandedRule) (farther : List LandedRule) (r : LandedRule) → nearest.landing.lost ≡ true → never_reached (jumps_above (nearest ∷ farther)) r ≡ []
 
--- nothing is told of a rule with a label, to which a jump may lead
+-- nothing is reported for a rule with a label, to which a jump may lead
 abbrev pub ReachedByLabels : Type 0
 ReachedByLabels = (above : List LandedRule) (r : LandedRule) → is_labelled r ≡ true → never_reached (jumps_above above) r ≡ []
 
--- what is told, without its place
+-- what is reported, without its place
 abbrev pub told_in : PlacedLint → Lint × Text
 told_in p = (p.lint, p.word)
 

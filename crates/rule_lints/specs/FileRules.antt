@@ -13,7 +13,7 @@ use Rattle.rule_core.specs.Ends.{given_up}
 use Rattle.rule_core.specs.Lines.{joined_lines}
 use Rattle.rule_lints.specs.Written.{WrittenPart}
 
--- a rule of a file: the number of its first line, how many bytes of joined lines stand before it, and its tokens
+-- a rule of a file: the number of its first line, how many bytes of joined lines come before it, and its tokens
 pub record FileRule : Type 0 where
   pub number : ℕ
   pub start : ℕ
@@ -35,7 +35,7 @@ tokens_of_rule by line =
     else (if lacks_effect by (tokens_of (items_as by line)) then None
     else with_parts (tokens_of (items_as by line)) (parts_of by line (items_as by line)))
 
--- the rule that a joined line is, behind so many bytes of others
+-- the rule that a joined line is, after so many bytes of others
 abbrev pub rule_at : Profile → ℕ → NumberedLine → Option FileRule
 rule_at by start l = option_map (λ tokens. record { number = l.number; start = start; tokens = tokens }) (tokens_of_rule by l.text)
 
@@ -44,7 +44,7 @@ abbrev pub rule_before : Option FileRule → List FileRule → List FileRule
 rule_before None rules = rules
 rule_before (Some r) rules = r ∷ rules
 
--- the rules among joined lines that stand behind so many bytes of others
+-- the rules among joined lines that follow so many bytes of others
 abbrev pub rules_from : Profile → ℕ → List NumberedLine → List FileRule
 rules_from by start [] = []
 rules_from by start (l ∷ ls) = rule_before (rule_at by start l) (rules_from by (start + length l.text) ls)

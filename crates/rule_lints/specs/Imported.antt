@@ -25,7 +25,7 @@ use Rattle.rule_lints.specs.Spots.{key_spot}
 use Rattle.rule_lints.specs.Written.{WrittenPart}
 use Rattle.rule_lints.specs.declared.spot.LintSpot.{LintSpot}
 
--- builtins, each with a family of properties that it imports: a family is written as what its names begin with and a `*` behind
+-- builtins, each with a family of properties that it imports: a family is written as what its names begin with and a `*` after
 abbrev pub families : List (Text × Text)
 families =
     (codes "blkid", codes "ID_FS_*")

@@ -28,12 +28,12 @@ pub record WritesMode (text : List ℕ) : Type 0 where
   pub written : text ≡ map (λ d. digit_zero + d) digits
   pub least : by_places digits ≤ greatest_mode
 
--- a piece of a command: a byte outside of quotes, or a quote with what stands in it
+-- a piece of a command: a byte outside of quotes, or a quote with what is in it
 pub data Piece : Type 0 where
   bare : ℕ → Piece
   quoted : ℕ → List ℕ → Piece
 
--- how a piece is written: what is quoted stands between two of its quote
+-- how a piece is written: what is quoted is between two of its quote
 abbrev pub written : Piece → List ℕ
 written (bare b) = b ∷ []
 written (quoted quote within) = quote ∷ (within ++ quote ∷ [])
@@ -43,7 +43,7 @@ abbrev pub IsPiece : Piece → Type 0
 IsPiece (bare b) = is_quote b ≡ false
 IsPiece (quoted quote within) = (is_quote quote ≡ true) × (has_byte quote within ≡ false)
 
--- A command is some pieces, and behind them a sign of the shell, whatever follows.
+-- A command is some pieces, and after them a sign of the shell, whatever follows.
 pub record HasSignOutside (command : List ℕ) : Type 0 where
   pub before : List Piece
   pub pieces : AllByRecursion IsPiece before
@@ -56,7 +56,7 @@ pub record HasSignOutside (command : List ℕ) : Type 0 where
 abbrev pub has_capital : List ℕ → Bool
 has_capital text = list_any (λ b. nat_le 65 b && nat_le b 90) text
 
--- whether a digit `a` to `f` is among so many bytes of a text behind the first so many
+-- whether a digit `a` to `f` is among so many bytes of a text after the first so many
 abbrev pub has_small : ℕ → ℕ → List ℕ → Bool
 has_small start size text = list_any (λ b. nat_le 97 b && nat_le b 102) (take size (drop start text))
 
@@ -71,15 +71,15 @@ abbrev pub some_pattern : (List Item → Bool) → Result (List (List Item)) Glo
 some_pattern test (Ok patterns) = list_any test patterns
 some_pattern test (Err fault) = false
 
--- whether W4 is told of a text with which something is compared that the kernel writes so
+-- whether W4 is reported for a text with which something is compared that the kernel writes so
 abbrev pub is_told_as : Writing → List ℕ → Bool
 is_told_as writing text = some_pattern (is_miswritten writing) (choice text)
 
--- whether W11 is told of a text with which something is compared
+-- whether W11 is reported for a text with which something is compared
 abbrev pub is_told_as_expression : List ℕ → Bool
 is_told_as_expression text = are_expressions (slice_split is_bar text)
 
--- whether W12 is told of a text with which something is compared that is always there
+-- whether W12 is reported for a text with which something is compared that is always there
 abbrev pub is_told_to_hold : List ℕ → Bool
 is_told_to_hold text = some_pattern take_all (choice text)
 
@@ -88,7 +88,7 @@ pub record AreOfOneGroup (tokens : List WrittenPart) : Type 0 where
   pub group : Group
   pub none_other : AllByRecursion (λ w. is_other group (group_of w) ≡ false) tokens
 
--- A token is the first whose attribute is of other devices than one before it: tokens stand before it, of which some ask for an attribute of a group, and none for one of another group, while it does.
+-- A token is the first whose attribute is of other devices than one before it: tokens come before it, of which some ask for an attribute of a group, and none for one of another group, while it does.
 pub record IsStranger (tokens : List WrittenPart) (w : WrittenPart) : Type 0 where
   pub group : Group
   pub before : List WrittenPart
@@ -98,7 +98,7 @@ pub record IsStranger (tokens : List WrittenPart) (w : WrittenPart) : Type 0 whe
   pub none_other : AllByRecursion (λ v. is_other group (group_of v) ≡ false) before
   pub other : is_other group (group_of w) ≡ true
 
--- A text has a `{`, behind it a `,`, and behind that a `}`.
+-- A text has a `{`, after it a `,`, and after that a `}`.
 pub record HasBraces (text : List ℕ) : Type 0 where
   pub before : List ℕ
   pub first : List ℕ
@@ -106,7 +106,7 @@ pub record HasBraces (text : List ℕ) : Type 0 where
   pub behind : List ℕ
   pub whole : text ≡ before ++ open_brace ∷ (first ++ comma ∷ (second ++ close_brace ∷ behind))
 
--- A text has a `(` behind which no `)` stands.
+-- A text has a `(` after which no `)` stands.
 pub record HasOpenParenthesis (text : List ℕ) : Type 0 where
   pub before : List ℕ
   pub behind : List ℕ

@@ -27,7 +27,7 @@ lower_names =
     ∷ codes "subsystem_vendor" ∷ codes "subsystem_device"
     ∷ []
 
--- attributes that several subsystems have, and that are such digits where `0x` stands before them
+-- attributes that several subsystems have, and that are such digits where `0x` comes before them
 abbrev pub prefixed_names : List (List ℕ)
 prefixed_names = codes "vendor" ∷ codes "device" ∷ codes "class" ∷ []
 
@@ -72,7 +72,7 @@ is_small_digit item = is_byte_in 97 102 item
 abbrev pub begin_with : List ℕ → List Item → Bool
 begin_with text items = nat_le (length text) (length items) && list_all (λ pair. is_byte_in pair.0 pair.0 pair.1) (zip text items)
 
--- whether a small digit is among so many items behind the first so many
+-- whether a small digit is among so many items after the first so many
 abbrev pub has_small_digit : ℕ → ℕ → List Item → Bool
 has_small_digit start size items = list_any is_small_digit (take size (drop start items))
 
@@ -85,7 +85,7 @@ is_many _ = false
 abbrev pub items_in_place : List Item → List Item
 items_in_place items = take (prefix_len (λ item. not (is_many item)) items) items
 
--- Whether an alias has a small digit where the kernel writes capital ones: the numbers of the vendor and of the product behind `usb:v` and `p`, four digits each, and behind `pci:v` and `d`, eight digits each.
+-- Whether an alias has a small digit where the kernel writes capital ones: the numbers of the vendor and of the product after `usb:v` and `p`, four digits each, and after `pci:v` and `d`, eight digits each.
 abbrev pub is_small_alias : List Item → Bool
 is_small_alias items =
     (begin_with (codes "usb:v") items && (has_small_digit 5 4 items || has_small_digit 10 4 items))
@@ -101,6 +101,6 @@ is_miswritten Alias items = is_small_alias (items_in_place items)
 abbrev pub miswritten : Writing → Comparison → Option (List ℕ)
 miswritten writing wanted = if not wanted.blind && list_any (is_miswritten writing) wanted.choice then Some wanted.written else None
 
--- the value that W4 is told of
+-- the value that W4 is reported
 abbrev pub wrong_case : Part → Option (List ℕ)
 wrong_case p = option_and_then (λ writing. option_and_then (miswritten writing) (comparison_of p)) (writing_of p)

@@ -33,6 +33,6 @@ abbrev pub mode_in : Change → Option (List ℕ)
 mode_in (change.Text target.Mode t) = Some t.written
 mode_in _ = None
 
--- the value that W1 is told of
+-- the value that W1 is reported
 abbrev pub wrong_mode : Part → Option (List ℕ)
 wrong_mode p = option_and_then no_mode (option_and_then mode_in (change_of p))

@@ -40,7 +40,7 @@ abbrev pub name_in : Change → Option (List ℕ)
 name_in (change.Text target.Name t) = Some t.written
 name_in _ = None
 
--- the value that W8 is told of, in a rule that is for no network device
+-- the value that W8 is reported, in a rule that is for no network device
 abbrev pub name_given : Part → Option (List ℕ)
 name_given p = option_and_then name_in (change_of p)
 
@@ -53,7 +53,7 @@ links_in _ = None
 abbrev pub links_with_dev : List ℕ → Option (List ℕ)
 links_with_dev links = if list_any (λ link. starts_with nat_eq link (codes "/dev/")) (slice_split is_blank links) then Some links else None
 
--- the value that W9 is told of
+-- the value that W9 is reported
 abbrev pub dev_link : Part → Option (List ℕ)
 dev_link p = option_and_then links_with_dev (option_and_then links_in (change_of p))
 
@@ -61,6 +61,6 @@ dev_link p = option_and_then links_with_dev (option_and_then links_in (change_of
 abbrev pub with_quote : List ℕ → Option (List ℕ)
 with_quote text = if has_byte double_quote text then Some text else None
 
--- the text in braces that W10 is told of
+-- the text in braces that W10 is reported
 abbrev pub quoted_name : Placed → Option (List ℕ)
 quoted_name t = option_and_then with_quote t.parts.head.attribute

@@ -23,7 +23,7 @@ open_parenthesis = 40
 abbrev pub close_parenthesis : ℕ
 close_parenthesis = 41
 
--- `d`, `w` or `s`, which stand for digits, letters and blanks behind a `\` of a regular expression
+-- `d`, `w` or `s`, which stand for digits, letters and blanks after a `\` of a regular expression
 abbrev pub is_class_letter : ℕ → Bool
 is_class_letter b = b == 100 || (b == 119 || b == 115)
 
@@ -32,12 +32,12 @@ abbrev pub begins_with_class : List ℕ → Bool
 begins_with_class [] = false
 begins_with_class (b ∷ text) = is_class_letter b
 
--- whether a `\` with such a letter behind it stands in a text
+-- whether a `\` with such a letter after it is in a text
 abbrev pub has_class : List ℕ → Bool
 has_class [] = false
 has_class (b ∷ text) = (b == backslash && begins_with_class text) || has_class text
 
--- whether a `(` behind which no `)` stands is in a text: one behind the last `)`
+-- whether a `(` after which no `)` stands is in a text: one after the last `)`
 abbrev pub has_open_parenthesis : List ℕ → Bool
 has_open_parenthesis text = has_byte open_parenthesis (behind_last close_parenthesis text)
 
@@ -49,7 +49,7 @@ has_close_parenthesis text = has_byte close_parenthesis (before_first open_paren
 abbrev pub are_of_group : List (List ℕ) → Bool
 are_of_group texts = list_any has_open_parenthesis texts && list_any has_close_parenthesis texts
 
--- whether a text has a `{`, behind it a `,`, and behind that a `}`
+-- whether a text has a `{`, after it a `,`, and after that a `}`
 abbrev pub has_braces : List ℕ → Bool
 has_braces text = has_byte close_brace (behind_first comma (behind_first open_brace text))
 
@@ -67,7 +67,7 @@ are_expressions texts = list_any is_expression texts || are_of_group texts
 abbrev pub expression_in : Comparison → Option (List ℕ)
 expression_in wanted = if are_expressions (slice_split is_bar wanted.written) then Some wanted.written else None
 
--- the value that W11 is told of
+-- the value that W11 is reported
 abbrev pub expression : Part → Option (List ℕ)
 expression p = option_and_then expression_in (comparison_of p)
 
@@ -99,6 +99,6 @@ abbrev pub some_met_by_all : Option Comparison → Bool
 some_met_by_all None = false
 some_met_by_all (Some wanted) = is_met_by_all wanted
 
--- whether W12 is told of a part
+-- whether W12 is reported for a part
 abbrev pub always_holds : Part → Bool
 always_holds p = looks_at_all p && some_met_by_all (comparison_of p)

@@ -10,7 +10,7 @@ use Rattle.rule_lints.specs.Spots.{key_spot}
 use Rattle.rule_lints.specs.Written.{WrittenPart}
 use Rattle.rule_lints.specs.declared.spot.LintSpot.{LintSpot}
 
--- whether a rule may lead to the one behind it though it has a jump: there is no later label, or the rule may end before it jumps
+-- whether a rule may lead to the one after it though it has a jump: there is no later label, or the rule may end before it jumps
 abbrev pub may_go_on : LandedRule → Bool
 may_go_on r = r.landing.lost || list_any (λ w. may_end_at w.part) r.rule.tokens
 
@@ -27,12 +27,12 @@ jumps_above (r ∷ farther) = jumps_to r
 abbrev pub is_labelled : LandedRule → Bool
 is_labelled r = list_any (λ w. is_some (label_in w.part)) r.rule.tokens
 
--- the first of these tokens, told with a label
+-- the first of these tokens, reported with a label
 abbrev pub first_spot : Text → List WrittenPart → List LintSpot
 first_spot name [] = []
 first_spot name (w ∷ tokens) = key_spot NeverReached name w.token ∷ []
 
--- a rule without a label, behind one that jumps to a label, if it does
+-- a rule without a label, after one that jumps to a label, if it does
 abbrev pub never_reached : Option Text → LandedRule → List LintSpot
 never_reached None r = []
 never_reached (Some name) r = if is_labelled r then [] else first_spot name r.rule.tokens

@@ -34,10 +34,10 @@ nothing_above = record { given = []; jump = None }
 abbrev pub with_rule : RulesAbove → LandedRule → RulesAbove
 with_rule a r = record { given = with_texts a.given (given_by r.rule.tokens); jump = jumps_to r }
 
--- how many of so many matches stand behind a token, which may be the first of them
+-- how many of so many matches follow a token, which may be the first of them
 abbrev pub left_behind : ℕ → WrittenPart → ℕ
 left_behind matches w = if is_match w.part then matches - 1 else matches
 
--- an assignment behind which so many matches stand, where what it gives is compared
+-- an assignment after which so many matches stand, where what it gives is compared
 abbrev pub before_matches : ℕ → List Text → WrittenPart → List LintSpot
 before_matches matches compared w = if nat_lt 0 matches then meant_spots compared w (assigned_value w.part) else []

@@ -12,7 +12,7 @@ use text_bytes::{begins_with, is_blank, unindented};
 /// The shells, by the names of their programs.
 const SHELLS: [&[u8]; 6] = [b"sh", b"ash", b"bash", b"dash", b"ksh", b"zsh"];
 
-/// Commands that stand in /usr/bin or /usr/sbin, and not in /usr/lib/udev, where udev looks for a program
+/// Commands that are in /usr/bin or /usr/sbin, and not in /usr/lib/udev, where udev looks for a program
 /// without a path.
 const COMMANDS: [&[u8]; 35] = [
     b"bash",
@@ -52,14 +52,14 @@ const COMMANDS: [&[u8]; 35] = [
     b"umount",
 ];
 
-/// The value that W2 is told of: a command with a sign of the shell that no shell runs.
+/// The value that W2 is reported: a command with a sign of the shell that no shell runs.
 pub(crate) fn shell_command(part: &Part) -> Option<&[u8]>
     ensures { option_map (λ text. text.now) result ≡ shell_command part.now }
 {
     lacks_shell(command_of(part)?)
 }
 
-/// The value that W3 is told of: a command of RUN whose program stands elsewhere than where udev looks
+/// The value that W3 is reported: a command of RUN whose program stands elsewhere than where udev looks
 /// for one without a path.
 pub(crate) fn relative_program(part: &Part) -> Option<&[u8]>
     ensures { option_map (λ text. text.now) result ≡ relative_program part.now }
@@ -127,7 +127,7 @@ fn has_shell_sign(command: &[u8]) -> bool
     false
 }
 
-/// The quote that is open behind a byte, by that which is open before it.
+/// The quote that is open after a byte, by that which is open before it.
 fn open_behind(opened: Option<u8>, byte: u8) -> Option<u8>
     ensures { result ≡ open_behind opened byte }
 {
@@ -155,7 +155,7 @@ fn is_shell_sign(byte: u8, behind: &[u8]) -> bool
         || (byte == b'&' && begins_with(b'&', behind))
 }
 
-/// Whether a text goes on as one behind a `>` of the shell.
+/// Whether a text goes on as one after a `>` of the shell.
 fn is_redirected(behind: &[u8]) -> bool
     ensures { result ≡ is_redirected behind.now }
 {
@@ -175,7 +175,7 @@ fn is_word_end(behind: &[u8]) -> bool
     }
 }
 
-/// The name of the program of a command: what stands behind the last `/` of its first word.
+/// The name of the program of a command: what follows the last `/` of its first word.
 fn program_name(command: &[u8]) -> &[u8]
     ensures { result.now ≡ program_name command.now }
 {

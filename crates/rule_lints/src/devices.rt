@@ -49,7 +49,7 @@ const INPUT_NAMES: [&[u8]; 4] = [b"id/vendor", b"id/product", b"id/version", b"i
 /// Attributes of a PCI device.
 const PCI_NAMES: [&[u8]; 2] = [b"subsystem_vendor", b"subsystem_device"];
 
-/// The token that W5 is told of: the first whose attribute is of other devices than that of the first
+/// The token that W5 is reported: the first whose attribute is of other devices than that of the first
 /// such token.
 pub(crate) fn stranger<'w, 'a>(tokens: &'w [WrittenPart<'a>]) -> Option<&'w WrittenPart<'a>>
     ensures { option_map (λ w. w.now) result ≡ stranger tokens.now }

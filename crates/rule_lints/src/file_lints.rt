@@ -22,9 +22,9 @@ use text_tables::{OwnedTexts, Texts};
 pub struct FileSpot {
     /// The number of the line of the file in which the rule begins.
     pub number: u32,
-    /// How many bytes of joined lines stand before the rule.
+    /// How many bytes of joined lines come before the rule.
     pub start: usize,
-    /// What is told, with the part of the rule that it is about.
+    /// What is reported, with the part of the rule that it is about.
     pub spot: LintSpot,
 }
 
@@ -61,7 +61,7 @@ impl<'a> Model for RulesAbove<'a> {
     ghost view = { λ a. record { given = a.given; jump = option_map (λ t. t.now) a.jump } };
 }
 
-/// The lints of the rules of a file, in their order. The error comes where memory is refused.
+/// The lints of the rules of a file, in their order.
 pub fn file_lints(alloc: Global, rules: &[LandedRule<'_>]) -> Result<Vec<FileSpot>, AllocError>
     ensures { IfOk result (λ spots. spots.items ≡ file_spots rules.now) }
 {
@@ -140,7 +140,7 @@ impl<'a> RulesAbove<'a> {
         }
     }
 
-    /// Takes one rule more, which is the nearest then. The error comes where memory is refused.
+    /// Takes one rule more, which is the nearest then.
     fn take(&mut self, rule: &'a LandedRule<'_>) -> Result<(), AllocError>
         ensures { OnOk result (self.new ≡ with_rule self.old rule.now) }
     {

@@ -9,7 +9,7 @@ use std::marker::Model;
 pub struct FileRule<'a> {
     /// The number of the line of the file in which it begins.
     pub number: u32,
-    /// How many bytes of joined lines stand before it.
+    /// How many bytes of joined lines come before it.
     pub start: usize,
     /// Its tokens, each with the part that it is.
     pub tokens: Vec<WrittenPart<'a>>,

@@ -15,7 +15,7 @@ use rule_types::Part;
 use std::alloc::{AllocError, Global};
 use text_bytes::Profile;
 
-/// The rules among the joined lines of a file, in order. The error comes where memory is refused.
+/// The rules among the joined lines of a file, in order.
 pub fn file_rules<'a>(
     alloc: Global,
     profile: Profile,
@@ -39,7 +39,7 @@ pub fn file_rules<'a>(
     Ok(rules)
 }
 
-/// The tokens of a joined line, if it reads as a rule. The error comes where memory is refused.
+/// The tokens of a joined line, if it reads as a rule.
 #[tactic(auto, unfolding(crate::specs::FileRules::tokens_of_rule))]
 fn tokens_of_rule(
     alloc: Global,

@@ -9,7 +9,7 @@ use rule_types::{Change, Deed, Import, Part, Target};
 use std::alloc::AllocError;
 use text_tables::Texts;
 
-/// Builtins, each with a family of properties that it imports: what their names begin with, and a `*` behind.
+/// Builtins, each with a family of properties that it imports: what their names begin with, and a `*` after.
 const FAMILIES: [(&[u8], &[u8]); 6] = [
     (b"blkid", b"ID_FS_*"),
     (b"blkid", b"ID_PART_*"),
@@ -22,7 +22,7 @@ const FAMILIES: [(&[u8], &[u8]); 6] = [
 /// What stands for each property, where a rule may import any.
 const ANY_PROPERTY: &[u8] = b"*";
 
-/// Adds what the tokens of a rule import. The error comes where memory is refused.
+/// Adds what the tokens of a rule import.
 pub fn add_imported<'a>(
     names: &mut Texts<'a>,
     tokens: &'a [WrittenPart<'_>],
@@ -35,7 +35,7 @@ pub fn add_imported<'a>(
     Ok(())
 }
 
-/// Adds what the tokens of a rule import, may import or assign. The error comes where memory is refused.
+/// Adds what the tokens of a rule import, may import or assign.
 pub fn add_given<'a>(names: &mut Texts<'a>, tokens: &'a [WrittenPart<'_>]) -> Result<(), AllocError>
     ensures { OnOk result (names.new ≡ with_texts names.old (given_by tokens.now)) }
 {

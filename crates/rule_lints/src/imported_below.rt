@@ -10,8 +10,7 @@ use std::alloc::{AllocError, Global};
 use text_core::Choice;
 use text_tables::Texts;
 
-/// Adds the matches of a rule that ask for properties that its file imports, where these are not given before. The
-/// error comes where memory is refused.
+/// Adds the matches of a rule that ask for properties that its file imports, where these are not given before.
 pub fn add_imported_below(
     alloc: Global,
     spots: &mut Vec<LintSpot>,

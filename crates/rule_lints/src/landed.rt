@@ -11,7 +11,7 @@ use rule_types::Part;
 use std::alloc::{AllocError, Global};
 use text_bytes::Profile;
 
-/// Each of a file's rules with what becomes of its jump and of its label. The error comes where memory is refused.
+/// Each of a file's rules with what becomes of its jump and of its label.
 pub fn landed_rules(
     alloc: Global,
     profile: Profile,

@@ -20,59 +20,59 @@ pub fn modes_are_octal_numbers()
     ensures { (text : List ℕ) → (is_mode text ≡ true) ↔ WritesMode text }
 {}
 
-/// A sign of the shell is told of exactly where it stands behind bytes and whole quoted parts, so
+/// A sign of the shell is reported exactly where it follows bytes and whole quoted parts, so
 /// outside of quotes.
 #[tactic(auto, using(crate::proofs::SignLaw::signs_outside))]
 pub fn signs_stand_outside_of_quotes()
     ensures { (command : List ℕ) → (has_shell_sign command ≡ true) ↔ HasSignOutside command }
 {}
 
-/// A pattern that is told of for its capital letters fits no text without one, so nothing that the
+/// A pattern that is reported for its capital letters fits no text without one, so nothing that the
 /// kernel writes in small letters.
 #[tactic(auto, using(crate::proofs::FitLaws::capital_kept))]
 pub fn capital_letters_are_never_written()
     ensures { (items : List Item) (text : List ℕ) → list_any is_capital items ≡ true → fits items text ≡ true → has_capital text ≡ true }
 {}
 
-/// A pattern of an alias that is told of fits aliases alone that have a small digit in a number of
+/// A pattern of an alias that is reported for fits aliases alone that have a small digit in a number of
 /// their device, which the kernel writes with capital ones.
 #[tactic(auto, using(crate::proofs::AliasLaw::aliases_kept))]
 pub fn small_digits_of_aliases_are_never_written()
     ensures { (items : List Item) (text : List ℕ) → is_small_alias (items_in_place items) ≡ true → fits items text ≡ true → is_small_text text ≡ true }
 {}
 
-/// No token is told of for its device exactly where no two attributes of the rule are of different
+/// No token is reported for its device exactly where no two attributes of the rule are of different
 /// groups.
 #[tactic(auto, using(crate::proofs::DeviceLaw::strangers))]
 pub fn strangers_are_of_two_groups()
     ensures { (tokens : List WrittenPart) → (stranger tokens ≡ None) ↔ AreOfOneGroup tokens }
 {}
 
-/// The token that is told of for its device is the first of another group than one before it.
+/// The token that is reported for its device is the first of another group than one before it.
 #[tactic(auto, using(crate::proofs::DeviceLaw::stranger_found))]
 pub fn the_first_stranger_is_told()
     ensures { (tokens : List WrittenPart) (told : WrittenPart) → stranger tokens ≡ Some told → IsStranger tokens told }
 {}
 
-/// Braces are told of exactly where a comma stands between them.
+/// Braces are reported exactly where a comma is between them.
 #[tactic(auto, using(crate::proofs::BraceLaw::braces))]
 pub fn braces_have_a_comma()
     ensures { (text : List ℕ) → (has_braces text ≡ true) ↔ HasBraces text }
 {}
 
-/// A parenthesis that is open is told of exactly where none that closes stands behind it.
+/// A parenthesis that is open is reported exactly where none that closes follows it.
 #[tactic(auto, using(crate::proofs::ParenthesisLaw::parentheses))]
 pub fn open_parentheses_are_not_closed()
     ensures { (text : List ℕ) → (has_open_parenthesis text ≡ true) ↔ HasOpenParenthesis text }
 {}
 
-/// A match is told of as one that always holds exactly where each text fits it.
+/// A match is reported as one that always holds exactly where each text fits it.
 #[tactic(auto, using(crate::proofs::FitLaws::any_text_fits))]
 pub fn what_always_holds_fits_each_text()
     ensures { (items : List Item) → (take_all items ≡ true) ↔ ((text : List ℕ) → fits items text ≡ true) }
 {}
 
-/// Values of MODE, of which some are told of.
+/// Values of MODE, of which some are reported.
 pub fn some_modes()
     ensures zeros { no_mode (codes "0007777") ≡ None }
     ensures nine { no_mode (codes "0669") ≡ Some (codes "0669") }
@@ -81,7 +81,7 @@ pub fn some_modes()
     ensures substituted { no_mode (codes "$env{MODE}") ≡ None }
 {}
 
-/// Commands, of which some are told of.
+/// Commands, of which some are reported.
 pub fn some_commands()
     ensures quoted { lacks_shell (codes "/usr/bin/logger 'a > b | c'") ≡ None }
     ensures shell { lacks_shell (codes " /bin/sh -c 'a' | b") ≡ None }
@@ -99,7 +99,7 @@ pub fn some_commands()
     ensures blanks { lacks_path (codes "  ") ≡ None }
 {}
 
-/// Values with which an alias is compared, of which some are told of.
+/// Values with which an alias is compared, of which some are reported.
 #[tactic(auto, unfolding(text_core::specs::Choices::choice, text_core::specs::Choices::choice_by, text_core::specs::Spell::front, text_core::specs::Spell::bracket))]
 pub fn some_aliases()
     ensures capital { is_told_as Alias (codes "usb:v1D6Bp0002d*") ≡ false }
@@ -112,7 +112,7 @@ pub fn some_aliases()
     ensures other { is_told_as Alias (codes "acpi:device:") ≡ false }
 {}
 
-/// Values with which hexadecimal numbers are compared, of which some are told of.
+/// Values with which hexadecimal numbers are compared, of which some are reported.
 #[tactic(auto, unfolding(text_core::specs::Choices::choice, text_core::specs::Choices::choice_by, text_core::specs::Spell::front, text_core::specs::Spell::bracket))]
 pub fn some_numbers()
     ensures small { is_told_as Lower (codes "046d|c52b") ≡ false }
@@ -123,7 +123,7 @@ pub fn some_numbers()
     ensures name { is_told_as Prefixed (codes "ATA     ") ≡ false }
 {}
 
-/// Values with which something is compared that is always there, of which some are told of.
+/// Values with which something is compared that is always there, of which some are reported.
 #[tactic(auto, unfolding(text_core::specs::Choices::choice, text_core::specs::Choices::choice_by, text_core::specs::Spell::front, text_core::specs::Spell::bracket))]
 pub fn some_stars()
     ensures star { is_told_to_hold (codes "*") ≡ true }
@@ -132,13 +132,13 @@ pub fn some_stars()
     ensures none { is_told_to_hold (codes "") ≡ false }
 {}
 
-/// Links, of which some are told of.
+/// Links, of which some are reported.
 pub fn some_links()
     ensures second { links_with_dev (codes "a /dev/b") ≡ Some (codes "a /dev/b") }
     ensures within { links_with_dev (codes "a/dev/b dev/c") ≡ None }
 {}
 
-/// Patterns, of which some are told of.
+/// Patterns, of which some are reported.
 pub fn some_patterns()
     ensures start { is_expression (codes "^sd") ≡ true }
     ensures end { is_expression (codes "sd[a-z]$") ≡ true }

@@ -12,7 +12,7 @@ use text_core::{Item, Pattern};
 pub enum Writing {
     /// Hexadecimal digits in small letters.
     Lower,
-    /// The same where `0x` stands before them; else it may be any text.
+    /// The same where `0x` comes before them; else it may be any text.
     Prefixed,
     /// A device's alias, with the numbers of vendor and product in capital letters.
     Alias,
@@ -39,10 +39,10 @@ const LOWER_NAMES: [&[u8]; 17] = [
     b"subsystem_device",
 ];
 
-/// Attributes that several subsystems have, and that are such digits where `0x` stands before them.
+/// Attributes that several subsystems have, and that are such digits where `0x` comes before them.
 const PREFIXED_NAMES: [&[u8]; 3] = [b"vendor", b"device", b"class"];
 
-/// The value that W4 is told of.
+/// The value that W4 is reported.
 pub(crate) fn wrong_case(part: &Part) -> Option<&[u8]>
     ensures { option_map (λ text. text.now) result ≡ wrong_case part.now }
 {
@@ -171,7 +171,7 @@ fn items_in_place(items: &[Item]) -> &[Item]
     front
 }
 
-/// How many items stand before the first that takes any bytes.
+/// How many items come before the first that takes any bytes.
 fn length_in_place(items: &[Item]) -> usize
     ensures value { result ≡ prefix_len (λ item. not (is_many item)) items.now }
     ensures within { result ≤ length items.now }
@@ -195,7 +195,7 @@ fn is_small_alias(items: &[Item]) -> bool
             && (has_small_digit(5, 8, items) || has_small_digit(14, 8, items)))
 }
 
-/// Whether a digit `a` to `f` is among so many items behind the first so many.
+/// Whether a digit `a` to `f` is among so many items after the first so many.
 fn has_small_digit(start: usize, size: usize, items: &[Item]) -> bool
     ensures { result ≡ has_small_digit start size items.now }
 {

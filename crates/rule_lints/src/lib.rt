@@ -1,7 +1,9 @@
-//! What is told of rules that are most likely not the ones that were meant.
+//! Warnings about rules that are probably not what their author meant.
 //!
-//! Each lint looks at tokens of one rule, or of a file's rules together, once they are read. None of them keeps a rule from
-//! being one.
+//! Each lint looks at the tokens of one rule, or at all rules of a file together, after they were read. A lint never
+//! rejects a rule.
+//!
+//! Functions that allocate return `AllocError` when memory runs out.
 #![tactic(auto)]
 
 mod commands;

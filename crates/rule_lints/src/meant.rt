@@ -14,7 +14,7 @@ use rule_types::Lint;
 use std::alloc::{AllocError, Global};
 use text_tables::OwnedTexts;
 
-/// Adds what the tokens of a rule compare by `==`. The error comes where memory is refused.
+/// Adds what the tokens of a rule compare by `==`.
 pub fn add_compared(
     alloc: Global,
     texts: &mut OwnedTexts,
@@ -30,8 +30,7 @@ pub fn add_compared(
     Ok(())
 }
 
-/// Adds the assignments of a rule behind which a match stands, where what they give is compared. The error comes where
-/// memory is refused.
+/// Adds the assignments of a rule after which a match stands, where what they give is compared.
 pub fn add_meant(
     alloc: Global,
     spots: &mut Vec<LintSpot>,
@@ -49,7 +48,7 @@ pub fn add_meant(
     Ok(())
 }
 
-/// How many of so many matches stand behind a token, which may be the first of them.
+/// How many of so many matches follow a token, which may be the first of them.
 fn left_behind(matches: usize, token: &WrittenPart<'_>) -> usize
     ensures { result ≡ left_behind matches token.now }
 {
@@ -60,7 +59,7 @@ fn left_behind(matches: usize, token: &WrittenPart<'_>) -> usize
     }
 }
 
-/// Adds an assignment behind which so many matches stand, where what it gives is compared.
+/// Adds an assignment after which so many matches stand, where what it gives is compared.
 fn add_before(
     alloc: Global,
     spots: &mut Vec<LintSpot>,

@@ -8,7 +8,7 @@ use rule_types::{Change, Part, Target};
 /// The greatest mode of a file.
 const GREATEST_MODE: u32 = 0o7777;
 
-/// The value that W1 is told of: one that a part gives to MODE, and that gives none.
+/// The value that W1 is reported: one that a part gives to MODE, and that gives none.
 pub(crate) fn wrong_mode(part: &Part) -> Option<&[u8]>
     ensures { option_map (λ text. text.now) result ≡ wrong_mode part.now }
 {

@@ -46,7 +46,7 @@ fn meets(text: &[u8], wanted: &Comparison) -> bool
     }
 }
 
-/// The value that W8 is told of, in a rule that is for no network device.
+/// The value that W8 is reported, in a rule that is for no network device.
 pub(crate) fn name_given(part: &Part) -> Option<&[u8]>
     ensures { option_map (λ text. text.now) result ≡ name_given part.now }
 {
@@ -63,7 +63,7 @@ fn name_in(change: &Change) -> Option<&[u8]>
     }
 }
 
-/// The value that W9 is told of: links of which one begins with `/dev/`.
+/// The value that W9 is reported: links of which one begins with `/dev/`.
 pub(crate) fn dev_link(part: &Part) -> Option<&[u8]>
     ensures { option_map (λ text. text.now) result ≡ dev_link part.now }
 {
@@ -96,7 +96,7 @@ fn has_dev(links: &[u8]) -> bool
         .any(|link| link.starts_with(b"/dev/"))
 }
 
-/// The text in braces that W10 is told of.
+/// The text in braces that W10 is reported.
 pub(crate) fn quoted_name<'a>(token: &Token<'a>) -> Option<&'a [u8]>
     ensures { option_map (λ text. text.now) result ≡ quoted_name token.now }
 {

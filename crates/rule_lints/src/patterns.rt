@@ -12,7 +12,7 @@ use rule_types::{Comparison, Part, PlainKey};
 use text_bytes::{begins_with, ends_in};
 use text_core::{Item, Pattern};
 
-/// The value that W11 is told of.
+/// The value that W11 is reported.
 pub(crate) fn expression(part: &Part) -> Option<&[u8]>
     ensures { option_map (λ text. text.now) result ≡ expression part.now }
 {
@@ -77,7 +77,7 @@ fn is_expression(text: &[u8]) -> bool
         || has_braces(text)
 }
 
-/// Whether a `\d`, `\w` or `\s` stands in a text.
+/// Whether a `\d`, `\w` or `\s` is in a text.
 fn has_class(text: &[u8]) -> bool
     ensures { result ≡ has_class text.now }
 {
@@ -101,7 +101,7 @@ fn begins_with_class(text: &[u8]) -> bool
     }
 }
 
-/// Whether a `(` behind which no `)` stands is in a text.
+/// Whether a `(` after which no `)` stands is in a text.
 fn has_open_parenthesis(text: &[u8]) -> bool
     ensures { result ≡ has_open_parenthesis text.now }
 {
@@ -115,14 +115,14 @@ fn has_close_parenthesis(text: &[u8]) -> bool
     has_byte(b')', before_first(b'(', text))
 }
 
-/// Whether a text has a `{`, behind it a `,`, and behind that a `}`.
+/// Whether a text has a `{`, after it a `,`, and after that a `}`.
 fn has_braces(text: &[u8]) -> bool
     ensures { result ≡ has_braces text.now }
 {
     has_byte(b'}', behind_first(b',', behind_first(b'{', text)))
 }
 
-/// Whether W12 is told of a part: a match that holds of any text.
+/// Whether W12 is reported for a part: a match that holds of any text.
 pub(crate) fn always_holds(part: &Part) -> bool
     ensures { result ≡ always_holds part.now }
 {

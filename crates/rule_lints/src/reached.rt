@@ -24,7 +24,7 @@ pub fn jumps_to<'a>(rule: &'a LandedRule<'_>) -> Option<&'a [u8]>
     }
 }
 
-/// Whether a rule may lead to the one behind it though it has a jump: there is no later label, or the rule may end
+/// Whether a rule may lead to the one after it though it has a jump: there is no later label, or the rule may end
 /// before it jumps.
 fn may_go_on(rule: &LandedRule<'_>) -> bool
     ensures { result ≡ may_go_on rule.now }
@@ -39,8 +39,7 @@ fn may_end(tokens: &[WrittenPart<'_>]) -> bool
     tokens.iter().any(|token| may_end_at(&token.part))
 }
 
-/// Adds a rule without a label, behind one that jumps to a label for every device, if there is such a label. The
-/// error comes where memory is refused.
+/// Adds a rule without a label, after one that jumps to a label for every device, if there is such a label.
 pub fn add_never_reached(
     alloc: Global,
     spots: &mut Vec<LintSpot>,
@@ -78,7 +77,7 @@ fn is_label(part: &Part) -> bool
     }
 }
 
-/// Adds the first of these tokens, told with a label.
+/// Adds the first of these tokens, reported with a label.
 fn add_first(
     alloc: Global,
     spots: &mut Vec<LintSpot>,

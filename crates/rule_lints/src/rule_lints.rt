@@ -1,4 +1,4 @@
-//! What is told of a rule by itself.
+//! What is reported for a rule by itself.
 ghost use Rattle.std.specs.Prelude.{◌≡◌, ◌∷◌, ◌++◌, [], IfOk, OnOk, option_map};
 ghost use Rattle.rule_types.specs.declared.lint.Lint.TheVariants.{AlwaysHolds, NoSuchDevice};
 ghost use Rattle.rule_lints.specs.Devices.{stranger};
@@ -16,8 +16,8 @@ use rule_tokens::Token;
 use rule_types::Lint;
 use std::alloc::{AllocError, Global};
 
-/// What is told of a rule's tokens: the lints of a rule by itself in the order of their codes, those of
-/// one code in written order. The error comes where memory is refused.
+/// What is reported for a rule's tokens: the lints of a rule by itself in the order of their codes, those of
+/// one code in written order.
 #[tactic(auto, unfolding(crate::specs::RuleLints::rule_lints))]
 pub(crate) fn rule_lints(
     alloc: Global,
@@ -39,7 +39,7 @@ pub(crate) fn rule_lints(
     Ok(spots)
 }
 
-/// Adds what W5 tells of a rule's tokens.
+/// Adds what W5 says about a rule's tokens.
 fn add_stranger(
     alloc: Global,
     spots: &mut Vec<LintSpot>,
@@ -53,7 +53,7 @@ fn add_stranger(
     }
 }
 
-/// Adds what W8 tells of a rule's tokens.
+/// Adds what W8 says about a rule's tokens.
 fn add_names(
     alloc: Global,
     spots: &mut Vec<LintSpot>,
@@ -68,7 +68,7 @@ fn add_names(
     }
 }
 
-/// Adds what a lint of one token tells of these.
+/// Adds what a lint of one token says about these.
 fn add(
     alloc: Global,
     spots: &mut Vec<LintSpot>,
@@ -83,7 +83,7 @@ fn add(
     Ok(())
 }
 
-/// Adds what a lint of one token tells of this one.
+/// Adds what a lint of one token says about this one.
 fn add_one(
     alloc: Global,
     spots: &mut Vec<LintSpot>,
@@ -98,7 +98,7 @@ fn add_one(
     Ok(())
 }
 
-/// A lint about a token, told with a text.
+/// A lint about a token, reported with a text.
 fn spot_of(
     alloc: Global,
     lint: Lint,
@@ -115,7 +115,7 @@ fn spot_of(
     }
 }
 
-/// The text that a lint of one token is told of this one with, if it is told.
+/// The text that a lint of one token is reported for this one with, if it is reported.
 fn word_of<'w>(lint: Lint, written: &'w WrittenPart<'_>) -> Option<&'w [u8]>
     ensures { option_map (λ word. word.now) result ≡ word_of lint written.now }
 {

@@ -10,9 +10,9 @@ use text_bytes::Bytes;
 /// A part of a rule's line that a lint is about.
 #[derive(Debug, Drop)]
 pub struct LintSpot {
-    /// What is told.
+    /// What is reported.
     pub lint: Lint,
-    /// The text that it is told with.
+    /// The text that it is reported with.
     pub word: Bytes,
     /// The place of the part's first byte, in bytes from the line's start.
     pub start: usize,
@@ -20,7 +20,7 @@ pub struct LintSpot {
     pub size: usize,
 }
 
-/// A lint about a token's key, told with a text. The error comes where memory is refused.
+/// A lint about a token's key, reported with a text.
 pub fn key_spot(
     alloc: Global,
     lint: Lint,
@@ -37,7 +37,7 @@ pub fn key_spot(
     })
 }
 
-/// A lint about a token's value between its quotes, told with what that means. The error comes where memory is refused.
+/// A lint about a token's value between its quotes, reported with what that means.
 pub fn value_spot(
     alloc: Global,
     lint: Lint,

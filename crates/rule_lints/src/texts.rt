@@ -1,4 +1,4 @@
-//! Bytes of a text, and what stands behind them.
+//! Bytes of a text, and what follows them.
 ghost use Rattle.std.specs.Prelude.{◌≡◌, ◌==◌, ◌≤◌, length, not};
 ghost use Rattle.std.specs.List.{position_or_len, suffix_len};
 ghost use Rattle.rule_lints.specs.Texts.{before_first, behind_first, behind_last, has_byte};
@@ -10,7 +10,7 @@ pub(crate) fn has_byte(byte: u8, text: &[u8]) -> bool
     text.iter().any(|other| *other == byte)
 }
 
-/// What stands behind the first such byte of a text, nothing where it has none.
+/// What follows the first such byte of a text, nothing where it has none.
 #[tactic(auto, using(std::proofs::lemmas::List::drop_min))]
 pub(crate) fn behind_first(byte: u8, text: &[u8]) -> &[u8]
     ensures { result.now ≡ behind_first byte text.now }
@@ -20,7 +20,7 @@ pub(crate) fn behind_first(byte: u8, text: &[u8]) -> &[u8]
     behind
 }
 
-/// What stands before the first such byte of a text, all of it where it has none.
+/// What comes before the first such byte of a text, all of it where it has none.
 pub(crate) fn before_first(byte: u8, text: &[u8]) -> &[u8]
     ensures { result.now ≡ before_first byte text.now }
 {
@@ -28,7 +28,7 @@ pub(crate) fn before_first(byte: u8, text: &[u8]) -> &[u8]
     front
 }
 
-/// How many bytes stand before the first such byte of a text.
+/// How many bytes come before the first such byte of a text.
 fn length_before(byte: u8, text: &[u8]) -> usize
     ensures value { result ≡ position_or_len (λ b. b == byte) text.now }
     ensures within { result ≤ length text.now }
@@ -36,7 +36,7 @@ fn length_before(byte: u8, text: &[u8]) -> usize
     text.iter().take_while(|other| **other != byte).count()
 }
 
-/// What stands behind the last such byte of a text, all of it where it has none.
+/// What follows the last such byte of a text, all of it where it has none.
 pub(crate) fn behind_last(byte: u8, text: &[u8]) -> &[u8]
     ensures { result.now ≡ behind_last byte text.now }
 {
@@ -44,7 +44,7 @@ pub(crate) fn behind_last(byte: u8, text: &[u8]) -> &[u8]
     behind
 }
 
-/// How many bytes stand behind the last such byte of a text.
+/// How many bytes follow the last such byte of a text.
 fn length_behind(byte: u8, text: &[u8]) -> usize
     ensures value { result ≡ suffix_len (λ b. not (b == byte)) text.now }
     ensures within { result ≤ length text.now }

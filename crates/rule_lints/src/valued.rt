@@ -25,8 +25,7 @@ impl<'a> Model for Valued<'a> {
     ghost view = { λ v. record { key = v.key; name = v.name.now; value = v.value.now } };
 }
 
-/// A property or an attribute with a value as a rule writes it, without operator and quotes. The error comes where
-/// memory is refused.
+/// A property or an attribute with a value as a rule writes it, without operator and quotes.
 pub fn text_of(alloc: Global, valued: &Valued<'_>) -> Result<Vec<u8>, AllocError>
     ensures { IfOk result (λ text. text.items ≡ text_of valued.now) }
 {

@@ -1,4 +1,4 @@
--- Of each kind the first pair is told, and no other.
+-- Of each kind the first pair is reported, and no other.
 use Rattle.std.proofs.Common.{◌≡◌, ℕ, ◌+◌, ◌≤◌, Bool, true, false, cond, not, ◌&&◌, ◌||◌, List, [], ◌∷◌, ◌++◌, length, filter, Option, Some, None, is_some, option_map, refl, ap, sym, ◌∙◌, true≢false, arith}
 use Rattle.std.specs.List.{find}
 use Rattle.rule_pairs.specs.Pairs.{Pair, finding, is_of_kind, is_told, same_kind, told_of, with_kind, with_pair}
@@ -43,7 +43,7 @@ first_behind kind (f ∷ told) more = by (same_kind kind f.kind) (first_behind k
     by true rest = refl
     by false rest = rest
 
--- a kind that is added is found behind what was told
+-- a kind that is added is found after what was reported
 same_added : (kind : PairKind) (told : List PairFinding) (p : Pair) → same_kind kind kind ≡ true → first_of kind (with_kind kind told p) ≡ or_else (first_of kind told) (added_by kind p)
 same_added kind told p e = by (first_of kind told) refl (is_of_kind kind p)
   where
@@ -71,7 +71,7 @@ other_added kind other told p e = by (not (is_told other told) && is_of_kind oth
     by true = first_behind kind told (finding other p ∷ []) ∙ ap (or_else (first_of kind told)) none ∙ or_none (first_of kind told)
     by false = refl
 
--- what a pair adds of a kind is found behind what was told
+-- what a pair adds of a kind is found after what was reported
 pair_added : (kind : PairKind) (told : List PairFinding) (p : Pair) → first_of kind (with_pair told p) ≡ or_else (first_of kind told) (added_by kind p)
 pair_added Same told p = other_added Same Against (with_kind Same told p) p refl ∙ same_added Same told p refl
 pair_added Against told p =
@@ -92,11 +92,11 @@ told_behind kind told (p ∷ pairs) =
     ∙ or_more (first_of kind told) (added_by kind p) (option_map (finding kind) (find (is_of_kind kind) pairs))
     ∙ ap (or_else (first_of kind told)) (pair_more kind p pairs)
 
--- of each kind the first pair is told
+-- of each kind the first pair is reported
 pub first_told : (kind : PairKind) (pairs : List Pair) → first_of kind (told_of [] pairs) ≡ option_map (finding kind) (find (is_of_kind kind) pairs)
 first_told kind pairs = told_behind kind [] pairs
 
--- how often a kind is told
+-- how often a kind is reported
 abbrev count_of : PairKind → List PairFinding → ℕ
 count_of kind told = length (filter (λ (f : PairFinding). same_kind kind f.kind) told)
 
@@ -150,6 +150,6 @@ once_behind : (kind : PairKind) (told : List PairFinding) (pairs : List Pair) �
 once_behind kind told [] h = h
 once_behind kind told (p ∷ pairs) h = once_behind kind (with_pair told p) pairs (once_more kind told p h)
 
--- each kind is told once at most
+-- each kind is reported once at most
 pub told_once : (kind : PairKind) (pairs : List Pair) → count_of kind (told_of [] pairs) ≤ 1
 told_once kind pairs = once_behind kind [] pairs (omega arith)

@@ -91,7 +91,7 @@ bare_option kind = record { kind = kind; name = []; number = None; text = None }
 abbrev pub log_level : List ℕ → Option Matter
 log_level text = option_map (numbered (codes "log_level")) (level_of text)
 
--- a static node, or else a level of the log, by what stands in a text behind `static_node=`
+-- a static node, or else a level of the log, by what is in a text after `static_node=`
 abbrev pub node_or_level : List ℕ → Option (List ℕ) → Option Matter
 node_or_level text (Some node) = Some (of_kind (codes "static_node") node)
 node_or_level text None = option_and_then log_level (behind (codes "log_level=") text)

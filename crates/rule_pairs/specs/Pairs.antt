@@ -1,4 +1,4 @@
--- What is told of the tokens of one rule, two by two.
+-- What is reported for the tokens of one rule, two by two.
 use Rattle.std.specs.Prelude.{ℕ, ◌+◌, Bool, true, false, not, ◌&&◌, if◌then◌else◌, List, [], ◌∷◌, ◌++◌, map, fold, Option, Some, None}
 use Rattle.std.specs.List.{list_any}
 use Rattle.text_bytes.specs.declared.message.MessageKind.{MessageKind}
@@ -28,12 +28,12 @@ pub record Pair : Type 0 where
   pub later : Option Said
   pub place : ℕ
 
--- a token with each of those behind it, of which the first stands at a place
+-- a token with each of those after it, of which the first is at a place
 abbrev pub pairs_with : Option Said → ℕ → List (Option Said) → List Pair
 pairs_with a place [] = []
 pairs_with a place (b ∷ tokens) = record { earlier = a; later = b; place = place } ∷ pairs_with a (place + 1) tokens
 
--- each two tokens, of which the first stands at a place, as they are written
+-- each two tokens, of which the first is at a place, as they are written
 abbrev pub pairs_from : ℕ → List (Option Said) → List Pair
 pairs_from place [] = []
 pairs_from place (a ∷ tokens) = pairs_with a (place + 1) tokens ++ pairs_from (place + 1) tokens
@@ -53,15 +53,15 @@ are_of_kind kind (Some a) None = false
 abbrev pub is_of_kind : PairKind → Pair → Bool
 is_of_kind kind p = are_of_kind kind p.earlier p.later
 
--- what is told of a pair of a kind
+-- what is reported for a pair of a kind
 abbrev pub finding : PairKind → Pair → PairFinding
 finding kind p = record { kind = kind; token = p.place }
 
--- whether a kind is among what is told
+-- whether a kind is among what is reported
 abbrev pub is_told : PairKind → List PairFinding → Bool
 is_told kind told = list_any (λ f. same_kind kind f.kind) told
 
--- what is told, and a pair with it if it is of a kind that is not told yet
+-- what is reported, and a pair with it if it is of a kind that is not reported yet
 abbrev pub with_kind : PairKind → List PairFinding → Pair → List PairFinding
 with_kind kind told p = if not (is_told kind told) && is_of_kind kind p then told ++ finding kind p ∷ [] else told
 
@@ -69,10 +69,10 @@ with_kind kind told p = if not (is_told kind told) && is_of_kind kind p then tol
 abbrev pub with_pair : List PairFinding → Pair → List PairFinding
 with_pair told p = with_kind Against (with_kind Same told p) p
 
--- what is told of pairs, one behind another, beside what is told already
+-- what is reported for pairs, one after another, beside what is reported already
 abbrev pub told_of : List PairFinding → List Pair → List PairFinding
 told_of told pairs = fold with_pair told pairs
 
--- what is told of the tokens of a rule: of each kind its first pair, in the order in which the pairs are written
+-- what is reported for the tokens of a rule: of each kind its first pair, in the order in which the pairs are written
 unfoldable pub pair_findings : Accounts → List Placed → List PairFinding
 pair_findings accounts tokens = told_of [] (pairs_from 0 (map (said_of accounts) tokens))

@@ -69,7 +69,7 @@ lacks_words a = is_wordless a.form && (not a.blind && not a.trims)
 abbrev pub are_alike : Said → Said → Bool
 are_alike a b = (same_matter a b && same_way a b) && (lacks_words a || same_words a.words b.words)
 
--- what stands in a pattern before its first sign
+-- what is in a pattern before its first sign
 unfoldable pub beginning : Text → Text
 beginning word = take (prefix_len (λ b. not (is_sign b)) word) word
 

@@ -36,7 +36,7 @@ as_equal o = if compares o then o else op.Equal
 abbrev pub as_assign : Operator → Operator
 as_assign o = if is_add o then op.Assign else o
 
--- the operator as which one is read behind a key
+-- the operator as which one is read after a key
 abbrev pub operator_of : Key → Operator → Operator
 operator_of key.Program o = as_equal o
 operator_of key.Import o = as_equal o

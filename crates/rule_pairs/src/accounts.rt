@@ -80,7 +80,7 @@ impl Accounts {
     }
 }
 
-/// Lends a list, if there is one.
+/// Returns a list, if there is one.
 fn lent(list: &Option<Vec<Account>>) -> Option<&[Account]>
     ensures { option_map (λ list. list.now) result ≡ option_map (λ v. v.items) list.now }
 {

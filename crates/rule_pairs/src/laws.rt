@@ -23,7 +23,7 @@ pub fn no_pair_is_of_both_kinds()
     ensures { (a b : Said) → is_same a b ≡ true → is_against a b ≡ false }
 {}
 
-/// Of each kind the first pair is told, and no other.
+/// Of each kind the first pair is reported, and no other.
 pub fn the_first_pair_of_a_kind_is_told()
     ensures first { (kind : PairKind) (pairs : List Pair) → find (λ f. same_kind kind f.kind) (told_of [] pairs) ≡ option_map (finding kind) (find (is_of_kind kind) pairs) }
     ensures once { (kind : PairKind) (pairs : List Pair) → length (filter (λ f. same_kind kind f.kind) (told_of [] pairs)) ≤ 1 }

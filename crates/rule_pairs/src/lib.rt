@@ -1,7 +1,9 @@
-//! Tokens of one rule that say the same, and matches that exclude each other, as udev tells of them.
+//! Tokens of one rule that say the same, and matches that exclude each other, as udev reports them.
 //!
-//! Each token is taken as what it is about and how it compares, so that two of them are compared
-//! without their spelling. None of this keeps a rule from being one.
+//! Each token is reduced to its subject and its comparison, so that two tokens are compared regardless of their
+//! spelling. Neither finding rejects a rule.
+//!
+//! Functions that allocate return `AllocError` when memory runs out.
 #![tactic(auto)]
 
 mod accounts;

@@ -1,4 +1,4 @@
-//! What is told of two tokens of a rule.
+//! What is reported for two tokens of a rule.
 ghost use Rattle.std.specs.Prelude.{◌≡◌};
 ghost use Rattle.rule_pairs.specs.Pairs.{message_of};
 
@@ -13,7 +13,7 @@ pub enum PairKind {
     Against,
 }
 
-/// What is told of two tokens of a rule.
+/// What is reported for two tokens of a rule.
 #[derive(Clone, Copy, Debug, PartialEq, Eq)]
 pub struct PairFinding {
     /// What they are to each other.
@@ -23,7 +23,7 @@ pub struct PairFinding {
 }
 
 impl PairKind {
-    /// The kind of the message that tells of it.
+    /// The kind of the message that says about it.
     pub fn message_kind(self) -> MessageKind
         ensures { result ≡ message_of self }
     {

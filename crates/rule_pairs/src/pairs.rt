@@ -1,4 +1,4 @@
-//! What is told of the tokens of one rule, two by two.
+//! What is reported for the tokens of one rule, two by two.
 ghost use Rattle.std.specs.Prelude.{◌≡◌, ◌∷◌, [], ◌+◌, ◌<◌, ◌^◌, IfOk, OnOk, length, map};
 ghost use Rattle.rule_pairs.specs.Pairs.{are_of_kind, are_related, is_told, pair_findings, pairs_from, pairs_with, same_kind, told_of, with_kind, with_pair};
 ghost use Rattle.rule_pairs.specs.Said.{said_of};
@@ -10,9 +10,8 @@ use crate::said::{Said, said_of};
 use rule_tokens::Token;
 use std::alloc::{AllocError, Global};
 
-/// What is told of the tokens of one rule: of the pairs of tokens that say the same the first, and of
-/// those that exclude each other, in the order in which the pairs are written. The error comes where
-/// memory is refused.
+/// What is reported for the tokens of one rule: of the pairs of tokens that say the same the first, and of
+/// those that exclude each other, in the order in which the pairs are written.
 ///
 /// It takes time by the square of the number of tokens, as long as neither is found.
 #[tactic(auto, unfolding(crate::specs::Pairs::pair_findings))]
@@ -42,7 +41,7 @@ fn all_said(
     Ok(said)
 }
 
-/// What is told of tokens.
+/// What is reported for tokens.
 #[tactic(auto, using(crate::proofs::Telling::next_token, crate::proofs::Telling::no_token))]
 fn told_of(alloc: Global, said: &[Option<Said>]) -> Result<Vec<PairFinding>, AllocError>
     ensures { IfOk result (λ told. told.items ≡ told_of [] (pairs_from 0 said.now)) }
@@ -56,7 +55,7 @@ fn told_of(alloc: Global, said: &[Option<Said>]) -> Result<Vec<PairFinding>, All
     Ok(told)
 }
 
-/// Adds what is told of a token with each of those behind it, of which the first stands at a place.
+/// Adds what is reported for a token with each of those after it, of which the first is at a place.
 #[tactic(auto, using(crate::proofs::Telling::next_pair))]
 fn tell_pairs(
     told: &mut Vec<PairFinding>,
@@ -75,7 +74,7 @@ fn tell_pairs(
     Ok(())
 }
 
-/// Adds what is told of two tokens, of which the later one stands at a place.
+/// Adds what is reported for two tokens, of which the later one is at a place.
 fn tell_pair(
     told: &mut Vec<PairFinding>,
     earlier: &Option<Said>,
@@ -88,7 +87,7 @@ fn tell_pair(
     tell_kind(told, PairKind::Against, earlier, later, place)
 }
 
-/// Adds two tokens if they are of a kind that is not told yet.
+/// Adds two tokens if they are of a kind that is not reported yet.
 fn tell_kind(
     told: &mut Vec<PairFinding>,
     kind: PairKind,
@@ -104,7 +103,7 @@ fn tell_kind(
     Ok(())
 }
 
-/// Whether a kind is among what is told.
+/// Whether a kind is among what is reported.
 fn is_told(kind: PairKind, told: &[PairFinding]) -> bool
     ensures { result ≡ is_told kind told.now }
 {

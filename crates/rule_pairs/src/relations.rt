@@ -200,7 +200,7 @@ fn part_ways(x: &[u8], y: &[u8]) -> bool
     !x.is_empty() && !y.is_empty() && !x.starts_with(y) && !y.starts_with(x)
 }
 
-/// What stands in a pattern before its first sign.
+/// What is in a pattern before its first sign.
 #[tactic(auto, unfolding(crate::specs::Relations::beginning))]
 fn beginning(word: &[u8]) -> &[u8]
     ensures { result.now ≡ beginning word.now }
@@ -209,7 +209,7 @@ fn beginning(word: &[u8]) -> &[u8]
     front
 }
 
-/// How many bytes of a pattern stand before its first sign.
+/// How many bytes of a pattern come before its first sign.
 fn length_before_sign(word: &[u8]) -> usize
     ensures value { result ≡ prefix_len (λ b. not (is_sign b)) word.now }
     ensures within { result ≤ length word.now }

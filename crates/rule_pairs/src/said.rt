@@ -54,8 +54,7 @@ impl Model for Said {
     } };
 }
 
-/// A token as it is compared with others. `None` for LABEL, for GOTO and for what is no option. The
-/// error comes where memory is refused.
+/// A token as it is compared with others. `None` for LABEL, for GOTO and for what is no option.
 #[tactic(auto, unfolding(crate::specs::Said::said_of))]
 pub(crate) fn said_of(
     alloc: Global,
@@ -116,7 +115,7 @@ fn said_by(
     })
 }
 
-/// The operator as which one is read behind a key.
+/// The operator as which one is read after a key.
 fn operator_of(key: Key, operator: Operator) -> Operator
     ensures { result ≡ operator_of key operator }
 {

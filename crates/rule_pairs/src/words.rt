@@ -6,8 +6,7 @@ use std::alloc::{AllocError, Global};
 use text_bytes::find;
 use text_tables::OwnedTexts;
 
-/// The words of a text, if there is one: those between bars, or the whole. The error comes where
-/// memory is refused.
+/// The words of a text, if there is one: those between bars, or the whole.
 #[tactic(auto, unfolding(crate::specs::Words::words_of))]
 pub(crate) fn words_of(
     alloc: Global,

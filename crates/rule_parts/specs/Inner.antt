@@ -9,12 +9,12 @@ use Rattle.rule_parts.specs.declared.finding.Finding.{Finding}
 use Rattle.rule_parts.specs.declared.finding.PartFault.{PartFault}
 use Rattle.rule_parts.specs.declared.finding.PartFault.TheVariants.{Wrong, Memory}
 
--- A finding is of this kind and tells this word; of want of memory nothing is said.
+-- A finding is of this kind and tells this word; of out of memory nothing is said.
 abbrev pub Tells : MessageKind → List ℕ → PartFault → Type 0
 Tells kind word (Wrong found) = found ≡ finding kind word
 Tells kind word Memory = Unit {0}
 
--- A finding tells why a text spells no choice; want of memory stays that.
+-- A finding tells why a text spells no choice; out of memory stays that.
 abbrev pub TellsOf : GlobFault → List ℕ → PartFault → Type 0
 TellsOf (glob.Class at) text answered = Tells (choice_fault (glob.Class at)) text answered
 TellsOf glob.TooLong text answered = Tells (choice_fault glob.TooLong) text answered

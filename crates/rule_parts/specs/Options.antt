@@ -9,7 +9,7 @@ use Rattle.rule_templates.specs.Integers.{integer_of, natural_of}
 use Rattle.rule_types.specs.declared.rule_option.RuleOption.{RuleOption}
 use Rattle.rule_types.specs.declared.rule_option.RuleOption.TheVariants.{LinkPriority, KeepEscapes, ReplaceEscapes, Watch, NoWatch, DbPersist, Ignored}
 
--- what stands beside a name in a table
+-- what is beside a name in a table
 abbrev pub beside : {X : Type 0} → List (List ℕ × X) → List ℕ → Option X
 beside [] text = None
 beside (row ∷ rows) text = if pointwise nat_eq row.0 text then Some row.1 else beside rows text
@@ -24,11 +24,11 @@ words =
     ∷ (codes "string_escape=replace", ReplaceEscapes)
     ∷ []
 
--- what stands behind a name that a text begins with
+-- what follows a name that a text begins with
 abbrev pub behind : List ℕ → List ℕ → Option (List ℕ)
 behind name text = if pointwise nat_eq (take (length name) text) name then Some (drop (length name) text) else None
 
--- the number below zero, or zero, that digits write behind a minus
+-- the number below zero, or zero, that digits write after a minus
 abbrev pub below_zero : List ℕ → Option ℤ
 below_zero digits = option_map (λ size. neg_ℤ (pos size)) (decimal_below (2 ^ 31 + 1) digits)
 
@@ -36,12 +36,12 @@ below_zero digits = option_map (λ size. neg_ℤ (pos size)) (decimal_below (2 ^
 abbrev pub from_zero : List ℕ → Option ℤ
 from_zero digits = option_map pos (decimal_below (2 ^ 31) digits)
 
--- the number that a text writes, by what stands in it behind a minus
+-- the number that a text writes, by what is in it after a minus
 abbrev pub number_by : List ℕ → Option (List ℕ) → Option ℤ
 number_by text (Some digits) = below_zero digits
 number_by text None = from_zero (unwrap_or (behind (codes "+") text) text)
 
--- the number that a text writes within 32 signed bits: a minus, a plus or no sign, and behind it decimal digits
+-- the number that a text writes within 32 signed bits: a minus, a plus or no sign, and after it decimal digits
 unfoldable pub number_of : List ℕ → Option ℤ
 number_of text = number_by text (behind (codes "-") text)
 
@@ -53,7 +53,7 @@ is_ignored text = is_some (behind (codes "static_node=") text) || is_some (behin
 abbrev pub other_option : List ℕ → Option RuleOption
 other_option text = if is_ignored text then Some Ignored else beside words text
 
--- the option of a text by the manual, by what stands in it behind `link_priority=`
+-- the option of a text by the manual, by what is in it after `link_priority=`
 abbrev pub option_by : List ℕ → Option (List ℕ) → Option RuleOption
 option_by text (Some number) = option_map LinkPriority (number_of number)
 option_by text None = other_option text
@@ -84,7 +84,7 @@ levels =
 abbrev pub as_level : ℕ → Option ℤ
 as_level n = if nat_le n 7 then Some (pos n) else None
 
--- the level of a text, by what stands beside it in the table
+-- the level of a text, by what is beside it in the table
 abbrev pub level_by : List ℕ → Option ℤ → Option ℤ
 level_by text (Some level) = Some level
 level_by text None = option_and_then as_level (natural_of text)
@@ -97,12 +97,12 @@ level_of text = level_by text (beside levels text)
 abbrev pub is_known_option : List ℕ → Bool
 is_known_option text = is_some (behind (codes "link_priority=") text) || is_some (other_option text)
 
--- the option of a text that is no priority, by what stands in it behind `log_level=`; one that udev does not know changes nothing
+-- the option of a text that is no priority, by what is in it after `log_level=`; one that udev does not know changes nothing
 abbrev pub udev_other : List ℕ → Option (List ℕ) → Option RuleOption
 udev_other text (Some level) = option_map (λ n. Ignored) (level_of level)
 udev_other text None = Some (unwrap_or (other_option text) Ignored)
 
--- the option of a text for udev, by what stands in it behind `link_priority=`
+-- the option of a text for udev, by what is in it after `link_priority=`
 abbrev pub udev_option : List ℕ → Option (List ℕ) → Option RuleOption
 udev_option text (Some number) = option_map LinkPriority (priority_of number)
 udev_option text None = udev_other text (behind (codes "log_level=") text)

@@ -122,7 +122,7 @@ part_of by t =
     (topic_of by key t.parts.head.attribute))
     (key_of t.parts.head.key)
 
--- whether an operator is read as `=` behind a key, if that is known
+-- whether an operator is read as `=` after a key, if that is known
 abbrev pub is_read_so : Operator → Option Key → Bool
 is_read_so o None = false
 is_read_so o (Some key) = operators.is_read_as_assign key o

@@ -20,7 +20,7 @@ use Rattle.rule_parts.specs.Options.{option_of}
 use Rattle.rule_parts.specs.declared.finding.Finding.{Finding}
 use Rattle.rule_types.specs.declared.rule_option.RuleOption.{RuleOption}
 
--- what is wrong, told with what a message keeps of a text
+-- what is wrong, reported with what a message keeps of a text
 abbrev pub finding : MessageKind → List ℕ → Finding
 finding kind text = record { kind = kind; word = word_of text }
 

@@ -6,7 +6,7 @@ ghost use Rattle.rule_parts.specs.Inner.{Tells};
 use std::alloc::{AllocError, AllocFailed, Global};
 use text_bytes::{Bytes, MessageKind, word_of};
 
-/// What is wrong with a part of a rule, before it is told where the rule stands.
+/// What is wrong with a part of a rule, before it is reported where the rule stands.
 #[derive(Debug, Drop)]
 pub struct Finding {
     /// What is wrong.
@@ -20,7 +20,7 @@ pub struct Finding {
 pub enum PartFault {
     /// 1: it is none, for this reason.
     Wrong(Finding),
-    /// 2: memory was refused.
+    /// 2: memory runs out.
     Memory,
 }
 
@@ -47,8 +47,7 @@ impl<T: Drop> From<AllocFailed<T>> for PartFault {
 }
 
 impl Finding {
-    /// What is wrong, told with the first 32 bytes of the text that it is about. The error comes
-    /// where memory is refused.
+    /// What is wrong, reported with the first 32 bytes of the text that it is about.
     pub fn about(alloc: Global, kind: MessageKind, text: &[u8]) -> Result<Finding, AllocError>
         ensures { IfOk result (λ found. found ≡ finding kind text.now) }
     {

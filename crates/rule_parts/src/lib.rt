@@ -1,7 +1,9 @@
-//! A token read as a part of a rule, once its key, its attribute, its operator and its value are checked.
+//! Reads a token as a part of a rule, after checking its key, its attribute, its operator and its value.
 //!
-//! What may be wrong with a token is found here, in the order in which udev looks: the key, the attribute, the operator,
-//! the value. `rule_types` says what each key takes, so that no key has a case of its own here.
+//! Faults of a token are found here, in the order in which udev looks for them: the key, the attribute, the operator,
+//! the value. `rule_types` says what each key takes, so that no key needs a case of its own here.
+//!
+//! Functions that allocate return `AllocError` when memory runs out.
 #![tactic(auto)]
 
 mod builtins;

@@ -34,7 +34,7 @@ const LEVELS: [(&[u8], i32); 9] = [
     (b"debug", 7),
 ];
 
-/// What stands beside a name.
+/// What is beside a name.
 fn beside<X: Copy>(rows: &[(&[u8], X)], text: &[u8]) -> Option<X>
     ensures { result ≡ beside (map (λ row. (row.0.now, row.1)) rows.now) text.now }
 {
@@ -46,7 +46,7 @@ fn beside<X: Copy>(rows: &[(&[u8], X)], text: &[u8]) -> Option<X>
     None
 }
 
-/// The number that a text writes within 32 signed bits: a minus, a plus or no sign, and behind it
+/// The number that a text writes within 32 signed bits: a minus, a plus or no sign, and after it
 /// decimal digits.
 #[tactic(auto, unfolding(crate::specs::Options::number_of))]
 fn number_of(text: &[u8]) -> Option<i32>
@@ -58,7 +58,7 @@ fn number_of(text: &[u8]) -> Option<i32>
     }
 }
 
-/// The number below zero, or zero, that digits write behind a minus.
+/// The number below zero, or zero, that digits write after a minus.
 fn below_zero(digits: &[u8]) -> Option<i32>
     ensures { result ≡ below_zero digits.now }
 {
@@ -153,7 +153,7 @@ fn as_priority(number: i64) -> Option<i32>
     }
 }
 
-/// The level of the log that udev reads in a text behind `log_level=`: 0 to 7, or -1 for `reset`.
+/// The level of the log that udev reads in a text after `log_level=`: 0 to 7, or -1 for `reset`.
 #[tactic(auto, unfolding(crate::specs::Options::level_of))]
 pub fn level_of(text: &[u8]) -> Option<i32>
     ensures { result ≡ level_of text.now }

@@ -25,7 +25,7 @@ use text_bytes::{Bytes, MessageKind, Profile};
 /// an operator that it does not take; a value that is none for it. udev takes each value with
 /// substitutions or patterns, each name of a jump and each option that it does not know; it refuses
 /// a property that it sets by itself, a name without effect and a builtin that it does not have.
-/// `Memory` comes only where a growth was refused.
+/// `Memory` comes only where an allocation fails.
 #[tactic(auto, unfolding(crate::specs::Parts::part_of))]
 pub fn read_part(alloc: Global, profile: Profile, token: &Token<'_>) -> Result<Part, PartFault>
     ensures part { MatchResult result (λ p. part_of profile token.now ≡ Ok p) (λ f. FaultOf f (part_of profile token.now)) }

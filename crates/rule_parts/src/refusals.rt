@@ -25,7 +25,7 @@ const RESERVED: [&[u8]; 12] = [
     b"TAGS",
 ];
 
-/// Why a role with this value is refused, and the text that this is told of. The manual refuses
+/// Why a role with this value is refused, and the text that this is reported. The manual refuses
 /// nothing here.
 pub(crate) fn refusal_by<'a>(
     profile: Profile,
@@ -40,7 +40,7 @@ pub(crate) fn refusal_by<'a>(
     }
 }
 
-/// Why udev refuses a role with this value, and the text that this is told of.
+/// Why udev refuses a role with this value, and the text that this is reported.
 #[tactic(auto, unfolding(crate::specs::Refusals::refusal_of))]
 fn refusal_of<'a>(role: &'a Role, text: &'a [u8]) -> Option<(MessageKind, &'a [u8])>
     ensures { option_map (λ x. finding x.0 x.1.now) result ≡ refusal_of role.now text.now }

@@ -1,4 +1,4 @@
--- What stands behind the last token of a line.
+-- What follows the last token of a line.
 use Rattle.std.proofs.Common.{◌≡◌, ℕ, ◌+◌, ◌≤◌, Bool, true, false, List, [], ◌∷◌, ◌++◌, length, take, drop, Option, Some, None, Result, Ok, Err, ap, sym, ◌∙◌, subst, append_assoc, append-nil, drop_at, length-append, arith}
 use Rattle.std.proofs.lemmas.List.{length-take-le, take-append-drop}
 use Rattle.text_bytes.specs.declared.profile.Profile.{Profile}
@@ -14,7 +14,7 @@ use Rattle.rule_places.specs.declared.line_reading.LineReading.TheVariants.{Rule
 use Rattle.rule_places.specs.declared.spot.Spot.{Spot}
 use Rattle.rule_places.proofs.Prefixes.{own_of}
 
--- behind a place, or the last of these items, only blanks and commas stand in the line; where one is a fault, nothing is said
+-- after a place, or the last of these items, only blanks and commas are in the line; where one is a fault, nothing is said
 abbrev pub EndsInGap : List ℕ → ℕ → List Item → Type 0
 EndsInGap line place [] = AllAre is_gap_byte (drop place line)
 EndsInGap line place (Ok t ∷ items) = EndsInGap line t.span.end items
@@ -40,7 +40,7 @@ ends line before text at place (t ∷ tokens) end e l (more rest gap next here b
     let place : length (before ++ (o.0 ++ gap)) ≡ t.span.end + length gap = omega (arith, here.end) in
     ends line (before ++ (o.0 ++ gap)) next (t.span.end + length gap) t.span.end tokens end spelled place behind
 
--- behind the last of these items, if a token stands there, only blanks and commas stand in the line
+-- after the last of these items, if a token is there, only blanks and commas are in the line
 abbrev pub EndsLast : List ℕ → List Item → Type 0
 EndsLast line [] = Unit {0}
 EndsLast line (Ok t ∷ items) = EndsInGap line t.span.end items

@@ -1,4 +1,4 @@
--- What is told with a text of a file stands in the file at the place that is told.
+-- What is reported with a text of a file is in the file at the place that is reported.
 use Rattle.std.proofs.Common.{◌≡◌, ℕ, ◌+◌, ◌-◌, ◌<◌, ◌≤◌, ◌^◌, true≢false, List, [], ◌∷◌, ◌++◌, length, take, drop, map, zip, Option, Some, None, refl, ap, sym, ◌∙◌, subst, append_assoc, length-append, length-drop, length-take, arith}
 use Rattle.std.specs.List.{AllByRecursion, flat_map}
 use Rattle.std.proofs.Math.Seq.{drop-append-add}
@@ -47,7 +47,7 @@ part_within all before text behind start at e l h =
     let inner = length-append text behind in
     omega (arith, whole, outer, inner, l, h)
 
--- what is told of a line
+-- what is reported for a line
 spot_in_file : (bytes before text behind : List ℕ) (number start : ℕ) (s : Spot) → length bytes < 2 ^ 32 - 1 → kept_text (numbered_lines bytes) ≡ before ++ (text ++ behind) → length before ≡ start
     → StandsThere text s → StandsInFile bytes (placed (kept_lines bytes) number start s)
 spot_in_file bytes before text behind number start s few e l h told some =

@@ -5,7 +5,7 @@ use Rattle.std.specs.List.Sorted.{IsPartitionPoint}
 use Rattle.std.proofs.lemmas.List.Sums.{prefix_len_is}
 use Rattle.rule_places.specs.declared.kept.KeptLine.{KeptLine}
 
--- as many pass a test as stand before the place where it first fails
+-- as many pass a test as come before the place where it first fails
 pub point_is : (p : KeptLine → Bool) (lines : List KeptLine) (n : ℕ) → n ≤ length lines → IsPartitionPoint (λ l. p l ≡ true) (λ l. p l ≡ false) lines n → prefix_len p lines ≡ n
 point_is p [] n within point = omega (arith, within)
 point_is p (l ∷ lines) n within point =

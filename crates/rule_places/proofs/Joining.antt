@@ -1,4 +1,4 @@
--- The joined lines are the texts of the kept lines, one behind the other.
+-- The joined lines are the texts of the kept lines, one after another.
 use Rattle.std.proofs.Common.{◌≡◌, ℕ, Bool, true, false, cond, List, [], ◌∷◌, ◌++◌, map, refl, ap, sym, ◌∙◌, append_assoc, append-nil}
 use Rattle.std.specs.List.{flat_map, onto_first}
 use Rattle.text_bytes.specs.Lines.{NumberedLine, numbered_lines}
@@ -8,7 +8,7 @@ use Rattle.text_bytes.specs.declared.profile.Profile.{Profile}
 use Rattle.rule_core.specs.Lines.{Piece, is_open, kept, lines_of_runs, piece_of, run_number, run_text, runs}
 use Rattle.rule_places.specs.Shown.{AreJoined}
 
--- a run before others, which have what is left of a text; behind an open one stands none
+-- a run before others, which have what is left of a text; after an open one stands none
 abbrev Before : Bool → (List ℕ → Type 0) → List (List Piece) → List Piece → List ℕ → Type 0
 Before true others rs r text = rs ≡ []
 Before false others rs r text = (left : List ℕ) × (text ≡ run_text r ++ left) × others left

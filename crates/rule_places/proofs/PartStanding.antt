@@ -1,4 +1,4 @@
--- Where what is said of a part of a line stands in it.
+-- Where what is said of a part of a line is in it.
 use Rattle.std.proofs.Common.{◌≡◌, ℕ, suc, ◌+◌, ◌-◌, ◌<◌, ◌≤◌, Bool, true, false, cond, true≢false, ◌||◌, List, [], ◌∷◌, ◌++◌, take, drop, length, Option, Some, None, refl, ap, sym, ◌∙◌, subst, take_all, take_at, take-take, drop-drop, length-append, le_refl, arith}
 use Rattle.std.specs.List.{AllByRecursion}
 use Rattle.text_bytes.specs.Names.{close_brace, double_quote, open_brace}
@@ -24,12 +24,12 @@ Stands line s = StandsThere line s × StandsQuoted line s × StandsBehind line s
 abbrev pub AllStand : List ℕ → List Spot → Type 0
 AllStand line spots = AllByRecursion (Stands line) spots
 
--- what is about commas is told with a text
+-- what is about commas is reported with a text
 pub commas_are_text : (kind : MessageKind) → tells_commas kind ≡ true → tells_text kind ≡ true
 commas_are_text CommaExpected e = refl
 commas_are_text _ e = absurd (true≢false (sym e))
 
--- what is about the gap before the first token, or about a whole rule, is told with no text of the line and about no value
+-- what is about the gap before the first token, or about a whole rule, is reported with no text of the line and about no value
 pub fronts_are_none : (kind : MessageKind) → tells_front kind ≡ true → (tells_text kind ≡ false) × (tells_value kind ≡ false)
 fronts_are_none LeadingComma e = (refl, refl)
 fronts_are_none _ e = absurd (true≢false (sym e))
@@ -52,7 +52,7 @@ values_are_no_text OldSubsystemName e = refl
 values_are_no_text UnknownAccount e = refl
 values_are_no_text _ e = absurd (true≢false (sym e))
 
--- what is told with a text of the line
+-- what is reported with a text of the line
 pub text_stands : (line : List ℕ) (s : Spot) → tells_text s.kind ≡ true → StandsThere line s → StandsBehind line s → Stands line s
 text_stands line s e there behind = (
   there,
@@ -104,7 +104,7 @@ key_stands line kind t slice e =
     let some = slice.whole.head.some_key in
     text_stands line (key_spot kind t) e (λ t h. (refl, slice.key)) (λ t h. let none = ap (λ (x : List ℕ). length x) h in absurd (omega (arith, some, none)))
 
--- the byte that a text begins with, and the one behind its front
+-- the byte that a text begins with, and the one after its front
 pub first_byte : (b : ℕ) (rest text : List ℕ) (m : ℕ) → take (suc m) text ≡ b ∷ rest → take 1 text ≡ b ∷ []
 first_byte b rest [] m e = cc
 first_byte b rest (x ∷ text) m e = cc
@@ -159,7 +159,7 @@ value_quoted line t slice =
 pub value_stands : (line : List ℕ) (kind : MessageKind) (word : List ℕ) (t : Placed) → IsSlice line t → tells_value kind ≡ true → Stands line (value_spot kind word t)
 value_stands line kind word t slice e = quoted_stands line (value_spot kind word t) e (λ told name. value_quoted line t slice)
 
--- what is wrong with a key or with an attribute is told with it
+-- what is wrong with a key or with an attribute is reported with it
 pub keys_are_text : (kind : MessageKind) → is_of_key kind ≡ true → tells_text kind ≡ true
 keys_are_text UnknownKey e = refl
 keys_are_text WrongAttribute e = refl

@@ -1,4 +1,4 @@
--- The bytes of the kept lines stand at the places that are told of them.
+-- The bytes of the kept lines are at the places that are reported for them.
 use Rattle.std.proofs.Common.{◌≡◌, ℕ, suc, ◌+◌, ◌-◌, ◌<◌, ◌≤◌, ◌^◌, ◌==◌, ◌⊎◌, min, inl, inr, Bool, true, false, cond, List, [], ◌∷◌, ◌++◌, length, take, drop, Option, refl, ap, sym, ◌∙◌, subst, take-take, length-drop, length-take, le_refl, arith}
 use Rattle.std.specs.List.{AllByRecursion, onto_first}
 use Rattle.std.proofs.lemmas.Bool.{cases_lt}
@@ -59,14 +59,14 @@ piece_within l = by (piece_of l).continues
     by true = let e = length-take (length l.text - 1) l.text in omega (arith, e)
     by false = le_refl (length l.text)
 
--- numbers under the greatest that is told
+-- numbers under the greatest that is reported
 pub capped_is : (n m : ℕ) → n ≤ m → m < 2 ^ 32 - 1 → capped n ≡ n
 capped_is n m h f = omega (arith, h, f)
 
 pub capped_end : (n m : ℕ) → n ≤ m + 1 → m < 2 ^ 32 - 1 → capped n ≡ n
 capped_end n m h f = omega (arith, h, f)
 
--- the bytes that a line shows of a byte and those behind it
+-- the bytes that a line shows of a byte and those after it
 shown_bytes : (n rest size : ℕ) (xs ys : List ℕ) → n ≡ min size rest → take rest xs ≡ take rest ys → take n xs ≡ take n (take size ys)
 shown_bytes n rest size xs ys e h =
     sym (take-take n rest xs (omega (arith, e)))
@@ -81,7 +81,7 @@ shown_whole n rest size ys e h = elim (cases_lt rest size) [
   | inr near ↦ let l = length-take size ys in inl (omega (arith, l, near, h, e))
 ]
 
--- what is left of a line behind a byte of it
+-- what is left of a line after a byte of it
 rest_within : (at start size column piece line : ℕ) → start ≤ at → at < start + size → 0 < column → column - 1 + size ≡ piece → piece ≤ line → size - (at - start) ≤ line - (column - 1 + (at - start))
 rest_within at start size column piece line h g c e f = omega (arith, h, g, c, e, f)
 

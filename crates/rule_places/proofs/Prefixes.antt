@@ -1,4 +1,4 @@
--- The letters of a wrong prefix stand directly before the first quote behind the key and its braces.
+-- The letters of a wrong prefix come directly before the first quote after the key and its braces.
 use Rattle.std.proofs.Common.{◌≡◌, ℕ, suc, ◌+◌, ◌-◌, ◌≤◌, ◌==◌, Bool, true, false, cond, true≢false, not, nat_lt, List, [], ◌∷◌, ◌++◌, length, take, drop, Option, Some, None, option_map, Ok, Err, refl, ap, sym, ◌∙◌, subst, append_assoc, length-append, length-drop, drop-drop, take_at, drop_at, lt-ltb, eqb-true, eq-eqb, arith}
 use Rattle.std.specs.List.{AllByRecursion, list_all, prefix_len}
 use Rattle.std.proofs.Math.Seq.{drop-append-add}
@@ -30,7 +30,7 @@ pub all_of : (p q : ℕ → Bool) (xs : List ℕ) → ((b : ℕ) → p b ≡ tru
 all_of p q [] f h = refl
 all_of p q (x ∷ xs) f h = let both = and_parts (p x) (list_all p xs) h in and_from (q x) _ (f x both.0) (all_of p q xs f both.1)
 
--- what stands behind the first such byte
+-- what follows the first such byte
 behind_first : (b : ℕ) (front rest : List ℕ) → AllAre (is_other b) front → behind_byte b (front ++ b ∷ rest) ≡ rest
 unfolding split_once
 behind_first b front rest all =
@@ -48,7 +48,7 @@ begins_other : (b : ℕ) (text : List ℕ) → BeginsOther (λ x. x == b) text �
 begins_other b [] h = refl
 begins_other b (x ∷ text) h = h
 
--- what stands behind a key, and behind its braces
+-- what follows a key, and after its braces
 behind_attribute : (a : Option (List ℕ)) (rest : List ℕ) → AllAre is_attribute_byte (attribute_bytes a) → BeginsOther (λ x. x == open_brace) rest
     → cond (begins_with open_brace (attribute_text a ++ rest)) (behind_byte close_brace (attribute_text a ++ rest)) (attribute_text a ++ rest) ≡ rest
 behind_attribute None rest all o = ap (λ (c : Bool). cond c (behind_byte close_brace rest) rest) (begins_other open_brace rest o)
@@ -68,7 +68,7 @@ operator_begins class Remove rest e = e.3
 operator_begins class AssignFinal rest e = e.4
 operator_begins class Assign rest e = e.0
 
--- no quote stands in an operator, in blanks or in letters
+-- no quote is in an operator, in blanks or in letters
 operator_other : (o : Operator) → AllAre (is_other double_quote) (operator_text o)
 operator_other Equal = refl
 operator_other NotEqual = refl
@@ -87,7 +87,7 @@ letter_other b h = by (b == double_quote) refl
     by true e = absurd (true≢false (sym h ∙ ap is_letter (eqb-true b double_quote e)))
     by false e = refl
 
--- a wrong prefix: what stands behind the quote
+-- a wrong prefix: what follows the quote
 behind_quote : (text : List ℕ) (w : WrongPrefix text) → behind_byte double_quote (behind_braces text) ≡ w.rest
 behind_quote text w =
     let s = w.stands in

@@ -1,4 +1,4 @@
--- Within a value a `\` stands directly before each quote.
+-- Within a value a `\` comes directly before each quote.
 use Rattle.std.proofs.Common.{◌≡◌, ℕ, ◌==◌, Bool, true, false, true≢false, not, ◌||◌, nat_lt, List, [], ◌∷◌, ◌++◌, refl, ap, sym, ◌∙◌, eqb-true}
 use Rattle.std.specs.Char.{digit_value}
 use Rattle.std.specs.List.{flat_map, list_all}
@@ -20,7 +20,7 @@ no_quotes (b ∷ bytes) rest all h before =
     let parts = and_parts (is_other double_quote b) (list_all (is_other double_quote) bytes) all in
     and_from _ _ (ap (λ (c : Bool). c || (before == backslash)) parts.0) (no_quotes bytes rest parts.1 h b)
 
--- the byte behind a `\`
+-- the byte after a `\`
 behind_backslash : (b : ℕ) (rest : List ℕ) → IsEscaped rest → IsEscaped (backslash ∷ b ∷ rest)
 behind_backslash b rest h before = and_from _ _ (by (not (b == double_quote))) (h b)
   where

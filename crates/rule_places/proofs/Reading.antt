@@ -79,7 +79,7 @@ part_kept by r d t (part.Goto name) k = record {
 part_more : (by : Profile) (r : RulePlaces) (before : List Part) (t : Placed) (p : Part) → Keeps r (core.written by before) → Keeps (places.with_part by r t p) (core.written by (before ++ p ∷ []))
 part_more by r before t p k = subst (λ (d : Draft). Keeps (places.with_part by r t p) d) (sym (one_more by before p)) (part_kept by r (core.written by before) t p k)
 
--- behind parts, reading ends with all parts or with what is wrong
+-- after parts, reading ends with all parts or with what is wrong
 abbrev EndsAs : Profile → List Part → LineReading → Result (List Part) Finding → Type 0
 EndsAs by before (Rule r) (Ok parts) = Keeps r (core.written by (before ++ parts))
 EndsAs by before (Rule r) (Err wrong) = ⊥

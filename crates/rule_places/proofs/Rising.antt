@@ -10,7 +10,7 @@ use Rattle.rule_places.specs.declared.kept.KeptLine.{KeptLine}
 abbrev pub BeginsFrom : ℕ → List KeptLine → Type 0
 BeginsFrom start lines = (j : ℕ) (d : KeptLine) → j < length lines → start ≤ (slice_index_or lines j d).start
 
--- a line before others that begin behind it
+-- a line before others that begin after it
 line_before : (k : KeptLine) (more start : ℕ) (lines : List KeptLine) → k.start ≡ start → BeginsFrom (start + more) lines → BeginsFrom start (k ∷ lines)
 line_before k more start lines e b zero d h = omega arith
 line_before k more start lines e b (suc j) d h =

@@ -1,4 +1,4 @@
--- A byte of the kept lines stands in the line that is found for it.
+-- A byte of the kept lines is in the line that is found for it.
 use Rattle.std.proofs.Common.{◌≡◌, ℕ, zero, suc, ◌+◌, ◌-◌, ◌<◌, ◌≤◌, Bool, true, false, true≢false, cond, not, nat_le, inl, inr, List, [], ◌∷◌, ◌++◌, length, take, drop, map, slice_get, Some, None, refl, ap, sym, ◌∙◌, take_all, take_at, drop-drop, length-drop, length-take, length-take-le, length-append, le_refl, le-leb, arith}
 use Rattle.std.specs.List.{prefix_len}
 use Rattle.std.proofs.Math.Seq.{drop-append-add}
@@ -46,7 +46,7 @@ some_begun (x ∷ xs) start at m k f h e =
     let count : begun (x ∷ xs) at ≡ 1 + begun xs at = ap (λ (c : Bool). cond c (1 + begun xs at) 0) now in
     omega (arith, count)
 
--- the first line, where the next begins behind the byte
+-- the first line, where the next begins after the byte
 found_here : (k : KeptLine) (lines : List KeptLine) (start at : ℕ) → k.start ≤ at → BeginsFrom start lines → at < start → line_at (k ∷ lines) at ≡ Some k
 found_here k lines start at h b g =
     let now : nat_le k.start at ≡ true = le-leb k.start at h in
@@ -62,7 +62,7 @@ found_behind k x lines start at h f g e =
     let count : begun (k ∷ lines) at - 1 ≡ suc (begun lines at - 1) = ap (λ (c : Bool). cond c (1 + begun lines at) 0 - 1) now ∙ one in
     ap (slice_get (k ∷ lines)) count ∙ e
 
--- what a line gives is what it begins with behind its blanks
+-- what a line gives is what it begins with after its blanks
 front_of : (text : List ℕ) → take (length (cond (ends_in backslash text) (take (length text - 1) text) text)) text ≡ cond (ends_in backslash text) (take (length text - 1) text) text
 front_of text = by (ends_in backslash text)
   where
@@ -92,14 +92,14 @@ same_bytes l past more h =
     ∙ sym (take_at (drop past piece) more rest left)
     ∙ ap (take rest) (sym (drop-append-le past piece more h))
 
--- a line and what stands of it behind its blanks end alike
+-- a line and what stands of it after its blanks end alike
 pub ends_alike : (b n : ℕ) (text : List ℕ) → 0 < length (drop n text) → ends_in b (drop n text) ≡ ends_in b text
 ends_alike b zero text h = refl
 ends_alike b (suc n) [] h = refl
 ends_alike b (suc n) (x ∷ []) h = absurd (omega (arith, h, length-drop {A = ℕ} n []))
 ends_alike b (suc n) (x ∷ y ∷ text) h = ends_alike b n (y ∷ text) h
 
--- behind its blanks a line has as many bytes for a joined line as the line without its end
+-- after its blanks a line has as many bytes for a joined line as the line without its end
 ends_same : (l : NumberedLine) → 0 < length (piece_of (unindented l)).text → length l.text - length (unindented l).text + 1 - 1 + length (piece_of (unindented l)).text ≡ length (piece_of l).text
 ends_same l h =
     by (ends_in backslash (unindented l).text) (ends_in backslash l.text) h (λ g. ends_alike backslash (prefix_len is_blank l.text) l.text g)

@@ -1,4 +1,4 @@
--- Where what is said of a line stands in it.
+-- Where what is said of a line is in it.
 use Rattle.std.proofs.Common.{◌≡◌, ℕ, zero, suc, ◌+◌, ◌-◌, ◌<◌, ◌≤◌, ◌==◌, Bool, true, false, cond, true≢false, List, [], ◌∷◌, ◌++◌, take, drop, length, Option, Some, None, Result, Ok, Err, refl, ap, sym, ◌∙◌, subst, nat_lt, length-append, length-drop, length-take-le, arith}
 use Rattle.std.specs.List.{AllByRecursion, prefix_len}
 use Rattle.std.proofs.lemmas.List.Sums.{prefix_len-le-length}
@@ -208,7 +208,7 @@ reading_stands by line = on (nat_lt (most_bytes by) (length line))
     on true = whole_stands line LineTooLong refl refl
     on false = styled by line read style (items_stand by line items no_places (all_lie by line) (all_faults (first_place by line) line (first_within by line)) (record { label = tt; goto = tt; spots = tt }))
 
--- the names that are told of
+-- the names that are reported
 name_stands : (line : List ℕ) (kind : MessageKind) (o : Option NamePlace) → NameStands line o → tells_value kind ≡ true → tells_jump kind ≡ true → Stands line (name_spot kind o)
 name_stands line kind None h e j = quoted_stands line (name_spot kind None) e (λ t g. let some = g j in absurd (omega (arith, some)))
 name_stands line kind (Some n) h e j = quoted_stands line (name_spot kind (Some n)) e (λ t g. h)

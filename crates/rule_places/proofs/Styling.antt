@@ -17,7 +17,7 @@ use Rattle.rule_places.specs.Spots.{key_spot, spot}
 use Rattle.rule_places.specs.Style.{comma_spots, front_spots, gap_spots, operator_spots, style_behind, style_spots, whole_gap}
 use Rattle.rule_places.specs.declared.spot.Spot.{Spot}
 
--- what is said, and behind it what else is said
+-- what is said, and after it what else is said
 pub appended : (xs ys : List Spot) (fs gs : List Finding) → map cut xs ≡ fs → map cut ys ≡ gs → map cut (xs ++ ys) ≡ fs ++ gs
 appended xs ys fs gs e f = map-append cut xs ys ∙ ap (λ (x : List Finding). x ++ map cut ys) e ∙ ap (λ (y : List Finding). fs ++ y) f
 

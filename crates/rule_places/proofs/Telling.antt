@@ -1,4 +1,4 @@
--- What is wrong with a token is told with its key, or with what its value means.
+-- What is wrong with a token is reported with its key, or with what its value means.
 use Rattle.std.proofs.Common.{◌≡◌, ℕ, Bool, true, false, cond, true≢false, not, ◌&&◌, ◌||◌, List, [], ◌∷◌, Option, Some, None, is_some, Result, Ok, Err, refl, ap, sym, ◌∙◌}
 use Rattle.std.specs.Option.{IfSome}
 use Rattle.text_bytes.specs.declared.message.MessageKind.{MessageKind}
@@ -42,7 +42,7 @@ use Rattle.rule_places.specs.Laws.{cut, tells_value}
 use Rattle.rule_places.specs.Spots.{attribute_spot, is_of_attribute, is_of_key, key_spot, part_spot, value_spot}
 use Rattle.rule_places.proofs.Naming.{NamesRole, NamesTopic, role_named, topic_named}
 
--- what is wrong with a value is told with what the value means
+-- what is wrong with a value is reported with what the value means
 unfoldable TellsValue : {A : Type 0} → List ℕ → Result A Finding → Type 0
 TellsValue text (Ok x) = Unit {0}
 TellsValue text (Err found) = (found ≡ finding found.kind text) × (tells_value found.kind ≡ true)

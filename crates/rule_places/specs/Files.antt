@@ -23,7 +23,7 @@ use Rattle.rule_places.specs.declared.placed_finding.PlacedFinding.{PlacedFindin
 use Rattle.rule_places.specs.declared.readings.PlacedReading.{PlacedReading}
 use Rattle.rule_places.specs.declared.spot.Spot.{Spot}
 
--- joined lines that are read, behind so many bytes of others
+-- joined lines that are read, after so many bytes of others
 abbrev pub readings_from : Profile → ℕ → List NumberedLine → List PlacedReading
 readings_from by start [] = []
 readings_from by start (l ∷ ls) = record { number = l.number; start = start; read = reading_of by l.text } ∷ readings_from by (start + length l.text) ls

@@ -27,7 +27,7 @@ cut s = finding s.kind s.word
 abbrev pub as_message : List ℕ → PlacedFinding → Message
 as_message name p = message_at name p.begins (finding p.kind p.word)
 
--- whether what is said is told with the very text that it is about: a key, an attribute, the letters before a quote, or the rest of a line that is no token
+-- whether what is said is reported with the very text that it is about: a key, an attribute, the letters before a quote, or the rest of a line that is no token
 abbrev pub tells_text : MessageKind → Bool
 tells_text BadSyntax = true
 tells_text BadPrefix = true
@@ -62,16 +62,16 @@ tells_value OldSubsystemName = true
 tells_value UnknownAccount = true
 tells_value _ = false
 
--- where what is said is told with the text that it is about, and that is not empty, the place has as many bytes as the text, and the text stands in the line there
+-- where what is said is reported with the text that it is about, and that is not empty, the place has as many bytes as the text, and the text is in the line there
 abbrev pub StandsThere : List ℕ → Spot → Type 0
 StandsThere line s = tells_text s.kind ≡ true → 0 < length s.word → (s.size ≡ length s.word) × (take s.size (drop s.start line) ≡ s.word)
 
--- whether a `\` stands directly before each quote of a text that stands behind this byte
+-- whether a `\` comes directly before each quote of a text that follows this byte
 abbrev pub escapes_quotes : ℕ → List ℕ → Bool
 escapes_quotes before [] = true
 escapes_quotes before (b ∷ text) = (not (b == double_quote) || before == backslash) && escapes_quotes b text
 
--- the part has a quote directly before it and directly behind it, and none within that no `\` stands directly before
+-- the part has a quote directly before it and directly after it, and none within that no `\` comes directly before
 pub record IsQuoted (line : List ℕ) (start size : ℕ) : Type 0 where
   pub opens : take 1 (drop (start - 1) line) ≡ double_quote ∷ []
   pub closes : take 1 (drop (start + size) line) ≡ double_quote ∷ []
@@ -83,11 +83,11 @@ tells_jump NoLaterLabel = true
 tells_jump LabelUnused = true
 tells_jump _ = false
 
--- where what is said is about a value, the value stands between its quotes; of a jump only where the rule has a name for it, without which a file tells of none
+-- where what is said is about a value, the value is between its quotes; of a jump only where the rule has a name for it, without which a file says about none
 abbrev pub StandsQuoted : List ℕ → Spot → Type 0
 StandsQuoted line s = tells_value s.kind ≡ true → (tells_jump s.kind ≡ true → 0 < length s.word) → IsQuoted line s.start s.size
 
--- the part is what stands behind the last token: from a quote on all up to the line's end, blanks and commas
+-- the part is what follows the last token: from a quote on all up to the line's end, blanks and commas
 pub record IsBehindTokens (line : List ℕ) (start size : ℕ) : Type 0 where
   pub behind : take 1 (drop (start - 1) line) ≡ double_quote ∷ []
   pub ends : start + size ≡ length line
@@ -98,7 +98,7 @@ abbrev pub tells_commas : MessageKind → Bool
 tells_commas CommaExpected = true
 tells_commas _ = false
 
--- where what is said is about commas, and told with no key, it is said of what stands behind the last token
+-- where what is said is about commas, and reported with no key, it is said of what follows the last token
 abbrev pub StandsBehind : List ℕ → Spot → Type 0
 StandsBehind line s = tells_commas s.kind ≡ true → s.word ≡ [] → IsBehindTokens line s.start s.size
 
@@ -107,7 +107,7 @@ abbrev pub tells_front : MessageKind → Bool
 tells_front LeadingComma = true
 tells_front _ = false
 
--- the part is the gap before the first token: from the line's start on blanks and commas, as many as stand there, and a comma among them
+-- the part is the gap before the first token: from the line's start on blanks and commas, as many as are there, and a comma among them
 pub record IsBeforeTokens (line : List ℕ) (start size : ℕ) : Type 0 where
   pub starts : start ≡ 0
   pub gap : AllAre is_gap_byte (take size line)
@@ -128,7 +128,7 @@ tells_whole _ = false
 abbrev pub StandsWhole : List ℕ → Spot → Type 0
 StandsWhole line s = tells_whole s.kind ≡ true → (s.start ≡ 0) × (s.size ≡ length line)
 
--- A text stands at a place of a file: the line of the place's number has from the column up to the end, which is behind it, the first bytes of the text, and all of them unless the line gives no more to a joined line.
+-- A text is at a place of a file: the line of the place's number has from the column up to the end, which is after it, the first bytes of the text, and all of them unless the line gives no more to a joined line.
 pub record StandsIn (bytes text : List ℕ) (p : Place) : Type 0 where
   pub line : NumberedLine
   pub among : IsAmong line (numbered_lines bytes)
@@ -142,11 +142,11 @@ pub record StandsIn (bytes text : List ℕ) (p : Place) : Type 0 where
 abbrev pub place_of : PlacedFinding → Place
 place_of p = record { line = p.line; column = p.column; end = p.end }
 
--- where a finding of a file is told with the text that it is about, and that is not empty, the text stands in the file at its place
+-- where a finding of a file is reported with the text that it is about, and that is not empty, the text is in the file at its place
 abbrev pub StandsInFile : List ℕ → PlacedFinding → Type 0
 StandsInFile bytes p = tells_text p.kind ≡ true → 0 < length p.word → StandsIn bytes p.word (place_of p)
 
--- The last finding of a file with these bytes is that a line is open. It stands at the `\` that is the last byte of the last line of the file that is no comment.
+-- The last finding of a file with these bytes is that a line is open. It is at the `\` that is the last byte of the last line of the file that is no comment.
 pub record EndsOpen (bytes : List ℕ) (found : List PlacedFinding) : Type 0 where
   pub others : List PlacedFinding
   pub told : PlacedFinding

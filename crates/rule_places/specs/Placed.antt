@@ -11,6 +11,6 @@ use Rattle.rule_places.specs.declared.spot.Spot.{Spot}
 abbrev pub found_at : ℕ → Place → MessageKind → List ℕ → PlacedFinding
 found_at begins p kind word = record { begins = begins; line = p.line; column = p.column; end = p.end; kind = kind; word = word }
 
--- what is to be said of a part of a line, which stands behind so many bytes of other joined lines, as a finding of the file
+-- what is to be said of a part of a line, which follows so many bytes of other joined lines, as a finding of the file
 abbrev pub placed : List KeptLine → ℕ → ℕ → Spot → PlacedFinding
 placed kept number start s = found_at number (place_in kept (start + s.start) s.size) s.kind s.word

@@ -27,12 +27,12 @@ abbrev pub first_name : Option NamePlace → NamePlace → Option NamePlace
 first_name None later = Some later
 first_name (Some place) later = Some place
 
--- a name that was given before is told of at the later value
+-- a name that was given before is reported at the later value
 abbrev pub again : Option NamePlace → List ℕ → Placed → List Spot
 again None name t = []
 again (Some place) name t = value_spot GivenTwice name t ∷ []
 
--- a name for which another one counts is told of at its own value
+-- a name for which another one counts is reported at its own value
 abbrev pub lost : Option NamePlace → List Spot
 lost None = []
 lost (Some place) = spot GivenTwice place.name place.start place.size ∷ []
@@ -67,7 +67,7 @@ taken by line r [] = Rule r
 taken by line r (Ok t ∷ items) = goes_on by r t (λ s. taken by line s items) (part_told by t)
 taken by line r (Err fault ∷ items) = Wrong (token_spot fault.kind fault.at line)
 
--- a rule, and behind what is to be said of it how its line is written; of one without an effect that alone is said
+-- a rule, and after what is to be said of it how its line is written; of one without an effect that alone is said
 abbrev pub finished : Profile → List ℕ → LineReading → LineReading
 finished by line (Rule r) =
     if lacks_effect by (tokens_of (items_as by line)) then Wrong (spot RuleWithoutEffect [] 0 (length line))

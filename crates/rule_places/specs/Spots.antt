@@ -1,4 +1,4 @@
--- What is to be said of parts of a joined line, with where these parts stand in it.
+-- What is to be said of parts of a joined line, with where these parts are in it.
 use Rattle.std.specs.Prelude.{ℕ, ◌+◌, ◌-◌, Bool, true, false, if◌then◌else◌, List, length, drop}
 use Rattle.text_bytes.specs.declared.message.MessageKind.{MessageKind}
 use Rattle.text_bytes.specs.declared.message.MessageKind.TheVariants.{BadSyntax, BadPrefix, UnknownKey, OperatorNotAllowed, WrongAttribute, ReservedProperty}
@@ -10,7 +10,7 @@ use Rattle.rule_parts.specs.Parts.{meaning_of}
 use Rattle.rule_places.specs.Letters.{start_before_quote}
 use Rattle.rule_places.specs.declared.spot.Spot.{Spot}
 
--- what is to be said of a part of a line, told with a text: the place of its first byte, and how many bytes it has
+-- what is to be said of a part of a line, reported with a text: the place of its first byte, and how many bytes it has
 abbrev pub spot : MessageKind → List ℕ → ℕ → ℕ → Spot
 spot kind word start size = record { kind = kind; word = word; start = start; size = size }
 
@@ -18,15 +18,15 @@ spot kind word start size = record { kind = kind; word = word; start = start; si
 abbrev pub key_spot : MessageKind → Placed → Spot
 key_spot kind t = spot kind t.parts.head.key t.span.start (length t.parts.head.key)
 
--- the attribute of a token between its braces: it stands behind the key and an open brace
+-- the attribute of a token between its braces: it follows the key and an open brace
 abbrev pub attribute_spot : MessageKind → Placed → Spot
 attribute_spot kind t = spot kind (attribute_bytes t.parts.head.attribute) (t.span.start + length t.parts.head.key + 1) (length (attribute_bytes t.parts.head.attribute))
 
--- the place of the first byte of a token's value: the quote behind it is the token's last byte
+-- the place of the first byte of a token's value: the quote after it is the token's last byte
 abbrev pub value_start : Placed → ℕ
 value_start t = t.span.end - 1 - length t.parts.value
 
--- the value of a token between its quotes, told with a text
+-- the value of a token between its quotes, reported with a text
 abbrev pub value_spot : MessageKind → List ℕ → Placed → Spot
 value_spot kind word t = spot kind word (value_start t) (length t.parts.value)
 

@@ -27,12 +27,12 @@ comma_spots gap t =
     (if commas gap == 1 then [] else key_spot CommaExpected t ∷ [])
     ++ (if ends_in comma gap then key_spot BlankExpected t ∷ [] else [])
 
--- a gap before a token: that token's key; udev also tells of blanks before a comma
+-- a gap before a token: that token's key; udev also says about blanks before a comma
 abbrev pub gap_spots : Profile → List ℕ → Placed → List Spot
 gap_spots Manual gap t = comma_spots gap t
 gap_spots Udev gap t = comma_spots gap t ++ (if has_blank_before_comma gap then key_spot BlankBeforeComma t ∷ [] else [])
 
--- the gap behind the last token, which begins at a place
+-- the gap after the last token, which begins at a place
 abbrev pub end_spots : ℕ → List ℕ → List Spot
 end_spots place gap = whole_gap CommaExpected place gap
 
@@ -40,7 +40,7 @@ end_spots place gap = whole_gap CommaExpected place gap
 abbrev pub operator_spots : Profile → Placed → List Spot
 operator_spots by t = if is_read_as_assign t then key_spot (read_as_assign_kind by) t ∷ [] else []
 
--- the gaps and tokens of a line behind a place where a token ends
+-- the gaps and tokens of a line after a place where a token ends
 abbrev pub style_behind : Profile → List ℕ → ℕ → List Placed → List Spot
 style_behind by line place [] = end_spots place (drop place line)
 style_behind by line place (t ∷ tokens) = gap_spots by (between place t.span.start line) t ++ (operator_spots by t ++ style_behind by line t.span.end tokens)
@@ -60,7 +60,7 @@ abbrev pub spots_at_end : List ℕ → Option ℕ → List Spot
 spots_at_end line None = []
 spots_at_end line (Some place) = end_spots place (drop place line)
 
--- For inner functions: the tokens behind the place where a token ends, or all of them.
+-- For inner functions: the tokens after the place where a token ends, or all of them.
 abbrev pub spots_from : Profile → List ℕ → Option ℕ → List Placed → List Spot
 spots_from by line None tokens = style_spots by line tokens
 spots_from by line (Some place) tokens = style_behind by line place tokens

@@ -20,15 +20,13 @@ use text_bytes::{Bytes, MessageKind, Profile, SourceFile};
 /// stands for one of them.
 ///
 /// Places, by codes: of V1 all from the fault to the rule's end; of V10 the letters; of V2, V3, V4,
-/// V24, S1, S2, S3 and S6 the key of the token, or for S1 the gap behind the last token; of V13 the
+/// V24, S1, S2, S3 and S6 the key of the token, or for S1 the gap after the last token; of V13 the
 /// attribute between its braces; of V5, V6, V11, V14 and V15 the value between its quotes, of V8 that
 /// of the name that does not count, of V7 that of the GOTO and of S4 that of the LABEL that counts; of
 /// S5 the gap before the first token; of V9 and V18 the whole rule; of V12 the backslash at the end of
-/// the last line; of V26 the whole line that is too long. A place in several physical lines is told as
-/// far as it stands in the first of them. A number of a line or of a column over 2^32 - 1 is given as
+/// the last line; of V26 the whole line that is too long. A place in several physical lines is reported as
+/// far as it is in the first of them. A number of a line or of a column over 2^32 - 1 is given as
 /// that one.
-///
-/// The error comes where memory is refused.
 pub fn placed_findings(
     alloc: Global,
     profile: Profile,

@@ -11,8 +11,7 @@ use text_bytes::{Bytes, Line, Lines, MessageKind, capped};
 /// The fewest bytes of a line for which a file is given up.
 const TOO_MANY_BYTES: usize = 16_384;
 
-/// What is found of a file that is given up for the line of a number: this, of the whole line. The
-/// error comes where memory is refused.
+/// What is found of a file that is given up for the line of a number: this, of the whole line.
 pub fn given_up_findings(
     alloc: Global,
     bytes: &[u8],

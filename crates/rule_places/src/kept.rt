@@ -1,4 +1,4 @@
-//! The lines of a file that are kept, with where they stand in the file and among the joined bytes.
+//! The lines of a file that are kept, with where they are in the file and among the joined bytes.
 ghost use Rattle.std.specs.Prelude.{◌≡◌, IfOk, length, nat_le, slice_get};
 ghost use Rattle.std.specs.List.{prefix_len};
 ghost use Rattle.std.specs.List.Sorted.{IsNonDecreasingBy};
@@ -17,7 +17,7 @@ pub struct KeptLine {
     pub number: usize,
     /// The column of its first byte that is no blank, counted from 1.
     pub column: usize,
-    /// How many bytes of kept lines stand before its own.
+    /// How many bytes of kept lines come before its own.
     pub start: usize,
     /// How many bytes it gives to a joined line.
     pub size: usize,
@@ -30,7 +30,7 @@ pub struct Place {
     pub line: u32,
     /// The column of the part's first byte.
     pub column: u32,
-    /// The column behind its last byte.
+    /// The column after its last byte.
     pub end: u32,
 }
 
@@ -53,7 +53,7 @@ impl Model for KeptLines {
 }
 
 impl KeptLines {
-    /// The kept lines of a file with these bytes. The error comes where memory is refused.
+    /// The kept lines of a file with these bytes.
     pub fn of(alloc: Global, bytes: &[u8]) -> Result<KeptLines, AllocError>
         ensures { IfOk result (λ kept. kept ≡ kept_lines bytes.now) }
     {
@@ -115,7 +115,7 @@ pub(crate) const FILE_START: Place = Place {
     end: 1,
 };
 
-/// The place of so many bytes of a line, behind so many of those that it gives to a joined line.
+/// The place of so many bytes of a line, after so many of those that it gives to a joined line.
 #[tactic(auto, using(crate::proofs::Capping::capped_sum, crate::proofs::Capping::capped_sums))]
 fn place_at(line: KeptLine, past: usize, shown: usize) -> Place
     ensures { result ≡ place_at line past shown }
@@ -143,7 +143,7 @@ fn kept_lines(alloc: Global, bytes: &[u8]) -> Result<Vec<KeptLine>, AllocError>
     Ok(lines)
 }
 
-/// A line as a kept one behind so many bytes of others, unless it is a comment.
+/// A line as a kept one after so many bytes of others, unless it is a comment.
 fn kept_line(start: usize, line: &Line<'_>) -> Option<KeptLine>
     ensures { result ≡ kept_line start line.now }
 {

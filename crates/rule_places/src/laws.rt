@@ -24,7 +24,7 @@ pub fn findings_are_the_messages()
 {}
 
 /// What is said of a key, of an attribute, of the letters before a quote, or of a part of a line that is no token, is
-/// told with the bytes that stand in the joined line at the place.
+/// reported with the bytes that are in the joined line at the place.
 #[tactic(auto, using(crate::proofs::Standing::all_stand))]
 pub fn words_stand_at_their_places()
     ensures { (by : profiles.Profile) (line : List ℕ) (landing : jumps.Landing) → AllByRecursion (StandsThere line) (spots_of (reading_of by line) landing) }
@@ -37,7 +37,7 @@ pub fn values_stand_between_quotes()
     ensures { (by : profiles.Profile) (line : List ℕ) (landing : jumps.Landing) → AllByRecursion (StandsQuoted line) (spots_of (reading_of by line) landing) }
 {}
 
-/// What is said of commas with no key is said of all that stands behind the last token.
+/// What is said of commas with no key is said of all that follows the last token.
 #[tactic(auto, using(crate::proofs::Standing::all_behind))]
 pub fn last_commas_stand_behind_tokens()
     ensures { (by : profiles.Profile) (line : List ℕ) (landing : jumps.Landing) → AllByRecursion (StandsBehind line) (spots_of (reading_of by line) landing) }
@@ -61,7 +61,7 @@ pub fn long_lines_are_told_as_a_whole()
     ensures { (by : profiles.Profile) (line : List ℕ) (landing : jumps.Landing) → most_bytes by < length line → spots_of (reading_of by line) landing ≡ spot LineTooLong [] 0 (length line) ∷ [] }
 {}
 
-/// The joined lines of a file are what its kept lines give, one behind the other, so that a place
+/// The joined lines of a file are what its kept lines give, one after another, so that a place
 /// in a joined line is one among the bytes of the kept lines.
 #[tactic(auto, using(crate::proofs::Joining::all_joined))]
 pub fn joined_lines_are_kept_lines()
@@ -69,28 +69,28 @@ pub fn joined_lines_are_kept_lines()
 {}
 
 /// The line of the file that is found for a byte of the kept lines has that byte at the column that
-/// is told, and behind it the bytes that follow.
+/// is reported, and after it the bytes that follow.
 #[tactic(auto, using(crate::proofs::Showing::all_shown))]
 pub fn places_show_their_bytes()
     ensures { (bytes : List ℕ) (at : ℕ) → at < length (kept_text (numbered_lines bytes)) → IsShown bytes at }
 {}
 
-/// So many bytes of the kept lines, from a byte on, stand in the file at the place that is told of
+/// So many bytes of the kept lines, from a byte on, are in the file at the place that is reported
 /// them, up to the end of the line in which the first of them stands.
 #[tactic(auto, using(crate::proofs::Placing::all_placed))]
 pub fn places_stand_in_their_lines()
     ensures { (bytes : List ℕ) (at size : ℕ) → length bytes < 2 ^ 32 - 1 → at < length (kept_text (numbered_lines bytes)) → 0 < size → StandsIn bytes (take size (drop at (kept_text (numbered_lines bytes)))) (place_in (kept_lines bytes) at size) }
 {}
 
-/// A finding that is told with a text of its file, which is a key, the letters before a quote or what
-/// is no token, stands there: the line of its number has the text at its columns, all of it unless
+/// A finding that is reported with a text of its file, which is a key, the letters before a quote or what
+/// is no token, is there: the line of its number has the text at its columns, all of it unless
 /// the rule goes on in another line.
 #[tactic(auto, using(crate::proofs::FileStanding::all_in_file))]
 pub fn findings_stand_in_their_lines()
     ensures { (by : profiles.Profile) (file : files.SourceFile) → length file.bytes < 2 ^ 32 - 1 → AllByRecursion (StandsInFile file.bytes) (placed_findings by file) }
 {}
 
-/// Where a line is still open at its file's end, that is the last finding, and it stands at the `\\`
+/// Where a line is still open at its file's end, that is the last finding, and it is at the `\\`
 /// that the last line ends in which is no comment.
 #[tactic(auto, using(crate::proofs::Opening::all_open))]
 pub fn open_lines_are_told_at_their_backslash()

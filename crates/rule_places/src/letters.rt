@@ -6,7 +6,7 @@ ghost use Rattle.rule_places.specs.Letters.{behind_braces, behind_byte, behind_k
 
 use text_bytes::{begins_with, split_once};
 
-/// The place in a line of the letters that stand directly before the first quote behind the key, and
+/// The place in a line of the letters that come directly before the first quote after the key, and
 /// the braces, with which the text at the line's end begins.
 pub fn letters_start(line: &[u8], text: &[u8], letters: &[u8]) -> usize
     ensures { result ≡ start_before_quote line.now text.now letters.now }
@@ -17,7 +17,7 @@ pub fn letters_start(line: &[u8], text: &[u8], letters: &[u8]) -> usize
         .saturating_sub(letters.len())
 }
 
-/// What stands behind the key that a text begins with, and behind its braces if it has them.
+/// What follows the key that a text begins with, and after its braces if it has them.
 fn behind_braces(text: &[u8]) -> &[u8]
     ensures { result.now ≡ behind_braces text.now }
 {
@@ -29,7 +29,7 @@ fn behind_braces(text: &[u8]) -> &[u8]
     }
 }
 
-/// What stands behind the key that a text begins with.
+/// What follows the key that a text begins with.
 fn behind_key(text: &[u8]) -> &[u8]
     ensures { result.now ≡ behind_key text.now }
 {
@@ -45,14 +45,14 @@ fn key_length(text: &[u8]) -> usize
     text.iter().take_while(|byte| is_key_byte(**byte)).count()
 }
 
-/// Whether a byte may stand in a key.
+/// Whether a byte may be in a key.
 fn is_key_byte(byte: u8) -> bool
     ensures { result ≡ is_key_byte byte }
 {
     byte.is_ascii_alphanumeric() || byte == b'_'
 }
 
-/// What stands behind the first such byte of a text, nothing where it has none.
+/// What follows the first such byte of a text, nothing where it has none.
 fn behind_byte(byte: u8, text: &[u8]) -> &[u8]
     ensures { result.now ≡ behind_byte byte text.now }
 {

@@ -1,7 +1,10 @@
-//! Where the findings of a rules file stand: the physical line, the column and the whole text of each message about it.
+//! Where the findings of a rules file are: the physical line, the column and the whole text of each message about it.
 //!
-//! A joined line is read once more, token by token, and what is found of it is kept with its place among the joined bytes.
-//! The lines of the file that are kept, each with where it begins among these bytes, then give the physical place.
+//! A joined line is read once more, token by token, and each finding is kept with its place among the joined bytes. The
+//! physical place then follows from the lines of the file that were kept, each with the place at which it begins among
+//! these bytes.
+//!
+//! Functions that allocate return `AllocError` when memory runs out.
 #![tactic(auto)]
 
 mod file_findings;

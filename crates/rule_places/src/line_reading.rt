@@ -24,7 +24,7 @@ pub enum LineReading {
     Wrong(Spot),
 }
 
-/// Reads a joined line, as `rule_core` reads it by this profile. The error comes where memory is refused.
+/// Reads a joined line, as `rule_core` reads it by this profile.
 pub fn reading_of(alloc: Global, profile: Profile, line: &[u8]) -> Result<LineReading, AllocError>
     ensures { IfOk result (λ read. read ≡ reading_of profile line.now) }
 {

@@ -23,7 +23,7 @@ impl RulePlaces {
         }
     }
 
-    /// Takes the part of a rule that a token is. The error comes where memory is refused.
+    /// Takes the part of a rule that a token is.
     pub fn take(
         &mut self,
         profile: Profile,
@@ -72,7 +72,7 @@ fn give(
     Ok(())
 }
 
-/// Gives a name in place of the one that was given before, if one was, and tells of that one.
+/// Gives a name in place of the one that was given before, if one was, and says about that one.
 fn give_last(
     given: &mut Option<NamePlace>,
     spots: &mut Vec<Spot>,

@@ -11,7 +11,7 @@ pub struct PlacedFinding {
     pub line: u32,
     /// The byte of that line at which the place begins, counted from 1.
     pub column: u32,
-    /// The column behind the last byte of the place that stands in that same line.
+    /// The column after the last byte of the place that is in that same line.
     pub end: u32,
     /// What is to be said.
     pub kind: MessageKind,

@@ -8,10 +8,8 @@ use crate::spot::Spot;
 use crate::sums::sum_of;
 use std::alloc::AllocError;
 
-/// Adds what is to be said of parts of a joined line, which stands behind so many bytes of other
+/// Adds what is to be said of parts of a joined line, which follows so many bytes of other
 /// joined lines, as findings of the file with the number that the line's messages tell.
-///
-/// The error comes where memory is refused.
 pub fn place_spots(
     found: &mut Vec<PlacedFinding>,
     kept: &KeptLines,

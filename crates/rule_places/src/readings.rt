@@ -16,13 +16,13 @@ use text_bytes::Profile;
 pub struct PlacedReading {
     /// The number of the line of the file in which it begins.
     pub number: u32,
-    /// How many bytes of joined lines stand before it.
+    /// How many bytes of joined lines come before it.
     pub start: usize,
     /// What is found of it.
     pub read: LineReading,
 }
 
-/// Reads the joined lines of a file. The error comes where memory is refused.
+/// Reads the joined lines of a file.
 pub fn readings_of(
     alloc: Global,
     profile: Profile,
@@ -44,7 +44,7 @@ pub fn readings_of(
     Ok(readings)
 }
 
-/// What becomes of the jumps of lines. The error comes where memory is refused.
+/// What becomes of the jumps of lines.
 pub fn landings_of(alloc: Global, readings: &[PlacedReading]) -> Result<Vec<Landing>, AllocError>
     ensures { IfOk result (λ found. found.items ≡ landings (map (λ r. names_of r.read) readings.now)) }
 {
@@ -65,7 +65,7 @@ fn jump_of(read: &LineReading) -> Jump<'_>
     }
 }
 
-/// Lends a name, if there is one.
+/// Returns a name, if there is one.
 fn lent(given: &Option<NamePlace>) -> Option<&[u8]>
     ensures { option_map (λ t. t.now) result ≡ option_map (λ n. n.name) given.now }
 {

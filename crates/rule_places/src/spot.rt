@@ -23,7 +23,7 @@ pub struct Spot {
     pub size: usize,
 }
 
-/// What is to be said of a token's key. The error comes where memory is refused.
+/// What is to be said of a token's key.
 pub fn key_spot(alloc: Global, kind: MessageKind, token: &Token<'_>) -> Result<Spot, AllocError>
     ensures { IfOk result (λ found. found ≡ key_spot kind token.now) }
 {
@@ -36,8 +36,8 @@ pub fn key_spot(alloc: Global, kind: MessageKind, token: &Token<'_>) -> Result<S
     })
 }
 
-/// What is to be said of a token's attribute between its braces. The error comes where memory is
-/// refused, or where the attribute would stand behind 2^64 - 1 bytes.
+/// What is to be said of a token's attribute between its braces. The error comes where memory runs
+/// out, or where the attribute would follow 2^64 - 1 bytes.
 pub fn attribute_spot(
     alloc: Global,
     kind: MessageKind,
@@ -65,7 +65,7 @@ fn attribute_bytes<'a>(token: &Token<'a>) -> &'a [u8]
     }
 }
 
-/// What is to be said of a token's value between its quotes, told with this text.
+/// What is to be said of a token's value between its quotes, reported with this text.
 pub fn value_spot(kind: MessageKind, word: Bytes, token: &Token<'_>) -> Spot
     ensures { result ≡ value_spot kind word token.now }
 {
@@ -79,7 +79,7 @@ pub fn value_spot(kind: MessageKind, word: Bytes, token: &Token<'_>) -> Spot
 }
 
 /// What is to be said of a token that is no part of a rule: of its key, of its attribute, or of its
-/// value with what that means. The error comes where memory is refused.
+/// value with what that means.
 pub fn part_spot(alloc: Global, kind: MessageKind, token: &Token<'_>) -> Result<Spot, AllocError>
     ensures { IfOk result (λ found. found ≡ part_spot kind token.now) }
 {
@@ -95,7 +95,7 @@ pub fn part_spot(alloc: Global, kind: MessageKind, token: &Token<'_>) -> Result<
 }
 
 /// What is to be said of the part of a line, from its first byte on, that is no token: of all up to
-/// the line's end, or of the letters before the quote. The error comes where memory is refused.
+/// the line's end, or of the letters before the quote.
 pub fn token_spot(alloc: Global, fault: TokenFault, line: &[u8]) -> Result<Spot, AllocError>
     ensures { IfOk result (λ found. found ≡ token_spot fault.kind fault.at line.now) }
 {

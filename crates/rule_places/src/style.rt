@@ -12,8 +12,7 @@ use rule_tokens::Token;
 use std::alloc::{AllocError, Global};
 use text_bytes::{Bytes, MessageKind, Profile, ends_in};
 
-/// Adds what is to be said of how a line is written, by the places of its tokens. The error comes
-/// where memory is refused.
+/// Adds what is to be said of how a line is written, by the places of its tokens.
 pub fn add_style(
     alloc: Global,
     profile: Profile,
@@ -127,7 +126,7 @@ fn add_operator(
     Ok(())
 }
 
-/// Adds what is to be said of the gap behind the last token, which begins at a place.
+/// Adds what is to be said of the gap after the last token, which begins at a place.
 fn add_end(
     alloc: Global,
     spots: &mut Vec<Spot>,

@@ -68,7 +68,7 @@ module _ {X : Type 0} (line_of : X → ℕ) where
       by true e more = subst (λ (ys : List X). RisesFrom line_of m ys) (sym (passed true (prefix_len (λ y. nat_lt (line_of y) m) xs) x xs refl)) more
       by false e more = (ltb-false (line_of x) m e, h.1)
 
-  -- an element behind those that are told of lines before its own
+  -- an element after those that are reported for lines before its own
   front_rises : (n : ℕ) (x : X) (rest xs : List X) → RisesFrom line_of n xs → n ≤ line_of x → RisesFrom line_of (line_of x) rest → RisesFrom line_of n (before line_of xs (line_of x) ++ x ∷ rest)
   front_rises n x rest [] h l k = (l, k)
   front_rises n x rest (y ∷ xs) h l k = by (nat_lt (line_of y) (line_of x)) refl (λ g. front_rises (line_of y) x rest xs h.1 g k)

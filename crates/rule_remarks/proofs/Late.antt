@@ -1,11 +1,11 @@
--- A PROGRAM behind a RESULT, token by token.
+-- A PROGRAM after a RESULT, token by token.
 use Rattle.std.proofs.Common.{◌≡◌, Bool, true, false, cond, ◌||◌, List, [], ◌∷◌, ◌++◌, Option, Some, is_some, refl, sym, ap, ◌∙◌, append_assoc}
 use Rattle.std.specs.List.{find}
 use Rattle.rule_tokens.specs.Grammar.{Placed}
 use Rattle.rule_remarks.specs.Laws.{HasLateProgram}
 use Rattle.rule_remarks.specs.Remarks.{is_program, is_result, late_program}
 
--- the first PROGRAM of tokens that counts, by whether a RESULT stands before them
+-- the first PROGRAM of tokens that counts, by whether a RESULT comes before them
 abbrev pub behind : Bool → List Placed → Option Placed
 behind true tokens = find is_program tokens
 behind false tokens = late_program tokens
@@ -60,7 +60,7 @@ late_stands (x ∷ tokens) t e = by (is_result x) refl e (λ g. late_stands toke
           runs = rest.runs;
         }
 
--- where one stands, one is told of
+-- where one stands, one is reported
 first_found : (front behind : List Placed) (t : Placed) → is_program t ≡ true → is_some (find is_program (front ++ t ∷ behind)) ≡ true
 first_found [] behind t e = ap (λ (b : Bool). is_some (cond b (Some t) (find is_program behind))) e
 first_found (x ∷ front) behind t e = by (is_program x) (first_found front behind t e)

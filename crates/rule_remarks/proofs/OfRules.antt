@@ -1,4 +1,4 @@
--- What is told of a file is told of its rules.
+-- What is reported for a file is reported for its rules.
 use Rattle.std.proofs.Common.{◌≡◌, ℕ, ◌+◌, Bool, true, false, cond, inl, inr, List, [], ◌∷◌, ◌++◌, length, map, Option, Some, None, refl}
 use Rattle.std.specs.List.{AllByRecursion}
 use Rattle.text_bytes.specs.Lines.{NumberedLine}

@@ -1,4 +1,4 @@
--- Where what is told of a rule stands in its line.
+-- Where what is reported for a rule is in its line.
 use Rattle.std.proofs.Common.{◌≡◌, ℕ, zero, suc, Bool, true, false, cond, true≢false, ◌||◌, List, [], ◌∷◌, ◌++◌, flat_map, filter_map, slice_get, Option, Some, None, option_map, Ok, Err, refl, sym}
 use Rattle.std.specs.List.{AllByRecursion, cons_option, find}
 use Rattle.text_bytes.specs.Texts.{is_empty}
@@ -33,7 +33,7 @@ use Rattle.rule_remarks.specs.Remarks.{attribute_remarks, fault_spot, is_of_key,
 use Rattle.rule_remarks.specs.Rules.{is_read, line_remarks}
 use Rattle.rule_remarks.specs.Values.{assigned_fault, compared_fault, filled_fault, given_fault, text_fault, value_fault}
 
--- what is wrong with a value is told of the value or of the key
+-- what is wrong with a value is reported for the value or of the key
 abbrev IsOfValue : Option MessageKind → Type 0
 IsOfValue None = Unit {0}
 IsOfValue (Some kind) = (is_of_key kind || tells_value kind) ≡ true

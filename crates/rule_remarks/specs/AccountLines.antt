@@ -18,16 +18,16 @@ abbrev pub without_plus : List ℕ → List ℕ
 without_plus [] = []
 without_plus (b ∷ text) = if b == plus then text else b ∷ text
 
--- the number that a field gives: perhaps white space and a `+`, and behind it decimal digits of a number within 32 bits
+-- the number that a field gives: perhaps white space and a `+`, and after it decimal digits of a number within 32 bits
 abbrev pub field_number : List ℕ → Option ℕ
 field_number text = decimal_below (2 ^ 32) (without_plus (trimmed text))
 
--- what stands before a cut of a text, all of it where it is not cut
+-- what comes before a cut of a text, all of it where it is not cut
 abbrev pub before_cut : List ℕ → Option (List ℕ × List ℕ) → List ℕ
 before_cut text None = text
 before_cut text (Some x) = x.0
 
--- the first field of a text: what stands before the first colon, all of it where there is none
+-- the first field of a text: what comes before the first colon, all of it where there is none
 abbrev pub first_field : List ℕ → List ℕ
 first_field text = before_cut text (split_once colon text)
 
@@ -35,7 +35,7 @@ first_field text = before_cut text (split_once colon text)
 abbrev pub user_number : List ℕ × List ℕ → Option ℕ
 user_number x = if is_some (field_number (first_field x.1)) then field_number x.0 else None
 
--- the number of an account, by the fields behind its password
+-- the number of an account, by the fields after its password
 abbrev pub number_in : AccountKind → List ℕ → Option ℕ
 number_in User fields = option_and_then user_number (split_once colon fields)
 number_in Group fields = field_number (first_field fields)
@@ -44,7 +44,7 @@ number_in Group fields = field_number (first_field fields)
 abbrev pub account : List ℕ → ℕ → Account
 account name n = record { name = name; number = n }
 
--- an account of a name, by what stands behind its colon: a password and the other fields
+-- an account of a name, by what follows its colon: a password and the other fields
 abbrev pub account_behind : AccountKind → List ℕ → List ℕ → Option Account
 account_behind kind name fields = option_and_then (λ x. option_map (account name) (number_in kind x.1)) (split_once colon fields)
 

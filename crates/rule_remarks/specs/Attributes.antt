@@ -5,7 +5,7 @@ use Rattle.rule_templates.specs.Reading.{is_faulty}
 use Rattle.rule_types.specs.declared.keys.Key.{Key}
 use Rattle.rule_types.specs.declared.keys.Key.TheVariants as key
 
--- whether substitutions may stand in the attribute of a key
+-- whether substitutions may be in the attribute of a key
 abbrev pub takes_substitutions : Key → Bool
 takes_substitutions key.Attr = true
 takes_substitutions key.Attrs = true
@@ -17,7 +17,7 @@ abbrev pub is_of_chain : Key → Bool
 is_of_chain key.Attrs = true
 is_of_chain _ = false
 
--- whether `../` stands in a text
+-- whether `../` is in a text
 abbrev pub has_way_up : List ℕ → Bool
 has_way_up [] = false
 has_way_up (b ∷ text) = starts_with nat_eq (b ∷ text) (codes "../") || has_way_up text

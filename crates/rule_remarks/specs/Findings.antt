@@ -1,4 +1,4 @@
--- All that is told of a rules file by a profile.
+-- All that is reported for a rules file by a profile.
 use Rattle.std.specs.Prelude.{List}
 use Rattle.text_bytes.specs.declared.profile.Profile.{Profile}
 use Rattle.text_bytes.specs.declared.profile.Profile.TheVariants.{Manual, Udev}
@@ -9,7 +9,7 @@ use Rattle.rule_places.specs.declared.placed_finding.PlacedFinding.{PlacedFindin
 use Rattle.rule_remarks.specs.ByLine.{by_line}
 use Rattle.rule_remarks.specs.Rules.{file_remarks}
 
--- what is told of a file: by the manual what is found when it is read, by udev also what is told of the rules that stay
+-- what is reported for a file: by the manual what is found when it is read, by udev also what is reported for the rules that stay
 unfoldable pub findings_as : Profile → Accounts → SourceFile → List PlacedFinding
 findings_as Manual accounts f = placed_findings Manual f
 findings_as Udev accounts f = by_line (λ p. p.begins) (placed_findings Udev f) (file_remarks accounts f.bytes)

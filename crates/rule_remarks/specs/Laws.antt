@@ -15,14 +15,14 @@ pub record HasWayUp (text : List ℕ) : Type 0 where
   pub behind : List ℕ
   pub whole : text ≡ front ++ (codes "../" ++ behind)
 
--- what is told is told of one of these lines, which is a rule for udev
+-- what is reported is reported for one of these lines, which is a rule for udev
 pub record IsOfRule (ls : List NumberedLine) (told : PlacedFinding) : Type 0 where
   pub line : NumberedLine
   pub among : IsAmong line ls
   pub read : is_read (draft_of Udev line.text) ≡ true
   pub number : told.begins ≡ line.number
 
--- one of these tokens is a PROGRAM, and a RESULT stands before it
+-- one of these tokens is a PROGRAM, and a RESULT comes before it
 pub record HasLateProgram (tokens : List Placed) (program : Placed) : Type 0 where
   pub front : List Placed
   pub result : Placed

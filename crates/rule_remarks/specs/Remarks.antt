@@ -1,4 +1,4 @@
--- What udev tells of the tokens of a rule that stays, with where they stand in its line.
+-- What udev says about the tokens of a rule that stays, with where they are in its line.
 use Rattle.std.specs.Prelude.{ℕ, Bool, true, false, if◌then◌else◌, List, [], ◌∷◌, ◌++◌, flat_map, filter_map, slice_get, Option, Some, None, option_map, codes}
 use Rattle.std.specs.List.{find}
 use Rattle.text_bytes.specs.declared.message.MessageKind.{MessageKind}
@@ -16,35 +16,35 @@ use Rattle.rule_places.specs.declared.spot.Spot.{Spot}
 use Rattle.rule_remarks.specs.Attributes.{is_bad_name, is_elsewhere}
 use Rattle.rule_remarks.specs.Values.{value_fault}
 
--- what is told of the attribute of a token, if it has one
+-- what is reported for the attribute of a token, if it has one
 abbrev pub attribute_remarks : Key → Placed → Option (List ℕ) → List Spot
 attribute_remarks k t None = []
 attribute_remarks k t (Some name) =
     (if is_bad_name k name then attribute_spot BadAttributeSubstitution t ∷ [] else [])
     ++ (if is_elsewhere k name then attribute_spot AttributeElsewhere t ∷ [] else [])
 
--- whether what is wrong with a value is told of the key: that it is empty
+-- whether what is wrong with a value is reported for the key: that it is empty
 abbrev pub is_of_key : MessageKind → Bool
 is_of_key EmptyValue = true
 is_of_key _ = false
 
--- a token's value, told with what it means, or its key
+-- a token's value, reported with what it means, or its key
 abbrev pub fault_spot : MessageKind → Placed → Spot
 fault_spot kind t = if is_of_key kind then key_spot kind t else value_spot kind (meaning_of t) t
 
--- what is told of the value of a token, if something is wrong with it
+-- what is reported for the value of a token, if something is wrong with it
 abbrev pub value_remarks : Option MessageKind → Placed → List Spot
 value_remarks None t = []
 value_remarks (Some kind) t = fault_spot kind t ∷ []
 
--- what is told of a token, if its key is one
+-- what is reported for a token, if its key is one
 abbrev pub remarks_by : Accounts → Placed → Option Key → List Spot
 remarks_by accounts t None = []
 remarks_by accounts t (Some k) =
     attribute_remarks k t t.parts.head.attribute
     ++ value_remarks (value_fault accounts k t.parts.head.operator (meaning_of t)) t
 
--- what is told of a token: of its attribute, then of its value
+-- what is reported for a token: of its attribute, then of its value
 unfoldable pub token_remarks : Accounts → Placed → List Spot
 token_remarks accounts t = remarks_by accounts t (key_of t.parts.head.key)
 
@@ -56,21 +56,21 @@ is_result t = same_text t.parts.head.key (codes "RESULT")
 abbrev pub is_program : Placed → Bool
 is_program t = same_text t.parts.head.key (codes "PROGRAM")
 
--- the first PROGRAM that stands behind a RESULT
+-- the first PROGRAM that follows a RESULT
 abbrev pub late_program : List Placed → Option Placed
 late_program [] = None
 late_program (t ∷ tokens) = if is_result t then find is_program tokens else late_program tokens
 
--- what is told of such a PROGRAM, if there is one
+-- what is reported for such a PROGRAM, if there is one
 abbrev pub order_remarks : Option Placed → List Spot
 order_remarks None = []
 order_remarks (Some t) = key_spot ResultBeforeProgram t ∷ []
 
--- what is told of two tokens: the key of the later one
+-- what is reported for two tokens: the key of the later one
 abbrev pub pair_remark : List Placed → PairFinding → Option Spot
 pair_remark tokens found = option_map (key_spot (message_of found.kind)) (slice_get tokens found.token)
 
--- what is told of a rule's tokens: of each by itself in written order, then of a RESULT before a PROGRAM, then two by two
+-- what is reported for a rule's tokens: of each by itself in written order, then of a RESULT before a PROGRAM, then two by two
 unfoldable pub rule_remarks : Accounts → List Placed → List Spot
 rule_remarks accounts tokens =
     flat_map (token_remarks accounts) tokens

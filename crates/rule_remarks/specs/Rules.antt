@@ -1,4 +1,4 @@
--- What udev tells of the rules of a file that stay, with where that stands in the file.
+-- What udev says about the rules of a file that stay, with where that is in the file.
 use Rattle.std.specs.Prelude.{ℕ, ◌+◌, Bool, true, false, if◌then◌else◌, List, [], ◌∷◌, ◌++◌, length, map, Option, Some, None, Result, Ok, Err}
 use Rattle.text_bytes.specs.Lines.{NumberedLine}
 use Rattle.text_bytes.specs.declared.profile.Profile.TheVariants.{Udev}
@@ -19,25 +19,25 @@ abbrev pub is_read : Result Draft Finding → Bool
 is_read (Ok d) = true
 is_read (Err wrong) = false
 
--- what is told of a joined line, where it is a rule for udev
+-- what is reported for a joined line, where it is a rule for udev
 unfoldable pub line_remarks : Accounts → List ℕ → List Spot
 line_remarks accounts line = if is_read (draft_of Udev line) then rule_remarks accounts (tokens_of (items_as Udev line)) else []
 
--- what is told of joined lines that stand behind so many bytes of others
+-- what is reported for joined lines that follow so many bytes of others
 abbrev pub remarks_from : Accounts → List KeptLine → ℕ → List NumberedLine → List PlacedFinding
 remarks_from accounts kept start [] = []
 remarks_from accounts kept start (l ∷ ls) =
     map (placed kept l.number start) (line_remarks accounts l.text) ++ remarks_from accounts kept (start + length l.text) ls
 
--- what is told of the joined lines of a file
+-- what is reported for the joined lines of a file
 abbrev pub remarks_of_lines : Accounts → List ℕ → List PlacedFinding
 remarks_of_lines accounts bytes = remarks_from accounts (kept_lines bytes) 0 (joined_lines Udev bytes).lines
 
--- what is told of a file, unless it is given up for the line of a number
+-- what is reported for a file, unless it is given up for the line of a number
 abbrev pub remarks_unless : Accounts → List ℕ → Option ℕ → List PlacedFinding
 remarks_unless accounts bytes None = remarks_of_lines accounts bytes
 remarks_unless accounts bytes (Some number) = []
 
--- what is told of the rules of a file with these bytes that stay, by line
+-- what is reported for the rules of a file with these bytes that stay, by line
 unfoldable pub file_remarks : Accounts → List ℕ → List PlacedFinding
 file_remarks accounts bytes = remarks_unless accounts bytes (given_up Udev bytes)

@@ -3,7 +3,7 @@ use Rattle.std.specs.Prelude.{◌≡◌, ◌<◌, ℕ, List, [], ◌∷◌}
 use Rattle.rule_places.specs.declared.placed_finding.PlacedFinding.{PlacedFinding}
 use Rattle.rule_remarks.specs.ByLine.{before}
 
--- none of the findings goes over, as the first is not told of a line before this one
+-- none of the findings goes over, as the first is not reported for a line before this one
 pub record LeavesAll (found : List PlacedFinding) (line : ℕ) (left : List PlacedFinding) : Type 0 where
   pub none : before (λ p. p.begins) found line ≡ []
   pub same : left ≡ found

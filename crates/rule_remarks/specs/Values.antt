@@ -68,6 +68,6 @@ assigned_fault accounts key.Group text = account_fault accounts Group text
 assigned_fault accounts key.Options text = option_fault text
 assigned_fault accounts _ text = None
 
--- what is wrong with a value of a key behind an operator
+-- what is wrong with a value of a key after an operator
 unfoldable pub value_fault : Accounts → Key → Operator → List ℕ → Option MessageKind
 value_fault accounts k o text = if compares o then compared_fault k text else assigned_fault accounts k text

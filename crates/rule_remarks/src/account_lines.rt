@@ -14,8 +14,7 @@ const NUMBERS: u64 = 1 << 32;
 /// The users that a file like /etc/passwd lists, or the groups of one like /etc/group, as the C library reads it.
 ///
 /// White space before a line counts for nothing. No account is listed by a line that begins with `#`, `+` or `-`, nor
-/// by one without a number within 32 bits of its account, and of a user's group. The error comes where memory is
-/// refused.
+/// by one without a number within 32 bits of its account, and of a user's group.
 pub fn read_accounts(
     alloc: Global,
     kind: AccountKind,
@@ -52,7 +51,7 @@ fn is_passed_over(line: &[u8]) -> bool
     begins_with(b'#', line) || begins_with(b'+', line) || begins_with(b'-', line)
 }
 
-/// The number of an account, by the fields behind its password.
+/// The number of an account, by the fields after its password.
 fn number_in(kind: AccountKind, fields: &[u8]) -> Option<u32>
     ensures { result ≡ number_in kind fields.now }
 {
@@ -69,7 +68,7 @@ fn number_in(kind: AccountKind, fields: &[u8]) -> Option<u32>
     }
 }
 
-/// What stands before the first colon of a text, all of it where there is none.
+/// What comes before the first colon of a text, all of it where there is none.
 fn first_field(text: &[u8]) -> &[u8]
     ensures { result.now ≡ first_field text.now }
 {

@@ -19,7 +19,7 @@ pub(crate) fn is_elsewhere(key: Key, name: &[u8]) -> bool
     is_of_chain(key) && leads_elsewhere(name)
 }
 
-/// Whether substitutions may stand in the attribute of a key.
+/// Whether substitutions may be in the attribute of a key.
 fn takes_substitutions(key: Key) -> bool
     ensures { result ≡ takes_substitutions key }
 {
@@ -40,7 +40,7 @@ fn leads_elsewhere(name: &[u8]) -> bool
     name.starts_with(b"device/") || has_way_up(name)
 }
 
-/// Whether `../` stands in a text.
+/// Whether `../` is in a text.
 fn has_way_up(text: &[u8]) -> bool
     ensures { result ≡ has_way_up text.now }
 {

@@ -1,4 +1,4 @@
-//! What is told of the rules of a file that stay.
+//! What is reported for the rules of a file that stay.
 ghost use Rattle.std.specs.Prelude.{◌≡◌, ◌++◌, IfOk, OnOk};
 ghost use Rattle.rule_remarks.specs.Rules.{file_remarks, remarks_from, remarks_of_lines};
 
@@ -9,16 +9,15 @@ use rule_places::{KeptLines, PlacedFinding, place_spots, sum_of};
 use std::alloc::{AllocError, Global};
 use text_bytes::Profile;
 
-/// What udev tells of the rules of a file that stay, in the order of their lines, each with the physical line and the
+/// What udev says about the rules of a file that stay, in the order of their lines, each with the physical line and the
 /// columns that it is about. The file's ends of lines are newlines already.
 ///
-/// Of a rule first what is wrong with each token comes, in written order: of its attribute, then of its value. Behind
-/// that V19 comes, and then what is told of two tokens. V19, V16, V17 and V20 are told at a key, V21 and V22 at an
+/// Of a rule first what is wrong with each token comes, in written order: of its attribute, then of its value. After
+/// that V19 comes, and then what is reported for two tokens. V19, V16, V17 and V20 are reported at a key, V21 and V22
+/// at an
 /// attribute between its braces, V5, V6, V23 and V25 at a value between its quotes; each has the text that it is about.
-/// A place in several physical lines is told as far as it stands in the first of them. A number of a line or of a
-/// column over 2^32 - 1 is given as that one. Of a file that udev gives up nothing is told.
-///
-/// The error comes where memory is refused.
+/// A place in several physical lines is reported as far as it is in the first of them. A number of a line or of a
+/// column over 2^32 - 1 is given as that one. Of a file that udev gives up nothing is reported.
 #[tactic(auto, unfolding(crate::specs::Rules::file_remarks))]
 pub fn file_remarks(
     alloc: Global,
@@ -33,7 +32,7 @@ pub fn file_remarks(
     }
 }
 
-/// What is told of the joined lines of a file.
+/// What is reported for the joined lines of a file.
 fn remarks_of_lines(
     alloc: Global,
     accounts: &Accounts,
@@ -48,7 +47,7 @@ fn remarks_of_lines(
     Ok(told)
 }
 
-/// Adds what is told of joined lines.
+/// Adds what is reported for joined lines.
 fn place_lines(
     alloc: Global,
     told: &mut Vec<PlacedFinding>,

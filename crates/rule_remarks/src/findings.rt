@@ -1,4 +1,4 @@
-//! All that is told of a rules file by a profile.
+//! All that is reported for a rules file by a profile.
 ghost use Rattle.std.specs.Prelude.{◌≡◌, IfOk};
 ghost use Rattle.rule_remarks.specs.Findings.{findings_as};
 
@@ -9,11 +9,10 @@ use rule_places::{PlacedFinding, placed_findings};
 use std::alloc::{AllocError, Global};
 use text_bytes::{Profile, SourceFile};
 
-/// What is told of a rules file, in the order of its lines: by the manual what is found when it is read, by udev also
-/// what it tells of rules that stay, of each line behind what reading finds of it. The file's ends of lines are
+/// What is reported for a rules file, in the order of its lines: by the manual what is found when it is read, by udev
+/// also
+/// what it says about rules that stay, of each line after what reading finds of it. The file's ends of lines are
 /// newlines already.
-///
-/// The error comes where memory is refused.
 #[tactic(auto, unfolding(crate::specs::Findings::findings_as))]
 pub fn file_findings(
     alloc: Global,

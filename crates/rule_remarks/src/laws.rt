@@ -18,26 +18,27 @@ ghost use Rattle.rule_remarks.specs.Laws.{HasLateProgram, HasWayUp, IsOfRule, Ri
 ghost use Rattle.rule_remarks.specs.Remarks.{late_program, rule_remarks};
 ghost use Rattle.rule_remarks.specs.Rules.{file_remarks, line_remarks};
 
-/// `../` is found exactly where it stands in a text.
+/// `../` is found exactly where it is in a text.
 #[tactic(auto, using(crate::proofs::WayUp::ways_up))]
 pub fn ways_up_stand_in_their_names()
     ensures { (text : List ℕ) → (has_way_up text ≡ true) ↔ HasWayUp text }
 {}
 
-/// What is told of a key or an attribute is told with the bytes that stand in the joined line at the place.
+/// What is reported for a key or an attribute is reported with the bytes that are in the joined line at the place.
 #[tactic(auto, using(crate::proofs::Standing::words_stand))]
 pub fn words_stand_at_their_places()
     ensures { (accounts : Accounts) (line : List ℕ) → AllByRecursion (StandsThere line) (line_remarks accounts line) }
 {}
 
-/// What is told of a value is told of bytes of the joined line between two quotes, with no quote among them that ends
+/// What is reported for a value is reported for bytes of the joined line between two quotes, with no quote among them
+/// that ends
 /// a value.
 #[tactic(auto, using(crate::proofs::Standing::values_stand))]
 pub fn values_stand_between_quotes()
     ensures { (accounts : Accounts) (line : List ℕ) → AllByRecursion (StandsQuoted line) (line_remarks accounts line) }
 {}
 
-/// A PROGRAM is told of for its place only where a RESULT stands before it, and where one does, some PROGRAM is.
+/// A PROGRAM is reported for its place only where a RESULT comes before it, and where one does, some PROGRAM is.
 #[tactic(auto, using(crate::proofs::Late::late_stands))]
 pub fn late_programs_stand_behind_results()
     ensures stands { (tokens : List Placed) (program : Placed) → late_program tokens ≡ Some program → HasLateProgram tokens program }
@@ -50,19 +51,19 @@ pub fn lines_never_fall()
     ensures { (line : ℕ) (found others : List places.PlacedFinding) → RisesFrom (λ p. p.begins) line found → RisesFrom (λ p. p.begins) line others → RisesFrom (λ p. p.begins) line (by_line (λ p. p.begins) found others) }
 {}
 
-/// Each remark on a file is told of a joined line that is a rule for udev.
+/// Each remark on a file is reported for a joined line that is a rule for udev.
 #[tactic(auto, using(crate::proofs::OfRules::of_rules))]
 pub fn remarks_are_told_of_rules()
     ensures { (accounts : Accounts) (bytes : List ℕ) → AllByRecursion (IsOfRule (joined_lines Udev bytes).lines) (file_remarks accounts bytes) }
 {}
 
-/// Nothing is told of no tokens.
+/// Nothing is reported for no tokens.
 #[tactic(auto, unfolding(crate::specs::Remarks::rule_remarks, rule_pairs::specs::Pairs::pair_findings))]
 pub fn no_tokens_have_no_remarks()
     ensures { (accounts : Accounts) → rule_remarks accounts [] ≡ [] }
 {}
 
-/// By the manual the findings of reading are all that is told.
+/// By the manual the findings of reading are all that is reported.
 #[tactic(auto, unfolding(crate::specs::Findings::findings_as))]
 pub fn the_manual_tells_findings_alone()
     ensures { (accounts : Accounts) (file : files.SourceFile) → findings_as Manual accounts file ≡ placed_findings Manual file }

@@ -1,8 +1,10 @@
-//! What udev tells of rules that stay: of values, attributes and options that it takes though something is wrong with
-//! them, and of tokens that go badly together.
+//! What udev reports about rules that it keeps: values, attributes and options that it accepts although something is
+//! wrong with them, and tokens that don't go together.
 //!
-//! A line that is no rule is told of when it is read, and not here. What is told has the place that it is about, so that
-//! it stands among the findings of reading.
+//! A line that is no rule is reported when it is read, and not here. Each report has the place that it is about, so
+//! that it can be sorted among the findings of reading.
+//!
+//! Functions that allocate return `AllocError` when memory runs out.
 #![tactic(auto)]
 
 mod account_lines;

@@ -1,4 +1,4 @@
-//! What is told of a joined line that is a rule for udev.
+//! What is reported for a joined line that is a rule for udev.
 ghost use Rattle.std.specs.Prelude.{◌≡◌, IfOk};
 ghost use Rattle.text_bytes.specs.declared.profile.Profile.TheVariants.{Udev};
 ghost use Rattle.rule_core.specs.Drafts.{draft_of, items_as, tokens_of};
@@ -13,7 +13,7 @@ use rule_tokens::Token;
 use std::alloc::{AllocError, Global};
 use text_bytes::Profile;
 
-/// What is told of a joined line, where it is a rule for udev. The error comes where memory is refused.
+/// What is reported for a joined line, where it is a rule for udev.
 #[tactic(auto, unfolding(crate::specs::Rules::line_remarks))]
 pub(crate) fn line_remarks(
     alloc: Global,

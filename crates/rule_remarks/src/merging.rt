@@ -1,4 +1,4 @@
-//! Findings that are put among others by the lines that they are told of.
+//! Findings that are put among others by the lines that they are reported.
 ghost use Rattle.std.specs.Prelude.{◌≡◌, ◌++◌, nat_lt, take, IfOk, OnOk};
 ghost use Rattle.std.specs.List.{list_any};
 ghost use Rattle.std.specs.Option.{MatchOption};
@@ -9,8 +9,8 @@ use rule_places::PlacedFinding;
 use std::alloc::{AllocError, Global};
 use std::collections::VecDeque;
 
-/// Findings with others put among them, each of the others behind all that are told of its line or of one before it.
-/// The error comes where memory is refused.
+/// Findings with others put among them, each of the others after all that are reported for its line or of one before
+/// it.
 pub(crate) fn by_line(
     alloc: Global,
     found: Vec<PlacedFinding>,
@@ -28,7 +28,7 @@ pub(crate) fn by_line(
     Ok(all)
 }
 
-/// Moves those at the front of findings that are told of lines before one behind others.
+/// Moves those at the front of findings that are reported for lines before one after others.
 #[tactic(auto, using(crate::proofs::ByLines::one_moved, crate::proofs::ByLines::one_passed, crate::proofs::ByLines::none_passed))]
 fn move_before(
     all: &mut Vec<PlacedFinding>,
@@ -44,7 +44,7 @@ fn move_before(
     Ok(())
 }
 
-/// Takes the first of findings, where it is told of a line before one.
+/// Takes the first of findings, where it is reported for a line before one.
 #[tactic(auto, using(crate::proofs::ByLines::none_before))]
 fn next_before(rest: &mut VecDeque<PlacedFinding>, line: u32) -> Option<PlacedFinding>
     ensures { MatchOption result (LeavesAll rest.old.items line rest.new.items) (λ f. LeavesRest rest.old.items line f rest.new.items) }
@@ -56,7 +56,7 @@ fn next_before(rest: &mut VecDeque<PlacedFinding>, line: u32) -> Option<PlacedFi
     }
 }
 
-/// Whether the first of findings is told of a line before one.
+/// Whether the first of findings is reported for a line before one.
 fn begins_before(rest: &VecDeque<PlacedFinding>, line: u32) -> bool
     ensures { result ≡ list_any (λ p. nat_lt p.begins line) (take 1 rest.now.items) }
 {
@@ -66,7 +66,7 @@ fn begins_before(rest: &VecDeque<PlacedFinding>, line: u32) -> bool
     }
 }
 
-/// Moves findings behind others.
+/// Moves findings after others.
 fn move_all(all: &mut Vec<PlacedFinding>, rest: VecDeque<PlacedFinding>) -> Result<(), AllocError>
     ensures { OnOk result (all.new.items ≡ all.old.items ++ rest.items) }
 {

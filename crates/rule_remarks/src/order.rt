@@ -1,10 +1,10 @@
-//! A PROGRAM that stands behind a RESULT.
+//! A PROGRAM that follows a RESULT.
 ghost use Rattle.std.specs.Prelude.{◌≡◌, option_map};
 ghost use Rattle.rule_remarks.specs.Remarks.{is_program, is_result, late_program};
 
 use rule_tokens::Token;
 
-/// The first PROGRAM that stands behind a RESULT.
+/// The first PROGRAM that follows a RESULT.
 pub(crate) fn late_program<'t, 'a>(tokens: &'t [Token<'a>]) -> Option<&'t Token<'a>>
     ensures { option_map (λ t. t.now) result ≡ late_program tokens.now }
 {

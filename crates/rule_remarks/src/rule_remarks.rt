@@ -1,4 +1,4 @@
-//! What is told of the tokens of a rule that stays.
+//! What is reported for the tokens of a rule that stays.
 ghost use Rattle.std.specs.Prelude.{◌≡◌, ◌∷◌, ◌++◌, [], IfOk, OnOk, filter_map, flat_map, option_map, slice_get};
 ghost use Rattle.rule_remarks.specs.Remarks.{late_program, order_remarks, pair_remark, rule_remarks, token_remarks};
 
@@ -10,8 +10,9 @@ use rule_tokens::Token;
 use std::alloc::{AllocError, Global};
 use text_bytes::MessageKind;
 
-/// What is told of a rule's tokens: of each by itself in written order, then of a RESULT before a PROGRAM, then two by
-/// two. The error comes where memory is refused.
+/// What is reported for a rule's tokens: of each by itself in written order, then of a RESULT before a PROGRAM, then
+/// two by
+/// two.
 #[tactic(auto, unfolding(crate::specs::Remarks::rule_remarks))]
 pub(crate) fn rule_remarks(
     alloc: Global,
@@ -28,7 +29,7 @@ pub(crate) fn rule_remarks(
     Ok(spots)
 }
 
-/// Adds what is told of each token by itself.
+/// Adds what is reported for each token by itself.
 fn add_tokens(
     alloc: Global,
     spots: &mut Vec<Spot>,
@@ -43,7 +44,7 @@ fn add_tokens(
     Ok(())
 }
 
-/// Adds what is told of a PROGRAM behind a RESULT.
+/// Adds what is reported for a PROGRAM after a RESULT.
 fn add_order(alloc: Global, spots: &mut Vec<Spot>, tokens: &[Token<'_>]) -> Result<(), AllocError>
     ensures { OnOk result (spots.new.items ≡ spots.old.items ++ order_remarks (late_program tokens.now)) }
 {
@@ -53,7 +54,7 @@ fn add_order(alloc: Global, spots: &mut Vec<Spot>, tokens: &[Token<'_>]) -> Resu
     Ok(())
 }
 
-/// Adds what is told of tokens two by two.
+/// Adds what is reported for tokens two by two.
 fn add_pairs(
     alloc: Global,
     spots: &mut Vec<Spot>,
@@ -68,7 +69,7 @@ fn add_pairs(
     Ok(())
 }
 
-/// Adds what is told of two tokens.
+/// Adds what is reported for two tokens.
 fn add_pair(
     alloc: Global,
     spots: &mut Vec<Spot>,

@@ -1,4 +1,4 @@
-//! What is told of one token of a rule that stays.
+//! What is reported for one token of a rule that stays.
 ghost use Rattle.std.specs.Prelude.{◌≡◌, ◌++◌, IfOk, OnOk, option_map};
 ghost use Rattle.rule_parts.specs.Parts.{meaning_of};
 ghost use Rattle.rule_remarks.specs.Remarks.{attribute_remarks, fault_spot, token_remarks, value_remarks};
@@ -13,7 +13,7 @@ use rule_types::{Key, key_of};
 use std::alloc::{AllocError, Global};
 use text_bytes::{Bytes, MessageKind};
 
-/// Adds what is told of a token: of its attribute, then of its value. The error comes where memory is refused.
+/// Adds what is reported for a token: of its attribute, then of its value.
 #[tactic(auto, unfolding(crate::specs::Remarks::token_remarks))]
 pub(crate) fn add_token(
     alloc: Global,
@@ -32,7 +32,7 @@ pub(crate) fn add_token(
     }
 }
 
-/// Adds what is told of the attribute of a token, if it has one.
+/// Adds what is reported for the attribute of a token, if it has one.
 fn add_attribute(
     alloc: Global,
     spots: &mut Vec<Spot>,
@@ -47,7 +47,7 @@ fn add_attribute(
     }
 }
 
-/// Adds what is told of the attribute of a token, which is this name.
+/// Adds what is reported for the attribute of a token, which is this name.
 fn add_name(
     alloc: Global,
     spots: &mut Vec<Spot>,
@@ -66,7 +66,7 @@ fn add_name(
     Ok(())
 }
 
-/// Adds what is told of the value of a token with this key, if something is wrong with it.
+/// Adds what is reported for the value of a token with this key, if something is wrong with it.
 fn add_value(
     alloc: Global,
     spots: &mut Vec<Spot>,
@@ -83,7 +83,7 @@ fn add_value(
     Ok(())
 }
 
-/// A token's value, told with what it means; of an empty one the key.
+/// A token's value, reported with what it means; of an empty one the key.
 fn fault_spot(
     alloc: Global,
     kind: MessageKind,

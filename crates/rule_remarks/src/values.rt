@@ -9,7 +9,7 @@ use rule_tokens::Operator;
 use rule_types::Key;
 use text_bytes::MessageKind;
 
-/// What is wrong with a value of a key behind an operator, if something is.
+/// What is wrong with a value of a key after an operator, if something is.
 #[tactic(auto, unfolding(crate::specs::Values::value_fault))]
 pub(crate) fn value_fault(
     accounts: &Accounts,

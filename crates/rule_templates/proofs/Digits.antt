@@ -6,7 +6,7 @@ use Rattle.std.specs.Char.{digit_value}
 use Rattle.std.specs.Str.Parse.{digits_value, digits_value_after}
 use Rattle.rule_templates.specs.Integers.{are_digits, integer_of, natural_of, not_below_zero, signed_size, size_in, with_sign}
 
--- a number with the digits from a place on is that with the digit there, and then those behind it
+-- a number with the digits from a place on is that with the digit there, and then those after it
 pub number_on : (base : ℕ) (text : List ℕ) (i n : ℕ) → i < length text
     → digits_value_after base n (drop i text) ≡ digits_value_after base (n * base + digit_value (get_or text i 0)) (drop (i + 1) text)
 number_on base text i n here = rw (drop-cons text i 0, add-one i) refl

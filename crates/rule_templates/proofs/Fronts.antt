@@ -1,4 +1,4 @@
--- What is left behind the piece at the front of a text is no longer than what stands behind the first byte.
+-- What is left after the piece at the front of a text is no longer than what follows the first byte.
 use Rattle.std.proofs.Common.{◌≡◌, ℕ, ◌+◌, ◌≤◌, Bool, true, false, cond, not, ◌&&◌, ◌==◌, List, [], ◌∷◌, ◌++◌, length, take, drop, Option, Some, None, Result, Ok, Err, IfOk, position, option_map, nat_eq, nat_lt, refl, subst, sym, arith, length-drop}
 use Rattle.std.specs.List.{prefix_len, starts_with}
 use Rattle.text_bytes.specs.Names.{dollar, percent, open_brace, close_brace}

@@ -83,7 +83,7 @@ same_fault : (p : Piece) (r : Result (List Piece) TemplateFault) → is_err (wit
 same_fault p (Ok ps) = refl
 same_fault p (Err e) = refl
 
--- a text is faulty where its first piece is or what is left behind that
+-- a text is faulty where its first piece is or what is left after that
 pub faulty_on : (b : ℕ) (t rest : List ℕ) (p : Piece) (left : List ℕ) → rest ≡ b ∷ t → front_as Udev b t ≡ Ok (p, left) → is_faulty left ≡ is_faulty rest
 unfolding is_faulty udev_pieces udev_front
 faulty_on b t rest p left e found =
@@ -104,7 +104,7 @@ unfolding is_faulty udev_pieces
 faulty_not [] h = refl
 faulty_not (b ∷ t) h = absurd (omega arith)
 
--- where no fault is told, what is taken is the whole
+-- where no fault is reported, what is taken is the whole
 same_within : (n : ℕ) (t : List ℕ) (ps : List Piece) → pieces_by udev_front n t ≡ Ok ps → left_within n t ≡ ps
 same_within zero t ps e = cc
 same_within (suc n) [] ps e = cc
@@ -123,7 +123,7 @@ pub whole_is_left : (t : List ℕ) (ps : List Piece) → udev_pieces t ≡ Ok ps
 unfolding udev_pieces left_of
 whole_is_left t ps e = same_within (length t) t ps e
 
--- no fault is told just where each piece is read
+-- no fault is reported just where each piece is read
 pub faultless : (t : List ℕ) → (is_faulty t ≡ false) ↔ ((ps : List Piece) × (udev_pieces t ≡ Ok ps))
 unfolding is_faulty
 faultless t = by_pieces (udev_pieces t) where

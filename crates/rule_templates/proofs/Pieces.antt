@@ -8,7 +8,7 @@ use Rattle.rule_templates.specs.declared.piece.Piece.{Piece}
 use Rattle.rule_templates.proofs.Fronts.{Leaves, Shrinks, manual_shrinks}
 use Rattle.rule_templates.proofs.Spelled.{left_shorter}
 
--- the front of a text whose first byte is known, and what is left behind it
+-- the front of a text whose first byte is known, and what is left after it
 pub take_more : (len b : ℕ) (text after : List ℕ) → text ≡ b ∷ after → take (len + 1) text ≡ b ∷ take len after
 take_more len b text after is = rw (is, add-one len) refl
 
@@ -29,7 +29,7 @@ enough front s (suc n) (suc m) (b ∷ t) h k = by_front (front b t) (s b t) (λ 
   by_front (Err e) less same = refl
   by_front (Ok x) less same = let shorter : length x.1 ≤ length t = less in ap (with_piece x.0) (same x.1 (omega arith) (omega arith))
 
--- pieces, and behind them those that the rest gives
+-- pieces, and after them those that the rest gives
 abbrev pub with_pieces : List Piece → Result (List Piece) TemplateFault → Result (List Piece) TemplateFault
 with_pieces pieces (Ok more) = Ok (pieces ++ more)
 with_pieces pieces (Err e) = Err e

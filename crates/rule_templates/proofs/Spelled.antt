@@ -20,7 +20,7 @@ use Rattle.rule_templates.proofs.Closing.{BracedWell, SplitWell, braced_well, br
 use Rattle.rule_templates.proofs.Numbers.{WritesWord, word_well}
 use Rattle.rule_templates.proofs.Signs.{NameWell, named_well}
 
--- behind a sign a piece is found, which the sign and what is taken spell, or a fault
+-- after a sign a piece is found, which the sign and what is taken spell, or a fault
 abbrev pub AskedWell : List ℕ → List ℕ → Front → Type 0
 AskedWell sign t r = MatchResult r (λ x. (taken : List ℕ) × (t ≡ taken ++ x.1) × Spells x.0 (sign ++ taken) x.1) (λ e. IsFaulty e (sign ++ t))
 
@@ -28,7 +28,7 @@ AskedWell sign t r = MatchResult r (λ x. (taken : List ℕ) × (t ≡ taken ++ 
 alone : (s : Substitution) (sign t : List ℕ) → IsSign s sign t → IsSign s (sign ++ []) t
 alone s sign t h = subst (λ (l : List ℕ). IsSign s l t) (sym (append-nil sign)) h
 
--- a sign with braces behind it
+-- a sign with braces after it
 with_braces : (s : Substitution) (sign t content rest : List ℕ) → IsSign s sign t → t ≡ in_braces content ++ rest → HasNoClose content → IsSignWith s content (sign ++ in_braces content) rest
 with_braces s sign t content rest h parts none = record { sign = sign; is_sign = subst (IsSign s sign) parts h; no_close = none; spelled = refl }
 
@@ -96,11 +96,11 @@ asked_well name.Dollar sign t h = ([], refl, inr (inl (refl, alone name.Dollar s
 asked_well name.Percent sign t h = ([], refl, inr (inr (refl, alone name.Percent sign t h)))
 asked_well name.Refused sign t h = refused sign t h
 
--- of a text behind its first byte
+-- of a text after its first byte
 abbrev pub PieceWell : ℕ → List ℕ → Front → Type 0
 PieceWell b t r = MatchResult r (λ x. (taken : List ℕ) × (t ≡ taken ++ x.1) × Spells x.0 (b ∷ taken) x.1) (λ e. IsFaulty e (b ∷ t))
 
--- what stands behind a name, and the name
+-- what follows a name, and the name
 behind_by : (b : ℕ) (n t rest : List ℕ) → t ≡ n ++ rest → (r : Front) → AskedWell (b ∷ n) rest r → PieceWell b t r
 behind_by b n t rest parts (Ok x) h = (n ++ h.0, parts ∙ ap (λ (l : List ℕ). n ++ l) h.1 ∙ sym (append_assoc n h.0 x.1), h.2)
 behind_by b n t rest parts (Err e) h = subst (λ (l : List ℕ). IsFaulty e (b ∷ l)) (sym parts) h

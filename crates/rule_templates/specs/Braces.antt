@@ -5,12 +5,12 @@ use Rattle.text_bytes.specs.Texts.{is_empty, split_once}
 use Rattle.rule_templates.specs.declared.fault.TemplateFault.{TemplateFault}
 use Rattle.rule_templates.specs.declared.fault.TemplateFault.TheVariants.{Brace}
 
--- what stands before a closing brace, which there has to be and which is not empty, and what is left behind the brace
+-- what comes before a closing brace, which there has to be and which is not empty, and what is left after the brace
 abbrev pub closed : Option (List ℕ × List ℕ) → Result (List ℕ × List ℕ) TemplateFault
 closed None = Err Brace
 closed (Some x) = if is_empty x.0 then Err Brace else Ok x
 
--- the name in the braces that a text begins with, up to the first closing brace, and what is left behind them
+-- the name in the braces that a text begins with, up to the first closing brace, and what is left after them
 unfoldable pub braced : List ℕ → Result (List ℕ × List ℕ) TemplateFault
 braced [] = Err Brace
 braced (b ∷ t) = if b == open_brace then closed (split_once close_brace t) else Err Brace

@@ -3,7 +3,7 @@ use Rattle.std.specs.Prelude.{◌≡◌, Result, Ok, Err}
 use Rattle.rule_templates.specs.declared.fault.TemplateFault.{TemplateFault}
 use Rattle.rule_templates.specs.declared.fault.TemplateFault.TheVariants.{Unknown, Brace, Number, Memory}
 
--- a fault is the one that reading gives; of want of memory nothing is said
+-- a fault is the one that reading gives; of out of memory nothing is said
 abbrev pub Fails : {A : Type 0} → TemplateFault → Result A TemplateFault → Type 0
 Fails Memory read = Unit {0}
 Fails Unknown read = read ≡ Err Unknown

@@ -18,7 +18,7 @@ abbrev pub HasName : List (List ℕ × Substitution) → List ℕ → Substituti
 HasName [] n s = ⊥
 HasName (row ∷ rows) n s = ((row.0 ≡ n) × (row.1 ≡ s)) ⊎ HasName rows n s
 
--- n is a name of the table that asks for s, and where rest follows it, no longer name of the table stands there
+-- n is a name of the table that asks for s, and where rest follows it, no longer name of the table is there
 pub record IsName (names : List (List ℕ × Substitution)) (n : List ℕ) (s : Substitution) (rest : List ℕ) : Type 0 where
   pub in_table : HasName names n s
   pub longest : (m behind : List ℕ) (other : Substitution) → HasName names m other → n ++ rest ≡ m ++ behind → length m ≤ length n
@@ -124,7 +124,7 @@ pub data Reads : List ℕ → List Piece → Option TemplateFault → Type 0 whe
   done : Reads [] [] None
   -- the text is faulty here
   faulty : {text : List ℕ} {fault : TemplateFault} → IsFaulty fault text → Reads text [] (Some fault)
-  -- a piece, and behind it others, or a fault
+  -- a piece, and after it others, or a fault
   more : {text : List ℕ} {p : Piece} {pieces : List Piece} {end : Option TemplateFault} (front rest : List ℕ)
       → text ≡ front ++ rest → Spells p front rest → Reads rest pieces end → Reads text (p ∷ pieces) end
 

@@ -30,45 +30,45 @@ are_digits base digits = not (is_empty digits) && list_all (λ d. nat_lt (digit_
 unfoldable pub size_in : ℕ → List ℕ → Option ℕ
 size_in base digits = if are_digits base digits && nat_lt (digits_value base digits) (2 ^ 32) then Some (digits_value base digits) else None
 
--- what stands behind a `0` and this letter, in either case
+-- what follows a `0` and this letter, in either case
 abbrev pub behind_mark : ℕ → List ℕ → Option (List ℕ)
 behind_mark letter [] = None
 behind_mark letter (b ∷ []) = None
 behind_mark letter (b ∷ c ∷ text) = if b == digit_zero && eq_ignore_ascii_case c letter then Some text else None
 
--- the number that digits write, by what stands in them behind `0x`, and behind `0b`
+-- the number that digits write, by what is in them after `0x`, and after `0b`
 abbrev pub size_by : List ℕ → Option (List ℕ) → Option (List ℕ) → Option ℕ
 size_by text (Some digits) binary = size_in 16 digits
 size_by text None (Some digits) = size_in 2 digits
 size_by text None None = size_in (if begins_with digit_zero text then 8 else 10) text
 
--- The number behind a sign: where no mark stood before the sign, hexadecimal digits behind `0x`, binary ones behind `0b`, octal ones
+-- The number after a sign: where no mark stood before the sign, hexadecimal digits after `0x`, binary ones after `0b`, octal ones
 -- from a `0` on, and else decimal ones.
 abbrev pub size_of : Base → List ℕ → Option ℕ
 size_of Binary text = size_in 2 (unwrap_or (behind_mark letter_b text) text)
 size_of Octal text = size_in 8 text
 size_of Open text = size_by text (behind_mark letter_x text) (behind_mark letter_b text)
 
--- a base, and what stands behind its mark, by what stands behind `0b`, and behind `0o`
+-- a base, and what follows its mark, by what follows `0b`, and after `0o`
 abbrev pub marked_by : List ℕ → Option (List ℕ) → Option (List ℕ) → Base × List ℕ
 marked_by text (Some rest) octal = (Binary, rest)
 marked_by text None (Some rest) = (Octal, rest)
 marked_by text None None = (Open, text)
 
--- the base that a mark in front tells, and what stands behind the mark
+-- the base that a mark in front tells, and what follows the mark
 unfoldable pub marked : List ℕ → Base × List ℕ
 marked text = marked_by text (behind_mark letter_b text) (behind_mark letter_o text)
 
--- whether a minus stands in front, and what stands behind the sign, if there is one
+-- whether a minus is in front, and what follows the sign, if there is one
 unfoldable pub signed : List ℕ → Bool × List ℕ
 signed [] = (false, [])
 signed (b ∷ text) = if b == minus then (true, text) else if b == plus then (false, text) else (false, b ∷ text)
 
--- a sign and a number, where the digits behind the sign write one
+-- a sign and a number, where the digits after the sign write one
 abbrev pub with_size : Bool → Option ℕ → Option (Bool × ℕ)
 with_size negative size = option_map (λ n. (negative, n)) size
 
--- the sign, true for a minus, and the number behind it of what follows the mark of a base
+-- the sign, true for a minus, and the number after it of what follows the mark of a base
 abbrev pub after_mark : Base × List ℕ → Option (Bool × ℕ)
 after_mark start = with_size (signed (skip_while is_whitespace start.1)).0 (size_of start.0 (signed (skip_while is_whitespace start.1)).1)
 

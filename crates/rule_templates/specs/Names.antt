@@ -6,7 +6,7 @@ use Rattle.text_bytes.specs.declared.profile.Profile.TheVariants.{Manual, Udev}
 use Rattle.rule_templates.specs.declared.names.Substitution.{Substitution}
 use Rattle.rule_templates.specs.declared.names.Substitution.TheVariants as name
 
--- the names behind a `$`, with what each asks for; `sysfs` and `tempnode` are refused, and `$$` is `$`
+-- the names after a `$`, with what each asks for; `sysfs` and `tempnode` are refused, and `$$` is `$`
 abbrev pub long_names : List (List ℕ × Substitution)
 long_names =
     (codes "kernel", name.Kernel)
@@ -30,7 +30,7 @@ long_names =
     ∷ (codes "$", name.Dollar)
     ∷ []
 
--- the letters behind a `%`
+-- the letters after a `%`
 abbrev pub short_names : List (List ℕ × Substitution)
 short_names =
     (codes "k", name.Kernel)
@@ -49,25 +49,25 @@ short_names =
     ∷ (codes "%", name.Percent)
     ∷ []
 
--- the names behind a `$` that the manual refuses and udev reads
+-- the names after a `$` that the manual refuses and udev reads
 abbrev pub old_names : List (List ℕ × Substitution)
 old_names = (codes "sysfs", name.Attr) ∷ (codes "tempnode", name.Devnode) ∷ []
 
--- the letters behind a `%` that only udev knows
+-- the letters after a `%` that only udev knows
 abbrev pub more_letters : List (List ℕ × Substitution)
 more_letters = (codes "d", name.Driver) ∷ (codes "D", name.Name) ∷ (codes "L", name.Links) ∷ []
 
--- the names behind a `$`, by a profile
+-- the names after a `$`, by a profile
 abbrev pub long_names_as : Profile → List (List ℕ × Substitution)
 long_names_as Manual = long_names
 long_names_as Udev = old_names ++ long_names
 
--- the letters behind a `%`, by a profile
+-- the letters after a `%`, by a profile
 abbrev pub short_names_as : Profile → List (List ℕ × Substitution)
 short_names_as Manual = short_names
 short_names_as Udev = more_letters ++ short_names
 
--- what the first name at the front of a text asks for, and what is left behind that name
+-- what the first name at the front of a text asks for, and what is left after that name
 abbrev pub named : List (List ℕ × Substitution) → List ℕ → Option (Substitution × List ℕ)
 named [] text = None
 named (row ∷ rows) text = if starts_with nat_eq text row.0 then Some (row.1, drop (length row.0) text) else named rows text

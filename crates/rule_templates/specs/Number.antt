@@ -35,6 +35,6 @@ word_number n = if nat_lt n 65535 then n else 65535
 abbrev pub numbered_word : Bool → ℕ → Piece
 numbered_word has_plus n = if n == 0 then piece.Result else if has_plus then piece.From (word_number n) else piece.Word (word_number n)
 
--- what the content of the braces asks udev for, where it is a number with a plus behind it or without one
+-- what the content of the braces asks udev for, where it is a number with a plus after it or without one
 unfoldable pub udev_word_of : List ℕ → Option Piece
 udev_word_of content = option_map (numbered_word (ends_in plus content)) (natural_of (without_plus content))

@@ -1,4 +1,4 @@
--- Reading a template: each step gives the piece at the front of a text, and what is left of the text behind it.
+-- Reading a template: each step gives the piece at the front of a text, and what is left of the text after it.
 -- That this is the language of Grammar is a law of the crate.
 use Rattle.std.specs.Prelude.{ℕ, zero, suc, Bool, not, true, false, ◌==◌, ◌&&◌, nat_lt, List, [], ◌∷◌, length, take_while, Option, Some, None, Result, Ok, Err, is_err, if◌then◌else◌}
 use Rattle.text_bytes.specs.Names.{dollar, percent, open_brace, close_brace}
@@ -19,7 +19,7 @@ use Rattle.rule_templates.specs.declared.piece.Piece.TheVariants as piece
 abbrev pub is_plain : ℕ → Bool
 is_plain b = not (b == dollar) && not (b == percent)
 
--- a piece, and what is left of the text behind it; or a fault
+-- a piece, and what is left of the text after it; or a fault
 abbrev pub Front : Type 0
 Front = Result (Piece × List ℕ) TemplateFault
 
@@ -65,7 +65,7 @@ asked name.Dollar t = Ok (piece.Plain (dollar ∷ []), t)
 asked name.Percent t = Ok (piece.Plain (percent ∷ []), t)
 asked name.Refused t = Err fault.Unknown
 
--- what a substitution asks udev for, by what its braces hold and what is left behind them; of one that needs no braces they say nothing
+-- what a substitution asks udev for, by what its braces hold and what is left after them; of one that needs no braces they say nothing
 unfoldable pub asked_with : Substitution → List ℕ → List ℕ → Front
 asked_with name.Attr content rest = Ok (piece.Attr content, rest)
 asked_with name.Env content rest = Ok (piece.Env content, rest)
@@ -77,7 +77,7 @@ abbrev pub with_braces : Substitution → Result (List ℕ × List ℕ) Template
 with_braces s (Ok x) = if nat_lt 1023 (length x.0) then Err fault.Brace else asked_with s x.0 x.1
 with_braces s (Err e) = Err e
 
--- a sign written twice, behind which udev takes no braces
+-- a sign written twice, after which udev takes no braces
 abbrev pub is_twice : Substitution → Bool
 is_twice name.Dollar = true
 is_twice name.Percent = true
@@ -92,12 +92,12 @@ abbrev pub asked_as : Profile → Substitution → List ℕ → Front
 asked_as Manual = asked
 asked_as Udev = udev_asked
 
--- the piece that the name behind a sign asks for, by what names ask for
+-- the piece that the name after a sign asks for, by what names ask for
 abbrev pub substituted_by : (Substitution → List ℕ → Front) → Option (Substitution × List ℕ) → Front
 substituted_by ask None = Err fault.Unknown
 substituted_by ask (Some x) = ask x.0 x.1
 
--- the piece that the name behind a sign asks for
+-- the piece that the name after a sign asks for
 abbrev pub substituted : Option (Substitution × List ℕ) → Front
 substituted = substituted_by asked
 
@@ -120,7 +120,7 @@ front_at b t = front_as Manual b t
 unfoldable pub udev_front : ℕ → List ℕ → Front
 udev_front b t = front_as Udev b t
 
--- a piece, and those behind it
+-- a piece, and those after it
 abbrev pub with_piece : Piece → Result (List Piece) TemplateFault → Result (List Piece) TemplateFault
 with_piece p (Ok ps) = Ok (p ∷ ps)
 with_piece p (Err e) = Err e
@@ -148,7 +148,7 @@ pieces_of t = pieces_within (length t) t
 unfoldable pub udev_pieces : List ℕ → Result (List Piece) TemplateFault
 udev_pieces t = pieces_by udev_front (length t) t
 
--- whether udev tells of a fault in a text
+-- whether udev says about a fault in a text
 unfoldable pub is_faulty : List ℕ → Bool
 is_faulty t = is_err (udev_pieces t)
 
@@ -170,7 +170,7 @@ left_within zero t = []
 left_within (suc n) [] = []
 left_within (suc n) (b ∷ t) = with_kept (left_within n) (kept b t (udev_front b t))
 
--- the pieces that udev takes of a text, whether it tells of a fault or not
+-- the pieces that udev takes of a text, whether it says about a fault or not
 unfoldable pub left_of : List ℕ → List Piece
 left_of t = left_within (length t) t
 

@@ -6,7 +6,7 @@ ghost use Rattle.rule_templates.specs.Braces.{braced};
 use crate::fault::TemplateFault;
 use text_bytes::split_once;
 
-/// The name in the braces that a text begins with, and what is left behind them.
+/// The name in the braces that a text begins with, and what is left after them.
 #[tactic(auto, unfolding(crate::specs::Braces::braced))]
 pub fn braced(text: &[u8]) -> Result<(&[u8], &[u8]), TemplateFault>
     ensures value { GivesJust (λ x. (x.0.now, x.1.now)) result (braced text.now) }

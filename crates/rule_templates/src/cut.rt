@@ -8,7 +8,7 @@ use crate::piece::Piece;
 use std::alloc::Global;
 use text_bytes::Bytes;
 
-/// A piece whose bytes still stand in the text.
+/// A piece whose bytes still are in the text.
 #[derive(Debug, Drop)]
 pub enum Cut<'a> {
     /// Bytes as they stand.

@@ -13,7 +13,7 @@ pub enum TemplateFault {
     Brace,
     /// 3: the braces after `$result` or `%c` hold neither N nor N+, with N from 1 to 65535.
     Number,
-    /// 4: memory was refused.
+    /// 4: memory runs out.
     Memory,
 }
 

@@ -10,7 +10,7 @@ use text_bytes::{begins_with, is_blank, is_whitespace};
 /// What the numbers that are read are below: none has more than 32 bits.
 const LIMIT: u64 = 1 << 32;
 
-/// In which base digits are, as far as what stands before their sign tells it.
+/// In which base digits are, as far as what comes before their sign tells it.
 #[derive(Clone, Copy, Debug, PartialEq, Eq)]
 pub enum Base {
     /// `0b`: in base 2.
@@ -85,7 +85,7 @@ fn size_in(base: u32, digits: &[u8]) -> Option<u64>
     Some(number)
 }
 
-/// What stands behind a `0` and a letter, in either case.
+/// What follows a `0` and a letter, in either case.
 fn behind_mark(letter: u8, text: &[u8]) -> Option<&[u8]>
     ensures { option_map (λ rest. rest.now) result ≡ behind_mark letter text.now }
 {
@@ -101,7 +101,7 @@ fn behind_mark(letter: u8, text: &[u8]) -> Option<&[u8]>
     }
 }
 
-/// The number that digits write whose base is told by what they begin with.
+/// The number that digits write whose base is reported by what they begin with.
 fn open_size(text: &[u8]) -> Option<u64>
     ensures value { result ≡ size_of Base.Open text.now }
     ensures below { IfSome result (λ number. number < 2 ^ 32) }
@@ -119,7 +119,7 @@ fn open_size(text: &[u8]) -> Option<u64>
     }
 }
 
-/// The number behind a sign, by the mark of its base.
+/// The number after a sign, by the mark of its base.
 fn size_of(base: Base, text: &[u8]) -> Option<u64>
     ensures value { result ≡ size_of base text.now }
     ensures below { IfSome result (λ number. number < 2 ^ 32) }
@@ -131,7 +131,7 @@ fn size_of(base: Base, text: &[u8]) -> Option<u64>
     }
 }
 
-/// The base that a mark in front tells, and what stands behind the mark.
+/// The base that a mark in front tells, and what follows the mark.
 #[tactic(auto, unfolding(crate::specs::Integers::marked))]
 fn marked(text: &[u8]) -> (Base, &[u8])
     ensures { (result.0, result.1.now) ≡ marked text.now }
@@ -145,7 +145,7 @@ fn marked(text: &[u8]) -> (Base, &[u8])
     }
 }
 
-/// Whether a minus stands in front, and what stands behind the sign, if there is one.
+/// Whether a minus is in front, and what follows the sign, if there is one.
 #[tactic(auto, unfolding(crate::specs::Integers::signed))]
 fn signed(text: &[u8]) -> (bool, &[u8])
     ensures { (result.0, result.1.now) ≡ signed text.now }
@@ -171,9 +171,9 @@ fn signed_size(text: &[u8]) -> Option<(bool, u64)>
 
 /// The integer that a text writes, as udev reads one, where it has 32 bits at most without its sign.
 ///
-/// Spaces, tabs and ends of lines may stand in front, and a sign. The digits are hexadecimal ones
-/// behind `0x`, binary ones behind `0b`, octal ones behind `0o` or from a `0` on, and else decimal
-/// ones; `0b` and `0o` may also stand before the sign. Nothing may stand behind the digits.
+/// Spaces, tabs and ends of lines may be in front, and a sign. The digits are hexadecimal ones
+/// after `0x`, binary ones after `0b`, octal ones after `0o` or from a `0` on, and else decimal
+/// ones; `0b` and `0o` may also come before the sign. Nothing may follow the digits.
 #[tactic(auto, unfolding(crate::specs::Integers::integer_of))]
 pub fn integer_of(text: &[u8]) -> Option<i64>
     ensures { result ≡ integer_of text.now }

@@ -13,7 +13,7 @@ ghost use Rattle.rule_templates.specs.declared.names.Substitution.{Substitution}
 ghost use Rattle.rule_templates.specs.declared.piece.Piece.{Piece};
 ghost use Rattle.rule_templates.specs.declared.piece.Piece.TheVariants as piece;
 
-/// udev tells of no fault just where each piece of a text can be read, and then takes all of them.
+/// udev says about no fault just where each piece of a text can be read, and then takes all of them.
 pub fn a_text_without_a_fault_has_its_pieces()
     ensures faultless { (text : List ℕ) → (is_faulty text ≡ false) ↔ ((pieces : List Piece) × (udev_pieces text ≡ Ok pieces)) }
     ensures whole { (text : List ℕ) (pieces : List Piece) → udev_pieces text ≡ Ok pieces → left_of text ≡ pieces }
@@ -24,7 +24,7 @@ pub fn natural_numbers_are_integers()
     ensures { (text : List ℕ) (n : ℕ) → (natural_of text ≡ Some n) ↔ (integer_of text ≡ Some (pos n)) }
 {}
 
-/// A sign that no name follows stands for itself, and what stands behind it is read on.
+/// A sign that no name follows stands for itself, and what follows it is read on.
 pub fn an_unknown_sign_is_a_byte()
     ensures dollar { (text : List ℕ) → ((n : List ℕ) (s : Substitution) (rest : List ℕ) → HasName (long_names_as Udev) n s → text ≢ n ++ rest) → left_of (dollar ∷ text) ≡ piece.Plain (dollar ∷ []) ∷ left_of text }
     ensures percent { (text : List ℕ) → ((n : List ℕ) (s : Substitution) (rest : List ℕ) → HasName (short_names_as Udev) n s → text ≢ n ++ rest) → left_of (percent ∷ text) ≡ piece.Plain (percent ∷ []) ∷ left_of text }

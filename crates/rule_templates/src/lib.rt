@@ -1,8 +1,9 @@
-//! Values of rules with substitutions, as udev(7) has them in its section on `OPTIONS` and those
-//! before: `$kernel`, `%k`, `$attr{size}` and the like.
+//! Values of rules with substitutions, as described in udev(7): `$kernel`, `%k`, `$attr{size}` and the like.
 //!
-//! A value is read once into pieces, so that a rule that is tried on a thousand devices is not read
-//! a thousand times, and so that a bad substitution is found when rules are checked.
+//! A value is read into pieces once, so that a rule that is tried on a thousand devices is not read a thousand times,
+//! and so that a bad substitution is found when rules are checked.
+//!
+//! Functions that allocate return `AllocError` when memory runs out.
 #![tactic(auto)]
 
 mod braces;

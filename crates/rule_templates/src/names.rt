@@ -7,7 +7,7 @@ ghost use Rattle.rule_templates.specs.Names.{long_names_as, named, short_names_a
 
 use text_bytes::Profile;
 
-/// What a name behind a `$` or `%` asks for.
+/// What a name after a `$` or `%` asks for.
 #[derive(Clone, Copy, Debug, PartialEq, Eq)]
 pub enum Substitution {
     Kernel,
@@ -33,7 +33,7 @@ pub enum Substitution {
     Refused,
 }
 
-/// The names behind a `$`. `sysfs` stands before `sys`, which begins it.
+/// The names after a `$`. `sysfs` comes before `sys`, which begins it.
 const LONG_NAMES: [(&[u8], Substitution); 19] = [
     (b"kernel", Substitution::Kernel),
     (b"number", Substitution::Number),
@@ -56,7 +56,7 @@ const LONG_NAMES: [(&[u8], Substitution); 19] = [
     (b"$", Substitution::Dollar),
 ];
 
-/// The letters behind a `%`.
+/// The letters after a `%`.
 const SHORT_NAMES: [(&[u8], Substitution); 14] = [
     (b"k", Substitution::Kernel),
     (b"n", Substitution::Number),
@@ -74,20 +74,20 @@ const SHORT_NAMES: [(&[u8], Substitution); 14] = [
     (b"%", Substitution::Percent),
 ];
 
-/// The names behind a `$` that the manual refuses and udev reads.
+/// The names after a `$` that the manual refuses and udev reads.
 const OLD_NAMES: [(&[u8], Substitution); 2] = [
     (b"sysfs", Substitution::Attr),
     (b"tempnode", Substitution::Devnode),
 ];
 
-/// The letters behind a `%` that only udev knows.
+/// The letters after a `%` that only udev knows.
 const MORE_LETTERS: [(&[u8], Substitution); 3] = [
     (b"d", Substitution::Driver),
     (b"D", Substitution::Name),
     (b"L", Substitution::Links),
 ];
 
-/// What the first row whose name begins the text asks for, and what is left behind that name.
+/// What the first row whose name begins the text asks for, and what is left after that name.
 fn named<'a>(rows: &[(&[u8], Substitution)], text: &'a [u8]) -> Option<(Substitution, &'a [u8])>
     ensures { option_map (λ x. (x.0, x.1.now)) result ≡ named (map (λ row. (row.0.now, row.1)) rows.now) text.now }
 {
@@ -100,7 +100,7 @@ fn named<'a>(rows: &[(&[u8], Substitution)], text: &'a [u8]) -> Option<(Substitu
     None
 }
 
-/// What the name behind a `$` asks for, and what is left behind the name.
+/// What the name after a `$` asks for, and what is left after the name.
 #[tactic(auto, using(crate::proofs::Fronts::named_first, crate::proofs::Fronts::named_then))]
 pub fn long_name(profile: Profile, text: &[u8]) -> Option<(Substitution, &[u8])>
     ensures { option_map (λ x. (x.0, x.1.now)) result ≡ named (long_names_as profile) text.now }
@@ -114,7 +114,7 @@ pub fn long_name(profile: Profile, text: &[u8]) -> Option<(Substitution, &[u8])>
     }
 }
 
-/// What the letter behind a `%` asks for, and what is left behind the letter.
+/// What the letter after a `%` asks for, and what is left after the letter.
 #[tactic(auto, using(crate::proofs::Fronts::named_first, crate::proofs::Fronts::named_then))]
 pub fn short_name(profile: Profile, text: &[u8]) -> Option<(Substitution, &[u8])>
     ensures { option_map (λ x. (x.0, x.1.now)) result ≡ named (short_names_as profile) text.now }

@@ -52,7 +52,7 @@ fn word_number(number: u64) -> u16
     }
 }
 
-/// What udev gives for a number in the braces, with a plus behind it or without one.
+/// What udev gives for a number in the braces, with a plus after it or without one.
 fn numbered_word(has_plus: bool, number: u64) -> Piece
     ensures { result ≡ numbered_word has_plus number }
 {

@@ -1,7 +1,7 @@
 //! The pieces of a text, one at a time.
 //!
-//! Each function reads one part at the front of what is left and gives what is left behind it, so
-//! that the reader of the whole has only to put the pieces one behind another.
+//! Each function reads one part at the front of what is left and gives what is left after it, so
+//! that the reader of the whole has only to put the pieces one after another.
 ghost use Rattle.std.specs.Prelude.{◌≡◌, ◌≤◌, ◌∷◌, IfOk, IfSome, length, option_map};
 ghost use Rattle.std.specs.List.{prefix_len};
 ghost use Rattle.rule_templates.specs.Cuts.{copied};
@@ -97,7 +97,7 @@ fn asked(name: Substitution, after: &[u8]) -> Result<(Cut<'_>, &[u8]), TemplateF
     }
 }
 
-/// What a substitution asks udev for, by what its braces hold and what is left behind them.
+/// What a substitution asks udev for, by what its braces hold and what is left after them.
 #[tactic(auto, unfolding(crate::specs::Reading::asked_with))]
 fn asked_with<'a>(
     name: Substitution,
@@ -143,7 +143,7 @@ fn udev_asked(name: Substitution, after: &[u8]) -> Result<(Cut<'_>, &[u8]), Temp
     asked_with(name, content, rest)
 }
 
-/// The piece that the name behind a sign asks for, and what is left.
+/// The piece that the name after a sign asks for, and what is left.
 fn substituted<'a>(
     profile: Profile,
     name: Option<(Substitution, &'a [u8])>,
@@ -227,8 +227,8 @@ pub fn kept<'a>(text: &'a [u8], byte: u8, after: &'a [u8]) -> Option<(Cut<'a>, &
     }
 }
 
-/// Whether udev tells of a fault in a text: an unknown name or a sign alone, braces that are empty,
-/// open or longer than 1,023 bytes, no name behind `$attr`, `$sysfs` or `$env`, or braces behind
+/// Whether udev says about a fault in a text: an unknown name or a sign alone, braces that are empty,
+/// open or longer than 1,023 bytes, no name after `$attr`, `$sysfs` or `$env`, or braces after
 /// `$result` that hold no number.
 #[tactic(auto, unfolding(crate::specs::Reading::udev_front))]
 pub fn is_faulty(text: &[u8]) -> bool

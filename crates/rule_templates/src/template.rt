@@ -41,7 +41,7 @@ fn pieces_of(alloc: Global, text: &[u8]) -> Result<Vec<Piece>, TemplateFault>
     Ok(pieces)
 }
 
-/// The pieces that udev takes of a text, whether it tells of a fault or not. The fault is `Memory`.
+/// The pieces that udev takes of a text, whether it says about a fault or not. The fault is `Memory`.
 fn left_of(alloc: Global, text: &[u8]) -> Result<Vec<Piece>, TemplateFault>
     ensures { Gives (λ pieces. pieces.items) result (Ok (left_of text.now)) }
 {
@@ -69,7 +69,7 @@ fn pieces_as(alloc: Global, profile: Profile, text: &[u8]) -> Result<Vec<Piece>,
 
 impl Template {
     /// Reads a value as the manual has it: udev(7), "SUBSTITUTIONS". The fault is the first from the
-    /// left; `Memory` comes only where a growth was refused.
+    /// left; `Memory` comes only where an allocation fails.
     pub fn read(alloc: Global, text: &[u8]) -> Result<Template, TemplateFault>
         ensures { MatchResult result (λ t. IsReadFrom Profile.Manual text.now t) (λ e. e ≢ Memory → pieces_of text.now ≡ Err e) }
     {
@@ -80,7 +80,7 @@ impl Template {
     ///
     /// By the manual the fault is the first from the left. udev reads every text: a sign with an
     /// unknown name stands for itself, and at any other fault the pieces end. `Memory` comes only
-    /// where a growth was refused.
+    /// where an allocation fails.
     pub fn read_as(alloc: Global, profile: Profile, text: &[u8]) -> Result<Template, TemplateFault>
         ensures { MatchResult result (λ t. IsReadFrom profile text.now t) (λ e. e ≢ Memory → pieces_as profile text.now ≡ Err e) }
     {
@@ -91,14 +91,14 @@ impl Template {
         })
     }
 
-    /// Lends the text that was read.
+    /// Returns the text that was read.
     pub fn written(&self) -> &[u8]
         ensures { result.now ≡ self.now.written }
     {
         self.written.as_slice()
     }
 
-    /// Lends the pieces, in order.
+    /// Returns the pieces, in order.
     pub fn pieces(&self) -> &[Piece]
         ensures { result.now ≡ self.now.pieces }
     {

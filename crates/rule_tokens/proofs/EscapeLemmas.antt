@@ -66,7 +66,7 @@ number_is base count text h c = by_length (nat_lt (length text) count) refl
         rw (eq-eqb (length (take count text)) count (length-take-le count text (ltb-false _ count e)))
         (ap positive (scan_is base 0 (take count text) h (omega arith)) ∙ by_value (list_all (is_digit_of base) (take count text)) (nat_lt value 1114112) (nat_lt 0 value) refl)
 
--- what a piece means behind the text's first byte, and what follows it
+-- what a piece means after the text's first byte, and what follows it
 abbrev meant_in : List ℕ → Piece → Option (List ℕ × List ℕ)
 meant_in text p = option_map {U = List ℕ × List ℕ} (λ p. (meaning p, drop (length (spelling p)) text)) (if_piece true p)
 

@@ -1,4 +1,4 @@
--- The head of a token: what is read stands there, and what stands there is read.
+-- The head of a token: what is read is there, and what is there is read.
 use Rattle.std.proofs.Common.{◌≡◌, ℕ, ◌<◌, Bool, true, false, List, [], ◌∷◌, ◌++◌, length, take, Option, Some, None, Ok, refl, ap, sym, ◌∙◌, ◌==◌, inl, inr, arith, append_assoc, rules, eqb-true}
 use Rattle.std.specs.List.{prefix_len}
 use Rattle.std.proofs.lemmas.Bool.{or_cases, ne_eqb}

@@ -10,7 +10,7 @@ use Rattle.rule_tokens.specs.Grammar.{BeginsOther}
 use Rattle.rule_tokens.specs.Reading.{piece_at, pieces_from, pieces_of, plain_front, if_piece}
 use Rattle.rule_tokens.proofs.Pieces.{escaped_again, piece_sound}
 
--- behind so many bytes
+-- after so many bytes
 pub pieces_behind : (escaped : Bool) (run rest : List ℕ) → pieces_of escaped (length run) (run ++ rest) ≡ pieces_of escaped 0 rest
 unfolding pieces_of
 pieces_behind escaped [] rest = refl
@@ -21,7 +21,7 @@ unfolding pieces_of
 pieces_none escaped [] e = refl
 pieces_none escaped (b ∷ rest) e = rw e refl
 
--- a piece, and the pieces behind it
+-- a piece, and the pieces after it
 pub pieces_some : (escaped : Bool) (p : Piece) (rest : List ℕ) → piece_at escaped (spelling p ++ rest) ≡ Some p → pieces_of escaped 0 (spelling p ++ rest) ≡ p ∷ pieces_of escaped 0 rest
 unfolding pieces_of
 pieces_some escaped (byte b) rest e = rw e refl
@@ -43,7 +43,7 @@ ends_behind b [] y c = refl
 ends_behind b (d ∷ []) y c = refl
 ends_behind b (d ∷ e ∷ x) y c = ends_behind b (e ∷ x) y c
 
--- a plain piece is read, where no backslash stands directly before a quote
+-- a plain piece is read, where no backslash comes directly before a quote
 plain_again : (p : Piece) (rest : List ℕ) → is_plain_piece p ≡ true → (p ≡ byte backslash → BeginsOther (λ b. b == double_quote) rest) → piece_at false (spelling p ++ rest) ≡ Some p
 unfolding piece_at
 plain_again (byte b) rest e o = by_test (b == backslash) refl
@@ -81,7 +81,7 @@ spelled_some (hex digits) rest = omega arith
 spelled_some (short digits) rest = omega arith
 spelled_some (long digits) rest = omega arith
 
--- what ends otherwise behind a piece ends otherwise
+-- what ends otherwise after a piece ends otherwise
 ends_less : (b : ℕ) (x y : List ℕ) → ends_in b (x ++ y) ≡ false → ends_in b y ≡ false
 ends_less b x [] e = refl
 ends_less b x (c ∷ y) e = sym (ends_behind b x y c) ∙ e
@@ -151,11 +151,11 @@ more_pieces : (p : Piece) (b : ℕ) (text spelled rest : List ℕ) → piece_at 
 more_pieces p b text [] rest e d h = last_piece p b text rest e d
 more_pieces p b text (c ∷ spelled) rest e d h = ends_behind backslash (spelling p) spelled c ∙ h
 
--- what is left behind a piece
+-- what is left after a piece
 left : (p : Piece) (b : ℕ) (text x y : List ℕ) → b ∷ text ≡ (spelling p ++ x) ++ y → drop (length (drop 1 (spelling p))) text ≡ x ++ y
 left p b text x y e = sym (drop_first p b text) ∙ (ap (λ t. drop (length (spelling p)) t) (e ∙ append_assoc (spelling p) x y) ∙ drop_at (spelling p) (x ++ y) _ refl)
 
--- the quote behind the pieces of a plain value has no backslash before it
+-- the quote after the pieces of a plain value has no backslash before it
 pub plain_end : (n : ℕ) (text rest : List ℕ) → drop n text ≡ flat_map spelling (pieces_of false n text) ++ double_quote ∷ rest → ends_in backslash (flat_map spelling (pieces_of false n text)) ≡ false
 unfolding pieces_of
 plain_end zero [] rest e = refl

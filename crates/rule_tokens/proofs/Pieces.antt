@@ -41,7 +41,7 @@ chain c n v r e o more = by_test (c == n) refl e
     by_test true f e = ap is_octal (eqb-true c n f) ∙ o
     by_test false f e = more e
 
--- no digit stands for a byte behind a backslash
+-- no digit stands for a byte after a backslash
 letter_no_octal : (c : ℕ) → stands_for_byte c ≡ true → is_octal c ≡ false
 unfolding letter_means
 letter_no_octal c e =
@@ -134,7 +134,7 @@ if_piece_some escaped q p e = by_test (is_piece escaped q) refl e
     by_test true f e = let g : q ≡ p = cc in (rw (← g) f, g)
     by_test false f e = absurd (cc)
 
--- a piece that was read stands at the front
+-- a piece that was read is at the front
 pub piece_sound : (escaped : Bool) (text : List ℕ) (p : Piece) → piece_at escaped text ≡ Some p → (is_piece escaped p ≡ true) × Begins text p
 unfolding piece_at
 piece_sound escaped [] p e = absurd (cc)

@@ -1,4 +1,4 @@
--- The tokens of a line lie in it, one behind the other.
+-- The tokens of a line lie in it, one after another.
 use Rattle.std.proofs.Common.{◌≡◌, ℕ, ◌+◌, ◌-◌, ◌<◌, ◌≤◌, Bool, true, false, List, [], ◌∷◌, ◌++◌, length, take, drop, Option, Some, None, Ok, Err, refl, ap, sym, ◌∙◌, arith, append_assoc, length-append}
 use Rattle.std.specs.Prelude.{All}
 use Rattle.std.proofs.lemmas.List.{take_at, drop_at, take-append-drop, length-take-le}
@@ -11,7 +11,7 @@ use Rattle.rule_tokens.specs.Lines.{items_left, items_from, items_of, is_over}
 use Rattle.rule_tokens.proofs.Stands.{stands_shorter}
 use Rattle.rule_tokens.proofs.Steps.{left_done, left_given}
 
--- a slice between what stands before and behind it
+-- a slice between what comes before and after it
 slice_at : (line before part behind : List ℕ) (place : ℕ) → line ≡ before ++ (part ++ behind) → length before ≡ place → take (length part) (drop place line) ≡ part
 slice_at line before part behind place e l =
     let d : drop place line ≡ part ++ behind = ap (λ t. drop place t) e ∙ drop_at before (part ++ behind) place l in
@@ -64,7 +64,7 @@ own_of text t rest s =
       value = e ∙ sym (append_assoc head s.letters (value ++ rest));
     }
 
--- a token that stands in a line is a slice of it
+-- a token that is in a line is a slice of it
 is_slice : (line before text : List ℕ) (at : ℕ) (t : Placed) (rest : List ℕ) → line ≡ before ++ text → length before ≡ at → TokenAt at text t rest → IsSlice line t
 is_slice line before text at t rest e l h =
     let o = own_of text t.parts rest h.stands in

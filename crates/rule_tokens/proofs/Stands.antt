@@ -1,4 +1,4 @@
--- A token at the front of a text: what is read stands there, and what stands there is read.
+-- A token at the front of a text: what is read is there, and what is there is read.
 use Rattle.std.proofs.Common.{◌≡◌, ℕ, ◌<◌, Bool, true, false, List, ◌∷◌, ◌++◌, length, take, Option, Some, None, Result, Ok, Err, refl, ap, sym, ◌∙◌, ◌==◌, arith, append_assoc, length-append, subst}
 use Rattle.std.specs.List.{flat_map, prefix_len}
 use Rattle.std.proofs.lemmas.List.{take_at}
@@ -124,7 +124,7 @@ token_sound text =
     joined : (t a t1 b t2 : List ℕ) → t ≡ a ++ double_quote ∷ t1 → t1 ≡ b ++ double_quote ∷ t2 → t ≡ a ++ double_quote ∷ b ++ double_quote ∷ t2
     joined t a t1 b t2 e f = let k : t ≡ a ++ (double_quote ∷ (b ++ double_quote ∷ t2)) = cc in k ∙ sym (simp append_assoc)
 
--- a token that is read stands there
+-- a token that is read is there
 pub token_stands : (text : List ℕ) (x : Parts × List ℕ) → token_at text ≡ Ok x → TokenStands text x.0 x.1
 token_stands text x e = let P : Result (Parts × List ℕ) TokenFaultKind → Type 0 = λ r. Sound (λ (x : Parts × List ℕ). TokenStands text x.0 x.1) (WrongPrefix text) r in subst P e (token_sound text)
 

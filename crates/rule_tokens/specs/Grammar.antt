@@ -58,13 +58,13 @@ abbrev pub attribute_bytes : Option (List ℕ) → List ℕ
 attribute_bytes None = []
 attribute_bytes (Some name) = name
 
--- What stands before a value: a key, perhaps an attribute, and an operator.
+-- What comes before a value: a key, perhaps an attribute, and an operator.
 pub record Head : Type 0 where
   pub key : List ℕ
   pub attribute : Option (List ℕ)
   pub operator : Operator
 
--- The text begins with this head, with blanks before and behind its operator, and rest follows.
+-- The text begins with this head, with blanks before and after its operator, and rest follows.
 pub record HeadStands (text : List ℕ) (h : Head) (rest : List ℕ) : Type 0 where
   pub before : List ℕ
   pub behind : List ℕ
@@ -80,20 +80,20 @@ compares Equal = true
 compares NotEqual = true
 compares _ = false
 
--- What one letter before the quote asks for: e for escapes and, behind an operator that compares, i for a value that ignores case.
+-- What one letter before the quote asks for: e for escapes and, after an operator that compares, i for a value that ignores case.
 abbrev pub one_letter : Operator → ℕ → Option Quote
 one_letter o a =
     if a == letter_e then Some Escaped
     else (if a == letter_i && compares o then Some Blind
     else None)
 
--- What two letters before the quote ask for: ie and ei, behind an operator that compares, for both.
+-- What two letters before the quote ask for: ie and ei, after an operator that compares, for both.
 abbrev pub two_letters : Operator → ℕ → ℕ → Option Quote
 two_letters o a b =
     if ((a == letter_i && b == letter_e) || (a == letter_e && b == letter_i)) && compares o then Some BlindEscaped
     else None
 
--- The quoting that the letters directly before the quote ask for; None where they are no prefix behind this operator.
+-- The quoting that the letters directly before the quote ask for; None where they are no prefix after this operator.
 unfoldable pub prefix_quote : Operator → List ℕ → Option Quote
 prefix_quote o [] = Some Plain
 prefix_quote o (a ∷ []) = one_letter o a
@@ -117,7 +117,7 @@ pub record TokenStands (text : List ℕ) (t : Parts) (rest : List ℕ) : Type 0 
   pub prefix : prefix_quote t.head.operator letters ≡ Some t.quote
   pub value : Spells (has_escapes t.quote) pieces t.value
 
--- The text is right up to the blanks behind its operator, and letters that are no prefix there stand directly before a quote.
+-- The text is right up to the blanks after its operator, and letters that are no prefix there come directly before a quote.
 pub record WrongPrefix (text : List ℕ) : Type 0 where
   pub head : Head
   pub quoted : List ℕ
@@ -137,12 +137,12 @@ abbrev pub IsFault : List ℕ → TokenFaultKind → Type 0
 IsFault text Prefix = WrongPrefix text
 IsFault text Syntax = NoToken text × ¬ (WrongPrefix text)
 
--- A token in its line: its parts, and the places of its first byte and of the byte behind it.
+-- A token in its line: its parts, and the places of its first byte and of the byte after it.
 pub record Placed : Type 0 where
   pub parts : Parts
   pub span : Span
 
--- The text, which stands at a place of a line, begins with this token, and rest follows it.
+-- The text, which is at a place of a line, begins with this token, and rest follows it.
 pub record TokenAt (at : ℕ) (text : List ℕ) (t : Placed) (rest : List ℕ) : Type 0 where
   pub stands : TokenStands text t.parts rest
   pub start : t.span.start ≡ at
@@ -154,13 +154,13 @@ pub record Gap (rest gap next : List ℕ) : Type 0 where
   pub all : AllAre is_gap_byte gap
   pub longest : BeginsOther is_gap_byte next
 
--- The text, which stands at a place of a line, is these tokens with gaps between them, up to its end or to the first part that is no token.
+-- The text, which is at a place of a line, is these tokens with gaps between them, up to its end or to the first part that is no token.
 pub data LexesAt : ℕ → List ℕ → List Placed → Option TokenFault → Type 0 where
-  -- no token stands here
+  -- no token is here
   faulty : {at : ℕ} {text : List ℕ} {fault : TokenFault} → fault.at ≡ at → IsFault text fault.kind → LexesAt at text [] (Some fault)
-  -- a token, and with the gap behind it the text ends
+  -- a token, and with the gap after it the text ends
   last : {at : ℕ} {text : List ℕ} {t : Placed} (rest gap : List ℕ) → TokenAt at text t rest → Gap rest gap [] → LexesAt at text (t ∷ []) None
-  -- a token, and behind it and a gap others, or a fault
+  -- a token, and after it and a gap others, or a fault
   more : {at : ℕ} {text : List ℕ} {t : Placed} {tokens : List Placed} {end : Option TokenFault} (rest gap next : List ℕ) → TokenAt at text t rest → Gap rest gap next
       → 0 < length next → LexesAt (t.span.end + length gap) next tokens end → LexesAt at text (t ∷ tokens) end
 

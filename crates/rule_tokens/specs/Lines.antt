@@ -14,12 +14,12 @@ items_after more at len (Ok x) =
     Ok (record { parts = x.0; span = record { start = at; end = at + (len - length x.1) } })
     ∷ (if length (skip_while is_gap_byte x.1) == 0 then [] else more (at + (len - length (skip_while is_gap_byte x.1))) (skip_while is_gap_byte x.1))
 
--- The items of a text that stands at a place, at most n of them.
+-- The items of a text that is at a place, at most n of them.
 unfoldable pub items_within : ℕ → ℕ → List ℕ → List Item
 items_within zero at text = []
 items_within (suc n) at text = items_after (items_within n) at (length text) (token_at text)
 
--- The items still to come behind a place, none where the line is done.
+-- The items still to come after a place, none where the line is done.
 unfoldable pub items_left : Bool → ℕ → List ℕ → List Item
 items_left true at text = []
 items_left false at text = items_within (length text + 1) at text

@@ -31,7 +31,7 @@ Gives view (Err e) read = read ≡ Err e
 unfoldable pub key_at : List ℕ → Result (List ℕ × List ℕ) TokenFaultKind
 key_at text = let n = prefix_len is_key_byte text in if n == 0 then Err Syntax else Ok (take n text, drop n text)
 
--- The first n bytes, where the byte b stands directly behind them, and what follows it.
+-- The first n bytes, where the byte b directly follows them, and what follows it.
 unfoldable pub closed_at : ℕ → ℕ → List ℕ → Result (List ℕ × List ℕ) TokenFaultKind
 closed_at b n text = if slice_index text n == b then Ok (take n text, drop (n + 1) text) else Err Syntax
 
@@ -39,7 +39,7 @@ closed_at b n text = if slice_index text n == b then Ok (take n text, drop (n + 
 abbrev pub name_at : List ℕ → Result (List ℕ × List ℕ) TokenFaultKind
 name_at text = closed_at close_brace (prefix_len is_attribute_byte text) text
 
--- A name in braces, if an open brace stands at the front, and what follows it.
+-- A name in braces, if an open brace is at the front, and what follows it.
 unfoldable pub attribute_at : List ℕ → Result (Option (List ℕ) × List ℕ) TokenFaultKind
 attribute_at [] = Ok (None, [])
 attribute_at (b ∷ rest) = if b == open_brace then (name_at rest >>= λ x. Ok (Some x.0, x.1)) else Ok (None, b ∷ rest)
@@ -70,7 +70,7 @@ abbrev pub quoted_by : Option Quote → List ℕ → Result (Quote × List ℕ) 
 quoted_by None rest = Err Prefix
 quoted_by (Some q) rest = Ok (q, rest)
 
--- Letters with a quote behind them, and what follows the quote.
+-- Letters with a quote after them, and what follows the quote.
 unfoldable pub quote_at : Operator → List ℕ → Result (Quote × List ℕ) TokenFaultKind
 quote_at o text = do
   letters ← closed_at double_quote (prefix_len is_letter text) text
@@ -103,12 +103,12 @@ front escaped b rest = if b == backslash then either_front escaped rest else byt
 abbrev pub if_piece : Bool → Piece → Option Piece
 if_piece escaped p = if is_piece escaped p then Some p else None
 
--- The piece at the front of a text, if one stands there.
+-- The piece at the front of a text, if one is there.
 unfoldable pub piece_at : Bool → List ℕ → Option Piece
 piece_at escaped [] = None
 piece_at escaped (b ∷ rest) = if_piece escaped (front escaped b rest)
 
--- A piece and those behind it, where more gives those behind so many bytes.
+-- A piece and those after it, where more gives those after so many bytes.
 abbrev pub pieces_from : (ℕ → List Piece) → Option Piece → List Piece
 pieces_from more None = []
 pieces_from more (Some p) = p ∷ more (length (drop 1 (spelling p)))
@@ -123,7 +123,7 @@ pieces_of escaped zero (b ∷ rest) = pieces_from (λ n. pieces_of escaped n res
 abbrev pub value_length : Bool → List ℕ → ℕ
 value_length escaped text = length (flat_map spelling (pieces_of escaped 0 text))
 
--- The value at the front of a text and the quote behind it, and what follows the quote.
+-- The value at the front of a text and the quote after it, and what follows the quote.
 abbrev pub value_at : Bool → List ℕ → Result (List ℕ × List ℕ) TokenFaultKind
 value_at escaped text = closed_at double_quote (value_length escaped text) text
 
@@ -148,7 +148,7 @@ meant (Character c) = encode_utf8 c
 abbrev pub parts_of : TokenParts → Parts
 parts_of p = record { head = record { key = p.key.now; attribute = option_map (λ a. a.now) p.attribute; operator = p.operator }; quote = p.quote; value = p.value.now }
 
--- The number that digits write behind those of v, up to 10FFFF.
+-- The number that digits write after those of v, up to 10FFFF.
 unfoldable pub scan : ℕ → ℕ → List ℕ → Option ℕ
 scan base v [] = Some v
 scan base v (d ∷ digits) =
@@ -185,7 +185,7 @@ character_at count text = character_from (drop count text) (number_at 16 count t
 abbrev pub letter_from : ℕ → List ℕ → Option (List ℕ × List ℕ)
 letter_from b rest = if b == 0 then None else Some (b ∷ [], rest)
 
--- What an escape means behind its backslash, and what follows it.
+-- What an escape means after its backslash, and what follows it.
 unfoldable pub escape_at : List ℕ → Option (List ℕ × List ℕ)
 escape_at [] = None
 escape_at (c ∷ rest) =

@@ -1,4 +1,4 @@
--- What stands between the quotes of a value, and what it means.
+-- What is between the quotes of a value, and what it means.
 use Rattle.std.specs.Prelude.{◌≡◌, ℕ, Bool, true, false, ◌&&◌, ◌||◌, not, List, [], ◌∷◌, length, nat_lt, ◌==◌, if◌then◌else◌}
 use Rattle.std.specs.List.{flat_map, list_all}
 use Rattle.std.specs.Char.{encode_utf8, digit_value}
@@ -9,7 +9,7 @@ use Rattle.rule_tokens.specs.Letters.{bell, backspace, capital_u, letter_a, lett
 use Rattle.rule_tokens.specs.declared.kinds.Quote.{Quote}
 use Rattle.rule_tokens.specs.declared.kinds.Quote.TheVariants.{Plain, Escaped, Blind, BlindEscaped}
 
--- A piece of a value is a byte that stands for itself, a letter behind a backslash, or a number by its digits: three octal digits, two hexadecimal ones behind x, four behind u, eight behind U.
+-- A piece of a value is a byte that stands for itself, a letter after a backslash, or a number by its digits: three octal digits, two hexadecimal ones after x, four after u, eight after U.
 pub data Piece : Type 0 where
   byte letter : ℕ → Piece
   octal hex short long : List ℕ → Piece
@@ -23,7 +23,7 @@ spelling (hex digits) = backslash ∷ letter_x ∷ digits
 spelling (short digits) = backslash ∷ letter_u ∷ digits
 spelling (long digits) = backslash ∷ capital_u ∷ digits
 
--- The byte that a letter stands for behind a backslash; 0 where the letter stands for none.
+-- The byte that a letter stands for after a backslash; 0 where the letter stands for none.
 unfoldable pub letter_means : ℕ → ℕ
 letter_means c =
     if c == letter_a then bell
@@ -39,7 +39,7 @@ letter_means c =
     else (if c == letter_s then space
     else 0))))))))))
 
--- What a piece stands for: a byte, or behind u and U the character of that number in UTF-8.
+-- What a piece stands for: a byte, or after u and U the character of that number in UTF-8.
 abbrev pub meaning : Piece → List ℕ
 meaning (byte b) = b ∷ []
 meaning (letter c) = letter_means c ∷ []
@@ -65,7 +65,7 @@ is_plain_piece (hex digits) = false
 is_plain_piece (short digits) = false
 is_plain_piece (long digits) = false
 
--- A piece of an e value is an escape, or any byte but a quote, NUL and a backslash. No escape stands for NUL, an octal number is at most 377, and the number behind u and U is a character's.
+-- A piece of an e value is an escape, or any byte but a quote, NUL and a backslash. No escape stands for NUL, an octal number is at most 377, and the number after u and U is a character's.
 abbrev pub is_escaped_piece : Piece → Bool
 is_escaped_piece (byte b) = not (b == double_quote) && (not (b == nul) && not (b == backslash))
 is_escaped_piece (letter c) = nat_lt 0 (letter_means c)
@@ -86,7 +86,7 @@ has_escapes Escaped = true
 has_escapes Blind = false
 has_escapes BlindEscaped = true
 
--- The text between the quotes is these pieces. A plain value has no backslash at its end, since no backslash stands directly before the quote that ends it.
+-- The text between the quotes is these pieces. A plain value has no backslash at its end, since no backslash comes directly before the quote that ends it.
 pub record Spells (escaped : Bool) (pieces : List Piece) (text : List ℕ) : Type 0 where
   pub spelled : text ≡ flat_map spelling pieces
   pub allowed : list_all (is_piece escaped) pieces ≡ true

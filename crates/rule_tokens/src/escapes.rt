@@ -1,4 +1,4 @@
-//! One escape of an `e".."` value, behind its backslash.
+//! One escape of an `e".."` value, after its backslash.
 
 ghost use Rattle.std.specs.Prelude.{◌≡◌, ◌≤◌, ◌<◌, length, option_map, IfSome, nat_lt};
 ghost use Rattle.std.specs.Char.{digit_value};
@@ -22,7 +22,7 @@ pub(crate) enum Meaning {
     Character(char),
 }
 
-/// The byte that a letter stands for behind a backslash, or 0.
+/// The byte that a letter stands for after a backslash, or 0.
 #[tactic(auto, unfolding(crate::specs::Values::letter_means))]
 fn letter_means(letter: u8) -> u8
     ensures { result ≡ letter_means letter }
@@ -73,7 +73,7 @@ fn is_octal(c: u8) -> bool
     char::from(c).is_digit(8)
 }
 
-/// An escape behind its backslash, and what follows it.
+/// An escape after its backslash, and what follows it.
 #[tactic(auto, unfolding(crate::specs::Reading::escape_at))]
 pub(crate) fn escape_of(text: &[u8]) -> Option<(Meaning, &[u8])>
     ensures { escape_at text.now ≡ option_map (λ x. (meant x.0, x.1.now)) result }

@@ -1,4 +1,4 @@
-//! What stands before a token's value: its key, its attribute and its operator.
+//! What comes before a token's value: its key, its attribute and its operator.
 
 ghost use Rattle.std.specs.Prelude.{option_map};
 ghost use Rattle.rule_tokens.specs.Reading.{Gives, key_at, attribute_at, operator_at};
@@ -18,7 +18,7 @@ pub(crate) fn key_of(text: &[u8]) -> Result<(&[u8], &[u8]), TokenFaultKind>
     Ok(text.split_at(n))
 }
 
-/// The name in braces at the front, if an open brace stands there, and what follows it.
+/// The name in braces at the front, if an open brace is there, and what follows it.
 #[tactic(auto, unfolding(crate::specs::Reading::attribute_at))]
 pub(crate) fn attribute_of(text: &[u8]) -> Result<(Option<&[u8]>, &[u8]), TokenFaultKind>
     ensures { Gives (λ x. (option_map (λ a. a.now) x.0, x.1.now)) result (attribute_at text.now) }

@@ -54,7 +54,7 @@ pub enum Quote {
 pub struct Span {
     /// The place of the first byte of the key.
     pub start: usize,
-    /// The place behind the closing quote.
+    /// The place after the closing quote.
     pub end: usize,
 }
 
@@ -64,7 +64,7 @@ pub enum TokenFaultKind {
     /// 1: it doesn't follow the syntax of a token.
     Syntax,
     /// 2: it is right up to its value, but the letters before the `"` are no prefix, or none that may
-    /// stand behind this operator.
+    /// follow this operator.
     Prefix,
 }
 

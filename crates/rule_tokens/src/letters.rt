@@ -9,7 +9,7 @@ use crate::kinds::TokenFaultKind;
 use crate::runs::letter_length;
 use text_bytes::unindented;
 
-/// What stands behind the head that a text begins with, and behind its blanks.
+/// What follows the head that a text begins with, and after its blanks.
 #[tactic(auto, unfolding(crate::specs::Reading::head_at, crate::specs::Prefixes::quoted_at))]
 fn quoted_of(text: &[u8]) -> Result<&[u8], TokenFaultKind>
     ensures { Gives (λ x. x.now) result (quoted_at text.now) }

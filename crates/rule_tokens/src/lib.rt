@@ -1,11 +1,13 @@
-//! A line of a rules file as tokens, as udev(7) describes it: a key, perhaps an attribute in
-//! braces, an operator and a quoted value each, with blanks and commas between them.
+//! A line of a rules file as tokens, as described in udev(7): each a key, optionally an attribute in braces, an
+//! operator and a quoted value, with blanks and commas in between.
 //!
-//! The line is only cut here, and its values unquoted; what a key means, and with which operators it
-//! may stand, is for the crates above. A token borrows its line, and cutting takes no memory.
+//! This crate only cuts the line, and unquotes its values; the crates above decide what a key means and which operators
+//! it takes. A token borrows its line, and cutting allocates nothing.
 //!
-//! `specs/Grammar.antt` states the language of lines as a relation, and is what a reader has to
-//! believe; `specs/Values.antt` does so for what stands between the quotes.
+//! `specs/Grammar.antt` states the language of lines as a relation, and is what a reader has to believe;
+//! `specs/Values.antt` does the same for the text between the quotes.
+//!
+//! Functions that allocate return `AllocError` when memory runs out.
 #![tactic(auto)]
 
 mod escapes;

@@ -71,7 +71,7 @@ impl<'a> Token<'a> {
         self.parts.key
     }
 
-    /// What stands in braces behind the key, if braces do.
+    /// What is in braces after the key, if braces do.
     pub fn attribute(&self) -> Option<&'a [u8]>
         ensures { option_map (λ a. a.now) result ≡ self.now.parts.head.attribute }
     {
@@ -100,7 +100,7 @@ impl<'a> Token<'a> {
         self.parts.value
     }
 
-    /// Where the token lies in its line, from its key's first byte to behind its closing quote.
+    /// Where the token lies in its line, from its key's first byte to after its closing quote.
     pub fn span(&self) -> Span
         ensures { result ≡ self.now.span }
     {

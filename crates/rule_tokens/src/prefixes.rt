@@ -8,7 +8,7 @@ ghost use Rattle.rule_tokens.specs.Reading.{Gives, quote_at};
 use crate::kinds::{Operator, Quote, TokenFaultKind};
 use crate::runs::{closed_of, letter_length};
 
-/// The quoting that letters ask for behind this operator, if they are a prefix.
+/// The quoting that letters ask for after this operator, if they are a prefix.
 #[tactic(auto, unfolding(crate::specs::Grammar::prefix_quote))]
 fn prefix_quote(operator: Operator, letters: &[u8]) -> Option<Quote>
     ensures { result ≡ prefix_quote operator letters.now }

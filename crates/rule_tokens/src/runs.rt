@@ -27,7 +27,7 @@ fn is_attribute_byte(b: u8) -> bool
     b != b'}' && b != 0
 }
 
-/// How many bytes of a key stand at the front.
+/// How many bytes of a key are at the front.
 pub(crate) fn key_length(text: &[u8]) -> usize
     ensures within { result ≤ length text.now }
     ensures value { result ≡ prefix_len is_key_byte text.now }
@@ -42,7 +42,7 @@ fn gap_length(text: &[u8]) -> usize
     text.iter().take_while(|b| is_gap_byte(**b)).count()
 }
 
-/// How many bytes of an attribute stand at the front.
+/// How many bytes of an attribute are at the front.
 pub(crate) fn attribute_length(text: &[u8]) -> usize
     ensures within { result ≤ length text.now }
     ensures value { result ≡ prefix_len is_attribute_byte text.now }
@@ -50,7 +50,7 @@ pub(crate) fn attribute_length(text: &[u8]) -> usize
     text.iter().take_while(|b| is_attribute_byte(**b)).count()
 }
 
-/// How many letters stand at the front.
+/// How many letters are at the front.
 pub(crate) fn letter_length(text: &[u8]) -> usize
     ensures within { result ≤ length text.now }
     ensures value { result ≡ prefix_len is_letter text.now }
@@ -66,7 +66,7 @@ pub(crate) fn after_gap(text: &[u8]) -> &[u8]
     &text[gap_length(text)..]
 }
 
-/// The first `n` bytes, where `close` stands directly behind them, and what follows it.
+/// The first `n` bytes, where `close` directly follows them, and what follows it.
 #[tactic(auto, unfolding(crate::specs::Reading::closed_at))]
 pub(crate) fn closed_of(text: &[u8], n: usize, close: u8) -> Result<(&[u8], &[u8]), TokenFaultKind>
     requires { 0 < close }

@@ -40,9 +40,9 @@ impl<'a> Tokens<'a> {
         ensures given { Given line.now result }
         // The line has no others.
         ensures only { Only line.now result }
-        // Each token's parts stand in the line at their places, a fault's place is in the line.
+        // Each token's parts are in the line at their places, a fault's place is in the line.
         ensures within { All (LiesIn line.now) result }
-        // Each item begins where the one before it ends, or behind that.
+        // Each item begins where the one before it ends, or after that.
         ensures rising { RisesFrom 0 result }
         // The same as a function of the line, for definitions above.
         ensures value { result ≡ items_of line.now }
@@ -50,7 +50,7 @@ impl<'a> Tokens<'a> {
         Tokens::from_place(line, 0)
     }
 
-    /// The tokens of a line from a place on, as in `new`; where the line ends at a place behind its
+    /// The tokens of a line from a place on, as in `new`; where the line ends at a place after its
     /// start, there are none. A place is counted from the start of the line here, too.
     #[tactic(auto, using(crate::proofs::Steps::from_given, crate::proofs::Steps::from_only, crate::proofs::Steps::from_none, crate::proofs::PlaceLemmas::from_lie, crate::proofs::PlaceLemmas::from_rise))]
     pub fn from_place(line: &'a [u8], start: usize) -> Tokens<'a>
@@ -61,9 +61,9 @@ impl<'a> Tokens<'a> {
         ensures only { is_over start line.now ≡ false → OnlyFrom start line.now result }
         // Nothing is left of a line that is over.
         ensures none { is_over start line.now ≡ true → result ≡ [] }
-        // Each token's parts stand in the line at their places, a fault's place is in the line.
+        // Each token's parts are in the line at their places, a fault's place is in the line.
         ensures within { All (LiesIn line.now) result }
-        // Each item begins where the one before it ends, or behind that.
+        // Each item begins where the one before it ends, or after that.
         ensures rising { RisesFrom start result }
         // The same as a function of the line, for definitions above.
         ensures value { result ≡ items_from start line.now }

@@ -1,4 +1,4 @@
-//! What stands between the quotes, piece by piece: a piece is a byte or an escape.
+//! What is between the quotes, piece by piece: a piece is a byte or an escape.
 
 ghost use Rattle.std.specs.Prelude.{◌≡◌, ◌≤◌, length, option_map, true, false};
 ghost use Rattle.rule_tokens.specs.Reading.{meaning_at, meant, value_length};

@@ -5,7 +5,7 @@ use Rattle.std.specs.List.{list_all}
 use Rattle.text_bytes.specs.Texts.{is_empty}
 use Rattle.rule_types.specs.Topics.{is_octal, octal_behind, octal, is_mode}
 
--- a number with the digits from a place on is that with the digit there, and then those behind it
+-- a number with the digits from a place on is that with the digit there, and then those after it
 pub number_on : (digits : List ℕ) (i n : ℕ) → i < length digits → octal_behind n (drop i digits) ≡ octal_behind (8 * n + (get_or digits i 0 - 48)) (drop (i + 1) digits)
 number_on digits i n here = rw (drop-cons digits i 0, add-one i) refl
 

@@ -21,7 +21,7 @@ is_add_or_final op.Add = true
 is_add_or_final op.AssignFinal = true
 is_add_or_final _ = false
 
--- whether an operator is read as `=` behind a key
+-- whether an operator is read as `=` after a key
 unfoldable pub is_read_as_assign : Key → Operator → Bool
 is_read_as_assign key.Name o = is_add o
 is_read_as_assign key.Owner o = is_add o
@@ -34,6 +34,6 @@ is_read_as_assign key.Attr o = is_add_or_final o
 is_read_as_assign key.Sysctl o = is_add_or_final o
 is_read_as_assign _ o = false
 
--- the operator as which one is read behind a key
+-- the operator as which one is read after a key
 abbrev pub read_as : Key → Operator → Operator
 read_as k o = if is_read_as_assign k o then op.Assign else o

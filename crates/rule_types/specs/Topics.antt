@@ -1,4 +1,4 @@
--- What may stand in the braces behind each key.
+-- What may be in the braces after each key.
 use Rattle.std.specs.Prelude.{ℕ, ◌+◌, ◌-◌, ◌*◌, ◌^◌, Bool, not, ◌&&◌, ◌||◌, codes, List, [], ◌∷◌, length, Option, Some, None, is_some, option_map, nat_le, nat_lt, nat_eq, if◌then◌else◌}
 use Rattle.std.specs.List.{list_all, prefix_len}
 use Rattle.std.specs.Cmp.Lexicographic.{pointwise}
@@ -47,7 +47,7 @@ is_octal b = nat_le digit_zero b && nat_le b digit_seven
 abbrev pub is_mask : List ℕ → Bool
 is_mask text = nat_le 1 (length text) && (nat_le (length text) 5 && nat_eq (prefix_len is_octal text) (length text))
 
--- the number that octal digits write behind those of n
+-- the number that octal digits write after those of n
 abbrev pub octal_behind : ℕ → List ℕ → ℕ
 octal_behind n [] = n
 octal_behind n (b ∷ digits) = octal_behind (8 * n + (b - digit_zero)) digits
@@ -60,7 +60,7 @@ octal digits = octal_behind 0 digits
 abbrev pub is_mode : List ℕ → Bool
 is_mode digits = (not (is_empty digits) && list_all is_octal digits) && nat_lt (octal digits) (8 ^ 4)
 
--- the mode of a file as udev reads it: octal digits behind blanks
+-- the mode of a file as udev reads it: octal digits after blanks
 unfoldable pub mode_of : List ℕ → Option ℕ
 mode_of text = if is_mode (unindented text) then Some (octal (unindented text)) else None
 
@@ -74,12 +74,12 @@ abbrev pub mask_in : Profile → Option (List ℕ) → Option (Option (List ℕ)
 mask_in by None = Some None
 mask_in by (Some text) = if is_mask_as by text then Some (Some text) else None
 
--- what stands in the braces of TEST, as it is taken: empty braces are none for udev
+-- what is in the braces of TEST, as it is taken: empty braces are none for udev
 abbrev pub mask_as : Profile → Option (List ℕ) → Option (List ℕ)
 mask_as profile.Manual a = a
 mask_as profile.Udev a = name_in a
 
--- what stands in the braces of a key, as it is taken
+-- what is in the braces of a key, as it is taken
 abbrev pub attribute_as : Profile → Key → Option (List ℕ) → Option (List ℕ)
 attribute_as by key.Test a = mask_as by a
 attribute_as by _ a = a

@@ -1,6 +1,6 @@
 //! What a rule is: its keys, what each of them takes, its parts, and the rule itself.
 //!
-//! Whoever evaluates rules needs these types and not how rules are read, so that they stand below both.
+//! Evaluating rules needs these types and not how rules are read, so this crate is below both.
 #![tactic(auto)]
 
 mod keys;

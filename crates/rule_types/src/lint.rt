@@ -1,4 +1,4 @@
-//! What may be told of a rule beside its faults: that it is a rule, and most likely not the one that was meant.
+//! What may be reported for a rule beside its faults: that it is a rule, and most likely not the one that was meant.
 
 /// Why a rule is most likely not the one that was meant, where neither udevadm(8) nor the manual pages find fault with it.
 #[derive(Clone, Copy, Debug, PartialEq, Eq)]

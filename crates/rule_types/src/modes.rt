@@ -39,7 +39,7 @@ fn is_octal(byte: u8) -> bool
     b'0' <= byte && byte <= b'7'
 }
 
-/// The mode of a file as udev reads it: one octal digit or more behind spaces and tabs, which write
+/// The mode of a file as udev reads it: one octal digit or more after spaces and tabs, which write
 /// at most 7777.
 #[tactic(auto, unfolding(crate::specs::Topics::mode_of))]
 pub fn mode_of(text: &[u8]) -> Option<u32>

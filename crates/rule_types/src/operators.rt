@@ -5,7 +5,7 @@ ghost use Rattle.rule_types.specs.Operators.{is_add, is_add_or_final, is_final, 
 use crate::keys::Key;
 use rule_tokens::Operator;
 
-/// Whether an operator is read as `=` behind a key.
+/// Whether an operator is read as `=` after a key.
 #[tactic(auto, unfolding(crate::specs::Operators::is_read_as_assign))]
 pub fn is_read_as_assign(key: Key, operator: Operator) -> bool
     ensures { result ≡ is_read_as_assign key operator }
@@ -18,7 +18,7 @@ pub fn is_read_as_assign(key: Key, operator: Operator) -> bool
     }
 }
 
-/// The operator as which one is read behind a key.
+/// The operator as which one is read after a key.
 pub fn read_as(key: Key, operator: Operator) -> Operator
     ensures { result ≡ read_as key operator }
 {

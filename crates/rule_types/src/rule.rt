@@ -38,7 +38,7 @@ impl Model for Rule {
 }
 
 impl Rule {
-    /// Lends the name of the file that it stands in.
+    /// Returns the name of the file that it is in.
     pub fn file(&self) -> &[u8]
         ensures { result.now ≡ self.now.file }
     {
@@ -72,35 +72,35 @@ impl Rule {
         }
     }
 
-    /// Lends the matches of the event device, in written order.
+    /// Returns the matches of the event device, in written order.
     pub fn plain(&self) -> &[PlainMatch]
         ensures { result.now ≡ self.now.plain }
     {
         &self.plain
     }
 
-    /// Lends the matches of one device of the chain, in written order.
+    /// Returns the matches of one device of the chain, in written order.
     pub fn up(&self) -> &[UpMatch]
         ensures { result.now ≡ self.now.up }
     {
         &self.up
     }
 
-    /// Lends the parts that act: TEST, then PROGRAM, then IMPORT by its type, those of one kind in written order.
+    /// Returns the parts that act: TEST, then PROGRAM, then IMPORT by its type, those of one kind in written order.
     pub fn acts(&self) -> &[Act]
         ensures { result.now ≡ self.now.acts }
     {
         &self.acts
     }
 
-    /// Lends the matches of RESULT, in written order.
+    /// Returns the matches of RESULT, in written order.
     pub fn results(&self) -> &[Comparison]
         ensures { result.now ≡ self.now.results }
     {
         &self.results
     }
 
-    /// Lends the assignments, by their kind, those of one kind in written order.
+    /// Returns the assignments, by their kind, those of one kind in written order.
     pub fn sets(&self) -> &[Assignment]
         ensures { result.now ≡ self.now.sets }
     {

@@ -1,4 +1,4 @@
-//! What a token is about: its key with what stands in its braces.
+//! What a token is about: its key with what is in its braces.
 ghost use Rattle.std.specs.Prelude.{◌≡◌, IfSome, Some, option_map};
 ghost use Rattle.rule_types.specs.Names.{import_name, run_name};
 ghost use Rattle.rule_types.specs.Written.{attribute_of_topic, key_of_topic};
@@ -9,7 +9,7 @@ use crate::modes::is_mask_as;
 use crate::types::{ImportType, RunType, import_type_of, run_type_of};
 use text_bytes::{Bytes, Profile};
 
-/// A key with what stands in its braces, if it is what the key takes.
+/// A key with what is in its braces, if it is what the key takes.
 #[derive(Debug, Drop)]
 pub enum Topic {
     Action,
@@ -131,7 +131,7 @@ fn is_constant(name: &[u8]) -> bool
     name == b"arch".as_slice() || name == b"virt".as_slice()
 }
 
-/// What stands in the braces of TEST, as it is taken: empty braces are none for udev.
+/// What is in the braces of TEST, as it is taken: empty braces are none for udev.
 fn mask_as(profile: Profile, attribute: Option<Bytes>) -> Option<Bytes>
     ensures { result ≡ mask_as profile attribute }
 {

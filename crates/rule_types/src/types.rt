@@ -1,4 +1,4 @@
-//! The types that stand in the braces of IMPORT and of RUN.
+//! The types that are in the braces of IMPORT and of RUN.
 ghost use Rattle.std.specs.Prelude.{◌≡◌, Some, IfSome};
 ghost use Rattle.rule_types.specs.Names.{import_name, import_type_of, run_name, run_type_of};
 

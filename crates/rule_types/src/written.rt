@@ -1,4 +1,4 @@
-//! With which key and which attribute a match or an assignment is written: what is told of an event names it so.
+//! With which key and which attribute a match or an assignment is written: what is reported for an event names it so.
 ghost use Rattle.std.specs.Prelude.{◌≡◌, option_map};
 ghost use Rattle.rule_types.specs.Written.{attribute_of_plain, attribute_of_target, attribute_of_up, key_of_plain, key_of_target, key_of_up};
 
@@ -26,7 +26,7 @@ impl PlainKey {
         }
     }
 
-    /// What stands in its braces, if it has them.
+    /// What is in its braces, if it has them.
     pub fn attribute(&self) -> Option<&[u8]>
         ensures { option_map (λ text. text.now) result ≡ attribute_of_plain self.now }
     {
@@ -54,7 +54,7 @@ impl UpKey {
         }
     }
 
-    /// What stands in its braces, if it has them.
+    /// What is in its braces, if it has them.
     pub fn attribute(&self) -> Option<&[u8]>
         ensures { option_map (λ text. text.now) result ≡ attribute_of_up self.now }
     {
@@ -84,7 +84,7 @@ impl Target {
         }
     }
 
-    /// What stands in its braces, if it has them.
+    /// What is in its braces, if it has them.
     pub fn attribute(&self) -> Option<&[u8]>
         ensures { option_map (λ text. text.now) result ≡ attribute_of_target self.now }
     {

@@ -35,7 +35,7 @@ impl Deed {
         }
     }
 
-    /// What stands in its braces, if it has them.
+    /// What is in its braces, if it has them.
     pub fn attribute(&self) -> Option<&[u8]>
         ensures { option_map (λ text. text.now) result ≡ attribute_of_deed self.now }
     {
@@ -59,7 +59,7 @@ impl Change {
         }
     }
 
-    /// What stands in its braces, if it has them.
+    /// What is in its braces, if it has them.
     pub fn attribute(&self) -> Option<&[u8]>
         ensures { option_map (λ text. text.now) result ≡ attribute_of_change self.now }
     {

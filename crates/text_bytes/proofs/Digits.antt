@@ -5,7 +5,7 @@ use Rattle.std.specs.List.{list_all}
 use Rattle.text_bytes.specs.Texts.{is_empty}
 use Rattle.text_bytes.specs.Numbers.{is_digit, decimal_behind, decimal, decimal_below}
 
--- a number with the digits from a place on is that with the digit there, and then those behind it
+-- a number with the digits from a place on is that with the digit there, and then those after it
 pub number_on : (text : List ℕ) (i n : ℕ) → i < length text → decimal_behind n (drop i text) ≡ decimal_behind (10 * n + (get_or text i 0 - 48)) (drop (i + 1) text)
 number_on text i n here = rw (drop-cons text i 0, add-one i) refl
 

@@ -1,4 +1,4 @@
--- Escaped texts: no control byte stands in them, what needs no escape is its own, and all are read back.
+-- Escaped texts: no control byte is in them, what needs no escape is its own, and all are read back.
 use Rattle.std.proofs.Common.{◌≡◌, ℕ, suc, ◌+◌, ◌*◌, ◌<◌, ◌/◌, ◌%◌, Bool, true, false, ◌||◌, eqb, List, [], ◌∷◌, ◌++◌, All, cond, length, take, get_or, refl, ap, sym, ◌∙◌, arith, codes}
 use Rattle.std.proofs.lemmas.Bool.{agree_below_at, eqb-true}
 use Rattle.std.proofs.lemmas.List.{take_more, flat_map_more}

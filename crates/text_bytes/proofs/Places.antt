@@ -21,7 +21,7 @@ position_none {X} p xs h = by_test (ltb (position_or_len p xs) (length xs)) refl
   by_test true e q = cc
   by_test false e q = ltb-false (position_or_len p xs) (length xs) e
 
--- what is left of a list behind a place
+-- what is left of a list after a place
 pub tail : {X : Type 0} (n : ℕ) (xs : List X) → take (length xs - n) (drop n xs) ≡ drop n xs
 tail n xs = take_all (length xs - n) (drop n xs) (omega (arith, length-drop n xs))
 

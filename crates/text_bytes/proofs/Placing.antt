@@ -23,7 +23,7 @@ use Rattle.text_bytes.specs.declared.source_file.SourceFile.{SourceFile}
 abbrev pub order : List ℕ → List ℕ → Ordering
 order = slice_cmp nat_cmp
 
--- a file behind x, against x or before it, as a comparison of their names comes out
+-- a file after x, against x or before it, as a comparison of their names comes out
 abbrev pub placed : Ordering → SourceFile → SourceFile → List SourceFile → List SourceFile → List SourceFile
 placed o e x xs behind = by_order o (x ∷ behind) (winner x e ∷ xs) (e ∷ x ∷ xs)
 
@@ -81,7 +81,7 @@ put_hidden {K} text (p ∷ es) e named rise h = by (put_hidden text es e named.1
         ap (λ (xs : List SourceFile). p.1 ∷ xs) (later h)
         ∙ ap (λ o. placed o e p.1 (values_of es) (put (values_of es) e)) (sym (back Greater is))
 
--- a file that is not hidden stands under its name, in the place of the one that is there
+-- a file that is not hidden is under its name, in the place of the one that is there
 pub put_shown : {K : Type 0} (text : K → List ℕ) (es : List (K × SourceFile)) (k : K) (e : SourceFile) → StandUnderTheirNames text es → text k ≡ e.name
     → hides (lookup (λ k. is_eq (order e.name (text k))) es) e ≡ false → values_of (insert_entry (λ j k. order (text j) (text k)) es k e) ≡ put (values_of es) e
 put_shown text [] k e named own h = refl

@@ -3,7 +3,7 @@ use Rattle.std.specs.Prelude.{◌≡◌, Bool, false, nat_le, ℕ, List, Option,
 use Rattle.std.specs.List.{AllByRecursion}
 use Rattle.text_bytes.specs.declared.source_file.SourceFile.{SourceFile}
 
--- each file stands under its own name, where a key has this text
+-- each file is under its own name, where a key has this text
 abbrev pub StandUnderTheirNames : {K : Type 0} → (K → List ℕ) → List (K × SourceFile) → Type 0
 StandUnderTheirNames text files = AllByRecursion (λ entry. text entry.0 ≡ entry.1.name) files
 

@@ -31,7 +31,7 @@ escape_text text = flat_map escape_byte text
 abbrev pub digit_value : ℕ → ℕ
 digit_value digit = position_or_len (λ d. d == digit) hex_digits
 
--- The text that is written so: a backslash, the byte behind it and two digits are the byte of their number, and any other byte
+-- The text that is written so: a backslash, the byte after it and two digits are the byte of their number, and any other byte
 -- is itself.
 abbrev pub unescaped : List ℕ → List ℕ
 unescaped [] = []

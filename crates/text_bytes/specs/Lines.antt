@@ -3,7 +3,7 @@ use Rattle.std.specs.Prelude.{ℕ, ◌+◌, ◌==◌, if◌then◌else◌, List,
 use Rattle.std.specs.List.{onto_first}
 use Rattle.text_bytes.specs.Names.{newline}
 
--- the texts that newlines end, and what stands behind the last newline, if anything does
+-- the texts that newlines end, and what follows the last newline, if anything does
 abbrev pub lines : List ℕ → List (List ℕ)
 lines [] = []
 lines (b ∷ text) = if b == newline then [] ∷ lines text else onto_first b (lines text)

@@ -12,7 +12,7 @@ is_digit b = nat_le digit_zero b && nat_le b digit_nine
 abbrev pub is_decimal : List ℕ → Bool
 is_decimal text = not (is_empty text) && list_all is_digit text
 
--- the number that digits write behind those of n
+-- the number that digits write after those of n
 abbrev pub decimal_behind : ℕ → List ℕ → ℕ
 decimal_behind n [] = n
 decimal_behind n (b ∷ text) = decimal_behind (10 * n + (b - digit_zero)) text

@@ -13,7 +13,7 @@ names files = map (λ file. file.name) files
 abbrev pub NamesRise : List SourceFile → Type 0
 NamesRise files = IsStrictlySortedBy (slice_cmp nat_cmp) (names files)
 
--- Of these files, those of f's name that stand before f have a greater rank, and those behind it no lesser one.
+-- Of these files, those of f's name that come before f have a greater rank, and those after it no lesser one.
 pub record IsFirstOfLeastRank (files : List SourceFile) (f : SourceFile) : Type 0 where
   pub before : List SourceFile
   pub behind : List SourceFile

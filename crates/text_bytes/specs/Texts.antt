@@ -18,7 +18,7 @@ abbrev pub ends_in : ℕ → List ℕ → Bool
 ends_in byte [] = false
 ends_in byte (b ∷ text) = slice_index (b ∷ text) (length text) == byte
 
--- what stands behind the elements at the front that pass a test
+-- what follows the elements at the front that pass a test
 abbrev pub skip_while : {X : Type 0} → (X → Bool) → List X → List X
 skip_while test xs = drop (prefix_len test xs) xs
 
@@ -26,6 +26,6 @@ skip_while test xs = drop (prefix_len test xs) xs
 abbrev pub unindented : List ℕ → List ℕ
 unindented text = skip_while is_blank text
 
--- what stands before the first such byte of a text, and what behind it
+-- what comes before the first such byte of a text, and what after it
 unfoldable pub split_once : ℕ → List ℕ → Option (List ℕ × List ℕ)
 split_once byte text = option_map (λ n. (take n text, drop (n + 1) text)) (position (λ b. b == byte) text)

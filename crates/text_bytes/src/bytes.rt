@@ -38,14 +38,14 @@ impl Bytes {
         })
     }
 
-    /// Lends the bytes.
+    /// Returns the bytes.
     pub fn as_slice(&self) -> &[u8]
         ensures { result.now ≡ self.now }
     {
         &self.held
     }
 
-    /// Gives the vector back.
+    /// Returns the vector.
     pub fn into_vec(self) -> Vec<u8>
         ensures { result.items ≡ self }
     {

@@ -13,8 +13,6 @@ const DIGITS: &[u8; 16] = b"0123456789ABCDEF";
 
 /// A text with its control bytes (below 0x20, and 0x7F) and backslashes as `\x` and two upper case
 /// hexadecimal digits; all other bytes stay.
-///
-/// The error comes where memory is refused.
 pub fn escape(alloc: Global, text: &[u8]) -> Result<Vec<u8>, AllocError>
     ensures value { IfOk result (λ shown. shown.items ≡ escape_text text.now) }
     ensures plain { IfOk result (λ shown. All (λ b. is_control b ≡ false) shown.items) }
@@ -27,7 +25,7 @@ pub fn escape(alloc: Global, text: &[u8]) -> Result<Vec<u8>, AllocError>
     Ok(shown)
 }
 
-/// Puts a byte, escaped if it has to be, behind a text.
+/// Puts a byte, escaped if it has to be, after a text.
 fn push_escaped(shown: &mut Vec<u8>, byte: u8) -> Result<(), AllocError>
     ensures { OnOk result (shown.new.items ≡ shown.old.items ++ escape_byte byte) }
 {
@@ -40,7 +38,7 @@ fn push_escaped(shown: &mut Vec<u8>, byte: u8) -> Result<(), AllocError>
 /// What a byte is written as that does not stand for itself, which a control byte and a backslash
 /// don't: `\x` and two upper case hexadecimal digits. `None` says that it stands for itself.
 ///
-/// It takes no memory, so that a text can be escaped byte by byte where memory was refused.
+/// It takes no memory, so that a text can be escaped byte by byte where memory ran out.
 pub fn escaped_byte(byte: u8) -> Option<[u8; 4]>
     ensures { result ≡ then_some (is_escaped byte) (escape_byte byte) }
 {

@@ -1,6 +1,6 @@
-//! Which of the files handed in are read, and in which order.
+//! Which of the files passed in are read, and in which order.
 //!
-//! Files come from several folders, and one that stands in a folder of less rank hides those of its
+//! Files come from several folders, and one that is in a folder of less rank hides those of its
 //! name in the others. Files are put one by one into a map by their names, which has them sorted.
 ghost use Rattle.std.specs.Prelude.{◌≡◌, IfOk, OnOk};
 ghost use Rattle.std.specs.BTreeMap.{get_by, values};
@@ -14,10 +14,10 @@ use std::alloc::{AllocError, Global};
 use std::collections::BTreeMap;
 
 /// The files whose names end in a suffix, sorted by name, byte by byte; of equal names the file of
-/// least rank stays, and of equal ranks the one handed in first. So hwdb(7) has it of files of one
+/// least rank stays, and of equal ranks the one passed in first. So hwdb(7) has it of files of one
 /// name in several folders.
 ///
-/// The error comes where memory is refused; the files are dropped then.
+/// The error comes where memory runs out; the files are dropped then.
 pub fn order_files(
     alloc: Global,
     files: Vec<SourceFile>,

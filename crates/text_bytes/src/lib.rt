@@ -1,7 +1,9 @@
-//! Bytes, words and files: what every layer above reads and writes texts with.
+//! Bytes, words and files: what every layer above uses to read and write texts.
 //!
-//! A text is bytes, and need not be UTF-8. Here stand the search for a byte, the words that readers share (lines and
-//! their numbers, decimal numbers, blanks), the files that are handed in with their order, and messages about them.
+//! A text is bytes, and need not be UTF-8. This crate has the search for a byte, what readers share (lines and their
+//! numbers, decimal numbers, blanks), the input files with their order, and messages about them.
+//!
+//! Functions that allocate return `AllocError` when memory runs out.
 #![tactic(auto)]
 
 mod bytes;

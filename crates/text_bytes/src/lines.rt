@@ -97,7 +97,7 @@ impl<'a> Iterator for Lines<'a> {
     }
 }
 
-/// The first line of a text that is not empty, and what stands behind its newline.
+/// The first line of a text that is not empty, and what follows its newline.
 pub fn first_line(text: &[u8]) -> (&[u8], &[u8])
     requires { 0 < length text.now }
     ensures value { lines text.now ≡ result.0.now ∷ lines result.1.now }

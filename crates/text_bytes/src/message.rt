@@ -13,7 +13,7 @@ const MAX_WORD: usize = 32;
 /// What is wrong with a line: of the database (H), with a rule (V), or with how a rule is written (S).
 #[derive(Clone, Copy, Debug, PartialEq, Eq)]
 pub enum MessageKind {
-    /// H1: a property stands before the first match of its paragraph.
+    /// H1: a property comes before the first match of its paragraph.
     PropertyWithoutMatch,
     /// H2: no property line follows the matches of a paragraph.
     MatchWithoutProperty,
@@ -21,7 +21,7 @@ pub enum MessageKind {
     UnindentedLine,
     /// H4: a property has no `=`.
     NoEquals,
-    /// H5: nothing stands before the `=` of a property.
+    /// H5: nothing comes before the `=` of a property.
     EmptyKey,
     /// H6: a match is no pattern that is supported.
     PatternNotSupported,
@@ -61,7 +61,7 @@ pub enum MessageKind {
     SaidTwice,
     /// V18: nothing in a rule has an effect.
     RuleWithoutEffect,
-    /// V19: a RESULT stands before the PROGRAM that it asks about.
+    /// V19: a RESULT comes before the PROGRAM that it asks about.
     ResultBeforeProgram,
     /// V20: a value is empty where it has to say something.
     EmptyValue,
@@ -77,17 +77,17 @@ pub enum MessageKind {
     UnknownAccount,
     /// V26: a file is given up for a line of 16,384 bytes or more.
     FileGivenUp,
-    /// S1: not exactly one comma stands between two tokens, or one stands behind the last.
+    /// S1: not exactly one comma is between two tokens, or one follows the last.
     CommaExpected,
-    /// S2: a comma stands directly before a token.
+    /// S2: a comma comes directly before a token.
     BlankExpected,
     /// S3: an operator is read as `=`.
     ReadAsAssign,
     /// S4: nothing jumps to a label.
     LabelUnused,
-    /// S5: a comma stands before the first token.
+    /// S5: a comma comes before the first token.
     LeadingComma,
-    /// S6: a blank stands before a comma.
+    /// S6: a blank comes before a comma.
     BlankBeforeComma,
 }
 
@@ -105,9 +105,7 @@ pub struct Message {
 }
 
 impl Message {
-    /// The message that something is wrong with a line of a file, told with a text of that line.
-    ///
-    /// The error comes where memory is refused.
+    /// The message that something is wrong with a line of a file, reported with a text of that line.
     pub fn about(
         alloc: Global,
         file: &[u8],

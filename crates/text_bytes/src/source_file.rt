@@ -1,4 +1,4 @@
-//! Files as they are handed in, whole and in memory: no crate below the program opens one.
+//! Files as they are passed in, whole and in memory: no crate below the program opens one.
 ghost use Rattle.std.specs.Prelude.{◌≡◌};
 ghost use Rattle.text_bytes.specs.Kinds.{suffix_of};
 
@@ -35,6 +35,6 @@ pub struct SourceFile {
     pub rank: u8,
     /// Its name: as given, or for a folder's file the name without the folder.
     pub name: Bytes,
-    /// All that stands in it.
+    /// All that is in it.
     pub bytes: Bytes,
 }

@@ -56,7 +56,7 @@ fn leading_blanks(text: &[u8]) -> usize
     text.iter().take_while(|byte| is_blank(**byte)).count()
 }
 
-/// What stands before the first such byte of a text, and what behind it.
+/// What comes before the first such byte of a text, and what after it.
 #[tactic(auto, unfolding(crate::specs::Texts::split_once))]
 pub fn split_once(byte: u8, text: &[u8]) -> Option<(&[u8], &[u8])>
     ensures value { option_map (λ p. (p.0.now, p.1.now)) result ≡ split_once byte text.now }

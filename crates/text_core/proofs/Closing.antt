@@ -8,7 +8,7 @@ use Rattle.text_core.specs.declared.elements.Element.{Element}
 use Rattle.text_core.specs.declared.elements.Found.{Found}
 use Rattle.text_core.specs.declared.reading.Reading.{Reading}
 
--- elements, and behind them those that are closed
+-- elements, and after them those that are closed
 abbrev pub with_elements : List Element → Option Closed → Option Closed
 with_elements xs None = None
 with_elements xs (Some closed) = Some (record { elements = xs ++ closed.elements; left = closed.left })
@@ -70,7 +70,7 @@ is_some-with_element x (Some closed) = refl
 abbrev pub are_closed : Reading → List ℕ → Bool
 are_closed reading t = is_some (elements_at reading false t 0)
 
--- elements are closed where those behind the first of them are
+-- elements are closed where those after the first of them are
 pub closed_behind : (reading : Reading) (b : ℕ) (t : List ℕ) (found : Found) → element_of reading b t ≡ Some found
     → are_closed reading (drop found.behind t) ≡ is_some (with_found (element_of reading b t) (λ n. elements_at reading false t n))
 closed_behind reading b t found read =

@@ -35,7 +35,7 @@ split_some p xs k h = by_test (ltb (position_or_len p xs) (length xs)) refl h wh
       ∙ ap (λ (n : ℕ). take n xs ∷ slice_split p (drop (n + 1) xs)) at
   by_test false e q = cc
 
--- the length of what stands before the bar
+-- the length of what comes before the bar
 pub position-lt : {X : Type 0} (p : X → Bool) (xs : List X) (k : ℕ) → position p xs ≡ Some k → k < length xs
 position-lt p xs k h = by_test (ltb (position_or_len p xs) (length xs)) refl h where
   by_test : (v : Bool) → ltb (position_or_len p xs) (length xs) ≡ v → cond v (Some (position_or_len p xs)) None ≡ Some k → k < length xs
@@ -45,7 +45,7 @@ position-lt p xs k h = by_test (ltb (position_or_len p xs) (length xs)) refl h w
       omega arith
   by_test false e q = cc
 
--- parts, and behind them those of the rest
+-- parts, and after them those of the rest
 abbrev pub with_parts : List (List Item) → Result (List (List Item)) GlobFault → Result (List (List Item)) GlobFault
 with_parts parts (Ok more) = Ok (parts ++ more)
 with_parts parts (Err e) = Err e

@@ -18,7 +18,7 @@ use Rattle.text_core.specs.declared.reading.Reading.{Reading}
 use Rattle.text_core.specs.declared.spell.Head.{Head}
 use Rattle.text_core.proofs.Cutting.{split_none, split_some}
 
--- what a `[` begins, by the elements behind it
+-- what a `[` begins, by the elements after it
 pub bracket_by : (reading : Reading) (t unsigned : List ℕ) (closed : Option Closed) → unsigned ≡ drop (sign_len t) t → closed ≡ elements_at reading true unsigned 0
     → set_or_bracket reading t closed ≡ fnmatch_bracket reading t
 unfolding fnmatch_bracket

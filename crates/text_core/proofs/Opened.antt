@@ -8,7 +8,7 @@ use Rattle.text_core.specs.Spell.{WrittenSet, negated, sign_len, members_len, cl
 use Rattle.text_core.specs.declared.glob_fault.GlobFault.TheVariants.{Class}
 use Rattle.text_core.specs.declared.item.Item.TheVariants.{Byte, Among}
 
--- the set of these members behind a `[` at a place
+-- the set of these members after a `[` at a place
 abbrev pub written : ℕ → List ℕ → List ℕ → ℕ → WrittenSet
 written at t members n = record { negated = negated t; members = members; place = at + 1 + sign_len t; len = sign_len t + n + 1 }
 

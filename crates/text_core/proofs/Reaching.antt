@@ -37,7 +37,7 @@ position-cons p x xs =
 abbrev ends : ℕ × ℕ → Bool
 ends pair = pair.0 == dot && pair.1 == close_bracket
 
--- the first `.]` is here, or behind the first byte
+-- the first `.]` is here, or after the first byte
 pub symbol_len-next : (t : List ℕ) → symbol_len t ≡ cond (is_ended dot t) (Some 0) (option_map (λ n. n + 1) (symbol_len (drop 1 t)))
 unfolding symbol_len
 symbol_len-next [] = refl

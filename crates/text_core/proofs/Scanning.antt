@@ -7,7 +7,7 @@ use Rattle.text_core.specs.declared.reading.Reading.{Reading}
 use Rattle.text_core.specs.declared.item.Item.{Item}
 use Rattle.text_core.specs.declared.glob_fault.GlobFault.{GlobFault}
 
--- items, and behind them those that the rest spells
+-- items, and after them those that the rest spells
 abbrev pub with_items : List Item → Result (List Item) GlobFault → Result (List Item) GlobFault
 with_items items (Ok more) = Ok (items ++ more)
 with_items items (Err e) = Err e

@@ -15,7 +15,7 @@ tells_drop f table t u m told e k =
     let same : drop k u ≡ drop (m + k) t = ap (drop k) e ∙ drop-drop k m t in
     ap (λ (v : List ℕ). slice_get table (length v)) same ∙ told (m + k) ∙ sym (ap (λ (v : List ℕ). Some (f v)) same)
 
--- what stands behind the first byte is an end
+-- what follows the first byte is an end
 pub tells_tail : {X : Type 0} (f : List ℕ → X) (table : List X) (t : List ℕ) (b : ℕ) (after : List ℕ) → Tells f table t → t ≡ b ∷ after → Tells f table after
 tells_tail f table t b after told e = tells_drop f table t after 1 told (sym (ap (drop 1) e))
 
@@ -89,7 +89,7 @@ tells_all f table t left told h =
     let whole : length t - left ≡ 0 = omega arith in
     tells_drop f table (drop (length t - left) t) t 0 told (sym (ap (λ (n : ℕ). drop n t) whole))
 
--- what stands at the place of an end is that end's value
+-- what is at the place of an end is that end's value
 module _ {X : Type 0} (f : List ℕ → X) (table : List X) (t : List ℕ) (told : Tells f table t) (n : ℕ) where
   at_end : slice_get table (length t - n) ≡ Some (f (drop n t))
   at_end = ap (slice_get table) (sym (length-drop n t)) ∙ told n

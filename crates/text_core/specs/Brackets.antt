@@ -1,4 +1,4 @@
--- What stands between brackets, in both ways of writing, and what a set of it takes.
+-- What is between brackets, in both ways of writing, and what a set of it takes.
 use Rattle.std.specs.Prelude.{ℕ, zero, suc, Bool, false, not, ◌&&◌, if◌then◌else◌, List, ◌∷◌, [], length, Option, Some, None}
 use Rattle.text_core.specs.Elements.{element_of, takes_among}
 use Rattle.text_core.specs.Sets.{set_takes}
@@ -15,7 +15,7 @@ abbrev pub between_takes : Reading → Bool → Between → ℕ → Bool
 between_takes reading negated (Members members) = set_takes reading negated members.now
 between_takes reading negated (Elements elements) = takes_among reading negated elements.now
 
--- The elements up to the `]` that closes them, and how many bytes stand behind it.
+-- The elements up to the `]` that closes them, and how many bytes follow it.
 pub record Closed : Type 0 where
   pub elements : List Element
   pub left : ℕ
@@ -24,17 +24,17 @@ pub record Closed : Type 0 where
 abbrev pub closed_of : Expression → Closed
 closed_of expression = record { elements = expression.elements.items; left = expression.left }
 
--- An element, and behind it those that are closed.
+-- An element, and after it those that are closed.
 abbrev pub with_element : Element → Option Closed → Option Closed
 with_element x None = None
 with_element x (Some closed) = Some (record { elements = x ∷ closed.elements; left = closed.left })
 
--- The element found, and behind it what the rest gives once the element's own bytes are passed over.
+-- The element found, and after it what the rest gives once the element's own bytes are passed over.
 abbrev pub with_found : Option Found → (ℕ → Option Closed) → Option Closed
 with_found None rest = None
 with_found (Some found) rest = with_element found.element (rest found.behind)
 
--- The elements of a text behind a `[` and its sign, after so many bytes to be passed over: up to the first `]` that
+-- The elements of a text after a `[` and its sign, after so many bytes to be passed over: up to the first `]` that
 -- begins one but the first. There are none, where no such `]` closes them.
 abbrev pub elements_at : Reading → Bool → List ℕ → ℕ → Option Closed
 elements_at reading first [] passed = None

@@ -10,13 +10,13 @@ use Rattle.text_core.specs.declared.item.Item.{Item}
 use Rattle.text_core.specs.declared.reading.Reading.{Reading}
 use Rattle.text_core.specs.declared.reading.Reading.TheVariants.{Exact, Blind}
 
--- A part, and behind it the others; of faults the first.
+-- A part, and after it the others; of faults the first.
 abbrev pub with_part : Result (List Item) GlobFault → Result (List (List Item)) GlobFault → Result (List (List Item)) GlobFault
 with_part (Ok part) (Ok parts) = Ok (part ∷ parts)
 with_part (Ok part) (Err e) = Err e
 with_part (Err e) rest = Err e
 
--- What the parts spell, of which the first stands at a place and each other one byte behind the one before it.
+-- What the parts spell, of which the first is at a place and each other one byte after the one before it.
 abbrev pub parts_at : Reading → List (List ℕ) → ℕ → Result (List (List Item)) GlobFault
 parts_at reading [] at = Ok []
 parts_at reading (part ∷ parts) at = with_part (items_at reading part 0 at) (parts_at reading parts (at + length part + 1))

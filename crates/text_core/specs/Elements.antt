@@ -21,7 +21,7 @@ folded Blind b = to_ascii_lowercase b
 abbrev pub single : Reading → ℕ → Found
 single reading b = record { element = Single (folded reading b); behind = 0 }
 
--- The byte behind a backslash stands for itself.
+-- The byte after a backslash stands for itself.
 abbrev pub escaped : Reading → List ℕ → Option Found
 escaped reading [] = None
 escaped reading (b ∷ t) = Some (record { element = Single (folded reading b); behind = 1 })
@@ -41,7 +41,7 @@ abbrev pub class_element : Option ByteClass → Element
 class_element (Some class) = Class class
 class_element None = Unknown
 
--- `[:name:]` from behind its `[:`: letters, and behind them `:]`.
+-- `[:name:]` from behind its `[:`: letters, and after them `:]`.
 unfoldable pub named_class : List ℕ → Option Found
 named_class t =
     let n = prefix_len is_small_letter t in
@@ -52,7 +52,7 @@ abbrev pub equivalence : List ℕ → Option Found
 equivalence [] = None
 equivalence (b ∷ t) = if is_ended equals t then Some (record { element = AsIs b; behind = 4 }) else None
 
--- What a `[` with the text behind it names: a class, or one byte; in another form nothing.
+-- What a `[` with the text after it names: a class, or one byte; in another form nothing.
 abbrev pub class_or_equivalence : List ℕ → Option Found
 class_or_equivalence [] = None
 class_or_equivalence (mark ∷ t) =
@@ -60,7 +60,7 @@ class_or_equivalence (mark ∷ t) =
     else if mark == equals then equivalence t
     else None
 
--- How many bytes stand before the first `.]`.
+-- How many bytes come before the first `.]`.
 unfoldable pub symbol_len : List ℕ → Option ℕ
 symbol_len t = position (λ pair. pair.0 == dot && pair.1 == close_bracket) (zip t (drop 1 t))
 
@@ -85,13 +85,13 @@ point reading b t =
     else if b == open_bracket then symbol_or_bracket reading t
     else Some (single reading b)
 
--- Whether a range goes on: a minus comes next, and behind it a byte that is no `]`.
+-- Whether a range goes on: a minus comes next, and after it a byte that is no `]`.
 abbrev pub goes_on : List ℕ → Bool
 goes_on [] = false
 goes_on (b ∷ []) = false
 goes_on (b ∷ c ∷ t) = b == minus && not (c == close_bracket)
 
--- The byte of an element that may stand at an end of a range.
+-- The byte of an element that may be at an end of a range.
 abbrev pub end_of : Element → Option ℕ
 end_of (Single b) = Some b
 end_of (AsIs b) = Some b
@@ -115,7 +115,7 @@ unfoldable pub ranged : Reading → Found → List ℕ → Option Found
 ranged reading first t =
     if goes_on t then range_to first (point reading (slice_index t 1) (drop 2 t)) else Some first
 
--- What a first end, if there is one, begins before the text behind it.
+-- What a first end, if there is one, begins before the text after it.
 abbrev pub ranged_behind : Reading → List ℕ → Option Found → Option Found
 ranged_behind reading t None = None
 ranged_behind reading t (Some first) = ranged reading first (drop first.behind t)

@@ -11,8 +11,8 @@ abbrev pub some_suffix : (List ℕ → Bool) → List ℕ → Bool
 some_suffix p [] = p []
 some_suffix p (b ∷ t) = p (b ∷ t) || some_suffix p t
 
--- No item fits the empty text alone. What stands behind a Many fits some suffix of the text.
--- Each other item takes the first byte, and what stands behind it fits the rest.
+-- No item fits the empty text alone. What follows a Many fits some suffix of the text.
+-- Each other item takes the first byte, and what follows it fits the rest.
 abbrev pub fits : List Item → List ℕ → Bool
 fits [] [] = true
 fits [] (b ∷ t) = false

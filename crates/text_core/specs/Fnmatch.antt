@@ -15,7 +15,7 @@ use Rattle.text_core.specs.declared.reading.Reading.{Reading}
 use Rattle.text_core.specs.declared.reading.Reading.TheVariants.{Exact}
 use Rattle.text_core.specs.declared.spell.Head.{Head}
 
--- The set of the elements behind a `[`, if they are closed; else the `[` means itself.
+-- The set of the elements after a `[`, if they are closed; else the `[` means itself.
 abbrev pub set_or_bracket : Reading → List ℕ → Option Closed → Head
 set_or_bracket reading t None = record { item = Byte open_bracket; behind = 0 }
 set_or_bracket reading t (Some closed) =
@@ -25,12 +25,12 @@ set_or_bracket reading t (Some closed) =
 unfoldable pub fnmatch_bracket : Reading → List ℕ → Head
 fnmatch_bracket reading t = set_or_bracket reading t (elements_at reading true (drop (sign_len t) t) 0)
 
--- A backslash makes the byte behind it mean itself; at the end of a text nothing fits it.
+-- A backslash makes the byte after it mean itself; at the end of a text nothing fits it.
 abbrev pub fnmatch_escaped : Reading → List ℕ → Head
 fnmatch_escaped reading [] = record { item = Among (set_of (set_takes Exact false [])); behind = 0 }
 fnmatch_escaped reading (b ∷ t) = record { item = itself reading b; behind = 1 }
 
--- The item that a byte begins, and how many of the bytes behind it belong to it.
+-- The item that a byte begins, and how many of the bytes after it belong to it.
 unfoldable pub fnmatch_front : Reading → ℕ → List ℕ → Head
 fnmatch_front reading b t =
     if b == star then record { item = Many; behind = 0 }
@@ -39,7 +39,7 @@ fnmatch_front reading b t =
     else if b == backslash then fnmatch_escaped reading t
     else record { item = itself reading b; behind = 0 }
 
--- The item found in front, and behind it those of the rest once the item's own bytes are passed over.
+-- The item found in front, and after it those of the rest once the item's own bytes are passed over.
 abbrev pub with_head : Head → (ℕ → List Item) → List Item
 with_head head rest = head.item ∷ rest head.behind
 

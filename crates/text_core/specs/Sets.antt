@@ -53,7 +53,7 @@ pub data Member : Type 0 where
   alone : ℕ → Member
   range : ℕ → ℕ → Member
 
--- Members are written one behind the other: a range as its first byte, a minus and its last, and a byte alone where
+-- Members are written one after another: a range as its first byte, a minus and its last, and a byte alone where
 -- no minus and further byte follow it.
 abbrev pub AreMembers : List Member → List ℕ → Type 0
 AreMembers [] m = m ≡ []

@@ -25,20 +25,20 @@ is_sign b = b == bang || b == caret
 abbrev pub closes : ℕ → Bool
 closes b = b == close_bracket
 
--- A byte that, directly behind a `[` among the members, makes it the beginning of a class.
+-- A byte that, directly after a `[` among the members, makes it the beginning of a class.
 abbrev pub opens_class : ℕ → Bool
 opens_class b = b == colon || b == dot || b == equals
 
--- Whether the text behind a `[` begins with a sign.
+-- Whether the text after a `[` begins with a sign.
 abbrev pub negated : List ℕ → Bool
 negated [] = false
 negated (b ∷ t) = is_sign b
 
--- How many bytes of the text behind a `[` come before the members.
+-- How many bytes of the text after a `[` come before the members.
 abbrev pub sign_len : List ℕ → ℕ
 sign_len t = if negated t then 1 else 0
 
--- How many members stand at the front of a text: the first byte is one, and the first `]` behind it ends them.
+-- How many members are at the front of a text: the first byte is one, and the first `]` after it ends them.
 abbrev pub members_len : List ℕ → Option ℕ
 members_len t = option_map (λ n. n + 1) (position closes (drop 1 t))
 
@@ -46,7 +46,7 @@ members_len t = option_map (λ n. n + 1) (position closes (drop 1 t))
 abbrev pub class_place : List ℕ → Option ℕ
 class_place members = position (λ pair. pair.0 == open_bracket && opens_class pair.1) (zip members (drop 1 members))
 
--- A set as it is written behind its `[`: whether a sign negates it, its members, their place in the whole text, and how
+-- A set as it is written after its `[`: whether a sign negates it, its members, their place in the whole text, and how
 -- many bytes it takes with its `]`.
 pub record WrittenSet : Type 0 where
   pub negated : Bool
@@ -54,7 +54,7 @@ pub record WrittenSet : Type 0 where
   pub place : ℕ
   pub len : ℕ
 
--- The set that is written behind a `[` at a place, if a `]` ends one.
+-- The set that is written after a `[` at a place, if a `]` ends one.
 abbrev pub set_behind : ℕ → List ℕ → Option WrittenSet
 set_behind at t =
     let unsigned = drop (sign_len t) t in
@@ -85,7 +85,7 @@ abbrev pub itself : Reading → ℕ → Item
 itself Exact b = Byte b
 itself Blind b = if is_ascii_alphabetic b then Among (set_of (set_takes Blind false (b ∷ []))) else Byte b
 
--- The item that the byte b at a place begins, and how many of the bytes t behind it belong to it.
+-- The item that the byte b at a place begins, and how many of the bytes t after it belong to it.
 unfoldable pub front : Reading → ℕ → ℕ → List ℕ → Result Head GlobFault
 front reading at b t =
     if b == star then Ok (record { item = Many; behind = 0 })
@@ -93,17 +93,17 @@ front reading at b t =
     else if b == open_bracket then bracket reading at t
     else Ok (record { item = itself reading b; behind = 0 })
 
--- An item, and behind it those that the rest spells.
+-- An item, and after it those that the rest spells.
 abbrev pub with_item : Item → Result (List Item) GlobFault → Result (List Item) GlobFault
 with_item x (Ok items) = Ok (x ∷ items)
 with_item x (Err e) = Err e
 
--- The item found in front, and behind it what the rest spells once the item's own bytes are passed over.
+-- The item found in front, and after it what the rest spells once the item's own bytes are passed over.
 abbrev pub with_front : Result Head GlobFault → (ℕ → Result (List Item) GlobFault) → Result (List Item) GlobFault
 with_front (Ok head) rest = with_item head.item (rest head.behind)
 with_front (Err e) rest = Err e
 
--- What a text spells that stands at a place of a whole one, after so many bytes to be passed over.
+-- What a text spells that is at a place of a whole one, after so many bytes to be passed over.
 abbrev pub items_at : Reading → List ℕ → ℕ → ℕ → Result (List Item) GlobFault
 items_at reading [] passed at = Ok []
 items_at reading (b ∷ t) zero at = with_front (front reading at b t) (λ n. items_at reading t n (at + 1))

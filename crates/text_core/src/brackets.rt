@@ -1,4 +1,4 @@
-//! What stands between the brackets of a pattern of fnmatch(3).
+//! What is between the brackets of a pattern of fnmatch(3).
 ghost use Rattle.std.specs.Prelude.{◌≡◌, ◌≤◌, ℕ, length, drop, true, false, not, ◌&&◌, IfOk, IfSome, Some};
 ghost use Rattle.std.specs.List.{slice_get};
 ghost use Rattle.std.specs.Option.{is_some, option_map};
@@ -16,14 +16,14 @@ use std::alloc::{AllocError, Global};
 pub struct Expression {
     /// The elements, in order.
     pub elements: Vec<Element>,
-    /// How many bytes stand behind the `]`.
+    /// How many bytes follow the `]`.
     pub left: usize,
 }
 
-/// Reads the elements of a text behind a `[` and its sign. The first byte begins one, and the first
+/// Reads the elements of a text after a `[` and its sign. The first byte begins one, and the first
 /// `]` that begins another one closes them; there are none where no such `]` comes, and then only the
 /// first is read. `lens` and `closed` are what `symbol_lens` and `closed_ends` say of the text. It fails
-/// where a growth is refused.
+/// where an allocation fails.
 pub fn read_elements(
     alloc: Global,
     reading: Reading,

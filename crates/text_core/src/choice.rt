@@ -97,7 +97,7 @@ impl Choice {
         Ok(Choice { parts })
     }
 
-    /// Lends the patterns of the parts, in order.
+    /// Returns the patterns of the parts, in order.
     pub fn parts(&self) -> &[Pattern]
         ensures { result.now ≡ self.now }
     {

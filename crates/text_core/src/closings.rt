@@ -13,7 +13,7 @@ use crate::reading::Reading;
 use std::alloc::{AllocError, Global};
 
 /// Whether the elements are closed of which a byte begins the first. `lens` and `closed` are what
-/// `symbol_lens` and `closed_ends` say of the text behind the byte.
+/// `symbol_lens` and `closed_ends` say of the text after the byte.
 pub fn is_closed_behind(
     reading: Reading,
     lens: &[Option<usize>],
@@ -31,7 +31,7 @@ pub fn is_closed_behind(
     }
 }
 
-/// Whether elements that go on at a byte are closed: here, or behind the one that it begins. `lens`
+/// Whether elements that go on at a byte are closed: here, or after the one that it begins. `lens`
 /// and `closed` are as at `is_closed_behind`.
 fn is_closed_at(
     reading: Reading,
@@ -48,7 +48,7 @@ fn is_closed_at(
 }
 
 /// Whether elements that go on at an end of a text are closed, for each of its ends by how many bytes
-/// that end has. `lens` is what `symbol_lens` says of the text. It fails where a growth is refused.
+/// that end has. `lens` is what `symbol_lens` says of the text. It fails where an allocation fails.
 pub fn closed_ends(
     alloc: Global,
     reading: Reading,

@@ -12,7 +12,7 @@ use crate::symbols::symbol_len;
 /// An element between brackets.
 #[derive(Clone, Copy, Debug)]
 pub enum Element {
-    /// A byte, perhaps behind a backslash; read blind, a capital is its small letter.
+    /// A byte, perhaps after a backslash; read blind, a capital is its small letter.
     Single(u8),
     /// The bytes from the first to the last; none, where the last is below the first.
     Range(u8, u8),
@@ -29,7 +29,7 @@ pub enum Element {
 pub struct Found {
     /// The element.
     pub element: Element,
-    /// How many of the bytes behind the first belong to it.
+    /// How many of the bytes after the first belong to it.
     pub behind: usize,
 }
 
@@ -53,7 +53,7 @@ fn single(reading: Reading, byte: u8) -> Found
     }
 }
 
-/// The byte behind a backslash, if there is one.
+/// The byte after a backslash, if there is one.
 fn escaped(reading: Reading, after: &[u8]) -> Option<Found>
     ensures value { result ≡ escaped reading after.now }
     ensures within { IfSome result (λ found. found.behind ≤ length after.now) }
@@ -73,7 +73,7 @@ pub fn is_ended(mark: u8, text: &[u8]) -> bool
     text.len() >= 2 && text[0] == mark && text[1] == b']'
 }
 
-/// Whether a byte may stand in the name of a class: a small letter but z.
+/// Whether a byte may be in the name of a class: a small letter but z.
 fn is_small_letter(byte: u8) -> bool
     ensures { result ≡ is_small_letter byte }
 {
@@ -100,7 +100,7 @@ fn class_element(name: &[u8]) -> Element
     }
 }
 
-/// The class that a text behind `[:` names, where letters and `:]` come next.
+/// The class that a text after `[:` names, where letters and `:]` come next.
 #[tactic(auto, unfolding(crate::specs::Elements::named_class))]
 fn named_class(text: &[u8]) -> Option<Found>
     ensures value { result ≡ named_class text.now }
@@ -117,7 +117,7 @@ fn named_class(text: &[u8]) -> Option<Found>
     })
 }
 
-/// The byte that a text behind `[=` names, where it and `=]` come next.
+/// The byte that a text after `[=` names, where it and `=]` come next.
 fn equivalence(text: &[u8]) -> Option<Found>
     ensures value { result ≡ equivalence text.now }
     ensures within { IfSome result (λ found. found.behind ≤ length text.now + 1) }
@@ -156,7 +156,7 @@ fn symbol_element(first: u8, len: usize) -> Element
     }
 }
 
-/// The symbol behind `[.`, if a `.]` ends it.
+/// The symbol after `[.`, if a `.]` ends it.
 fn symbol(lens: &[Option<usize>], text: &[u8]) -> Option<Found>
     requires { (k : ℕ) → slice_get lens.now (length (drop k text.now)) ≡ Some (symbol_len (drop k text.now)) }
     ensures value { result ≡ symbol text.now }
@@ -196,7 +196,7 @@ fn point(reading: Reading, lens: &[Option<usize>], byte: u8, after: &[u8]) -> Op
     }
 }
 
-/// Whether a range goes on: a minus comes next, and behind it a byte that is no `]`.
+/// Whether a range goes on: a minus comes next, and after it a byte that is no `]`.
 fn goes_on(rest: &[u8]) -> bool
     ensures value { result ≡ goes_on rest.now }
     ensures len { OnTrue result (2 ≤ length rest.now) }
@@ -204,7 +204,7 @@ fn goes_on(rest: &[u8]) -> bool
     rest.len() >= 2 && rest[0] == b'-' && rest[1] != b']'
 }
 
-/// The byte of an element that may stand at an end of a range.
+/// The byte of an element that may be at an end of a range.
 fn end_of(element: Element) -> Option<u8>
     ensures { result ≡ end_of element }
 {
@@ -248,7 +248,7 @@ fn ranged(reading: Reading, lens: &[Option<usize>], first: Found, rest: &[u8]) -
 }
 
 /// The element that a byte begins. None, where the text ends within. `lens` is what `symbol_lens` says
-/// of the text behind the byte.
+/// of the text after the byte.
 #[tactic(auto, unfolding(crate::specs::Elements::element_of))]
 pub fn element_of(reading: Reading, lens: &[Option<usize>], byte: u8, after: &[u8]) -> Option<Found>
     requires { (k : ℕ) → slice_get lens.now (length (drop k after.now)) ≡ Some (symbol_len (drop k after.now)) }

@@ -18,7 +18,7 @@ use crate::symbols::symbol_lens;
 use std::alloc::{AllocError, Global};
 
 /// What a `[` begins: a set, or where no `]` closes it itself. `lens` and `closed` are what
-/// `symbol_lens` and `closed_ends` say of the text behind it.
+/// `symbol_lens` and `closed_ends` say of the text after it.
 fn bracket(
     alloc: Global,
     reading: Reading,
@@ -43,7 +43,7 @@ fn bracket(
     })
 }
 
-/// What a backslash begins: the byte behind it, or at the end an item that nothing fits.
+/// What a backslash begins: the byte after it, or at the end an item that nothing fits.
 fn escaped(reading: Reading, after: &[u8]) -> Head
     ensures value { result ≡ fnmatch_escaped reading after.now }
     ensures len { result.behind ≤ length after.now }
@@ -57,7 +57,7 @@ fn escaped(reading: Reading, after: &[u8]) -> Head
     }
 }
 
-/// The item that a byte begins, and how many of the bytes behind it belong to it. `lens` and `closed`
+/// The item that a byte begins, and how many of the bytes after it belong to it. `lens` and `closed`
 /// are as at `bracket`.
 #[tactic(auto, unfolding(crate::specs::Fnmatch::fnmatch_front))]
 fn front(

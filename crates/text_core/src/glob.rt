@@ -1,7 +1,7 @@
 //! Whether a text fits a list of items, without memory and in time at most items times text.
 //!
 //! At a `Many` only the last one met has to be gone back to: what fitted before it fits still, so the
-//! search keeps one place, and each start behind it is tried once.
+//! search keeps one place, and each start after it is tried once.
 ghost use Rattle.std.specs.Prelude.{◌≡◌, ◌<◌, ◌≤◌, true, false, length};
 ghost use Rattle.text_core.specs.Fits.{fits, some_suffix};
 ghost use Rattle.text_core.specs.Stops.{StopsAt};

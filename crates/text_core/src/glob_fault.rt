@@ -10,12 +10,12 @@ pub enum GlobFault {
     /// 1: a class, as in `[[:digit:]]`, which is not supported: among the members of a set a `[` stands
     /// directly before `:`, `.` or `=`.
     Class {
-        /// The place of that inner `[` in the text that was handed in, counted from 0.
+        /// The place of that inner `[` in the text that was passed in, counted from 0.
         at: usize,
     },
     /// 2: the text has more than 16,384 bytes. It comes before all else.
     TooLong,
-    /// 3: memory was refused.
+    /// 3: memory runs out.
     Memory,
 }
 

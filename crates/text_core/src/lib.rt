@@ -1,8 +1,9 @@
-//! Patterns of bytes, choices of them, and which texts fit.
+//! Patterns of bytes, choices between them, and which texts fit.
 //!
-//! Rules and the hardware database both match texts against patterns, so the pattern stands here,
-//! below the crates that read them, beside the texts and files that they share: what `text_bytes`
-//! holds comes with this crate.
+//! Rules and the hardware database both match texts against patterns, so patterns are below the crates that read them.
+//! `text_bytes` comes with this crate.
+//!
+//! Functions that allocate return `AllocError` when memory runs out.
 #![tactic(auto)]
 
 mod brackets;

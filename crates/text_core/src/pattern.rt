@@ -22,7 +22,7 @@ pub const MAX_LEN: usize = 16384;
 
 /// A pattern: `*` takes any bytes, `?` any one, `[..]` one byte of a set, and each other byte, the
 /// backslash too, itself. A set is negated by a first `!` or `^`, has ranges as `a-z`, and ends at the
-/// first `]` behind its first member; a `[` that no such `]` follows is a byte.
+/// first `]` after its first member; a `[` that no such `]` follows is a byte.
 #[derive(Debug, Drop)]
 pub struct Pattern {
     items: RcSlice<Item>,
@@ -43,7 +43,7 @@ impl Pattern {
     ///
     /// A text of more than 16,384 bytes is `TooLong`, before all else; a class among the members of a
     /// set is `Class`, with the place of its inner `[`, the first of them; `Memory` comes where a
-    /// growth was refused.
+    /// allocation fails.
     pub fn read(alloc: Global, text: &[u8]) -> Result<Pattern, GlobFault>
         ensures value { MatchResult result (λ p. spell text.now ≡ Ok p) (λ e. e ≢ Memory → spell text.now ≡ Err e) }
         ensures too_long { max_len < length text.now → IsErrOf result TooLong }
@@ -54,7 +54,7 @@ impl Pattern {
         Pattern::read_at(alloc, Reading::Exact, 0, text)
     }
 
-    /// Reads a text that stands at a place of a longer one.
+    /// Reads a text that is at a place of a longer one.
     pub(crate) fn read_at(
         alloc: Global,
         reading: Reading,
@@ -94,7 +94,7 @@ impl Pattern {
         })
     }
 
-    /// Lends the items, in order.
+    /// Returns the items, in order.
     pub fn items(&self) -> &[Item]
         ensures { result.now ≡ self.now }
     {

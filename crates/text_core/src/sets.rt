@@ -9,7 +9,7 @@ use crate::byte_set::ByteSet;
 use crate::elements::{Element, takes_among};
 use crate::reading::Reading;
 
-/// What stands between the brackets of a set.
+/// What is between the brackets of a set.
 #[derive(Clone, Copy, Debug)]
 pub enum Between<'a> {
     /// Members as udev(7) describes them: bytes, and ranges with a minus.
@@ -79,7 +79,7 @@ fn set_takes(reading: Reading, negated: bool, members: &[u8], byte: u8) -> bool
     members_have_by(reading, members, byte) != negated
 }
 
-/// Whether the set of what stands between brackets, or with a sign its complement, has a byte.
+/// Whether the set of what is between brackets, or with a sign its complement, has a byte.
 fn takes(reading: Reading, negated: bool, between: Between<'_>, byte: u8) -> bool
     ensures { result ≡ between_takes reading negated between.entry byte }
 {
@@ -101,7 +101,7 @@ fn eight(reading: Reading, negated: bool, between: Between<'_>, first: u8) -> u8
     bits
 }
 
-/// The set of what stands between brackets.
+/// The set of what is between brackets.
 pub fn set_of(reading: Reading, negated: bool, between: Between<'_>) -> ByteSet
     ensures { result ≡ set_of (between_takes reading negated between.entry) }
 {

@@ -13,7 +13,7 @@ use text_bytes::find;
 pub struct Head {
     /// The item that the first byte begins.
     pub item: Item,
-    /// How many of the bytes behind the first belong to it.
+    /// How many of the bytes after the first belong to it.
     pub behind: usize,
 }
 
@@ -44,7 +44,7 @@ fn class_place(members: &[u8]) -> Option<usize>
         && (*b == b':' || *b == b'.' || *b == b'='))
 }
 
-/// How many members stand at the front of a text: the first byte is one, and the first `]` behind it
+/// How many members are at the front of a text: the first byte is one, and the first `]` after it
 /// ends them.
 fn members_len(text: &[u8]) -> Option<usize>
     ensures value { result ≡ members_len text.now }
@@ -97,7 +97,7 @@ pub(crate) fn itself(reading: Reading, byte: u8) -> Item
     }
 }
 
-/// The item that a byte at a place begins, and how many of the bytes behind it belong to it.
+/// The item that a byte at a place begins, and how many of the bytes after it belong to it.
 #[tactic(auto, unfolding(crate::specs::Spell::front))]
 pub fn front(reading: Reading, at: usize, byte: u8, after: &[u8]) -> Result<Head, GlobFault>
     requires { at + length after.now < 2 ^ 63 }

@@ -9,7 +9,7 @@ ghost use Rattle.text_core.specs.Elements.{symbol_len};
 use crate::elements::is_ended;
 use std::alloc::{AllocError, Global};
 
-/// How many bytes stand before the first `.]` of a text, of which `lens` is what `symbol_lens` says.
+/// How many bytes come before the first `.]` of a text, of which `lens` is what `symbol_lens` says.
 pub fn symbol_len(lens: &[Option<usize>], text: &[u8]) -> Option<usize>
     requires { (k : ℕ) → slice_get lens.now (length (drop k text.now)) ≡ Some (symbol_len (drop k text.now)) }
     ensures value { result ≡ symbol_len text.now }
@@ -21,7 +21,7 @@ pub fn symbol_len(lens: &[Option<usize>], text: &[u8]) -> Option<usize>
     }
 }
 
-/// The same, where `lens` is what `symbol_lens` says of the text behind the first byte.
+/// The same, where `lens` is what `symbol_lens` says of the text after the first byte.
 fn next_len(lens: &[Option<usize>], text: &[u8]) -> Option<usize>
     requires { (k : ℕ) → slice_get lens.now (length (drop k (drop 1 text.now))) ≡ Some (symbol_len (drop k (drop 1 text.now))) }
     ensures { result ≡ symbol_len text.now }
@@ -34,8 +34,8 @@ fn next_len(lens: &[Option<usize>], text: &[u8]) -> Option<usize>
     Some(len + 1)
 }
 
-/// How many bytes stand before the first `.]`, for each end of a text by how many bytes that end has.
-/// It fails where a growth is refused.
+/// How many bytes come before the first `.]`, for each end of a text by how many bytes that end has.
+/// It fails where an allocation fails.
 pub fn symbol_lens(alloc: Global, text: &[u8]) -> Result<Vec<Option<usize>>, AllocError>
     ensures { IfOk result (λ lens. (k : ℕ) → slice_get lens.items (length (drop k text.now)) ≡ Some (symbol_len (drop k text.now))) }
 {

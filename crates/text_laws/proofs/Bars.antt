@@ -121,7 +121,7 @@ module _ (reading : Reading) where
       ap (λ (r : Result (List Item) GlobFault). with_part r (parts_at reading parts (at + length part + 1))) (placed part at ∙ ap (later at) first)
       ∙ ap (with_part (Ok x)) (parts_ok parts (at + length part + 1) xs rest)
 
-  -- the first part with a class, where the parts stand at a place
+  -- the first part with a class, where the parts are at a place
   record Faulted (parts : List (List ℕ)) (at c : ℕ) : Type 0 where
     pub before : List (List ℕ)
     pub part : List ℕ

@@ -41,7 +41,7 @@ one_itself d = by_letter (is_ascii_alphabetic d) where
   by_letter true = tt
   by_letter false = tt
 
--- items behind an item
+-- items after an item
 single_same : (x : Item) (items : List Item) → IsSingle x → Ignores x → ((u v : List ℕ) → SameButCase u v → fits items u ≡ fits items v)
     → (u v : List ℕ) → SameButCase u v → fits (x ∷ items) u ≡ fits (x ∷ items) v
 single_same x items s i again [] [] same = refl

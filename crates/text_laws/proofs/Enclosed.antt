@@ -73,7 +73,7 @@ counted t ps body x before rest s k text sign inner len =
           omega arith;
     }
 
--- a set read from the text t behind a `[`, whose end was found at k
+-- a set read from the text t after a `[`, whose end was found at k
 pub record Closed (t : List ℕ) (k : ℕ) : Type 0 where
   pub members : List ℕ
   pub rest : List ℕ
@@ -118,7 +118,7 @@ set_found t k close = by_body (drop (sign_len t) t) refl close where
         negates = sym (sym s.negated);
       }
 
--- a set that stands at the front is found
+-- a set that is at the front is found
 pub record Again (t : List ℕ) (sign : Sign) (members rest : List ℕ) : Type 0 where
   pub last : ℕ
   pub close : close_of (drop (sign_len t) t) ≡ Some last
@@ -161,11 +161,11 @@ set_again t sign (x ∷ before) rest a =
       negated_is = b.negated_is;
     }
 
--- where no end is found no set stands at the front
+-- where no end is found no set is at the front
 pub no_set : (t : List ℕ) → close_of (drop (sign_len t) t) ≡ None → NoSet (open_bracket ∷ t)
 no_set t none sign members rest a = let again : Again t sign members rest = set_again t sign members rest a in absurd (let some = again.close in cc)
 
--- and where none stands there no end is found
+-- and where none is there no end is found
 pub close_none : (t : List ℕ) → NoSet (open_bracket ∷ t) → close_of (drop (sign_len t) t) ≡ None
 close_none t none = by_close (close_of (drop (sign_len t) t)) refl where
   by_close : (o : Option ℕ) → close_of (drop (sign_len t) t) ≡ o → o ≡ None

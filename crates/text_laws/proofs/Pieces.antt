@@ -20,7 +20,7 @@ use Rattle.text_core.proofs.Opened.{bracket_open, bracket_class, bracket_set}
 abbrev pub alone : Item → Head
 alone x = record { item = x; behind = 0 }
 
--- a text is a piece that means an item, and then what stands n bytes behind its first byte
+-- a text is a piece that means an item, and then what stands n bytes after its first byte
 pub record Begins (reading : Reading) (b : ℕ) (t : List ℕ) (x : Item) (n : ℕ) : Type 0 where
   pub piece : Piece
   pub is : IsPiece piece (b ∷ t) (drop n t)
@@ -116,7 +116,7 @@ pub front_tells : (reading : Reading) (at b : ℕ) (t : List ℕ) → Tells read
 unfolding front
 front_tells reading at b t = tells_by reading at b t (eqb b star) (eqb b question_mark) (eqb b open_bracket) refl refl refl
 
--- a piece that stands in front is found there
+-- a piece that is in front is found there
 pub record Starts (reading : Reading) (at : ℕ) (t : List ℕ) (x : Item) (rest : List ℕ) : Type 0 where
   pub first : ℕ
   pub behind : List ℕ
@@ -126,7 +126,7 @@ pub record Starts (reading : Reading) (at : ℕ) (t : List ℕ) (x : Item) (rest
   pub back : drop passed behind ≡ rest
   pub within : passed ≤ length behind
 
--- the text behind the bracket of a set
+-- the text after the bracket of a set
 pub inner_of : (t : List ℕ) (sign : Sign) (members rest : List ℕ) → IsSet t sign members rest → (inner : List ℕ) × (t ≡ open_bracket ∷ inner)
 inner_of [] sign members rest a = absurd (let text = a.text in cc)
 inner_of (b ∷ t) sign members rest a = (t, ap (λ (c : ℕ). c ∷ t) (let text = a.text in cc))

@@ -12,7 +12,7 @@ use Rattle.text_core.specs.declared.spell.Head.{Head}
 use Rattle.text_laws.proofs.Pieces.{Begins, Faulty, front_tells, Starts, piece_starts, inner_of, class_fails}
 use Rattle.text_core.proofs.Scanning.{with_items, with_items-none, items_at-drop}
 
--- a class at a place of a text that stands at a place of a longer one
+-- a class at a place of a text that is at a place of a longer one
 pub record HasClassFrom (t : List ℕ) (from at : ℕ) : Type 0 where
   pub pieces : List Piece
   pub behind : List ℕ

@@ -10,7 +10,7 @@ use Rattle.text_core.proofs.Suffixes.{IsSingle, fits_single, fits_single_end, so
 both : (a b : Bool) → a ≡ true → b ≡ true → (a && b) ≡ true
 both a b e f = ap (λ (v : Bool). v && b) e ∙ f
 
--- some suffix passes where a cut has it behind
+-- some suffix passes where a cut has it after
 pub suffix_cut : (p : List ℕ → Bool) (t : List ℕ) → some_suffix p t ≡ true → Splits (λ _. true) p t
 suffix_cut p [] e = record { front = []; back = []; whole = refl; first_passes = refl; second_passes = e }
 suffix_cut p (b ∷ t) e = by_place (or_cases (p (b ∷ t)) (some_suffix p t) e) (suffix_cut p t) where

@@ -1,5 +1,5 @@
 -- What the text of a choice is: parts with a bar between each two, each of them the text of a pattern.
--- It says the same as the reading of `Choices`, and of faults which one is told.
+-- It says the same as the reading of `Choices`, and of faults which one is reported.
 use Rattle.std.specs.Prelude.{◌≡◌, ◌≢◌, ℕ, ◌+◌, ◌<◌, ◌≤◌, ◌↔◌, List, ◌∷◌, [], ◌++◌, length, map, sum_by, All, IsOk, Result, Ok, Err}
 use Rattle.std.specs.List.{join_with_byte}
 use Rattle.text_bytes.specs.Names.{bar}
@@ -21,7 +21,7 @@ pub record SpellParts (spelled : List ℕ → Result (List Item) GlobFault) (t :
   pub each : map spelled parts ≡ map Ok patterns
 
 -- A part of a text has a class at a place of the part, and at that place of the whole text, where the parts before it and
--- the bars behind these are counted too. All parts before it spell patterns.
+-- the bars after these are counted too. All parts before it spell patterns.
 pub record HasFaultyPart (spelled : List ℕ → Result (List Item) GlobFault) (t : List ℕ) (at : ℕ) : Type 0 where
   pub before : List (List ℕ)
   pub part : List ℕ

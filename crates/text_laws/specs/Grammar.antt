@@ -11,7 +11,7 @@ use Rattle.text_core.specs.declared.item.Item.{Item}
 use Rattle.text_core.specs.declared.item.Item.TheVariants.{One, Many, Among}
 use Rattle.text_core.specs.declared.reading.Reading.{Reading}
 
--- What stands between the `[` of a set and its members.
+-- What is between the `[` of a set and its members.
 pub data Sign : Type 0 where
   no_sign : Sign
   bang_sign : Sign
@@ -37,7 +37,7 @@ pub record IsSet (t : List ℕ) (sign : Sign) (members rest : List ℕ) : Type 0
   pub unclosed : list_any closes (drop 1 members) ≡ false
   pub unsigned : sign ≡ no_sign → negated members ≡ false
 
--- No set stands at the front of a text.
+-- No set is at the front of a text.
 abbrev pub NoSet : List ℕ → Type 0
 NoSet t = (sign : Sign) (members rest : List ℕ) → IsSet t sign members rest → ⊥
 
@@ -69,7 +69,7 @@ IsPiece one t rest = t ≡ question_mark ∷ rest
 IsPiece (set sign members) t rest = IsSet t sign members rest × NoClass members
 IsPiece (byte b) t rest = (t ≡ b ∷ rest) × (b ≢ star) × (b ≢ question_mark) × NoSet t
 
--- A text is these pieces, one behind the other, and then the rest.
+-- A text is these pieces, one after another, and then the rest.
 abbrev pub ArePieces : List Piece → List ℕ → List ℕ → Type 0
 ArePieces [] t rest = t ≡ rest
 ArePieces (piece ∷ pieces) t rest = (more : List ℕ) × IsPiece piece t more × ArePieces pieces more rest
@@ -87,7 +87,7 @@ pub record Spells (reading : Reading) (t : List ℕ) (items : List Item) : Type 
   pub written : ArePieces pieces t []
   pub meant : items ≡ map (item_of reading) pieces
 
--- Behind some pieces of a text stands a set with a class among its members, of which the first begins at a place of the text.
+-- After some pieces of a text stands a set with a class among its members, of which the first begins at a place of the text.
 pub record HasClassAt (t : List ℕ) (at : ℕ) : Type 0 where
   pub pieces : List Piece
   pub behind : List ℕ

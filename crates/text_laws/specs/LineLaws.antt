@@ -8,12 +8,12 @@ use Rattle.text_bytes.specs.Lines.{lines}
 abbrev pub HasNoNewline : List ℕ → Type 0
 HasNoNewline text = list_all (λ b. not (b == newline)) text ≡ true
 
--- what stands behind the last newline as a line, if anything does
+-- what follows the last newline as a line, if anything does
 abbrev pub last_line : List ℕ → List (List ℕ)
 last_line [] = []
 last_line (b ∷ text) = (b ∷ text) ∷ []
 
--- A text is these lines: those that a newline ends, one behind the other, and then what is left, which is a line if it is not empty. In none of them is a newline.
+-- A text is these lines: those that a newline ends, one after another, and then what is left, which is a line if it is not empty. In none of them is a newline.
 pub record AreLines (text : List ℕ) (ls : List (List ℕ)) : Type 0 where
   pub ended : List (List ℕ)
   pub left : List ℕ

@@ -1,6 +1,6 @@
-//! Laws of texts: what holds of lines, of the order of files and of patterns, in the subject's own words.
+//! Laws of texts: what is true of lines, of the order of files and of patterns.
 //!
-//! A law is the contract of a function with an empty body. Nothing stands on this crate.
+//! A law is the contract of a function with an empty body. No crate depends on this one.
 #![tactic(auto)]
 
 pub mod files;

@@ -31,7 +31,7 @@ pub fn choices_are_read_part_by_part()
 {}
 
 /// The texts that fit: of no item the empty one, of an item that takes a byte those of such a byte,
-/// of `Many` all, and of items behind items those that can be cut so that each half fits its own.
+/// of `Many` all, and of items after items those that can be cut so that each half fits its own.
 pub fn texts_fit_item_by_item()
     ensures none { (t : List ℕ) → IsTrue (fits [] t) ↔ (t ≡ []) }
     ensures one { (x : Item) (t : List ℕ) → x ≢ Many → IsTrue (fits (x ∷ []) t) ↔ ((b : ℕ) × (t ≡ b ∷ []) × IsTrue (takes x b)) }
@@ -39,7 +39,7 @@ pub fn texts_fit_item_by_item()
     ensures joined { (p q : List Item) (t : List ℕ) → IsTrue (fits (p ++ q) t) ↔ Splits (fits p) (fits q) t }
 {}
 
-/// `Many` before items fits exactly where the items fit behind some cut of the text.
+/// `Many` before items fits exactly where the items fit after some cut of the text.
 pub fn many_fits_where_some_split_does()
     ensures { (p : List Item) (t : List ℕ) → IsTrue (fits (Many ∷ p) t) ↔ Splits (λ _. true) (fits p) t }
 {}

@@ -15,7 +15,7 @@ pub fn plain_part_fits_its_text_alone()
     ensures { (t u : List ℕ) → IsTrue (fits (fnmatch_part Exact false t) u) ↔ (u ≡ t) }
 {}
 
-/// A byte behind a backslash means itself, whichever it is.
+/// A byte after a backslash means itself, whichever it is.
 pub fn quoted_byte_means_itself()
     ensures { (reading : Reading) (b : ℕ) (t : List ℕ) → fnmatch_items reading (backslash ∷ b ∷ t) 0 ≡ itself reading b ∷ fnmatch_items reading t 0 }
 {}

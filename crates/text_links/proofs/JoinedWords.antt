@@ -7,7 +7,7 @@ use Rattle.text_bytes.specs.Texts.{is_empty}
 use Rattle.text_links.specs.Steps.{added, further, with_byte, within}
 use Rattle.text_links.specs.Underscores.{underscored, words}
 
--- words joined: the first, and each further one behind `_`
+-- words joined: the first, and each further one after `_`
 joined_further : (word : List ℕ) (ws : List (List ℕ)) → join_with_byte underscore (word ∷ ws) ≡ word ++ further ws
 joined_further word [] = sym (append-nil word)
 joined_further word (next ∷ ws) = ap (λ t. word ++ (underscore ∷ t)) (joined_further next ws)
@@ -57,7 +57,7 @@ added_first gap (b ∷ t) = go (is_whitespace b) (added_first gap t)
         ∙ sym (joined_further (b ∷ front (slice_split is_whitespace t)) (kept (others (slice_split is_whitespace t))))
         ∙ ap (join_with_byte underscore) (sym (words_begin b t))
 
--- what a text adds behind whitespace, by its first byte
+-- what a text adds after whitespace, by its first byte
 added_gap : (b : ℕ) (t : List ℕ) (w : Bool) → is_whitespace b ≡ w → further (words (b ∷ t)) ≡ (if w then further (words t) else underscore ∷ b ∷ within t)
 added_gap b t w e = go (is_whitespace b) w e
   where

@@ -44,7 +44,7 @@ byte_read : (text rest : List ℕ) (place : ℕ) → slice_index text place < 25
 unfolding encoded_byte
 byte_read text rest place h = by_case (slice_index text place) rest (is_own text place) (own_is_no_backslash text place) h
 
--- the bytes at places from one on are what stands there
+-- the bytes at places from one on are what is there
 bytes_from : (text : List ℕ) (a n : ℕ) → a + n ≡ length text → ((k : ℕ) → k < length text → slice_index text k < 256)
     → read_back (flat_map (encoded_byte text) (range_with_len a n)) ≡ drop a text
 bytes_from text a zero e bytes = sym (drop_of_length-le text (omega (arith, e)))

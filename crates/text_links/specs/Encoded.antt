@@ -28,7 +28,7 @@ encoded text = flat_map (encoded_byte text) (range_with_len 0 (length text))
 abbrev pub small_digit : ℕ → ℕ
 small_digit digit = position_or_len (λ d. d == digit) small_digits
 
--- The text that is encoded so: a backslash, the byte behind it and two digits are the byte of their number, and any other byte
+-- The text that is encoded so: a backslash, the byte after it and two digits are the byte of their number, and any other byte
 -- is itself.
 abbrev pub read_back : List ℕ → List ℕ
 read_back [] = []

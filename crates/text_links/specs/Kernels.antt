@@ -7,7 +7,7 @@ use Rattle.text_bytes.specs.Names.{bang, slash}
 abbrev pub longest_end : (ℕ → Bool) → List ℕ → List ℕ
 longest_end test text = drop (length text - suffix_len test text) text
 
--- what stands behind the last slash of a path
+-- what follows the last slash of a path
 abbrev pub last_component : List ℕ → List ℕ
 last_component path = longest_end (λ b. not (b == slash)) path
 

@@ -33,7 +33,7 @@ is_reached text place back = nat_le back place && nat_lt back (sequence_len (dro
 abbrev pub is_in_sequence : List ℕ → ℕ → Bool
 is_in_sequence text place = is_reached text place 0 || is_reached text place 1 || is_reached text place 2 || is_reached text place 3
 
--- whether a backslash stands at a place, and directly behind it an `x`
+-- whether a backslash is at a place, and directly after it an `x`
 unfoldable pub is_hex_escape : List ℕ → ℕ → Bool
 is_hex_escape text place = slice_index text place == backslash && slice_index text (place + 1) == 120
 
@@ -41,7 +41,7 @@ is_hex_escape text place = slice_index text place == backslash && slice_index te
 unfoldable pub stays : List ℕ → List ℕ → ℕ → Bool
 stays marks text place = is_plain marks (slice_index text place) || (is_hex_escape text place || is_in_sequence text place)
 
--- what stands at a place of the safe text: the byte itself where it stays, a space for other whitespace, else `_`
+-- what is at a place of the safe text: the byte itself where it stays, a space for other whitespace, else `_`
 unfoldable pub safe_byte : List ℕ → List ℕ → ℕ → ℕ
 safe_byte marks text place =
     if stays marks text place then slice_index text place

@@ -5,7 +5,7 @@ use Rattle.text_bytes.specs.Texts.{is_empty}
 use Rattle.text_links.specs.Underscores.{words}
 use Rattle.text_links.specs.declared.underscores.Word.{Word}
 
--- words behind others, each with `_` before it
+-- words after others, each with `_` before it
 abbrev pub further : List (List ℕ) → List ℕ
 further ws = flat_map (λ word. underscore ∷ word) ws
 
@@ -14,14 +14,14 @@ abbrev pub within : List ℕ → List ℕ
 within [] = []
 within (b ∷ text) = if is_whitespace b then further (words text) else b ∷ within text
 
--- what is added, by whether no word stands before and whether whitespace does
+-- what is added, by whether no word comes before and whether whitespace does
 abbrev pub added : Bool → Bool → List ℕ → List ℕ
 added true gap [] = []
 added true gap (b ∷ text) = if is_whitespace b then added true gap text else b ∷ within text
 added false true text = further (words text)
 added false false text = within text
 
--- a byte behind a word, unless it is whitespace; behind a gap with `_` before it
+-- a byte after a word, unless it is whitespace; after a gap with `_` before it
 abbrev pub with_byte : List ℕ → Bool → ℕ → List ℕ
 with_byte word gap b =
     if is_whitespace b then word

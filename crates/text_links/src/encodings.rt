@@ -29,7 +29,7 @@ fn in_digits(byte: u8) -> [u8; 4]
     ]
 }
 
-/// Puts what stands for the byte at a place behind a text.
+/// Puts what stands for the byte at a place after a text.
 #[tactic(auto, unfolding(crate::specs::Encoded::encoded_byte))]
 fn push_encoded(made: &mut Vec<u8>, text: &[u8], place: usize) -> Result<(), AllocError>
     requires { place < length text.now }
@@ -45,8 +45,6 @@ fn push_encoded(made: &mut Vec<u8>, text: &[u8], place: usize) -> Result<(), All
 /// A text as udev of systemd 257 encodes the value of a property whose name ends in `_ENC`: ASCII letters
 /// and digits, `#+-.:=@_` and UTF-8 sequences of two to four bytes stay; every other byte, the backslash,
 /// too, is `\x` and two small hexadecimal digits.
-///
-/// The error comes where memory is refused.
 #[tactic(auto, using(crate::proofs::ReadingBack::encoded_more), unfolding(crate::specs::Encoded::encoded))]
 pub fn encoded(alloc: Global, text: &[u8]) -> Result<Vec<u8>, AllocError>
     ensures { IfOk result (λ made. made.items ≡ encoded text.now) }

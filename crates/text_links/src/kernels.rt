@@ -8,7 +8,7 @@ ghost use Rattle.text_links.specs.Kernels.{kernel_byte, kernel_name, last_compon
 use std::alloc::{AllocError, Global};
 use text_bytes::{Bytes, is_digit};
 
-/// How many bytes stand behind the last slash of a path.
+/// How many bytes follow the last slash of a path.
 fn last_component_len(path: &[u8]) -> usize
     ensures value { result ≡ suffix_len (λ b. not (b == slash)) path.now }
     ensures within { result ≤ length path.now }
@@ -16,7 +16,7 @@ fn last_component_len(path: &[u8]) -> usize
     path.iter().rev().take_while(|byte| **byte != b'/').count()
 }
 
-/// What stands behind the last slash of a path.
+/// What follows the last slash of a path.
 fn last_component(path: &[u8]) -> &[u8]
     ensures { result.now ≡ last_component path.now }
 {
@@ -32,8 +32,6 @@ fn kernel_byte(byte: u8) -> u8
 }
 
 /// The kernel's name of the device with a path: the last component, with `/` for `!`.
-///
-/// The error comes where memory is refused.
 #[tactic(auto, unfolding(crate::specs::Kernels::kernel_name))]
 pub fn kernel_name(alloc: Global, path: &[u8]) -> Result<Bytes, AllocError>
     ensures { IfOk result (λ name. name ≡ kernel_name path.now) }

@@ -1,4 +1,7 @@
-//! What becomes of texts that devices say of themselves: as parts of links, as one word, encoded, and the kernel's names.
+//! Texts that devices report about themselves: made safe for links and attributes, joined to one word, encoded, and the
+//! names that the kernel gives devices.
+//!
+//! Functions that allocate return `AllocError` when memory runs out.
 #![tactic(auto)]
 
 mod encodings;

@@ -51,7 +51,7 @@ pub(crate) fn is_in_sequence(text: &[u8], place: usize) -> bool
         || is_reached(text, place, 3)
 }
 
-/// Whether a backslash stands at a place, and an `x` behind it.
+/// Whether a backslash is at a place, and an `x` after it.
 #[tactic(auto, unfolding(crate::specs::Safe::is_hex_escape))]
 fn is_hex_escape(text: &[u8], place: usize) -> bool
     requires { place < length text.now }
@@ -69,7 +69,7 @@ fn stays(marks: &[u8], text: &[u8], place: usize) -> bool
     is_plain(marks, text[place]) || is_hex_escape(text, place) || is_in_sequence(text, place)
 }
 
-/// What stands at a place of the safe text.
+/// What is at a place of the safe text.
 #[tactic(auto, unfolding(crate::specs::Safe::safe_byte))]
 fn safe_byte(marks: &[u8], text: &[u8], place: usize) -> u8
     requires { place < length text.now }
@@ -96,11 +96,11 @@ fn safe(alloc: Global, marks: &[u8], text: &[u8]) -> Result<Vec<u8>, AllocError>
     Ok(made)
 }
 
-/// A text as it may stand in the name of a link or of a network device: ASCII letters and digits,
+/// A text as it may be in the name of a link or of a network device: ASCII letters and digits,
 /// `#+-.:=@_/`, a backslash directly before an `x`, and UTF-8 sequences of two to four bytes stay;
 /// whitespace becomes a space, and every other byte `_`. The text keeps its length.
 ///
-/// The error comes where memory is refused. udev(7) says it of SYMLINK and NAME.
+/// udev(7) says it of SYMLINK and NAME.
 pub fn link_safe(alloc: Global, text: &[u8]) -> Result<Vec<u8>, AllocError>
     ensures { IfOk result (λ made. made.items ≡ safe link_marks text.now) }
 {
@@ -109,8 +109,6 @@ pub fn link_safe(alloc: Global, text: &[u8]) -> Result<Vec<u8>, AllocError>
 
 /// The value of an attribute as it is put into any text: as [`link_safe`] has it, but `$`, `%`, `?` and
 /// `,` stay, too.
-///
-/// The error comes where memory is refused.
 pub fn attribute_safe(alloc: Global, text: &[u8]) -> Result<Vec<u8>, AllocError>
     ensures { IfOk result (λ made. made.items ≡ safe attribute_marks text.now) }
 {
@@ -120,7 +118,7 @@ pub fn attribute_safe(alloc: Global, text: &[u8]) -> Result<Vec<u8>, AllocError>
 /// A text that a device says of itself as the value of a property, as [`link_safe`] has it, but a slash
 /// does not stay.
 ///
-/// The error comes where memory is refused. So udev of systemd 257 has vendors, models and serial numbers.
+/// So udev of systemd 257 has vendors, models and serial numbers.
 pub fn value_safe(alloc: Global, text: &[u8]) -> Result<Vec<u8>, AllocError>
     ensures { IfOk result (λ made. made.items ≡ safe value_marks text.now) }
 {

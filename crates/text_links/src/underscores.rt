@@ -32,7 +32,7 @@ impl Word {
         self.bytes.len()
     }
 
-    /// Puts more of the text behind. The error comes where memory is refused.
+    /// Puts more of the text after.
     pub fn push(&mut self, more: &[u8]) -> Result<(), AllocError>
         ensures { OnOk result ((left : List ℕ) → grown self.new left ≡ grown self.old (more.now ++ left)) }
     {
@@ -53,9 +53,7 @@ impl Word {
 }
 
 /// A text as one word: without the whitespace at its ends, and with one `_` for each run of it inside.
-/// So udev has what stands in the place of a substitution in the name of a link.
-///
-/// The error comes where memory is refused.
+/// So udev has what is in the place of a substitution in the name of a link.
 pub fn underscored(alloc: Global, text: &[u8]) -> Result<Vec<u8>, AllocError>
     ensures { IfOk result (λ word. word.items ≡ underscored text.now) }
 {
@@ -64,7 +62,7 @@ pub fn underscored(alloc: Global, text: &[u8]) -> Result<Vec<u8>, AllocError>
     Ok(word.into_bytes())
 }
 
-/// Puts a byte behind a word, unless it is whitespace: behind a gap with `_` before it.
+/// Puts a byte after a word, unless it is whitespace: after a gap with `_` before it.
 fn push_byte(word: &mut Vec<u8>, gap: bool, byte: u8) -> Result<(), AllocError>
     ensures { OnOk result (word.new.items ≡ with_byte word.old.items gap byte) }
 {

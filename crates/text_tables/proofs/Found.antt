@@ -35,7 +35,7 @@ among_added texts text other = by (is_among texts text) refl
     by true h = or_there (same_text other text) (is_among texts other) (λ e. ap (is_among texts) (is_same other text e) ∙ h)
     by false h = among_behind texts text other
 
--- a text that is new stands behind the others
+-- a text that is new follows the others
 pub text_behind : (texts : List Text) (text : Text) → is_among texts text ≡ false → with_text texts text ≡ texts ++ text ∷ []
 text_behind texts text new = ap (λ b. cond b texts (texts ++ text ∷ [])) new
 
@@ -112,7 +112,7 @@ module _ {V : Type 0} where
       by true e more = more ∙ ap (λ n. cond (same_text other n) None (value_of ps other)) (is_same name p.0 e) ∙ twice (same_text other p.0) ∙ ap (λ n. cond (same_text other n) None (cond (same_text other p.0) (Some p.1) (value_of ps other))) (sym (is_same name p.0 e))
       by false e more = apart (same_text other name) (same_text other p.0) (λ x y. sym (are_same name p.0 (sym (is_same other name x) ∙ is_same other p.0 y)) ∙ e) (value_of (without_name ps name) other) more
 
-  -- a name that is new stands behind the others
+  -- a name that is new follows the others
   pub set_behind : (pairs : List (Text × V)) (name : Text) (value : V) → named pairs name ≡ false → with_value pairs name value ≡ pairs ++ (name, value) ∷ []
   set_behind [] name value new = refl
   set_behind (p ∷ ps) name value new = by (same_text name p.0) new (set_behind ps name value)

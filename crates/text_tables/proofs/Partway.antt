@@ -23,6 +23,6 @@ module _ {A B : Type 0} where
   pub stopped : (f : B → A → B) (old : B) (whole : List A) (now new : B) (rest : List A) → Partway f old whole now rest → new ≡ now → (n : ℕ) × (new ≡ fold f old (take n whole))
   stopped f old whole now new rest w e = (length w.past, e ∙ w.done ∙ ap (fold f old) (sym (take-append_seam w.past rest) ∙ ap (take (length w.past)) w.cut))
 
--- what is left at a place is what stands there, and what is left behind it
+-- what is left at a place is what is there, and what is left after it
 pub left_at : {A B : Type 0} (f : A → B) (xs : List A) (i : ℕ) (d : A) → i < length xs → map f (drop i xs) ≡ f (get_or xs i d) ∷ map f (drop (i + 1) xs)
 left_at f xs i d h = rw (add-one, drop-cons xs i d) refl

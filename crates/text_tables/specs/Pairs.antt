@@ -27,7 +27,7 @@ module _ {V : Type 0} where
   with_value [] name value = (name, value) ∷ []
   with_value (pair ∷ pairs) name value = if same_text name pair.0 then (pair.0, value) ∷ pairs else pair ∷ with_value pairs name value
 
-  -- each of these names takes its value, one behind another
+  -- each of these names takes its value, one after another
   abbrev pub with_values : List (Text × V) → List (Text × V) → List (Text × V)
   with_values pairs more = fold (λ held pair. with_value held pair.0 pair.1) pairs more
 

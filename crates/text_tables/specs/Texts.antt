@@ -23,7 +23,7 @@ AreOnce texts = IsDistinct same_text texts
 abbrev pub with_text : List Text → Text → List Text
 with_text texts text = if is_among texts text then texts else texts ++ text ∷ []
 
--- each of these is added, one behind another
+-- each of these is added, one after another
 abbrev pub with_texts : List Text → List Text → List Text
 with_texts texts more = fold with_text texts more
 

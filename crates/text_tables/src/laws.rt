@@ -10,7 +10,7 @@ pub fn added_texts_are_there()
     ensures { (texts : List Text) (text other : Text) → is_among (with_text texts text) other ≡ (is_among texts other || same_text other text) }
 {}
 
-/// A text that is new stands behind the others, and one that is there changes nothing.
+/// A text that is new follows the others, and one that is there changes nothing.
 pub fn new_texts_stand_last()
     ensures new { (texts : List Text) (text : Text) → is_among texts text ≡ false → with_text texts text ≡ texts ++ text ∷ [] }
     ensures there { (texts : List Text) (text : Text) → is_among texts text ≡ true → with_text texts text ≡ texts }
@@ -26,7 +26,7 @@ pub fn set_names_have_their_values<V>()
     ensures { (pairs : List (Text × V)) (name : Text) (value : V) (other : Text) → value_of (with_value pairs name value) other ≡ (if same_text other name then Some value else value_of pairs other) }
 {}
 
-/// A name that is new stands behind the others.
+/// A name that is new follows the others.
 pub fn new_names_stand_last<V>()
     ensures { (pairs : List (Text × V)) (name : Text) (value : V) → named pairs name ≡ false → with_value pairs name value ≡ pairs ++ (name, value) ∷ [] }
 {}

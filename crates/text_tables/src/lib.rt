@@ -1,9 +1,11 @@
-//! Small tables of texts: texts each once in their order, and names with values in theirs.
+//! Small tables of texts: sets of texts, and maps from names to values, both in insertion order.
 //!
-//! They stand over `IndexSet` and `IndexMap`, so that a contract sees lists in the order in which
-//! texts came, and no look-up goes through the list. A table borrows its texts (`Texts`, `Pairs`,
-//! `Table`) or owns them (`OwnedTexts`, `OwnedPairs`); both are the same lists to a contract, and
-//! the words of `specs/` serve both. The crate is small on purpose, so that its checks are short.
+//! They are built on `IndexSet` and `IndexMap`, so that a contract sees lists in the order in which texts were added,
+//! and no lookup walks the list. A table borrows its texts (`Texts`, `Pairs`, `Table`) or owns them (`OwnedTexts`,
+//! `OwnedPairs`); to a contract both are the same lists, and the definitions in `specs/` serve both. The crate is small
+//! on purpose, so that it is checked quickly.
+//!
+//! Functions that allocate return `AllocError` when memory runs out.
 #![tactic(auto)]
 
 mod laws;

@@ -40,7 +40,7 @@ impl OwnedPairs {
         OwnedPairs { held }
     }
 
-    /// Gives the map back.
+    /// Returns the map.
     pub fn into_map(self) -> IndexMap<Vec<u8>, Bytes>
         ensures { map (λ e. (e.0.items, e.1)) result.entries ≡ self }
     {
@@ -56,14 +56,14 @@ impl OwnedPairs {
         self.held.len()
     }
 
-    /// Lends the map, whose order is that of the names.
+    /// Returns the map, whose order is that of the names.
     pub fn as_map(&self) -> &IndexMap<Vec<u8>, Bytes>
         ensures { map (λ e. (e.0.items, e.1)) result.now.entries ≡ self.now }
     {
         &self.held
     }
 
-    /// Lends the value of a name.
+    /// Returns the value of a name.
     pub fn get(&self, name: &[u8]) -> Option<&Bytes>
         ensures { option_map (λ v. v.now) result ≡ value_of self.now name.now }
     {
@@ -71,7 +71,7 @@ impl OwnedPairs {
     }
 
     /// Gives a name a copy of a value: a name that is there takes it in its place, another one is
-    /// added at the end. Where memory is refused, the names and values stay as they are.
+    /// added at the end. Where memory runs out, the names and values stay as they are.
     pub fn set(&mut self, alloc: Global, name: &[u8], value: &[u8]) -> Result<(), AllocError>
         ensures pairs { OnOk result (self.new ≡ with_value self.old name.now value.now) }
         ensures refused { OnErr result (self.new ≡ self.old) }
@@ -90,7 +90,7 @@ impl OwnedPairs {
         Ok(())
     }
 
-    /// Sets each of these names, in their order. Where memory is refused, the first so many are set,
+    /// Sets each of these names, in their order. Where memory runs out, the first so many are set,
     /// perhaps none, and the others are not.
     pub fn set_all(&mut self, alloc: Global, pairs: &Pairs<'_>) -> Result<(), AllocError>
         ensures pairs { OnOk result (self.new ≡ with_values self.old pairs.now) }

@@ -38,7 +38,7 @@ impl OwnedTexts {
         OwnedTexts { held }
     }
 
-    /// Gives the set back.
+    /// Returns the set.
     pub fn into_set(self) -> IndexSet<Vec<u8>>
         ensures { map (λ k. k.items) result.keys ≡ self }
     {
@@ -46,14 +46,14 @@ impl OwnedTexts {
         held
     }
 
-    /// Lends the set, whose order is that of the texts.
+    /// Returns the set, whose order is that of the texts.
     pub fn as_set(&self) -> &IndexSet<Vec<u8>>
         ensures { map (λ k. k.items) result.now.keys ≡ self.now }
     {
         &self.held
     }
 
-    /// Lends the texts, in their order; none is there twice.
+    /// Returns the texts, in their order; none is there twice.
     pub fn as_slice(&self) -> &[Vec<u8>]
         ensures texts { map (λ k. k.items) result.now ≡ self.now }
         ensures once { AreOnce self.now }
@@ -68,8 +68,8 @@ impl OwnedTexts {
         self.held.contains(text)
     }
 
-    /// Adds a copy of a text at the end, unless it is there. Where memory is refused, the texts
-    /// stay as they are.
+    /// Adds a copy of a text at the end, unless it is there. Where memory runs out, the texts stay
+    /// as they are.
     pub fn add(&mut self, alloc: Global, text: &[u8]) -> Result<(), AllocError>
         ensures texts { OnOk result (self.new ≡ with_text self.old text.now) }
         ensures refused { OnErr result (self.new ≡ self.old) }
@@ -79,7 +79,7 @@ impl OwnedTexts {
         Ok(())
     }
 
-    /// Adds each of these texts, in their order. Where memory is refused, the first so many are
+    /// Adds each of these texts, in their order. Where memory runs out, the first so many are
     /// added, perhaps none, and the others are not.
     pub fn add_all(&mut self, alloc: Global, texts: &Texts<'_>) -> Result<(), AllocError>
         ensures texts { OnOk result (self.new ≡ with_texts self.old texts.now) }

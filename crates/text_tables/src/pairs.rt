@@ -38,7 +38,7 @@ impl<'a> Pairs<'a> {
         Pairs { held }
     }
 
-    /// Gives the map back.
+    /// Returns the map.
     pub fn into_map(self) -> IndexMap<&'a [u8], &'a [u8]>
         ensures { map (λ e. (e.0.now, e.1.now)) result.entries ≡ self.entry }
     {
@@ -54,7 +54,7 @@ impl<'a> Pairs<'a> {
         self.held.len()
     }
 
-    /// Lends the map, whose order is that of the names.
+    /// Returns the map, whose order is that of the names.
     pub fn as_map(&self) -> &IndexMap<&'a [u8], &'a [u8]>
         ensures { map (λ e. (e.0.now, e.1.now)) result.now.entries ≡ self.now }
     {
@@ -69,7 +69,7 @@ impl<'a> Pairs<'a> {
     }
 
     /// Adds a name with its value, and answers whether the name is new; a name that is there takes
-    /// the value in its place. Where memory is refused, the names and values stay as they are.
+    /// the value in its place. Where memory runs out, the names and values stay as they are.
     pub fn add(&mut self, name: &'a [u8], value: &'a [u8]) -> Result<bool, AllocError>
         ensures new { IfOk result (λ new. new ≡ not (named self.old name.now)) }
         ensures pairs { OnOk result (self.new ≡ with_value self.old name.now value.now) }

@@ -38,7 +38,7 @@ impl<'a, V: Drop> Table<'a, V> {
         Table { held }
     }
 
-    /// Gives the map back.
+    /// Returns the map.
     pub fn into_map(self) -> IndexMap<&'a [u8], V>
         ensures { map (λ e. (e.0.now, e.1)) result.entries ≡ self.entry }
     {
@@ -54,14 +54,14 @@ impl<'a, V: Drop> Table<'a, V> {
         self.held.len()
     }
 
-    /// Lends the map, whose order is that of the names.
+    /// Returns the map, whose order is that of the names.
     pub fn as_map(&self) -> &IndexMap<&'a [u8], V>
         ensures { map (λ e. (e.0.now, e.1)) result.now.entries ≡ self.now }
     {
         &self.held
     }
 
-    /// Lends the value of a name.
+    /// Returns the value of a name.
     pub fn get(&self, name: &[u8]) -> Option<&V>
         ensures { option_copied result ≡ value_of self.now name.now }
     {
@@ -76,7 +76,7 @@ impl<'a, V: Drop> Table<'a, V> {
     }
 
     /// Adds a name with its value, and answers whether the name is new; a name that is there takes
-    /// the value in its place. Where memory is refused, the names and values stay as they are.
+    /// the value in its place. Where memory runs out, the names and values stay as they are.
     pub fn add(&mut self, name: &'a [u8], value: V) -> Result<bool, AllocError>
         ensures new { IfOk result (λ new. new ≡ not (named self.old name.now)) }
         ensures pairs { OnOk result (self.new ≡ with_value self.old name.now value) }

@@ -37,7 +37,7 @@ impl<'a> Texts<'a> {
         Texts { held }
     }
 
-    /// Gives the set back.
+    /// Returns the set.
     pub fn into_set(self) -> IndexSet<&'a [u8]>
         ensures { map (λ k. k.now) result.keys ≡ self.entry }
     {
@@ -45,14 +45,14 @@ impl<'a> Texts<'a> {
         held
     }
 
-    /// Lends the set.
+    /// Returns the set.
     pub fn as_set(&self) -> &IndexSet<&'a [u8]>
         ensures { map (λ k. k.now) result.now.keys ≡ self.now }
     {
         &self.held
     }
 
-    /// Lends the texts, in their order; none is there twice.
+    /// Returns the texts, in their order; none is there twice.
     pub fn as_slice(&self) -> &[&'a [u8]]
         ensures texts { map (λ k. k.now) result.now ≡ self.now }
         ensures once { AreOnce self.now }
@@ -68,7 +68,7 @@ impl<'a> Texts<'a> {
     }
 
     /// Adds a text at the end, and answers whether it is new; one that is there stays alone. Where
-    /// memory is refused, the texts stay as they are.
+    /// memory runs out, the texts stay as they are.
     pub fn add(&mut self, text: &'a [u8]) -> Result<bool, AllocError>
         ensures new { IfOk result (λ new. new ≡ not (is_among self.old text.now)) }
         ensures texts { OnOk result (self.new ≡ with_text self.old text.now) }

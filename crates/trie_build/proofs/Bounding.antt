@@ -87,7 +87,7 @@ some_any p x (y ∷ ys) (inr i) h = either (p y) (some_any p x ys i h) where
   either true e = refl
   either false e = e
 
--- a property stands below a match that gives an entry
+-- a property is below a match that gives an entry
 record Stands (name : List ℕ) (properties : List NumberedLine) (l : NumberedLine) (q : Property) : Type 0 where
   file : q.file ≡ name
   pattern : IsIn q.pattern (match_patterns properties l)

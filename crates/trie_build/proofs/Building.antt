@@ -59,7 +59,7 @@ module _ (ps : List (List Item)) where
   levels : IsLevelByLevel all_paths
   levels = level_by_level all_paths (paths_tree ps)
 
-  -- the root, and behind it the children of the first i paths and of the others
+  -- the root, and after it the children of the first i paths and of the others
   all_is : (i : ℕ) → all_paths ≡ [] ∷ (below (take i all_paths) ++ below (drop i all_paths))
   all_is i =
       levels.first

@@ -39,7 +39,7 @@ of_child p c e f =
     ap (λ v. v && same_path p (take (length p) c)) (eq-eqb (length c) (length p + 1) e)
     ∙ ap (λ (q : List Item). is_equal (path_cmp p q)) f ∙ ap is_equal (paths_order.itself p)
 
--- what is below stays so with more labels behind
+-- what is below stays so with more labels after
 longer_below : (p q us vs : List Item) → length p ≡ length q → slice_cmp label_cmp p q ≡ Less → slice_cmp label_cmp (p ++ us) (q ++ vs) ≡ Less
 longer_below [] [] us vs e h = cc
 longer_below [] (y ∷ q) us vs e h = absurd (omega arith)
@@ -58,7 +58,7 @@ less_is m n h = by (nat_cmp m n) refl (ranked m n (nat_cmp m n) refl) where
   by Equal e r = absurd (omega arith)
   by Greater e r = absurd (omega arith)
 
--- the children of a path are below those of a path behind it
+-- the children of a path are below those of a path after it
 children_below : (p q c e : List Item) → path_cmp p q ≡ Less → IsChildOf p c → IsChildOf q e → path_cmp c e ≡ Less
 children_below p q c e less f g = by (nat_cmp (length p) (length q)) (ranked (length p) (length q) (nat_cmp (length p) (length q)) refl) less where
   by : (o : Ordering) → MatchOrdering o (length p < length q) (length p ≡ length q) (length q < length p) → ordering_then o (slice_cmp label_cmp p q) ≡ Less → path_cmp c e ≡ Less

@@ -1,4 +1,4 @@
--- A list without what stands there twice.
+-- A list without what is there twice.
 use Rattle.std.proofs.Common.{length, get_or, ◌≡◌, ℕ, zero, suc, ◌+◌, ◌<◌, ◌≤◌, arith, map, Bool, true, false, cond, List, [], ◌∷◌, ◌++◌, filter, flat_map, fold, refl, sym, ◌∙◌, ap, subst, inl, inr, ◌⊎◌}
 use Rattle.std.proofs.Math.Logic.{⊎_elim}
 use Rattle.std.proofs.lemmas.Bool.{cases_order}
@@ -189,7 +189,7 @@ range_in n a (suc k) h l = elim (eqb_tells n a) [
   three : (x y : ℕ) → (x < y) ⊎ ((x ≡ y) ⊎ (y < x))
   three x y = ⊎_elim (λ same. inr (inl same)) (λ rest. ⊎_elim (λ less. inl less) (λ more. inr (inr more)) rest) (cases_order x y)
 
--- what stands in a list has a place there
+-- what is in a list has a place there
 pub in_get : {A : Type 0} (d x : A) (xs : List A) → IsIn x xs → (i : ℕ) × (i < length xs) × (x ≡ get_or xs i d)
 in_get d x [] h = absurd h
 in_get d x (y ∷ ys) (inl e) = (0, omega arith, e)

@@ -1,4 +1,4 @@
--- What the bytes of first labels tell of the order of patterns.
+-- What the bytes of first labels say about the order of patterns.
 use Rattle.std.proofs.Common.{All, ◌≡◌, ℕ, zero, suc, ◌+◌, ◌<◌, ◌≤◌, Bool, true, false, cond, List, [], ◌∷◌, min, ◌++◌, ◌-◌, length, take, drop, append_assoc, append-nil, eqb, get_or, refl, sym, ◌∙◌, ap, arith, inl, inr, ◌⊎◌}
 use Rattle.std.proofs.Math.Logic.{⊎_elim}
 use Rattle.std.proofs.lemmas.Bool.{cases_order}

@@ -1,4 +1,4 @@
--- The children of a tree's paths stand behind them.
+-- The children of a tree's paths follow them.
 use Rattle.std.proofs.Common.{◌≡◌, ℕ, zero, suc, ◌+◌, ◌<◌, ◌≤◌, List, [], ◌∷◌, ◌++◌, length, take, drop, flat_map, refl, sym, ◌∙◌, ap, subst, arith, inl, inr, ◌⊎◌, length-append, true}
 use Rattle.std.proofs.Math.Logic.{⊎_elim}
 use Rattle.std.specs.List.{sum_by, count_by}

@@ -24,7 +24,7 @@ use Rattle.trie_build.specs.declared.rows.Row.{Row}
 use Rattle.trie_build.proofs.Answering.{contains_of, in_of, rising_far}
 use Rattle.trie_build.proofs.Sorting.{row_at}
 
--- what is said of a fault that is handed on
+-- what is said of a fault that is passed on
 pub refused : {T : Type 0} (r : Result T TrieFault) (y e : TrieFault) (P : T → Type 0) (Q : Type 0) → r ≡ Err y → y ≡ e → (e ≡ TooLarge → Q) → MatchResult r P (λ f. f ≡ TooLarge → Q)
 refused {T} r y e P Q f g h = subst (λ (x : Result T TrieFault). MatchResult x P (λ f. f ≡ TooLarge → Q)) (sym (f ∙ ap Err g)) h
 

@@ -70,7 +70,7 @@ range_up n k h =
     let high : get_or (range_with_len 0 n) (k + 1) 0 ≡ k + 1 = get_or-range_with_len 0 n (k + 1) 0 (omega (arith, len)) ∙ zero-add (k + 1) in
     omega (arith, low, high)
 
--- numbers that were in a range stand there once
+-- numbers that were in a range are there once
 apart : (n : ℕ) (xs : List ℕ) → IsPermutation (range_with_len 0 n) xs → (i j : ℕ) → i < j → j < length xs → get_or xs i 0 ≡ get_or xs j 0 → ⊥
 apart n xs p i j h k e =
     let once : IsDistinct (eq_by_cmp nat_cmp) xs =

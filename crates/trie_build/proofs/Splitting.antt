@@ -21,7 +21,7 @@ use Rattle.trie_build.specs.declared.groups.Group.{Group}
 use Rattle.trie_build.specs.Groups.{AreChildren, IsGroup, IsRun, IsSplit, label_at, path_of}
 use Rattle.trie_build.specs.Rows.{IsSorted, pattern_at}
 
--- the groups for the rows of g from one place up to another stand behind the old ones
+-- the groups for the rows of g from one place up to another follow the old ones
 pub record IsSoFar (ps : List (List Item)) (g : Group) (from at : ℕ) (old new : List Group) : Type 0 where
   pub kept : take (length old) new ≡ old
   pub longer : length old ≤ length new

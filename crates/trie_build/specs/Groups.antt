@@ -9,7 +9,7 @@ use Rattle.trie_build.specs.Paths.{children_in, paths_among}
 use Rattle.trie_build.specs.Rows.{pattern_at}
 use Rattle.trie_build.specs.declared.groups.Group.{Group}
 
--- the label of a pattern behind its first labels
+-- the label of a pattern after its first labels
 abbrev pub label_at : List (List Item) → ℕ → ℕ → Item
 label_at ps depth x = slice_index_or (pattern_at ps x) depth One
 

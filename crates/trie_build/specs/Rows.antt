@@ -28,7 +28,7 @@ pub record AreAlike (bs cs : List ℕ) (n : ℕ) : Type 0 where
   pub same : (d : ℕ) → d < n → slice_index_or bs d 0 ≡ slice_index_or cs d 0
   pub next : n < 24 → slice_index_or bs n 0 ≡ slice_index_or cs n 0 → ⊥
 
--- what the bytes of its first labels leave open of a pattern: where they have a last one, all labels before that are told
+-- what the bytes of its first labels leave open of a pattern: where they have a last one, all labels before that are reported
 abbrev pub untold : List ℕ → List Item → List Item
 untold front p = if slice_index_or front 23 0 == 0 then p else drop (min (length p) 23) p
 

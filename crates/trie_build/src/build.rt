@@ -1,7 +1,7 @@
 //! The nodes of the trie of sorted patterns, level by level.
 //!
-//! The groups of rows stand in the order of the nodes. Each is cut once into its children, which are
-//! added behind all: so the nodes come by the length of their paths, and then label by label.
+//! The groups of rows are in the order of the nodes. Each is cut once into its children, which are
+//! added after all: so the nodes come by the length of their paths, and then label by label.
 ghost use Rattle.std.specs.Prelude.{◌≡◌, ◌-◌, ◌<◌, ◌≤◌, All, IfOk, MatchResult, length};
 ghost use Rattle.hwdb_lookup.specs.Bounds.{max_entries};
 ghost use Rattle.text_core.specs.declared.item.Item.TheVariants.{One};

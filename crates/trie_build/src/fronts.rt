@@ -40,7 +40,7 @@ fn first_code(pattern: &[Item]) -> u8
     }
 }
 
-/// What is left of a pattern behind its first label, where its byte says which that is.
+/// What is left of a pattern after its first label, where its byte says which that is.
 fn behind(pattern: &[Item]) -> &[Item]
     ensures { result.now ≡ behind pattern.now }
 {

@@ -16,7 +16,7 @@ use text_core::Item;
 pub(crate) struct Group {
     /// The first of the rows.
     pub(crate) start: u32,
-    /// The row behind the last.
+    /// The row after the last.
     pub(crate) end: u32,
     /// How many labels the path has.
     pub(crate) depth: usize,
@@ -37,7 +37,7 @@ pub(crate) fn longer_from(rows: &[Row<'_>], group: Group) -> usize
     group.end as usize
 }
 
-/// The label of a row behind its first labels: as its front tells, or else as its pattern does.
+/// The label of a row after its first labels: as its front tells, or else as its pattern does.
 pub(crate) fn label_of(rows: &[Row<'_>], depth: usize, at: usize) -> Item
     requires within { at < length (patterns rows.now) }
     requires fronts { All HasFront rows.now }

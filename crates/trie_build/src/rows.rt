@@ -26,7 +26,7 @@ pub(crate) struct Row<'a> {
     pub(crate) number: u32,
 }
 
-/// What a row's front leaves open of its pattern: where it has a last byte, all labels before that are told.
+/// What a row's front leaves open of its pattern: where it has a last byte, all labels before that are reported.
 fn untold<'a>(row: &Row<'a>) -> &'a [Item]
     ensures { result.now ≡ untold row.now.front row.now.items.now }
 {

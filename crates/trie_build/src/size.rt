@@ -17,7 +17,7 @@ use trie_nodes::Node;
 /// How many bytes an index may have.
 const MAX_INDEX_LEN: u128 = (1 << 32) - 1;
 
-/// Keeps each of some texts once, sorted. What stands there twice mostly does so side by side, and is
+/// Keeps each of some texts once, sorted. What is there twice mostly does so side by side, and is
 /// dropped before the rest is sorted.
 fn keep_distinct(texts: &mut Vec<&[u8]>)
     ensures { shown texts.new.items ≡ distinct text_cmp (shown texts.old.items) }

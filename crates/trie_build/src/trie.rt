@@ -24,7 +24,7 @@ use trie_nodes::{Database, Node, Nodes};
 /// A database whose patterns are a trie: a query costs what the nodes do that the modalias reaches.
 #[derive(Debug, Drop)]
 pub struct Trie {
-    // The entries stand last, as fields are dropped in order: a large piece that is given back behind very many small
+    // The entries stand last, as fields are dropped in order: a large piece that is returned after very many small
     // ones has the C library look at each of these again.
     numbers: Vec<u32>,
     nodes: Vec<Node>,
@@ -114,7 +114,7 @@ impl Trie {
         let _ = &self.nodes;
     }
 
-    /// Lends the entries, in order.
+    /// Returns the entries, in order.
     pub fn entries(&self) -> &[Entry]
         ensures value { result.now ≡ self.now.entries }
         ensures trie { IsTrie self.now }
@@ -123,14 +123,14 @@ impl Trie {
         &self.entries
     }
 
-    /// Lends the numbers of the entries that the values of the nodes are, in the order of the values.
+    /// Returns the numbers of the entries that the values of the nodes are, in the order of the values.
     pub fn numbers(&self) -> &[u32]
         ensures { result.now ≡ self.now.numbers }
     {
         &self.numbers
     }
 
-    /// Lends the nodes, by number.
+    /// Returns the nodes, by number.
     pub fn nodes(&self) -> &[Node]
         ensures { result.now ≡ self.now.nodes }
     {

@@ -106,7 +106,7 @@ module _ (t : Content) (is : IsTrie t) where
       fill_by_all (value_record (by_nodes es) (names_of es)) (draft_of es).values (length (by_nodes es)) no_value (values_len es) (λ j h.
       value_is es j no_value (omega (arith, values_len es)))
 
-  -- the parts of what is written, one behind another
+  -- the parts of what is written, one after another
   pub whole : (header : List ℕ) → header ≡ header_bytes (draft_header (draft_of es))
       → header ++ (flat_map node_bytes (node_records sets t.nodes) ++ (flat_map value_bytes (value_records (by_nodes es) (names_of es)) ++ (all_names sets ++ (all_texts es ++ all_names (names_of es))))) ≡ image es
   unfolding image written

@@ -53,7 +53,7 @@ rises_take cmp (suc k) (x ∷ xs) up = (all_take (λ y. cmp x y ≡ Less) k xs u
 pub rises_part : {A : Type 0} (cmp : A → A → Ordering) (n a : ℕ) (xs : List A) → Rises cmp xs → Rises cmp (take n (drop a xs))
 rises_part cmp n a xs up = rises_take cmp n (drop a xs) (rises_drop cmp a xs up)
 
--- what stands at a place of a part
+-- what is at a place of a part
 pub part_at : {A : Type 0} (n a k : ℕ) (xs : List A) (d : A) → k < n → get_or (take n (drop a xs)) k d ≡ get_or xs (a + k) d
 part_at n a k xs d h = get_or-take n (drop a xs) k d h ∙ get_or-drop a xs k d
 

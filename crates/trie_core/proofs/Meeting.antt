@@ -173,7 +173,7 @@ module _ (t : Content) (is : IsTrie t) (bounds : KeepsBounds t.entries) where
         ∙ ap (λ x. front (flat_map node_bytes (node_records (sets_of es) t.nodes)) (flat_map value_bytes (value_records (by_nodes es) (names_of es))) (all_names (sets_of es)) (all_texts es) x) f
         ∙ whole t is header is_header
 
--- the parts one behind another
+-- the parts one after another
 pub joined : (out1 out2 out3 out4 out5 out6 h n v s x y : List ℕ) → out6 ≡ out5 ++ y → out5 ≡ out4 ++ x → out4 ≡ out3 ++ s → out3 ≡ out2 ++ v → out2 ≡ out1 ++ n → out1 ≡ h
     → out6 ≡ h ++ (n ++ (v ++ (s ++ (x ++ y))))
 joined out1 out2 out3 out4 out5 out6 h n v s x y a b c d e f = rw (a, b, c, d, e, f) (simp append_assoc)

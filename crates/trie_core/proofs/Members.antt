@@ -57,7 +57,7 @@ module _ (es : List Entry) where
       subst (λ q. IsIn q (paths_of es)) (take-length e.pattern)
       (front_is_path (patterns_of es) e.pattern (length e.pattern) (map_in (λ (x : Entry). x.pattern) e es i) (omega arith))
 
--- pieces one behind another: one of them, what stands before it and what behind it
+-- pieces one after another: one of them, what comes before it and what after it
 module _ {X : Type 0} (f : X → List ℕ) where
   pub cut_at : (xs : List X) (i : ℕ) (d : X) → i < length xs → flat_map f xs ≡ flat_map f (take i xs) ++ (f (get_or xs i d) ++ flat_map f (drop (suc i) xs))
   cut_at [] i d h = absurd (omega arith)

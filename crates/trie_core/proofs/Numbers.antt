@@ -17,7 +17,7 @@ use Rattle.trie_core.proofs.Members.{number_found, number_within}
 use Rattle.trie_build.specs.Content.{shown}
 use Rattle.trie_core.proofs.Lists.{rises_apart}
 
--- what holds of the text behind the reference at i holds of the text at i
+-- what holds of the text after the reference at i holds of the text at i
 at_shown : (P : List ℕ → Type 0) (ws : List (Bor (List ℕ))) (i : ℕ) (d : List ℕ) → i < length ws → ((b : Bor (List ℕ)) → P (get_or ws i b).now) → P (get_or (shown ws) i d)
 at_shown P [] i d h p = absurd (omega arith)
 at_shown P (w ∷ ws) zero d h p = p w

@@ -103,7 +103,7 @@ module _ (es : List Entry) where
   by_path zero (x ∷ q) among root first = absurd (let none : length (x ∷ q) ≡ 0 = ap length (first refl) in omega (arith, none))
   by_path (suc i) (x ∷ q) among root first = own_label (suc i) x q (omega arith) among (last_label (x ∷ q)) refl
 
-  -- the paths behind the first have a label
+  -- the paths after the first have a label
   pub behind_root : (i : ℕ) → 0 < i → i < length all_paths → 0 < length (get_or all_paths i [])
   behind_root zero h k = absurd (omega arith)
   behind_root (suc i) h k =

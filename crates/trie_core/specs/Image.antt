@@ -71,7 +71,7 @@ image_node es i p = record {
 abbrev pub as_set : List ℕ → ByteSet
 as_set bits = record { bits = bits }
 
--- the text: of each value its key and its value, and behind all the names of the files
+-- the text: of each value its key and its value, and after all the names of the files
 abbrev pub own_text : Entry → List ℕ
 own_text e = e.key ++ e.value
 

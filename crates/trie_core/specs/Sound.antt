@@ -21,7 +21,7 @@ abbrev pub first_values : Draft → ℕ → ℕ
 first_values d i = sum_by (λ n. n.values) (take i d.nodes)
 
 -- Some nodes and not too many of each, children and values that follow one another, labels that are some, texts that
--- stand in the text, and orders that rise.
+-- are in the text, and orders that rise.
 pub record IsSound (d : Draft) : Type 0 where
   pub some : 0 < length d.nodes
   pub nodes : length d.nodes ≤ max_nodes

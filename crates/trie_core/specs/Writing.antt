@@ -42,7 +42,7 @@ node_record sets nodes i = record_of sets (i == 0) (sum_by (λ n. n.values) (tak
 abbrev pub node_records : List (List ℕ) → List Node → List NodeRecord
 node_records sets nodes = map (node_record sets nodes) (range_with_len 0 (length nodes))
 
--- where the texts of entry j of some begin, and where a name does behind all of them
+-- where the texts of entry j of some begin, and where a name does after all of them
 abbrev pub place_before : List Entry → ℕ → ℕ
 place_before es j = length (flat_map own_text (take j es))
 

@@ -20,7 +20,7 @@ pub(crate) fn number_of(texts: &[&[u8]], text: &[u8]) -> u32
     }
 }
 
-/// Adds texts, one behind another.
+/// Adds texts, one after another.
 pub(crate) fn push_all(out: &mut Vec<u8>, texts: &[&[u8]]) -> Result<(), AllocError>
     ensures { OnOk result (out.new.items ≡ out.old.items ++ all_names (shown texts.now)) }
 {

@@ -1,6 +1,6 @@
 //! Writing an index from a trie.
 //!
-//! The parts are written one behind another into one text, of which the whole length is known before:
+//! The parts are written one after another into one text, of which the whole length is known before:
 //! besides it stand only the numbers of the entries in the order of the values, and where the names
 //! of the files begin.
 ghost use Rattle.std.specs.Prelude.{◌≡◌, IfOk};

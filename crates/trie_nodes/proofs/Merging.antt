@@ -95,7 +95,7 @@ module _ (p : ℕ → Bool) where
   pub passing_below : {k : ℕ} (n r x : ℕ) (xs : List ℕ) → x ∷ xs ≡ passing n r → n + r ≤ k → x < k
   passing_below {k} n r x xs e h = (subst (AllByRecursion (λ c. c < k)) (sym e) (below_all n r k h)).0
 
--- What goes on is taken, stays, or stands as a star under what goes on. more gives the stars under a node, which stand behind it.
+-- What goes on is taken, stays, or stands as a star under what goes on. more gives the stars under a node, which follow it.
 pub record Going (end : ℕ) (taken stays starred goes : ℕ → Bool) (more : ℕ → List ℕ) : Type 0 where
   pub each : (c : ℕ) → 0 < c → c < end → goes c ≡ (taken c || stays c) || starred c
   pub behind : (p : ℕ) → AllByRecursion (λ c. p < c) (more p)
@@ -120,7 +120,7 @@ module _ (end : ℕ) (taken stays starred goes : ℕ → Bool) (more : ℕ → L
       elim (goes a) as (λ v. AllByRecursion (λ c. n < c) (flat_map more (cond v (a ∷ filter goes (range_with_len (a + 1) r)) (filter goes (range_with_len (a + 1) r)))))
       [ true ↦ all_append (λ c. n < c) (more a) (flat_map more (filter goes (range_with_len (a + 1) r))) (all_beyond n a (more a) h (g.behind a)) rest | false ↦ rest ]
 
-  -- a node that stands in none of the lists
+  -- a node that is in none of the lists
   skip_one : (met xs ys zs : List ℕ) (n r : ℕ) → M met xs ys zs n (suc r) → IsFrom (n + 1) xs → IsFrom (n + 1) ys → IsFrom (n + 1) zs → M met xs ys zs (n + 1) r
   skip_one met xs ys zs n r m hx hy hz =
       let no_x : taken n ≡ false = not_here taken n r xs m.xs_are hx in
@@ -201,7 +201,7 @@ module _ (end : ℕ) (taken stays starred goes : ℕ → Bool) (more : ℕ → L
     after_z : from ≤ first_or end zs
     after_z = not_before starred from (end - from) zs (flat_map more (passing goes from (end - from))) w.zs_are w.place (omega (arith, w.left))
 
-    -- it stands behind what was met
+    -- it follows what was met
     pub not_met : from ≤ node
     not_met = omega (arith, after, after_y, after_z)
 

@@ -65,7 +65,7 @@ module _ (nodes : List Node) (m : List ℕ) (i : ℕ) where
   abbrev pub more : ℕ → List ℕ
   more p = stars nodes (children nodes p)
 
--- the number behind the last node that was met; at the start that behind the root
+-- the number after the last node that was met; at the start that after the root
 abbrev pub behind_last : List ℕ → ℕ
 behind_last met = get_or met (length met - 1) 0 + 1
 

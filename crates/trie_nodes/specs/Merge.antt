@@ -6,7 +6,7 @@ abbrev pub first_or : ℕ → List ℕ → ℕ
 first_or end [] = end
 first_or end (x ∷ xs) = x
 
--- what is left behind n
+-- what is left after n
 abbrev pub past : ℕ → List ℕ → List ℕ
 past n [] = []
 past n (x ∷ xs) = if x == n then xs else x ∷ xs

@@ -13,7 +13,7 @@ pub record Link : Type 0 where
 abbrev pub grow : List (List Item) → Link → List (List Item)
 grow paths link = paths ++ (slice_index_or paths link.parent [] ++ link.label ∷ []) ∷ []
 
--- the paths of the root and of the nodes behind these links
+-- the paths of the root and of the nodes after these links
 unfoldable pub paths : List Link → List (List Item)
 paths links = fold grow ([] ∷ []) links
 

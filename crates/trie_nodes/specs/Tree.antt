@@ -56,7 +56,7 @@ count_within nodes m n = sum_by length (map (λ j. active_after nodes (take j m)
 abbrev pub count : List Node → List ℕ → ℕ
 count nodes m = count_within nodes m (length m)
 
--- the children of the nodes follow one another, each behind its parent, and are all nodes but the root
+-- the children of the nodes follow one another, each after its parent, and are all nodes but the root
 pub record Shape (nodes : List Node) : Type 0 where
   pub first : (i : ℕ) → i < length nodes → (node_at nodes i).first ≡ 1 + sum_by (λ n. n.count) (take i nodes)
   pub later : (i : ℕ) → i < length nodes → i < (node_at nodes i).first

@@ -12,7 +12,7 @@ use std::ops::Range;
 /// A tree of labels, the root being node 0, and the values that its nodes have.
 ///
 /// Nodes stand level by level, so that the children of a node follow one another, and each of them
-/// stands behind its parent.
+/// follows its parent.
 pub trait Nodes {
     /// The nodes, by number.
     ghost nodes: { Self → List Node };

@@ -104,7 +104,7 @@ fn first_or(end: u32, list: &[u32]) -> u32
     }
 }
 
-/// What is left of a rising list behind a node.
+/// What is left of a rising list after a node.
 fn past(node: u32, list: &[u32]) -> &[u32]
     ensures { result.now ≡ past node list.now }
 {
@@ -114,7 +114,7 @@ fn past(node: u32, list: &[u32]) -> &[u32]
     }
 }
 
-/// How many of a list's first numbers are behind a walk that has met a node.
+/// How many of a list's first numbers are after a walk that has met a node.
 fn passed(node: u32, list: &[u32], at: usize) -> usize
     requires { at ≤ length list.now }
     ensures within { result ≤ length list.now }

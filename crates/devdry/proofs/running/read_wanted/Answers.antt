@@ -20,7 +20,7 @@ handed_on : {T : Type 0} (P : ReadFault → Type 0) (r : Result T ReadFault) (fa
 handed_on P (Ok x) fault is h = tt
 handed_on P (Err e) fault is h = subst P (sym is) h
 
--- a fault at the index, behind all files
+-- a fault at the index, after all files
 behind : (may : Answer → Type 0) (w : Wanted) (path : List ℕ) (files : List SourceFile) → AreWanted may w files → IsFaultyIndex may w path → IsFaultyRead may w path
 behind may w path files were h = inr (record { files = files; were_read = were; faulty = h })
 

@@ -31,7 +31,7 @@ answered a words k f is fails memory said = elim (fails (ap is_simple_and_free i
   | inr among ↦ inr (k, subst (λ x. IsAmong k (fault_of x words)) is among, said)
 ]
 
--- what stands in place of a request answers words that are not at fault
+-- what is in place of a request answers words that are not at fault
 refused : (r : Result Request LineFault) (kinds : Kinds) (asked : Option (Text × List Row)) → kinds ≡ [] → IfErr r (λ f. (f ≡ Memory) ⊎ AnswersSubcommand asked f)
     → IfErr r (AnswersWords kinds asked)
 refused r kinds asked none h = IfErr-weaker r _ _ (λ f why. elim why [

@@ -3,7 +3,7 @@ use Rattle.text_bytes.specs.Escapes.{escape_text}
 use Rattle.engine_ends.specs.Sinks.{Takes}
 use Rattle.engine_ends.proofs.writing.write_escaped.Given as goal
 
--- what was written so far, and behind it bytes that stand for themselves
+-- what was written so far, and after it bytes that stand for themselves
 abbrev pub invariant-loop-at : goal.invariant-loop-at
 invariant-loop-at g l = record {
   within : l.done ≤ l.at;

@@ -13,7 +13,7 @@ NODE = struct.Struct("<BBHIIIII")
 VALUE = {1: struct.Struct("<5I"), 2: struct.Struct("<8I")}
 SET = 32
 MANY = None
-MOST_NODES, MOST_VALUES, MOST_SETS = 2 ** 26, 2 ** 24, 2 ** 26
+MAX_NODES, MAX_VALUES, MAX_SETS = 2 ** 26, 2 ** 24, 2 ** 26
 FAULTS = ("short", "magic", "version", "size", "shape", "label", "text", "order")
 
 
@@ -34,7 +34,7 @@ class Plain:
             raise Refused("version")
         ends = [HEADER, NODE.size * nodes, VALUE[version].size * values, SET * sets, text]
         ends = [sum(ends[:count]) for count in range(1, len(ends) + 1)]
-        bounds = 1 <= nodes <= MOST_NODES and values <= MOST_VALUES and sets <= MOST_SETS
+        bounds = 1 <= nodes <= MAX_NODES and values <= MAX_VALUES and sets <= MAX_SETS
         if not bounds or zero != 0 or len(data) != ends[-1]:
             raise Refused("size")
         parts = [data[begin:end] for begin, end in zip(ends, ends[1:])]

@@ -7,7 +7,7 @@ import pathlib
 import sys
 
 # The most edits that the gate tries.
-MOST_EDITS = 100
+MAX_EDITS = 100
 
 # How a line of an edit begins; no other line is read.
 MARKS = ("file: ", "old: ", "new:")
@@ -69,7 +69,7 @@ def main(top):
         [line for edit in every for line in applied(edit)],
     )
     tell("wrong bodies are files .edit", [line for folder in folders for line in strays(folder)])
-    tell(f"at most {MOST_EDITS} wrong bodies are the gate's", [f"there are {count}"] if count > MOST_EDITS else [])
+    tell(f"at most {MAX_EDITS} wrong bodies are the gate's", [f"there are {count}"] if count > MAX_EDITS else [])
     tell("no crate has one wrong body alone in the gate", [str(crate) for crate in crates if len(edits[crate]) == 1])
     tell(
         "no crate has two wrong bodies of one name",

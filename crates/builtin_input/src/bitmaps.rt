@@ -13,7 +13,7 @@ use std::marker::Model;
 const WORD_BITS: usize = 64;
 
 /// The most words of a bitmap that count.
-pub(crate) const MOST_WORDS: usize = 12;
+pub(crate) const MAX_WORDS: usize = 12;
 
 /// A set of numbers below 768: keys, axes, events or properties.
 #[derive(Drop)]

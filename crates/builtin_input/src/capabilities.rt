@@ -3,7 +3,7 @@ ghost use Rattle.std.specs.Prelude.{◌≡◌, ◌≤◌, IfOk};
 ghost use Rattle.builtin_input.specs.Bitmaps.{bitmap, most_words};
 ghost use Rattle.builtin_input.specs.Capabilities.{bus_number, capabilities, text_of};
 
-use crate::bitmaps::{Bitmap, MOST_WORDS};
+use crate::bitmaps::{Bitmap, MAX_WORDS};
 use builtin_devices::{Base, number_in};
 use device_core::Device;
 use std::alloc::{AllocError, Global};
@@ -66,7 +66,7 @@ impl Capabilities {
         ensures { IfOk result (λ c. c ≡ capabilities device.now) }
     {
         let events = bitmap_of(alloc, device, b"capabilities/ev", 1)?;
-        let keys = bitmap_of(alloc, device, b"capabilities/key", MOST_WORDS)?;
+        let keys = bitmap_of(alloc, device, b"capabilities/key", MAX_WORDS)?;
         let absolute_axes = bitmap_of(alloc, device, b"capabilities/abs", 1)?;
         let relative_axes = bitmap_of(alloc, device, b"capabilities/rel", 1)?;
         let properties = bitmap_of(alloc, device, b"properties", 1)?;

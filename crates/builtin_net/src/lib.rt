@@ -6,13 +6,17 @@
 mod address;
 mod allowed;
 mod builtin;
+mod bus_names;
 mod buses;
+mod function_names;
 mod functions;
+mod given;
 mod identity;
 mod laws;
 mod names;
 mod needs;
 mod on_board;
+mod pci_names;
 mod ports;
 mod prefixes;
 mod slots;

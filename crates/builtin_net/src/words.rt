@@ -12,7 +12,7 @@ use std::alloc::{AllocError, Global};
 use text_bytes::{decimal_below, is_digit};
 
 /// The greatest number of 32 bits.
-pub(crate) const MOST_NUMBER: u64 = u32::MAX as u64;
+pub(crate) const MAX_NUMBER: u64 = u32::MAX as u64;
 
 /// What follows a beginning, where a text begins with it.
 #[tactic(auto, unfolding(crate::specs::Words::behind))]

@@ -1,23 +1,21 @@
 //! path_id: what comes of the parts.
-ghost use Rattle.std.specs.Prelude.{◌≡◌, ◌∷◌, ◌++◌, ◌+◌, [], ◌≤◌, IfOk, IfSome, OnOk, codes, not, filter_map, flat_map, length, map, option_map, is_some, reverse, ◌<◌};
+ghost use Rattle.std.specs.Prelude.{◌≡◌, ◌++◌, ◌+◌, ◌≤◌, IfOk, IfSome, OnOk, not, filter_map, length, map, option_map, is_some, reverse, ◌<◌};
 ghost use Rattle.std.specs.List.{join_with_byte, list_any, prefix_len};
 ghost use Rattle.text_bytes.specs.Names.{minus};
 ghost use Rattle.text_tables.specs.Texts.{with_texts};
-ghost use Rattle.builtin_path.specs.Path.{compatible_pairs, compatible_parts, cut_tag, if_revision, is_ata, is_failing, is_revision, is_reached, is_whole, lacks_type, needs, parts, path_id, path_pairs, plain_path, properties_of, revision_pairs, revision_place, shared, stays_in_tag, tag, tag_byte, type_needs, without_last, without_revision};
+ghost use Rattle.builtin_path.specs.Path.{compatible_pairs, compatible_parts, is_ata, is_failing, is_reached, is_whole, lacks_type, needs, parts, path_id, path_pairs, plain_path, properties_of, revision_pairs, shared, type_needs};
 
 use crate::members::Member;
+use crate::revisions::{revision_place, without_revision};
 use crate::stops::{Next, Share, Stop, needed};
-use crate::texts::{behind_first, first_bytes, first_place, joined};
+use crate::tags::tag;
+use crate::texts::joined;
 use crate::way::{members_of, stops_from};
 use builtin_devices::{Devices, Outcome, add_property, is_text, type_of};
 use device_core::Event;
 use std::alloc::{AllocError, Global};
-use text_bytes::{Bytes, ends_in, is_digit};
-use text_links::underscored;
+use text_bytes::Bytes;
 use text_tables::OwnedTexts;
-
-/// The most bytes of a tag.
-const MOST_TAG: usize = 511;
 
 /// What a stop adds to the path.
 fn part_of(stop: &Stop) -> Option<&[u8]>
@@ -163,91 +161,6 @@ fn is_whole(event: &Event<'_>, stops: &[Stop]) -> bool
     !has_failing(stops) && has_part(stops) && has_parent(stops) && is_reached(event, stops)
 }
 
-/// Whether a digit and `-` follow the place where `-usbv` stands.
-fn is_revision(text: &[u8], place: usize) -> bool
-    requires { place < length text.now }
-    ensures { result ≡ is_revision text.now place }
-{
-    match (text.get(place + 5), text.get(place + 6)) {
-        (Some(digit), Some(mark)) => is_digit(*digit) && *mark == b'-',
-        _ => false,
-    }
-}
-
-/// The first place of `-usbv` in a text, where a digit and `-` follow.
-#[tactic(auto, unfolding(crate::specs::Path::revision_place))]
-fn revision_place(text: &[u8]) -> Option<usize>
-    ensures value { result ≡ revision_place text.now }
-    ensures within { IfSome result (λ place. place < length text.now) }
-{
-    let place = first_place(b"-usbv", text)?;
-    if is_revision(text, place) {
-        Some(place)
-    } else {
-        None
-    }
-}
-
-/// A text without the `v` and the digit of a revision.
-#[tactic(auto, unfolding(crate::specs::Path::without_revision))]
-fn without_revision(alloc: Global, text: &[u8], place: usize) -> Result<Bytes, AllocError>
-    requires { place < length text.now }
-    ensures { IfOk result (λ plain. plain ≡ without_revision text.now place) }
-{
-    let mut plain = Vec::from_slice(alloc, first_bytes(place + 4, text))?;
-    plain.extend_from_slice(behind_first(place + 6, text))?;
-    Ok(Bytes::new(plain))
-}
-
-/// Whether a byte stays in a tag.
-fn stays_in_tag(byte: u8) -> bool
-    ensures { result ≡ stays_in_tag byte }
-{
-    byte.is_ascii_alphanumeric() || byte == b'-'
-}
-
-/// A byte that stays in a tag, and a space for any other.
-fn tag_byte(byte: u8) -> u8
-    ensures { result ≡ tag_byte byte }
-{
-    if stays_in_tag(byte) { byte } else { b' ' }
-}
-
-/// A text without a `_` at its end.
-fn without_last(text: &[u8]) -> &[u8]
-    ensures { result.now ≡ without_last text.now }
-{
-    if ends_in(b'_', text) {
-        first_bytes(text.len().saturating_sub(1), text)
-    } else {
-        text
-    }
-}
-
-/// The first bytes of a tag, so many as it may have, without a `_` at their end.
-fn cut_tag(text: &[u8]) -> &[u8]
-    ensures { result.now ≡ cut_tag text.now }
-{
-    without_last(first_bytes(MOST_TAG, text))
-}
-
-/// A text in which each byte that does not stay in a tag is a space.
-fn spaced(alloc: Global, text: &[u8]) -> Result<Vec<u8>, AllocError>
-    ensures { IfOk result (λ bytes. bytes.items ≡ map tag_byte text.now) }
-{
-    text.iter().map(|byte| tag_byte(*byte)).collect(alloc)
-}
-
-/// A text as a tag.
-#[tactic(auto, unfolding(crate::specs::Path::tag))]
-fn tag(alloc: Global, text: &[u8]) -> Result<Bytes, AllocError>
-    ensures { IfOk result (λ word. word ≡ tag text.now) }
-{
-    let bytes = spaced(alloc, text)?;
-    let word = underscored(alloc, &bytes)?;
-    Bytes::copy_of(alloc, cut_tag(&word))
-}
-
 /// Adds what is set of a path without a revision.
 fn add_path(
     alloc: Global,
@@ -375,11 +288,10 @@ fn add_needs(alloc: Global, more: &[Vec<u8>], needs: &mut OwnedTexts) -> Result<
 
 /// What the builtin path_id of udev (systemd 257) makes of an event: the path by which its device is reached.
 ///
-/// It goes up from the event device, by the devices that the block says about. Each device adds a part by its
-/// subsystem,
-/// and the parts are joined by `-`, the highest first. It fails where no device adds a part, where none is a parent that
-/// is known, where a block device has no transport that is known, where the folders of hosts beside a SCSI host are not
-/// told, and where the controller of an NVMe disk of several ways is not reported, or virtual.
+/// It goes up from the event device, along the devices of the block. Each device adds a part by its subsystem, and the
+/// parts are joined by `-`, the highest first. It fails if no device adds a part, if none is a known kind of parent, if
+/// a block device has no known transport, if the block does not say which hosts are beside a SCSI host, and if the
+/// controller of an NVMe disk with several paths is virtual or not in the block.
 ///
 /// `ID_PATH_WITH_USB_REVISION` is set where a port of USB tells its revision, then `ID_PATH` and `ID_PATH_TAG`, and
 /// `ID_PATH_ATA_COMPAT` after a port of ATA.

@@ -13,13 +13,13 @@ use text_bytes::Bytes;
 use text_links::{underscored, value_safe};
 
 /// The most bytes of a vendor, a model or a revision that are reported.
-const MOST_BYTES: usize = 63;
+const MAX_BYTES: usize = 63;
 
 /// The most bytes of a serial number that are reported.
-const MOST_SERIAL_BYTES: usize = 511;
+const MAX_SERIAL_BYTES: usize = 511;
 
 /// The most bytes of vendor, model, serial number and instance in one text.
-const MOST_ALL_BYTES: usize = 255;
+const MAX_ALL_BYTES: usize = 255;
 
 /// What is known of a device, its texts as it has them; empty where there is none.
 #[derive(Drop)]
@@ -56,14 +56,14 @@ fn shown_of(alloc: Global, most: usize, text: &[u8]) -> Result<Vec<u8>, AllocErr
 pub(crate) fn shown(alloc: Global, text: &[u8]) -> Result<Vec<u8>, AllocError>
     ensures { IfOk result (λ made. made.items ≡ shown most_bytes text.now) }
 {
-    shown_of(alloc, MOST_BYTES, text)
+    shown_of(alloc, MAX_BYTES, text)
 }
 
 /// A serial number as it is reported.
 pub(crate) fn shown_serial(alloc: Global, text: &[u8]) -> Result<Vec<u8>, AllocError>
     ensures { IfOk result (λ made. made.items ≡ shown most_serial_bytes text.now) }
 {
-    shown_of(alloc, MOST_SERIAL_BYTES, text)
+    shown_of(alloc, MAX_SERIAL_BYTES, text)
 }
 
 /// The first of two texts where something of it is reported, else the second.
@@ -233,6 +233,6 @@ pub(crate) fn full_serial(alloc: Global, identity: &Identity<'_>) -> Result<Vec<
     ensures { IfOk result (λ made. made.items ≡ full_serial identity.now) }
 {
     let mut made = all_texts(alloc, identity)?;
-    made.truncate(MOST_ALL_BYTES);
+    made.truncate(MAX_ALL_BYTES);
     Ok(made)
 }

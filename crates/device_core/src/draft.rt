@@ -16,7 +16,7 @@ use std::alloc::Global;
 use text_tables::{Pairs, Table};
 
 /// The most devices that may be above the last: 64 in all.
-const MOST_ABOVE_LAST: usize = 63;
+const MAX_ABOVE_LAST: usize = 63;
 
 /// The lines so far, after the first.
 #[derive(Drop)]
@@ -67,7 +67,7 @@ fn check_path(closed: usize, last: &Option<Device<'_>>, path: &[u8]) -> Result<(
         }
         return Err(BlockFaultKind::Path);
     };
-    if closed >= MOST_ABOVE_LAST {
+    if closed >= MAX_ABOVE_LAST {
         return Err(BlockFaultKind::TooDeep);
     }
     if !is_parent_path(above.path, path) {

@@ -17,7 +17,7 @@ use std::alloc::Global;
 use text_bytes::{Profile, first_line};
 
 /// The most bytes of a block.
-const MOST_BYTES: usize = 65536;
+const MAX_BYTES: usize = 65536;
 
 /// Whether the next line begins as an answer does.
 #[tactic(auto, using(crate::proofs::LineLemmas::begins_answer_is))]
@@ -140,7 +140,7 @@ fn line_of_excess(block: &[u8]) -> usize
     requires { most_bytes < length block.now }
     ensures { result ≡ line_of_excess block.now }
 {
-    let (within, _) = block.split_at(MOST_BYTES);
+    let (within, _) = block.split_at(MAX_BYTES);
     within.iter().filter(|b| **b == b'\n').count() + 1
 }
 
@@ -179,7 +179,7 @@ pub fn read_block<'a>(alloc: Global, block: &'a [u8]) -> Result<Event<'a>, Block
     ensures event { IfOk result (λ e. block_gives block.now ≡ Ok e) }
     ensures fault { IfErr result (λ f. f.kind ≢ BlockFaultKind.Memory → block_gives block.now ≡ Err f) }
 {
-    if block.len() > MOST_BYTES {
+    if block.len() > MAX_BYTES {
         return Err(BlockFault {
             line: line_of_excess(block),
             kind: BlockFaultKind::TooLong,

@@ -11,7 +11,7 @@ use std::alloc::Global;
 use text_bytes::Profile;
 
 /// The most turns over one input.
-const MOST_TURNS: u64 = 1 << 48;
+const MAX_TURNS: u64 = 1 << 48;
 
 /// Answers the blocks of an input, over whose events rules are evaluated by a profile: each answer is written and flushed before the next read. Says whether
 /// any answer has a byte.
@@ -47,7 +47,7 @@ fn make_turns<A: Answering, R: Source, W: Sink>(
         (R.shown input.old) (R.shown input.new) (W.shown output.old) (W.shown output.new) }
 {
     let mut finds = false;
-    for _made in 0..MOST_TURNS {
+    for _made in 0..MAX_TURNS {
         match turn_finding(alloc, session, input, output) {
             Ok(turned) => {
                 finds |= turned.finds;

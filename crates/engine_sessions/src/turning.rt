@@ -18,7 +18,7 @@ use std::alloc::Global;
 use text_bytes::Bytes;
 
 /// The most bytes of a read.
-const MOST_READ: usize = 4096;
+const MAX_READ: usize = 4096;
 
 /// Why a turn failed. The session has then ended.
 #[derive(Clone, Copy, Debug, PartialEq, Eq)]
@@ -86,7 +86,7 @@ pub(crate) fn turn_finding<A: Answering, R: Source, W: Sink>(
     if session.is_ended() {
         return Err(TurnFault::Session(SessionFault::Ended));
     }
-    let mut piece = [0u8; MOST_READ];
+    let mut piece = [0u8; MAX_READ];
     match input.read(&mut piece) {
         Ok(0) => match answer_last(alloc, session, output) {
             Ok(finds) => Ok(Turned { more: false, finds }),

@@ -13,10 +13,10 @@ use std::mem::replace;
 use text_bytes::{Bytes, Profile, begins_with};
 
 /// The most bytes that udev gives room to in a path, and in the value of IMPORT{parent}.
-pub const MOST_PATH_BYTES: usize = 1023;
+pub const MAX_PATH_BYTES: usize = 1023;
 
 /// The most bytes that udev gives room to in a command.
-pub const MOST_COMMAND_BYTES: usize = 16383;
+pub const MAX_COMMAND_BYTES: usize = 16383;
 
 /// A rendered text, which udev takes up to so many bytes.
 fn within_by(profile: Profile, most: usize, text: Rendered) -> Rendered
@@ -32,7 +32,7 @@ fn within_by(profile: Profile, most: usize, text: Rendered) -> Rendered
 fn has_room(device: &Device<'_>, path: &[u8]) -> bool
     ensures { result ≡ has_room device.now path.now }
 {
-    let room = MOST_PATH_BYTES - b"/sys/".len();
+    let room = MAX_PATH_BYTES - b"/sys/".len();
     begins_with(b'/', path) || (path.len() <= room && device.path().len() <= room - path.len())
 }
 
@@ -58,7 +58,7 @@ fn path_by(profile: Profile, device: &Device<'_>, text: Rendered) -> Rendered
 {
     match profile {
         Profile::Manual => text,
-        Profile::Udev => with_room(device, text.within(MOST_PATH_BYTES)),
+        Profile::Udev => with_room(device, text.within(MAX_PATH_BYTES)),
     }
 }
 
@@ -105,7 +105,7 @@ pub fn program_text(
         Profile::Manual => render(alloc, template, state, Mode::Plain),
         Profile::Udev => {
             let text = render_without_result(alloc, template, state)?;
-            Ok(text.within(MOST_COMMAND_BYTES))
+            Ok(text.within(MAX_COMMAND_BYTES))
         }
     }
 }
@@ -127,5 +127,5 @@ pub fn import_text(
 pub fn names_text(alloc: Global, text: &[u8], state: &State<'_>) -> Result<Rendered, AllocError>
     ensures { IfOk result (λ rendered. rendered ≡ names_text text.now state.now) }
 {
-    Ok(render_text(alloc, text, state)?.within(MOST_PATH_BYTES))
+    Ok(render_text(alloc, text, state)?.within(MAX_PATH_BYTES))
 }

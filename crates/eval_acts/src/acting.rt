@@ -7,7 +7,7 @@ ghost use Rattle.eval_acts.specs.Imports.{not_run, run_builtin};
 ghost use Rattle.eval_acts.specs.Questions.{asked, tested, with_result};
 
 use crate::act_texts::{
-    MOST_COMMAND_BYTES, MOST_PATH_BYTES, import_text, names_text, program_text, test_text,
+    MAX_COMMAND_BYTES, MAX_PATH_BYTES, import_text, names_text, program_text, test_text,
 };
 use crate::came::Came;
 use crate::imports::{import_named, import_parent, not_run, run_builtin};
@@ -87,7 +87,7 @@ fn builtin<L: Lookup>(
     ensures scene { IfOk result (λ came. (scene.new, came) ≡ on_text rule.now deed.now (run_builtin (L.entries database.now) rule.now) (import_text most_command_bytes template.now scene.old.state) scene.old) }
     ensures refused { OnErr result (scene.new.state.event ≡ scene.old.state.event) }
 {
-    match import_text(alloc, MOST_COMMAND_BYTES, template, &scene.state)? {
+    match import_text(alloc, MAX_COMMAND_BYTES, template, &scene.state)? {
         Rendered::Text(command) => {
             let done = run_builtin(alloc, rule, command.as_slice(), database, scene)?;
             Ok(Came::Tried(done))
@@ -187,10 +187,10 @@ fn import<L: Lookup>(
         Import::Builtin(template) => builtin(alloc, rule, deed, template, database, scene),
         Import::Parent(names, text) => { parent(alloc, rule, deed, names, text.as_slice(), scene) }
         Import::Program(template) => {
-            unrun(alloc, rule, deed, from, MOST_COMMAND_BYTES, template, scene)
+            unrun(alloc, rule, deed, from, MAX_COMMAND_BYTES, template, scene)
         }
         Import::File(template) => {
-            unrun(alloc, rule, deed, from, MOST_PATH_BYTES, template, scene)
+            unrun(alloc, rule, deed, from, MAX_PATH_BYTES, template, scene)
         }
         Import::Cmdline(_) => Ok(Came::Tried(not_run(alloc, rule, from, scene)?)),
         Import::Db(_) => Ok(Came::Tried(not_run(alloc, rule, from, scene)?)),

@@ -19,7 +19,7 @@ use text_bytes::Bytes;
 use text_tables::OwnedPairs;
 
 /// The most that a builtin may set: its names and values, each counted with one byte more.
-const MOST_SET: usize = 65536;
+const MAX_SET: usize = 65536;
 
 /// The word of a note on what a builtin needs.
 fn need_word(alloc: Global, name: &[u8], need: &[u8]) -> Result<Vec<u8>, AllocError>
@@ -64,7 +64,7 @@ fn room_after(room: usize, name: &[u8], value: &[u8]) -> Option<usize>
 fn may_be_set(properties: &[(Bytes, Bytes)]) -> bool
     ensures { result ≡ nat_le (properties_size properties.now) most_set }
 {
-    let mut room = MOST_SET;
+    let mut room = MAX_SET;
     for (name, value) in properties {
         match room_after(room, name.as_slice(), value.as_slice()) {
             Some(left) => room = left,

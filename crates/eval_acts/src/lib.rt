@@ -18,7 +18,7 @@ mod reaching;
 mod words;
 
 pub use act_texts::{
-    MOST_COMMAND_BYTES, MOST_PATH_BYTES, import_text, names_text, program_text, test_text,
+    MAX_COMMAND_BYTES, MAX_PATH_BYTES, import_text, names_text, program_text, test_text,
 };
 pub use acting::act_step;
 pub use builtin::Builtin;

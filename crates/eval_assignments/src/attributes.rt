@@ -5,7 +5,7 @@ ghost use Rattle.eval_state.specs.Named.{named_place};
 ghost use Rattle.eval_assignments.specs.Attributes.{attribute_put, attribute_set, attribute_set_at, own_attribute_set};
 ghost use Rattle.eval_assignments.specs.Bounds.{most_name_bytes};
 
-use crate::bounds::MOST_NAME_BYTES;
+use crate::bounds::MAX_NAME_BYTES;
 use eval_state::{Named, NoteKind, Scene, starred};
 use rule_types::{Key, Rule};
 use std::alloc::{AllocError, Global};
@@ -33,7 +33,7 @@ fn put_attribute(
 fn is_path_long(path: &[u8], name: &[u8]) -> bool
     ensures { result ≡ nat_lt most_name_bytes (length (codes "/sys" ++ path.now ++ slash ∷ name.now)) }
 {
-    let most = MOST_NAME_BYTES - b"/sys/".len();
+    let most = MAX_NAME_BYTES - b"/sys/".len();
     path.len() > most || name.len() > most - path.len()
 }
 

@@ -13,7 +13,7 @@ use std::alloc::{AllocError, Global};
 use text_bytes::{Bytes, begins_with, split_once};
 
 /// The most bytes of a component of a link.
-const MOST_COMPONENT_BYTES: usize = 255;
+const MAX_COMPONENT_BYTES: usize = 255;
 
 /// Whether a byte is between two words for udev.
 fn is_between(byte: u8) -> bool
@@ -77,7 +77,7 @@ pub(crate) fn components(alloc: Global, path: &[u8]) -> Result<Vec<&[u8]>, Alloc
 fn is_barred(component: &[u8]) -> bool
     ensures { result ≡ is_barred component.now }
 {
-    component == b"..".as_slice() || component.len() > MOST_COMPONENT_BYTES
+    component == b"..".as_slice() || component.len() > MAX_COMPONENT_BYTES
 }
 
 /// Whether a component may not stand in a link, of several.

@@ -3,7 +3,7 @@ ghost use Rattle.std.specs.Prelude.{◌≡◌, ◌∷◌, ◌++◌, OnOk, OnErr,
 ghost use Rattle.text_bytes.specs.Names.{space};
 ghost use Rattle.eval_assignments.specs.Properties.{appended, env_text, extended, property_added, property_changed, property_extended, property_joined, property_put, short_value, udev_property_changed, unslashed_byte};
 
-use crate::bounds::MOST_VALUE_BYTES;
+use crate::bounds::MAX_VALUE_BYTES;
 use crate::escapes::{Escape, turned};
 use eval_rendering::link_safe;
 use eval_state::{Scene, set_property};
@@ -12,7 +12,7 @@ use std::alloc::{AllocError, Global};
 use text_bytes::Bytes;
 
 /// The most bytes of a value that is put together.
-const MOST_BYTES: usize = 16384;
+const MAX_BYTES: usize = 16384;
 
 /// A text after a value, with a space between them; `None` where that is too long. A value without a
 /// byte gives its place to the text.
@@ -22,7 +22,7 @@ fn appended(alloc: Global, value: &[u8], text: &[u8]) -> Result<Option<Bytes>, A
     if value.is_empty() {
         return Ok(Some(Bytes::copy_of(alloc, text)?));
     }
-    if value.len() >= MOST_BYTES || text.len() > MOST_BYTES - value.len() - 1 {
+    if value.len() >= MAX_BYTES || text.len() > MAX_BYTES - value.len() - 1 {
         return Ok(None);
     }
     let mut joined = Vec::from_slice(alloc, value)?;
@@ -112,7 +112,7 @@ fn env_text(alloc: Global, escape: Escape, text: &[u8]) -> Result<Bytes, AllocEr
 fn short_value(text: Bytes) -> Option<Bytes>
     ensures { result ≡ short_value text }
 {
-    if text.as_slice().len() > MOST_VALUE_BYTES {
+    if text.as_slice().len() > MAX_VALUE_BYTES {
         None
     } else {
         Some(text)

@@ -6,7 +6,7 @@ ghost use Rattle.eval_state.specs.declared.scene.Scene.{Scene};
 ghost use Rattle.eval_assignments.specs.Runs.{command_made, made_before, run_kept, run_made, run_rendered};
 ghost use Rattle.eval_assignments.specs.Links.{words};
 
-use crate::bounds::MOST_COMMAND_BYTES;
+use crate::bounds::MAX_COMMAND_BYTES;
 use crate::finals::finish;
 use crate::links::words;
 use eval_rendering::{Mode, Rendered, render};
@@ -119,7 +119,7 @@ pub(crate) fn render_run<'a>(
         rule,
         braces,
         template,
-        rendered.within(MOST_COMMAND_BYTES),
+        rendered.within(MAX_COMMAND_BYTES),
         scene,
     )?;
     finish(operator, Some(FinalKey::Run), scene);

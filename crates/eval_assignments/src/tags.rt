@@ -8,7 +8,7 @@ use rule_types::{AssignOperator, Key, Rule};
 use std::alloc::{AllocError, Global};
 
 /// The most bytes of a tag.
-const MOST_TAG_BYTES: usize = 255;
+const MAX_TAG_BYTES: usize = 255;
 
 /// Whether a byte may be in a tag of udev's.
 fn is_tag_byte(byte: u8) -> bool
@@ -28,7 +28,7 @@ fn are_tag_bytes(text: &[u8]) -> bool
 fn is_tag(text: &[u8]) -> bool
     ensures { result ≡ is_tag text.now }
 {
-    text.len() <= MOST_TAG_BYTES && are_tag_bytes(text)
+    text.len() <= MAX_TAG_BYTES && are_tag_bytes(text)
 }
 
 /// Makes a tag stand: again where it was taken away, and at the end where it was not there.

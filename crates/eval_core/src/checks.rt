@@ -16,7 +16,7 @@ use text_bytes::Bytes;
 use text_core::Choice;
 
 /// How many attributes are looked up for each event, at most.
-const MOST_NAMES: usize = 60;
+const MAX_NAMES: usize = 60;
 
 /// What has to be seen of an event, or else a choice does not fit.
 #[derive(Clone, Copy, Debug)]
@@ -117,7 +117,7 @@ pub(crate) fn first_attributes(alloc: Global, rules: &[Rule]) -> Result<Vec<Byte
 {
     let mut names = Vec::new(alloc);
     for name in rules.iter().filter_map(first_attribute) {
-        if names.len() < MOST_NAMES && place_of(&names, name).is_none() {
+        if names.len() < MAX_NAMES && place_of(&names, name).is_none() {
             names.push(Bytes::copy_of(alloc, name)?)?;
         }
     }

@@ -21,7 +21,7 @@ use crate::plain::push_met;
 use crate::properties::{copied, newly_set, push_set};
 use device_core::ProgramAnswer;
 use eval_acts::{
-    MOST_COMMAND_BYTES, MOST_PATH_BYTES, act_step, import_text, names_text, program_text, test_text,
+    MAX_COMMAND_BYTES, MAX_PATH_BYTES, act_step, import_text, names_text, program_text, test_text,
 };
 use eval_effects::push_shown;
 use eval_rendering::Rendered;
@@ -190,7 +190,7 @@ fn builtin_told_before(
 ) -> Result<ToldBefore, AllocError>
     ensures { IfOk result (λ o. (env : List Pair) → told_behind o env ≡ import_told (import.Builtin template.now) state.now env) }
 {
-    match import_text(alloc, MOST_COMMAND_BYTES, template, state)? {
+    match import_text(alloc, MAX_COMMAND_BYTES, template, state)? {
         Rendered::Text(command) => Ok(ToldBefore::Taking(
             command_told(alloc, command.as_slice())?,
             copied(alloc, &state.env)?,
@@ -272,13 +272,13 @@ fn import_told_before(
         Import::Parent(_, value) => parent_told_before(alloc, value.as_slice(), state),
         Import::Program(template) => Ok(ToldBefore::Whole(unrun_told(
             alloc,
-            MOST_COMMAND_BYTES,
+            MAX_COMMAND_BYTES,
             template,
             state,
         )?)),
         Import::File(template) => Ok(ToldBefore::Whole(unrun_told(
             alloc,
-            MOST_PATH_BYTES,
+            MAX_PATH_BYTES,
             template,
             state,
         )?)),

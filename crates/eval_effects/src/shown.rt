@@ -7,15 +7,15 @@ use std::alloc::{AllocError, Global};
 use text_bytes::{Bytes, escape};
 
 /// The most bytes of a text that are shown.
-const MOST_SHOWN: usize = 200;
+const MAX_SHOWN: usize = 200;
 
 /// Puts the start of a long text after another one, with how many bytes the whole has.
 #[tactic(auto, unfolding(crate::specs::Shown::cut))]
 fn push_cut(alloc: Global, text: &mut Vec<u8>, about: &[u8]) -> Result<(), AllocError>
-    requires { MOST_SHOWN ≤ length about.now }
+    requires { MAX_SHOWN ≤ length about.now }
     ensures { OnOk result (text.new.items ≡ text.old.items ++ cut about.now) }
 {
-    let (front, _) = about.split_at(MOST_SHOWN);
+    let (front, _) = about.split_at(MAX_SHOWN);
     text.extend_from_slice(&escape(alloc, front)?)?;
     text.extend_from_slice(b".. (")?;
     text.extend_from_slice(Buffer::new().format(about.len()).as_bytes())?;
@@ -27,7 +27,7 @@ fn push_cut(alloc: Global, text: &mut Vec<u8>, about: &[u8]) -> Result<(), Alloc
 pub fn push_shortened(alloc: Global, text: &mut Vec<u8>, about: &[u8]) -> Result<(), AllocError>
     ensures { OnOk result (text.new.items ≡ text.old.items ++ shortened about.now) }
 {
-    if about.len() > MOST_SHOWN {
+    if about.len() > MAX_SHOWN {
         push_cut(alloc, text, about)
     } else {
         text.extend_from_slice(&escape(alloc, about)?)

@@ -12,7 +12,7 @@ use rule_types::Comparison;
 use text_bytes::{is_blank, is_whitespace};
 
 /// The most bytes of an attribute that are compared, where it is compared without its end.
-const MOST_COMPARED: usize = 511;
+const MAX_COMPARED: usize = 511;
 
 /// Whether a value is one of the three words of which udev takes each for all three.
 fn means_each(value: &[u8]) -> bool
@@ -165,7 +165,7 @@ fn without_end(text: &[u8]) -> &[u8]
 pub(crate) fn capped(text: &[u8]) -> &[u8]
     ensures { result.now ≡ capped text.now }
 {
-    text.split_at(MOST_COMPARED.min(text.len())).0
+    text.split_at(MAX_COMPARED.min(text.len())).0
 }
 
 /// An attribute as it is compared with a value.

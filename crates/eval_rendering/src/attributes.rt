@@ -12,7 +12,7 @@ use rule_templates::{Piece, Template};
 use text_bytes::Profile;
 
 /// The most bytes of an attribute that udev puts in.
-const MOST_ATTRIBUTE_BYTES: usize = 511;
+const MAX_ATTRIBUTE_BYTES: usize = 511;
 
 /// The device that is selected.
 pub(crate) fn selected_device<'a>(state: &State<'a>) -> Option<&'a Device<'a>>
@@ -76,7 +76,7 @@ fn named_attribute<'a>(state: &State<'a>, name: &[u8]) -> Option<&'a [u8]>
 fn cut_off(value: &[u8]) -> &[u8]
     ensures { result.now ≡ take most_attribute_bytes value.now }
 {
-    value.split_at(MOST_ATTRIBUTE_BYTES.min(value.len())).0
+    value.split_at(MAX_ATTRIBUTE_BYTES.min(value.len())).0
 }
 
 /// The attribute that udev puts in, as the device has it: that of a device of the chain which the name
@@ -105,7 +105,7 @@ fn is_long(state: &State<'_>, piece: &Piece) -> bool
     ensures { result ≡ is_long state.now piece.now }
 {
     match piece {
-        Piece::Attr(name) => udev_attribute(state, name.as_slice()).len() > MOST_ATTRIBUTE_BYTES,
+        Piece::Attr(name) => udev_attribute(state, name.as_slice()).len() > MAX_ATTRIBUTE_BYTES,
         _ => false,
     }
 }

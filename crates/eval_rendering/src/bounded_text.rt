@@ -8,7 +8,7 @@ use std::alloc::{AllocError, Global};
 use std::marker::Model;
 
 /// The most bytes of a rendered text.
-pub(crate) const MOST_BYTES: usize = 16384;
+pub(crate) const MAX_BYTES: usize = 16384;
 
 /// A text so far, or that it is too long.
 #[derive(Drop)]
@@ -43,7 +43,7 @@ impl BoundedText {
     pub(crate) fn push(&mut self, more: &[u8]) -> Result<(), AllocError>
         ensures { OnOk result (self.new ≡ joined self.old more.now) }
     {
-        if more.len() > MOST_BYTES - self.text.len() {
+        if more.len() > MAX_BYTES - self.text.len() {
             self.fits = false;
         } else {
             self.text.extend_from_slice(more)?;

@@ -4,7 +4,7 @@ ghost use Rattle.text_links.specs.Underscores.{underscored};
 ghost use Rattle.eval_rendering.specs.Bounds.{bounded};
 ghost use Rattle.eval_rendering.specs.Words.{spaced};
 
-use crate::bounded_text::MOST_BYTES;
+use crate::bounded_text::MAX_BYTES;
 use std::alloc::{AllocError, Global};
 use text_links::Word;
 
@@ -14,7 +14,7 @@ pub(crate) fn spaced_word(alloc: Global, texts: &[Vec<u8>]) -> Result<Vec<u8>, A
 {
     let mut word = Word::new(alloc);
     for text in texts {
-        if word.len() > MOST_BYTES {
+        if word.len() > MAX_BYTES {
             return Ok(word.into_bytes());
         }
         word.push(b" ")?;

@@ -18,7 +18,7 @@ use std::alloc::Global;
 use text_bytes::{Profile, begins_with, split_once};
 
 /// The most bytes that udev takes in braces.
-const MOST_IN_BRACES: usize = 1023;
+const MAX_IN_BRACES: usize = 1023;
 
 fn is_plain(byte: u8) -> bool
     ensures { result ≡ is_plain byte }
@@ -137,7 +137,7 @@ fn udev_asked(name: Substitution, after: &[u8]) -> Result<(Cut<'_>, &[u8]), Temp
         return asked(name, after);
     }
     let (content, rest) = braced(after)?;
-    if content.len() > MOST_IN_BRACES {
+    if content.len() > MAX_IN_BRACES {
         return Err(TemplateFault::Brace);
     }
     asked_with(name, content, rest)

@@ -1,4 +1,4 @@
-//! What is to be said of a rule.
+//! What is to be said about a rule.
 ghost use Rattle.std.specs.Prelude.{◌≡◌, ◌++◌, ◌∷◌, [], OnOk};
 ghost use Rattle.rule_parts.specs.Values.{finding};
 

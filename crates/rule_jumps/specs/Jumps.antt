@@ -33,7 +33,7 @@ abbrev pub is_unused : Option (List ℕ) → List Names → Bool
 is_unused None above = false
 is_unused (Some name) above = not (is_awaited name above)
 
--- what becomes of the jumps of rules, below those above, from the nearest on
+-- what becomes of the jumps of rules, which are below others, given from the nearest on
 abbrev pub landings_below : List Names → List Names → List Landing
 landings_below above [] = []
 landings_below above (r ∷ below) = record { lost = is_lost r.goto below; unused = is_unused r.label above } ∷ landings_below (r ∷ above) below

@@ -7,7 +7,8 @@ use Rattle.rule_core.specs.Lines.{is_comment, piece_of, unindented}
 use Rattle.rule_places.specs.declared.kept.KeptLine.{KeptLine}
 use Rattle.rule_places.specs.declared.kept.Place.{Place}
 
--- a line after so many bytes of other kept lines: its number, the column of its first byte that is no blank, and how many bytes it gives to a joined line
+-- a line after so many bytes of other kept lines: its number, the column of its first byte that is not a blank, and
+-- how many bytes it gives to a joined line
 abbrev pub as_kept : ℕ → NumberedLine → KeptLine
 as_kept start l = record { number = l.number; column = length l.text - length (unindented l).text + 1; start = start; size = length (piece_of (unindented l)).text }
 

@@ -19,7 +19,7 @@ unfoldable pub items_within : ℕ → ℕ → List ℕ → List Item
 items_within zero at text = []
 items_within (suc n) at text = items_after (items_within n) at (length text) (token_at text)
 
--- The items still to come after a place, none where the line is done.
+-- The items still to come after a place, none if the line is done.
 unfoldable pub items_left : Bool → ℕ → List ℕ → List Item
 items_left true at text = []
 items_left false at text = items_within (length text + 1) at text
@@ -28,7 +28,7 @@ items_left false at text = items_within (length text + 1) at text
 abbrev pub is_over : ℕ → List ℕ → Bool
 is_over start line = nat_lt 0 start && start == length line
 
--- The tokens of a line from a place on in turn and the fault that ends them, none where the line is over there.
+-- The tokens of a line from a place on in turn and the fault that ends them, none if the line is over there.
 abbrev pub items_from : ℕ → List ℕ → List Item
 items_from start line = items_left (is_over start line) start (drop start line)
 

@@ -24,7 +24,8 @@ abbrev pub LiesIn : List ℕ → Item → Type 0
 LiesIn line (Ok t) = IsSlice line t
 LiesIn line (Err fault) = fault.at ≤ length line
 
--- The first item begins at the place or after it, each other one at the end of the one before or after that, and nothing follows a fault.
+-- The first item begins at the place or after it, each other one at the end of the one before it or after that, and
+-- nothing follows a fault.
 abbrev pub RisesFrom : ℕ → List Item → Type 0
 RisesFrom place [] = ⊤
 RisesFrom place (Ok t ∷ items) = (place ≤ t.span.start) × RisesFrom t.span.end items

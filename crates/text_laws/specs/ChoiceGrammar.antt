@@ -1,5 +1,5 @@
--- What the text of a choice is: parts with a bar between each two, each of them the text of a pattern.
--- It says the same as the reading of `Choices`, and of faults which one is reported.
+-- What the text of a choice is: parts with bars between them, each of them the text of a pattern.
+-- It says the same as the reading of `Choices`, and which of several faults is reported.
 use Rattle.std.specs.Prelude.{◌≡◌, ◌≢◌, ℕ, ◌+◌, ◌<◌, ◌≤◌, ◌↔◌, List, ◌∷◌, [], ◌++◌, length, map, sum_by, All, IsOk, Result, Ok, Err}
 use Rattle.std.specs.List.{join_with_byte}
 use Rattle.text_bytes.specs.Names.{bar}
@@ -8,7 +8,7 @@ use Rattle.text_core.specs.declared.glob_fault.GlobFault.{GlobFault}
 use Rattle.text_core.specs.declared.glob_fault.GlobFault.TheVariants.{Class, TooLong}
 use Rattle.text_core.specs.declared.item.Item.{Item}
 
--- A text is these parts, one at least, with a bar between each two, and no part has a bar.
+-- A text is these parts, at least one, with bars between them, and no part has a bar.
 pub record AreParts (parts : List (List ℕ)) (t : List ℕ) : Type 0 where
   pub some : parts ≢ []
   pub joined : t ≡ join_with_byte bar parts

@@ -1,4 +1,4 @@
-//! What is true of texts and names as they are added and taken away, said by what is found in them.
+//! What is true of texts and names as they are added and taken away, in terms of what is found in them.
 //!
 //! Each function here is empty: its contract is the law.
 ghost use Rattle.std.specs.Prelude.{◌≡◌, ◌∷◌, ◌++◌, [], ◌||◌, ◌&&◌, not, true, false, if◌then◌else◌, is_some, Some, None, List};
@@ -41,7 +41,7 @@ pub fn removed_names_are_gone<V>()
     ensures { (pairs : List (Text × V)) (name other : Text) → value_of (without_name pairs name) other ≡ (if same_text other name then None else value_of pairs other) }
 {}
 
-/// A name is there where it has a value.
+/// A name is there if and only if it has a value.
 pub fn names_have_values<V>()
     ensures { (pairs : List (Text × V)) (name : Text) → named pairs name ≡ is_some (value_of pairs name) }
 {}

@@ -23,8 +23,8 @@ use Rattle.rule_core.specs.Effects.{lacks_effect}
 use Rattle.rule_core.specs.Style.{style_findings}
 use Rattle.rule_core.specs.Turns.{acts_by_turn, assignments_by_turn}
 
--- a rule as its line alone gives it: its names for jumps, its parts in the order of evaluation, and what is
--- nevertheless to be said about it
+-- a rule as its line alone gives it: its names for jumps, its parts in the order of evaluation, and the findings
+-- about it
 pub record Draft : Type 0 where
   pub label : Option (List ℕ)
   pub goto : Option (List ℕ)

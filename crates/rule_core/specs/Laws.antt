@@ -1,5 +1,5 @@
 -- What sorting the parts of a rule keeps, in which order they are then, which names are given twice, and how a line
--- is written about which nothing is to be said.
+-- is written about which there is no finding.
 use Rattle.std.specs.Prelude.{◌≡◌, ℕ, ◌+◌, ◌<◌, ◌≤◌, false, List, [], ◌∷◌, ◌++◌, ⊤, drop, filter_map, length}
 use Rattle.text_bytes.specs.Names.{comma, is_blank}
 use Rattle.text_bytes.specs.declared.message.MessageKind.TheVariants.{GivenTwice}

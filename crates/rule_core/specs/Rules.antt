@@ -46,7 +46,7 @@ abbrev pub name_in : Option (List ℕ) → List ℕ
 name_in None = []
 name_in (Some name) = name
 
--- what is to be said about a rule: first about its jump, and about its label last
+-- the findings about a rule: first about its jump, and about its label last
 abbrev pub findings_of : Draft → Landing → List Finding
 findings_of d l =
     (if l.lost then finding NoLaterLabel (name_in d.goto) ∷ [] else [])

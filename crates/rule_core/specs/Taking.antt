@@ -27,7 +27,7 @@ abbrev pub first_given : Option (List ℕ) → List ℕ → Option (List ℕ)
 first_given (Some name) later = Some name
 first_given None name = Some name
 
--- what is to be said about a name, by the one that was given before it
+-- the findings about a name, by the one that was given before it
 abbrev pub again : Option (List ℕ) → List ℕ → List Finding
 again None name = []
 again (Some name) later = finding GivenTwice later ∷ []
@@ -37,7 +37,7 @@ abbrev pub label_given : Profile → Option (List ℕ) → List ℕ → Option (
 label_given Manual earlier name = first_given earlier name
 label_given Udev earlier name = Some name
 
--- what is to be said about a label, by the one that counts of those before it
+-- the findings about a label, by the one that counts of those before it
 abbrev pub label_said : Profile → Option (List ℕ) → List ℕ → List Finding
 label_said Manual earlier name = again earlier name
 label_said Udev earlier name = lost_name earlier

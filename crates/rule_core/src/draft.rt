@@ -31,7 +31,7 @@ pub struct Draft {
     pub results: Vec<Comparison>,
     /// The assignments, by their kind; those of one kind in written order. udev has more kinds.
     pub sets: Vec<Assignment>,
-    /// What is to be said about the rule, in the order of messages.
+    /// The findings about the rule, in the order of messages.
     pub findings: Vec<Finding>,
 }
 

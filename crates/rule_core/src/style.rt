@@ -15,7 +15,7 @@ use rule_tokens::Token;
 use std::alloc::{AllocError, Global};
 use text_bytes::{MessageKind, Profile};
 
-/// Adds what is to be said about how a line is written, by the places of its tokens.
+/// Adds the findings about how a line is written, by the places of its tokens.
 pub(crate) fn add_style(
     alloc: Global,
     profile: Profile,
@@ -34,7 +34,7 @@ pub(crate) fn add_style(
     add_end(alloc, findings, line, place)
 }
 
-/// Adds what is to be said about a token and the gap before it, which begins at a place, or for the first token at
+/// Adds the findings about a token and the gap before it, which begins at a place, or for the first token at
 /// the start of the line.
 fn add_token(
     alloc: Global,
@@ -57,7 +57,7 @@ fn add_token(
     add_operator(alloc, profile, findings, token)
 }
 
-/// Adds what is to be said about the gap before the first token, which only udev skips.
+/// Adds the findings about the gap before the first token, which only udev skips.
 fn add_front(
     alloc: Global,
     profile: Profile,
@@ -77,7 +77,7 @@ fn add_front(
     Ok(())
 }
 
-/// Adds what is to be said about the gap before a token with this key.
+/// Adds the findings about the gap before a token with this key.
 fn add_gap(
     alloc: Global,
     profile: Profile,
@@ -99,7 +99,7 @@ fn add_gap(
     Ok(())
 }
 
-/// Adds what is to be said about the commas of the gap before a token with this key.
+/// Adds the findings about the commas of the gap before a token with this key.
 fn add_commas(
     alloc: Global,
     findings: &mut Vec<Finding>,
@@ -117,7 +117,7 @@ fn add_commas(
     Ok(())
 }
 
-/// Adds what is to be said about a token's operator.
+/// Adds the finding about a token's operator, if there is one.
 fn add_operator(
     alloc: Global,
     profile: Profile,
@@ -142,7 +142,7 @@ pub fn read_as_assign_kind(profile: Profile) -> MessageKind
     }
 }
 
-/// Adds what is to be said about the gap after the last token, which begins at a place.
+/// Adds the findings about the gap after the last token, which begins at a place.
 fn add_end(
     alloc: Global,
     findings: &mut Vec<Finding>,

@@ -100,6 +100,6 @@ abbrev pub fault_in : {A : Type 0} → Result A Finding → Option Finding
 fault_in (Ok x) = None
 fault_in (Err fault) = Some fault
 
--- a token is a part where no condition holds, else its fault is that of the first that does
+-- a token is a part if no condition holds, and otherwise its fault is that of the first that does
 abbrev pub FirstFaultCounts : Type 0
 FirstFaultCounts = (t : Placed) → fault_in (part_of Manual t) ≡ first_of (conditions t)

@@ -14,7 +14,7 @@ use Rattle.rule_core.specs.Rules.{file_rules, rule_at}
 abbrev pub well_landed : Landing
 well_landed = record { lost = false; unused = false }
 
--- a rule is a joined line just as it is written, its jump and its label included, and nothing is to be said about it
+-- a rule is a joined line just as it is written, its jump and its label included, and there is no finding about it
 pub record IsWritten (by : Profile) (file : List ℕ) (l : NumberedLine) (r : Rule) : Type 0 where
   pub draft : Draft
   pub reads : draft_of by l.text ≡ Ok draft

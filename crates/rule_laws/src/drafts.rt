@@ -25,7 +25,7 @@ pub fn names_given_again_are_told()
     ensures { (parts : List Part) (p : Part) → IsToldWhereAgain parts p }
 {}
 
-/// By the manual, for a line that is tokens to its end, nothing is to be said about how it is written if and only
+/// By the manual, for a line that is tokens to its end, there is no finding about how it is written if and only
 /// if each gap between tokens is blanks, one comma and blanks, at least one of them, only blanks are at the end,
 /// and no operator is read as `=`.
 pub fn plain_lines_are_passed()

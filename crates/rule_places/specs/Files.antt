@@ -42,14 +42,14 @@ abbrev pub name_spot : MessageKind → Option NamePlace → Spot
 name_spot kind None = spot kind [] 0 0
 name_spot kind (Some n) = spot kind n.name n.start n.size
 
--- what is to be said about a rule: first about its jump, and about its label last
+-- the findings about a rule: first about its jump, and about its label last
 abbrev pub rule_spots : RulePlaces → Landing → List Spot
 rule_spots r l =
     (if l.lost then name_spot NoLaterLabel r.goto ∷ [] else [])
     ++ (r.spots
     ++ (if l.unused then name_spot LabelUnused r.label ∷ [] else []))
 
--- what is to be said about a line
+-- the findings about a line
 abbrev pub spots_of : LineReading → Landing → List Spot
 spots_of (Rule r) l = rule_spots r l
 spots_of (Wrong found) l = found ∷ []

@@ -3,7 +3,7 @@ use Rattle.std.specs.Prelude.{List, [], Option, None}
 use Rattle.rule_places.specs.declared.found.NamePlace.{NamePlace}
 use Rattle.rule_places.specs.declared.spot.Spot.{Spot}
 
--- the names of the LABEL that counts and of its first GOTO, and what is to be said about it
+-- the names of the LABEL that counts and of its first GOTO, and the findings about it
 pub record RulePlaces : Type 0 where
   pub label : Option NamePlace
   pub goto : Option NamePlace

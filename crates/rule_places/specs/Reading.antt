@@ -1,4 +1,4 @@
--- A joined line, read for what is to be said about it and where.
+-- A joined line, read for the findings about it and their places.
 use Rattle.std.specs.Prelude.{ℕ, nat_lt, if◌then◌else◌, List, [], ◌∷◌, ◌++◌, length, Option, Some, None, Result, Ok, Err}
 use Rattle.text_bytes.specs.declared.message.MessageKind.TheVariants.{LineTooLong, GivenTwice, RuleWithoutEffect}
 use Rattle.text_bytes.specs.declared.profile.Profile.{Profile}
@@ -48,7 +48,7 @@ with_part by r t (part.Label name) = with_label by r t name
 with_part by r t (part.Goto name) = record { label = r.label; goto = first_name r.goto (name_place name t); spots = r.spots ++ again r.goto name t }
 with_part by r t _ = r
 
--- a token, read as a part of a rule, or what is to be said about it
+-- a token, read as a part of a rule, or the finding about it
 abbrev pub told : Placed → Result Part Finding → Result Part Spot
 told t (Ok p) = Ok p
 told t (Err found) = Err (part_spot found.kind t)
@@ -61,13 +61,14 @@ abbrev pub goes_on : Profile → RulePlaces → Placed → (RulePlaces → LineR
 goes_on by r t next (Ok p) = next (with_part by r t p)
 goes_on by r t next (Err found) = Wrong found
 
--- a rule with the tokens of these items, or what is to be said about the first item that is not a part of a rule
+-- a rule with the tokens of these items, or the finding about the first item that is not a part of a rule
 abbrev pub taken : Profile → List ℕ → RulePlaces → List Item → LineReading
 taken by line r [] = Rule r
 taken by line r (Ok t ∷ items) = goes_on by r t (λ s. taken by line s items) (part_told by t)
 taken by line r (Err fault ∷ items) = Wrong (token_spot fault.kind fault.at line)
 
--- a rule, and after what is to be said about it how its line is written; about one without an effect only that is
+-- a rule, and after the findings about it those about how its line is written; about one without an effect there is
+-- only that finding
 -- said
 abbrev pub finished : Profile → List ℕ → LineReading → LineReading
 finished by line (Rule r) =

@@ -1,4 +1,4 @@
--- What is to be said about parts of a joined line, with the places of these parts in it.
+-- Findings about parts of a joined line, with the places of these parts in it.
 use Rattle.std.specs.Prelude.{ℕ, ◌+◌, ◌-◌, Bool, true, false, if◌then◌else◌, List, length, drop}
 use Rattle.text_bytes.specs.declared.message.MessageKind.{MessageKind}
 use Rattle.text_bytes.specs.declared.message.MessageKind.TheVariants.{BadSyntax, BadPrefix, UnknownKey, OperatorNotAllowed, WrongAttribute, ReservedProperty}
@@ -10,7 +10,7 @@ use Rattle.rule_parts.specs.Parts.{meaning_of}
 use Rattle.rule_places.specs.Letters.{start_before_quote}
 use Rattle.rule_places.specs.declared.spot.Spot.{Spot}
 
--- what is to be said about a part of a line, reported with a text: the place of its first byte, and how many bytes it
+-- a finding about a part of a line, reported with a text: the place of its first byte, and how many bytes it
 -- has
 abbrev pub spot : MessageKind → List ℕ → ℕ → ℕ → Spot
 spot kind word start size = record { kind = kind; word = word; start = start; size = size }

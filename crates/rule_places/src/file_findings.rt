@@ -92,7 +92,7 @@ fn place_line(
     place_spots(found, kept, number, start, spots)
 }
 
-/// All that is to be said about a line.
+/// All findings about a line.
 fn spots_of(alloc: Global, read: LineReading, landing: Landing) -> Result<Vec<Spot>, AllocError>
     ensures { IfOk result (λ spots. spots.items ≡ spots_of read landing) }
 {
@@ -106,7 +106,7 @@ fn spots_of(alloc: Global, read: LineReading, landing: Landing) -> Result<Vec<Sp
     }
 }
 
-/// All that is to be said about a rule: first about its jump, and about its label last.
+/// All findings about a rule: first about its jump, and about its label last.
 fn rule_spots(alloc: Global, places: RulePlaces, landing: Landing) -> Result<Vec<Spot>, AllocError>
     ensures { IfOk result (λ spots. spots.items ≡ rule_spots places landing) }
 {
@@ -131,7 +131,7 @@ fn rule_spots(alloc: Global, places: RulePlaces, landing: Landing) -> Result<Vec
     Ok(all)
 }
 
-/// Adds what is to be said about a name, if anything is.
+/// Adds a finding about a name, if anything is wrong with it.
 fn tell_name(
     alloc: Global,
     spots: &mut Vec<Spot>,
@@ -147,7 +147,7 @@ fn tell_name(
     Ok(())
 }
 
-/// What is to be said about a name, which is empty if there is none.
+/// A finding about a name, which is empty if there is none.
 fn name_spot(alloc: Global, kind: MessageKind, given: Option<NamePlace>) -> Spot
     ensures { result ≡ name_spot kind given }
 {

@@ -22,7 +22,7 @@ pub struct RulePlaces {
     pub label: Option<NamePlace>,
     /// The name of its first GOTO.
     pub goto: Option<NamePlace>,
-    /// What is to be said about it, in the order of messages.
+    /// The findings about it, in the order of messages.
     pub spots: Vec<Spot>,
 }
 

@@ -2,7 +2,7 @@
 
 use text_bytes::{Bytes, MessageKind};
 
-/// What is to be said about a rules file, with the place in the file that it is about.
+/// A finding about a rules file, with the place in the file that it is about.
 #[derive(Debug, Drop)]
 pub struct PlacedFinding {
     /// The line number that the message gives, counted from 1: that of the rule's first line, or for udev of its
@@ -14,7 +14,7 @@ pub struct PlacedFinding {
     pub column: u32,
     /// The column after the last byte of the place that is in that same line.
     pub end: u32,
-    /// What is to be said.
+    /// What is found.
     pub kind: MessageKind,
     /// The whole text of which the message gives the first 32 bytes.
     pub word: Bytes,

@@ -1,4 +1,4 @@
-//! The joined lines of a file, each read for what is to be said about it.
+//! The joined lines of a file, each read for the findings about it.
 ghost use Rattle.std.specs.Prelude.{◌≡◌, IfOk, map, option_map};
 ghost use Rattle.rule_jumps.specs.Jumps.{landings};
 ghost use Rattle.rule_places.specs.Files.{names_of, readings_from};

@@ -12,7 +12,7 @@ use rule_tokens::Token;
 use std::alloc::{AllocError, Global};
 use text_bytes::{Bytes, MessageKind, Profile, ends_in};
 
-/// Adds what is to be said about how a line is written, by the places of its tokens.
+/// Adds the findings about how a line is written, by the places of its tokens.
 pub fn add_style(
     alloc: Global,
     profile: Profile,
@@ -31,7 +31,7 @@ pub fn add_style(
     add_end(alloc, spots, line, place)
 }
 
-/// Adds what is to be said about a token and the gap before it, which begins at a place, or else at the line's
+/// Adds the findings about a token and the gap before it, which begins at a place, or else at the line's
 /// start.
 fn add_token(
     alloc: Global,
@@ -56,7 +56,7 @@ fn add_token(
     add_operator(alloc, profile, spots, token)
 }
 
-/// Adds what is to be said about the gap before the first token.
+/// Adds the findings about the gap before the first token.
 fn add_front(
     alloc: Global,
     profile: Profile,
@@ -71,7 +71,7 @@ fn add_front(
     }
 }
 
-/// Adds what is to be said about the gap before a token.
+/// Adds the findings about the gap before a token.
 fn add_gap(
     alloc: Global,
     profile: Profile,
@@ -93,7 +93,7 @@ fn add_gap(
     Ok(())
 }
 
-/// Adds what is to be said about the commas of the gap before a token.
+/// Adds the findings about the commas of the gap before a token.
 fn add_commas(
     alloc: Global,
     spots: &mut Vec<Spot>,
@@ -111,7 +111,7 @@ fn add_commas(
     Ok(())
 }
 
-/// Adds what is to be said about a token's operator.
+/// Adds the finding about a token's operator, if there is one.
 fn add_operator(
     alloc: Global,
     profile: Profile,
@@ -126,7 +126,7 @@ fn add_operator(
     Ok(())
 }
 
-/// Adds what is to be said about the gap after the last token, which begins at a place.
+/// Adds the findings about the gap after the last token, which begins at a place.
 fn add_end(
     alloc: Global,
     spots: &mut Vec<Spot>,

@@ -7,7 +7,7 @@ use Rattle.rule_tokens.specs.Values.{Means, has_escapes}
 use Rattle.rule_tokens.specs.Grammar.{Parts, Placed, Item, Lexes, answers, is_gap_byte}
 use Rattle.rule_tokens.specs.Reading.{token_at, unquoted}
 
--- The items of a text of this length that begins with what was read, where more gives those that follow at a place.
+-- The items of a text of this length that begins with what was read, if more gives those that follow at a place.
 unfoldable pub items_after : (ℕ → List ℕ → List Item) → ℕ → ℕ → Result (Parts × List ℕ) TokenFaultKind → List Item
 items_after more at len (Err kind) = Err (record { at = at; kind = kind }) ∷ []
 items_after more at len (Ok x) =

@@ -109,7 +109,7 @@ unfoldable pub piece_at : Bool → List ℕ → Option Piece
 piece_at escaped [] = None
 piece_at escaped (b ∷ rest) = if_piece escaped (front escaped b rest)
 
--- A piece and those after it, where more gives those after so many bytes.
+-- A piece and those after it, if more gives those after so many bytes.
 abbrev pub pieces_from : (ℕ → List Piece) → Option Piece → List Piece
 pieces_from more None = []
 pieces_from more (Some p) = p ∷ more (length (drop 1 (spelling p)))

@@ -29,7 +29,7 @@ use text_tables::OwnedPairs;
 /// The most bytes of a name.
 const MOST_NAME: usize = 127;
 
-/// Adds a property of a prefix and a text after it, where there is one and both are not too long.
+/// Adds a property of a prefix and the text after it, if there is one and both together are not too long.
 #[tactic(auto, unfolding(crate::specs::Names::given))]
 fn give(
     alloc: Global,
@@ -146,7 +146,7 @@ fn slot_text(alloc: Global, f: Function, tail: &[u8], slot: Slot) -> Result<Vec<
     Ok(text)
 }
 
-/// The name by the slot of a function, where it is in one.
+/// The name by the slot of a function, if it is in one.
 fn by_slot<'a>(
     alloc: Global,
     devices: &Devices<'a>,
@@ -174,7 +174,7 @@ fn give_path(
     give(alloc, names, b"ID_NET_NAME_PATH", prefix.text(), Some(text))
 }
 
-/// Gives the name by the slot of a function, where it is in one.
+/// Gives the name by the slot of a function, if it is in one.
 fn give_slot<'a>(
     alloc: Global,
     names: &mut Vec<(Bytes, Bytes)>,
@@ -207,7 +207,7 @@ fn give_with_tail<'a>(
     give_slot(alloc, names, devices, prefix, pci, f, tail)
 }
 
-/// Gives both names of a device, where it is a function.
+/// Gives both names of a device, if it is a function.
 #[tactic(auto, unfolding(crate::specs::Names::by_function))]
 fn give_by_function<'a>(
     alloc: Global,
@@ -444,7 +444,7 @@ fn give_by_bcma(
     }
 }
 
-/// Gives the names by what the device above is called.
+/// Gives the names by the name of the device above.
 #[tactic(auto, unfolding(crate::specs::Names::by_kernels))]
 fn give_by_kernels(
     alloc: Global,

@@ -1,4 +1,4 @@
--- Names of attributes that name a device, too, as udev has them: `[SUBSYSTEM/KERNEL]ATTRIBUTE`.
+-- Names of attributes that also name a device, as udev has them: `[SUBSYSTEM/KERNEL]ATTRIBUTE`.
 use Rattle.std.specs.Prelude.{ℕ, Bool, false, ◌&&◌, if◌then◌else◌, [], ◌∷◌, length, drop, Option, Some, None, position}
 use Rattle.std.specs.List.{range_with_len}
 use Rattle.text_bytes.specs.Names.{close_bracket, open_bracket, slash}

@@ -1,4 +1,4 @@
-//! What is to be run, as udev takes it in: rendered at its rule, as often as it is given.
+//! What is to be run, as udev collects it: rendered at its rule, as often as it is given.
 ghost use Rattle.std.specs.Prelude.{◌≡◌, ◌++◌, ◌∷◌, [], OnOk, OnErr};
 
 use crate::runs::Run;
@@ -47,7 +47,7 @@ impl<'a> MadeRuns<'a> {
         &self.held
     }
 
-    /// Takes all away.
+    /// Removes all.
     pub fn clear(&mut self)
         ensures { self.new ≡ [] }
     {

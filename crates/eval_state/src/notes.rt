@@ -19,12 +19,12 @@ pub struct Note {
     pub line: u32,
     /// What was not done.
     pub kind: NoteKind,
-    /// The first 32 bytes of the text that it is about, before they are escaped.
+    /// The first 32 bytes of the text that it is about, before escaping.
     pub word: Bytes,
 }
 
 impl Note {
-    /// The note that something of a rule was not done, reported with a text.
+    /// The note that something in a rule was not done, reported with a text.
     pub fn about(
         alloc: Global,
         rule: &Rule,

@@ -69,7 +69,6 @@ taken by line r (Err fault ∷ items) = Wrong (token_spot fault.kind fault.at li
 
 -- a rule, and after the findings about it those about how its line is written; about one without an effect there is
 -- only that finding
--- said
 abbrev pub finished : Profile → List ℕ → LineReading → LineReading
 finished by line (Rule r) =
     if lacks_effect by (tokens_of (items_as by line)) then Wrong (spot RuleWithoutEffect [] 0 (length line))

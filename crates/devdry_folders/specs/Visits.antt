@@ -1,4 +1,5 @@
--- The folders and files that a line asks for, and what came of each, as it comes from the answers that a disk may give.
+-- The folders and files that a line asks for, and the outcome of each visit, as it comes from the answers that a disk
+-- may give.
 use Rattle.std.specs.Prelude.{◌≡◌, ◌++◌, ◌∷◌, ℕ, All, true, false, IsPermutation, IsSorted, List, [], None, Option, Some, String, if◌then◌else◌, map, nat_eq, string_bytes}
 use Rattle.std.specs.List.{ends_with}
 use Rattle.std.specs.String.{string_cmp}

@@ -18,7 +18,7 @@ asks text place = same_text text place.0 || same_text text (place.0 ++ colon ∷
 abbrev pub is_asked : List Text → Text → ℕ → Bool
 is_asked why file line = list_any (λ text. asks text (file, line)) why
 
--- whether a kind of message says that a line of rules was not read: the V messages except those that leave the rule
+-- whether a kind of message says that a line of rules was not read: V1 to V6 and V9 to V12
 abbrev pub is_of_unread : MessageKind → Bool
 is_of_unread BadSyntax = true
 is_of_unread UnknownKey = true

@@ -1,4 +1,4 @@
--- How udev of systemd 257 compares what it compares otherwise than the manual has it.
+-- How udev of systemd 257 compares, where this differs from the manual.
 use Rattle.std.specs.Prelude.{ℕ, ◌-◌, Bool, false, not, ◌||◌, ◌==◌, if◌then◌else◌, List, length, map, take, slice_get, Option, Some, None, codes}
 use Rattle.std.specs.Char.{to_ascii_lowercase}
 use Rattle.std.specs.List.{prefix_len, suffix_len, list_any}
@@ -13,15 +13,15 @@ abbrev pub passes : {A : Type 0} → (A → Bool) → Option A → Bool
 passes test None = false
 passes test (Some x) = test x
 
--- whether a list has a last element, and that passes
+-- whether a list has a last element, and it passes
 abbrev pub last_is : {A : Type 0} → (A → Bool) → List A → Bool
 last_is test xs = passes test (slice_get xs (length xs - 1))
 
--- whether a value is one of the three words of which udev takes each for all three
+-- whether a value is one of the three words each of which udev takes for all three
 abbrev pub means_each : Text → Bool
 means_each value = same_text value (codes "subsystem") || (same_text value (codes "bus") || same_text value (codes "class"))
 
--- a text as it is compared with a word of small letters, by whether case is ignored
+-- a text as it is compared with a word of lower case letters, by whether case is ignored
 abbrev pub as_spelled : Bool → Text → Text
 as_spelled blind text = if blind then map to_ascii_lowercase text else text
 

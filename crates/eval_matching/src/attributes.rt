@@ -25,7 +25,7 @@ pub enum Attribute<'a> {
     NotRead,
 }
 
-/// An attribute of the device at a place of the chain, where there is such a device and the device has it.
+/// An attribute of the device at a place of the chain, if there is such a device and it has the attribute.
 fn attribute_of<'a>(chain: &Chain<'a>, name: &[u8], place: usize) -> Option<&'a [u8]>
     ensures { option_map (λ value. value.now) result ≡ attribute_of chain.now name.now place }
 {
@@ -49,7 +49,7 @@ fn is_elsewhere(chain: &Chain<'_>, named: Option<Named<'_>>) -> bool
     }
 }
 
-/// Whether udev would read an attribute of this name where a dry run does not.
+/// Whether udev would read an attribute of this name that a dry run does not read.
 fn is_unknown(name: &[u8], chain: &Chain<'_>) -> bool
     ensures { result ≡ is_unknown name.now chain.now }
 {
@@ -83,7 +83,7 @@ fn value_at<'a>(chain: &Chain<'a>, name: &[u8], place: usize) -> &'a [u8]
     }
 }
 
-/// An attribute of the device that is at a place, if a place was found.
+/// An attribute of the device that is at a place, if there is a place.
 fn found_value<'a>(chain: &Chain<'a>, name: &[u8], found: Option<usize>) -> Option<&'a [u8]>
     ensures { option_map (λ value. value.now) result ≡ found_value chain.now name.now found }
 {

@@ -1,4 +1,4 @@
-//! Laws of what udev compares, each the contract of a function that does nothing.
+//! Laws of what udev compares, each the contract of a function with an empty body.
 ghost use Rattle.std.specs.Prelude.{◌≡◌, ◌&&◌, ◌++◌, ◌∷◌, ℕ, [], Option, Some, None, not, true, false};
 ghost use Rattle.std.specs.List.{list_all, list_any};
 ghost use Rattle.text_bytes.specs.Names.{bar, open_bracket};
@@ -19,7 +19,7 @@ ghost use Rattle.eval_matching.specs.Holding.{holds, udev_attribute, udev_unread
 ghost use Rattle.eval_matching.specs.Subjects.{plain_subject};
 ghost use Rattle.eval_matching.specs.Udev.{capped, first_part, is_cut, last_is, without_end};
 
-/// As udev has it ATTR of an attribute that the device does not have fails, with `==` and with `!=`.
+/// For udev, ATTR with an attribute that the device does not have fails, with `==` and with `!=`.
 pub fn an_absent_attribute_fails_both()
     ensures { (name : Text) (state : State) (wanted : Comparison) → state.event.profile ≡ profile.Udev → begins_with open_bracket name ≡ false → value_of state.event.device.attrs name ≡ None → holds (plain_subject (plain.Attr name) state) wanted ≡ false }
 {}

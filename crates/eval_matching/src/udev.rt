@@ -1,4 +1,4 @@
-//! How udev of systemd 257 compares what it compares otherwise than the manual has it.
+//! How udev of systemd 257 compares, where this differs from the manual.
 ghost use Rattle.std.specs.Prelude.{◌≡◌, ◌≤◌, codes, length, map, not, option_map};
 ghost use Rattle.std.specs.Char.{to_ascii_lowercase};
 ghost use Rattle.std.specs.List.{list_any, prefix_len, suffix_len};
@@ -14,7 +14,7 @@ use text_bytes::{is_blank, is_whitespace};
 /// The most bytes of an attribute that are compared, where it is compared without its end.
 const MOST_COMPARED: usize = 511;
 
-/// Whether a value is one of the three words of which udev takes each for all three.
+/// Whether a value is one of the three words each of which udev takes for all three.
 fn means_each(value: &[u8]) -> bool
     ensures { result ≡ means_each value.now }
 {

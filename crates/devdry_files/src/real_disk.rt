@@ -3,7 +3,6 @@
 //! This is the one place where files are opened. Its `may_answer` allows each answer, since no contract can say
 //! what the system gives; that the answers are those of the disk is shown by tests. So it is kept thin: what is
 //! made from an answer of the system (a listing, an open file or an error) is said by clauses of their own.
-//! is said by clauses of their own.
 ghost use Rattle.std.specs.Fs.{dir_entry_name};
 ghost use Rattle.std.specs.IoError.{error_kind};
 ghost use Rattle.std.specs.Iterator.{Drains, IsFinite};

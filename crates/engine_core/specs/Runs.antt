@@ -18,7 +18,7 @@ RunsBy line (Ok opening) status before now = AnswersAll opening.messages (answer
 RunsBy line (Err said) status before now = Reports said status before now
 
 -- A run over the outcome of opening its index: what is written and answered is one function of the line, the files,
--- the index and the input; and so is each step.
+-- the index and the input, also step by step.
 pub record RunsOver (line : Line) (files : List SourceFile) (index : Option Text) (status : ℕ) (before now : Streams) : Type 0 where
   pub opened : Option (Result Contents IndexFault)
   pub opens : Opens index opened

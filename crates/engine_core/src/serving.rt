@@ -38,8 +38,7 @@ pub fn serve<R: Source, W: Sink, E: Sink>(
     output: &mut W,
     error: &mut E,
 ) -> u8
-    // What is written and answered is one function of the line, the files, the index and the input; and so is each
-    // step.
+    // What is written and answered is one function of the line, the files, the index and the input, also step by step.
     ensures runs { RunsOver line.now files.items (option_map (λ bytes. bytes.now) index.entry) result
         (record { input = R.shown input.old; out = W.shown output.old; err = E.shown error.old })
         (record { input = R.shown input.new; out = W.shown output.new; err = E.shown error.new }) }

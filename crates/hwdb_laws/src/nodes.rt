@@ -10,7 +10,6 @@ ghost use Rattle.hwdb_laws.specs.TreePaths.{ArePaths, HasOneParent};
 /// For any nodes that have the shape of a tree: the root's path is empty, and that of a child is its parent's and
 /// after it the child's own label; no other paths are so. Each node but the root is the child of just one node,
 /// which comes before it, and the root is the child of none.
-/// child of just one node, which comes before it, and the root is the child of none.
 pub fn paths_lead_from_the_root()
     ensures paths { (nodes : List Node) → Shape nodes → ArePaths nodes (path nodes) }
     ensures no_others { (nodes : List Node) (other : ℕ → List Item) → Shape nodes → ArePaths nodes other → (i : ℕ) → i < length nodes → other i ≡ path nodes i }

@@ -1,7 +1,7 @@
 //! Whether an event is answered alike by `serve`, by the rules as they were read and by their program.
 //!
 //! Whole answers are compared, so that what a test says about one of them is said about all three. Each function
-//! owns one large value, and returns it by name: if it is returned unnamed, all its parts are gone through once
+//! owns one large value, and returns it by name: if it is returned unnamed, all its parts are visited once
 //! more at each way out.
 use crate::running::{Given, files_of, line, run_by};
 use device_core::{Event, read_block};

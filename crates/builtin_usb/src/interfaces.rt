@@ -129,7 +129,7 @@ fn two_digits(byte: u8) -> [u8; 2]
     ]
 }
 
-/// Puts an interface after a text.
+/// Appends an interface to a text.
 fn push_interface(text: &mut Vec<u8>, interface: &Interface) -> Result<(), AllocError>
     ensures { OnOk result (text.new.items ≡ text.old.items ++ written interface.now) }
 {

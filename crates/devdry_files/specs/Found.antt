@@ -81,7 +81,7 @@ pub record AreWanted (may : Answer → Type 0) (w : Wanted) (files : List Source
   pub are_named : AreNamed may w.kind (map (λ f. f.now) w.files.now) named
   pub are_found : AreInFolders may w.folders.items found
 
--- the bytes that the disk may say are at the path, if there is a path, and none where there isn't
+-- the bytes that the disk may say are at the path, if there is a path, and none if there isn't
 abbrev pub IsContentAt : (Answer → Type 0) → Option (List ℕ) → Option (List ℕ) → Type 0
 IsContentAt may (Some path) (Some bytes) = may (Content path bytes)
 IsContentAt may (Some path) None = ⊥

@@ -1,4 +1,4 @@
--- Serves inner proofs only: how many of each line are left while lines are taken away.
+-- Serves inner proofs only: how many of each line are left while lines are removed.
 use Rattle.std.specs.Prelude.{◌≡◌, ℕ, List}
 use Rattle.std.specs.Option.{unwrap_or}
 use Rattle.text_tables.specs.Texts.{Text}

@@ -1,7 +1,7 @@
 //! Turns: one read, and the answers then due.
 //!
 //! Each answer is written and flushed as it comes, before the next block is looked at, so that whoever feeds one
-//! event and waits gets its answer, and a fault takes away none of those before it.
+//! event and waits gets its answer, and a fault removes none of those before it.
 ghost use Rattle.std.specs.Prelude.{◌≡◌, ◌≤◌, true, false, [], length, IfOk, IfErr, OnOk, OnErr};
 ghost use Rattle.std.specs.Option.{option_to_list};
 ghost use Rattle.device_core.specs.RunBlocks.{most_bytes};

@@ -1,4 +1,4 @@
--- Serves inner proofs only: numbers by which texts can be told apart.
+-- Serves inner proofs only: numbers by which texts can be distinguished.
 use Rattle.std.specs.Prelude.{ℕ, ◌+◌, ◌*◌, ◌%◌, ◌^◌, Bool, false, not, if◌then◌else◌, List, [], ◌∷◌, fold, Option, Some, None}
 use Rattle.std.specs.List.{list_all}
 use Rattle.text_bytes.specs.Names.{is_whitespace}

@@ -1,4 +1,4 @@
-//! Numbers by which texts can be told apart.
+//! Numbers by which texts can be distinguished.
 //!
 //! Texts with different sketches are different; those with the same sketch still have to be compared. So a sketch
 //! of each text nearly always suffices to see that a choice does not fit.

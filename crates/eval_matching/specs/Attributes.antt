@@ -42,7 +42,7 @@ is_not_read_by profile.Udev name event = is_unknown name event
 unfoldable pub is_not_read : Text → EventValue → Bool
 is_not_read name event = is_not_read_by event.profile name event
 
--- an attribute of the device that is at a place, if there is a place: empty where the device has none, and cut
+-- an attribute of the device that is at a place, if there is a place: empty if the device has none, and cut
 abbrev pub found_value : EventValue → Text → Option ℕ → Option Text
 found_value event name found = option_map (λ place. capped (or_empty (attribute_of event name place))) found
 

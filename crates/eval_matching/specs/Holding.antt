@@ -39,7 +39,7 @@ is_whitespace_item _ = false
 abbrev pub ends_in_whitespace : List (List Item) → Bool
 ends_in_whitespace choice = last_is (last_is is_whitespace_item) choice
 
--- an attribute as it is compared: the whitespace at its end counts only where the choice has some there
+-- an attribute as it is compared: the whitespace at its end counts only if the choice has some there
 abbrev pub as_compared : List (List Item) → Text → Text
 as_compared choice text = if ends_in_whitespace choice then text else trimmed text
 

@@ -34,7 +34,7 @@ subsystem_fits wanted text =
 abbrev pub members_fit : Comparison → List Text → Bool
 members_fit wanted texts = same_text wanted.written (codes "?*") || list_any (choice_fits wanted.choice) texts
 
--- the first of the texts between bars that is not empty; the empty text where there is none
+-- the first of the texts between bars that is not empty; the empty text if there is none
 abbrev pub first_part : Text → Text
 first_part value = let behind = skip_while is_bar value in take (prefix_len (λ b. not (is_bar b)) behind) behind
 
@@ -46,7 +46,7 @@ trims value = last_is (λ b. not (is_whitespace b)) (first_part value)
 abbrev pub is_cut : ℕ → Bool
 is_cut b = is_blank b || (b == newline || b == carriage_return)
 
--- the most bytes of an attribute that are compared, where it is compared without its end
+-- the most bytes of an attribute that are compared if it is compared without its end
 abbrev pub most_compared : ℕ
 most_compared = 511
 

@@ -73,7 +73,7 @@ pub fn is_not_read(name: &[u8], chain: &Chain<'_>) -> bool
     }
 }
 
-/// An attribute of the device at a place, empty where the device has none, and cut.
+/// An attribute of the device at a place, empty if the device has none, and cut.
 fn value_at<'a>(chain: &Chain<'a>, name: &[u8], place: usize) -> &'a [u8]
     ensures { result.now ≡ capped (or_empty (attribute_of chain.now name.now place)) }
 {
@@ -128,8 +128,8 @@ fn udev_attribute<'a>(chain: &Chain<'a>, place: usize, name: &[u8]) -> Attribute
 }
 
 /// What a match of ATTR or ATTRS looks at, at a place of the chain: by the manual the attribute of the device there; as
-/// udev of systemd 257 has it, that of a device of the chain where the name is `[SUBSYSTEM/KERNEL]ATTRIBUTE`, which is
-/// empty where that device has none, and its first 511 bytes.
+/// udev of systemd 257 has it, that of a device of the chain if the name is `[SUBSYSTEM/KERNEL]ATTRIBUTE`, which is
+/// empty if that device has none, and its first 511 bytes.
 pub fn attribute_at<'a>(state: &State<'a>, place: usize, name: &[u8]) -> Attribute<'a>
     ensures { lent_subject result ≡ attribute_by state.now.event.profile name.now state.now.event (attribute_of state.now.event name.now place) }
 {

@@ -25,7 +25,7 @@ pub fn an_absent_attribute_fails_both()
 {}
 
 /// A name that names a device of the chain, and an attribute, looks at that attribute of that device, and the device's
-/// own attribute does not matter; it is empty where the device has none. Of a device that is not in the chain it is
+/// own attribute does not matter; it is empty if the device has none. Of a device that is not in the chain it is
 /// not read.
 pub fn a_named_device_is_looked_at()
     ensures there { (text : Text) (event : EventValue) (own : Option Text) (n : NamedValue) (place : ℕ) (device : DeviceValue) → named (open_bracket ∷ text) ≡ Some n → is_empty n.attribute ≡ false → named_place n event ≡ Some place → device_at event place ≡ Some device → udev_subject (open_bracket ∷ text) event own ≡ udev_attribute (Some (capped (or_empty (value_of device.attrs n.attribute)))) }

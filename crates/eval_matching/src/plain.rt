@@ -11,7 +11,7 @@ use eval_state::State;
 use rule_types::{Comparison, PlainKey, PlainMatch};
 use text_bytes::Profile;
 
-/// The assigned name, empty where there is none.
+/// The assigned name, empty if there is none.
 fn name<'s>(state: &'s State<'_>) -> &'s [u8]
     ensures { result.now ≡ or_empty state.now.name }
 {

@@ -11,7 +11,7 @@ use crate::holding::{agrees, some_fits, some_given_fits};
 use rule_types::Comparison;
 use text_bytes::{is_blank, is_whitespace};
 
-/// The most bytes of an attribute that are compared, where it is compared without its end.
+/// The most bytes of an attribute that are compared if it is compared without its end.
 const MOST_COMPARED: usize = 511;
 
 /// Whether a value is one of the three words each of which udev takes for all three.
@@ -21,14 +21,14 @@ fn means_each(value: &[u8]) -> bool
     value == b"subsystem".as_slice() || value == b"bus".as_slice() || value == b"class".as_slice()
 }
 
-/// Whether two texts have the same bytes, where the case of ASCII letters is ignored.
+/// Whether two texts have the same bytes, ignoring the case of ASCII letters.
 fn same_in_any_case(text: &[u8], other: &[u8]) -> bool
     ensures { result ≡ same_text (map to_ascii_lowercase text.now) (map to_ascii_lowercase other.now) }
 {
     text.eq_ignore_ascii_case(other)
 }
 
-/// Whether a text is one of these words, where the case of ASCII letters is ignored.
+/// Whether a text is one of these words, ignoring the case of ASCII letters.
 fn means_each_in_any_case(text: &[u8]) -> bool
     ensures { result ≡ means_each (map to_ascii_lowercase text.now) }
 {
@@ -120,7 +120,7 @@ fn before_bar(text: &[u8]) -> usize
     text.iter().take_while(|byte| **byte != b'|').count()
 }
 
-/// The first of the texts between bars that is not empty; the empty text where there is none.
+/// The first of the texts between bars that is not empty; the empty text if there is none.
 fn first_part(value: &[u8]) -> &[u8]
     ensures { result.now ≡ first_part value.now }
 {

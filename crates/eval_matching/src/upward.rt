@@ -15,7 +15,7 @@ use eval_state::State;
 use rule_types::{Comparison, UpKey, UpMatch};
 use text_bytes::Profile;
 
-/// The subsystem of the device at a place, empty where there is none.
+/// The subsystem of the device at a place, empty if there is none.
 pub fn subsystem_at<'a>(state: &State<'a>, place: usize) -> &'a [u8]
     ensures { result.now ≡ or_empty (option_and_then (λ device. device.subsystem) (device_at state.now.event place)) }
 {
@@ -25,7 +25,7 @@ pub fn subsystem_at<'a>(state: &State<'a>, place: usize) -> &'a [u8]
     }
 }
 
-/// The driver of the device at a place, empty where there is none.
+/// The driver of the device at a place, empty if there is none.
 pub fn driver_at<'a>(state: &State<'a>, place: usize) -> &'a [u8]
     ensures { result.now ≡ or_empty (option_and_then (λ device. device.driver) (device_at state.now.event place)) }
 {

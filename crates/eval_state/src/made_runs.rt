@@ -54,7 +54,7 @@ impl<'a> MadeRuns<'a> {
         self.held.clear();
     }
 
-    /// Adds one at the end. Where memory runs out, what is to be run stays as it is.
+    /// Adds one at the end. If memory runs out, what is to be run stays as it is.
     pub fn push(&mut self, made: MadeRun<'a>) -> Result<(), AllocError>
         ensures runs { OnOk result (self.new ≡ self.old ++ made.entry ∷ []) }
         ensures refused { OnErr result (self.new ≡ self.old) }

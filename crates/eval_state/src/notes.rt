@@ -89,7 +89,7 @@ impl Notes {
         &self.held
     }
 
-    /// Adds a note at the end. Where memory runs out, the notes stay as they are.
+    /// Adds a note at the end. If memory runs out, the notes stay as they are.
     pub fn add(&mut self, note: Note) -> Result<(), AllocError>
         ensures notes { OnOk result (self.new ≡ self.old ++ note ∷ []) }
         ensures refused { OnErr result (self.new ≡ self.old) }

@@ -169,7 +169,7 @@ impl<'a> Runs<'a> {
         self.held.clear();
     }
 
-    /// Adds a RUN at the end, unless it is there or its written text is empty. Where memory runs
+    /// Adds a RUN at the end, unless it is there or its written text is empty. If memory runs
     /// out, the runs stay as they are.
     fn add(&mut self, run: Run<'a>) -> Result<(), AllocError>
         ensures runs { OnOk result (self.new ≡ with_run self.old run.entry) }
@@ -194,7 +194,7 @@ impl<'a> Runs<'a> {
     /// Applies a RUN by its operator: `+=` adds it unless the same one is there, any other operator makes it the
     /// only one. One whose written text is empty is left out.
     ///
-    /// Where memory runs out, the runs stay as they are.
+    /// If memory runs out, the runs stay as they are.
     pub fn change(
         &mut self,
         alloc: Global,

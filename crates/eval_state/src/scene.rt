@@ -102,7 +102,7 @@ impl<'a> Scene<'a> {
         self.ran = Ran::none();
     }
 
-    /// Leaves a note that something in a rule was not done, reported with a text. Where memory runs
+    /// Leaves a note that something in a rule was not done, reported with a text. If memory runs
     /// out, the scene stays as it is.
     pub fn note(
         &mut self,
@@ -117,7 +117,7 @@ impl<'a> Scene<'a> {
         self.notes.add(Note::about(alloc, rule, kind, text)?)
     }
 
-    /// Leaves a note that names a key, with its attribute if it has one. Where memory runs out, the scene stays as it
+    /// Leaves a note that names a key, with its attribute if it has one. If memory runs out, the scene stays as it
     /// is.
     pub fn note_key(
         &mut self,
@@ -135,7 +135,7 @@ impl<'a> Scene<'a> {
     }
 
     /// Leaves a note that a text for a key was too long; the note names the key, with its attribute if
-    /// it has one. Where memory runs out, the scene stays as it is.
+    /// it has one. If memory runs out, the scene stays as it is.
     pub fn note_too_long(
         &mut self,
         alloc: Global,

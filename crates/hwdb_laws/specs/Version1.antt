@@ -1,4 +1,4 @@
--- The index file of version 1, said of it alone: what a file has to be, and what it lists; the names end in 1. The
+-- The index file of version 1, stated for it alone: what a file has to be, and what it lists; the names end in 1. The
 -- header, the nodes, their shape and how a number is read are those of both versions. Whatever depends on the length
 -- of a value, or on what is in one, is said here again.
 use Rattle.std.specs.Prelude.{◌≡◌, ℕ, ◌+◌, ◌*◌, ◌<◌, ◌≤◌, ◌==◌, if◌then◌else◌, List, [], IsTrue, flat_map, length, map, nat_eq, take, drop}

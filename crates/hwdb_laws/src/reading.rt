@@ -27,7 +27,7 @@ pub fn an_index_of_version_1()
 
 /// The law of files of version 1.
 ///
-/// What is said of version 1 by itself, with no word of version 2, is what the definitions for both say. A file of
+/// What is said about version 1 by itself, with no word of version 2, is what the definitions for both say. A file of
 /// version 1 passes the same checks, so that the same files are an index. Such a file has the same nodes, lists the
 /// same entries, each with no file and line 0, and answers as these do.
 pub fn indexes_of_version_1_are_kept()

@@ -26,7 +26,7 @@ rank kind.LabelUnused = 14
 rank other = 0
 
 -- a message may come before another: its line is not after the other's, and for the same line its kind is not; lines
--- over the greatest number that is reported can't be told apart
+-- over the greatest number that is reported can't be distinguished
 pub record StandsBefore (m n : Message) : Type 0 where
   pub line : m.line ≤ n.line
   pub rank : m.line ≡ n.line → m.line < 2 ^ 32 - 1 → rank m.kind ≤ rank n.kind

@@ -1,4 +1,4 @@
--- What is said of a text that is not a template.
+-- What is said about a text that is not a template.
 use Rattle.std.specs.Prelude.{ℕ, List, codes}
 use Rattle.rule_templates.specs.declared.fault.TemplateFault.{TemplateFault}
 use Rattle.rule_templates.specs.declared.fault.TemplateFault.TheVariants.{Unknown, Brace, Number, Memory}

@@ -24,7 +24,7 @@ pub enum AssignOperator {
     Assign,
     /// `+=`: the value is added.
     Add,
-    /// `-=`: the value is taken away.
+    /// `-=`: the value is removed.
     Remove,
     /// `:=`: as `=`, and later changes are ignored.
     AssignFinal,

@@ -14,7 +14,7 @@ use std::alloc::{AllocError, Global};
 use std::collections::BTreeMap;
 
 /// The files whose names end in a suffix, sorted by name, byte by byte; of equal names the file of least rank
-/// stays, and of equal ranks the one passed in first. This is what hwdb(7) says of files of one name in several
+/// stays, and of equal ranks the one passed in first. This is what hwdb(7) says about files of one name in several
 /// folders.
 ///
 /// Fails if memory runs out; the files are dropped then.

@@ -63,7 +63,7 @@ pub enum MessageKind {
     RuleWithoutEffect,
     /// V19: a RESULT comes before the PROGRAM that it asks about.
     ResultBeforeProgram,
-    /// V20: a value is empty where it has to say something.
+    /// V20: a value is empty although it has to say something.
     EmptyValue,
     /// V21: the name of an attribute has an invalid substitution.
     BadAttributeSubstitution,

@@ -1,4 +1,4 @@
--- What is said of a text that is not a pattern.
+-- What is said about a text that is not a pattern.
 use Rattle.std.specs.Prelude.{ℕ, List, ◌++◌, codes, decimal}
 use Rattle.text_core.specs.declared.glob_fault.GlobFault.{GlobFault}
 use Rattle.text_core.specs.declared.glob_fault.GlobFault.TheVariants.{Class, TooLong, Memory}

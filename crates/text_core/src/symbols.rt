@@ -20,7 +20,7 @@ pub fn symbol_len(lens: &[Option<usize>], text: &[u8]) -> Option<usize>
     }
 }
 
-/// The same, where `lens` are the `symbol_lens` of the text after the first byte.
+/// The same, if `lens` are the `symbol_lens` of the text after the first byte.
 fn next_len(lens: &[Option<usize>], text: &[u8]) -> Option<usize>
     requires { (k : ℕ) → slice_get lens.now (length (drop k (drop 1 text.now))) ≡ Some (symbol_len (drop k (drop 1 text.now))) }
     ensures { result ≡ symbol_len text.now }

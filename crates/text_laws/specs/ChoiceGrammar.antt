@@ -20,7 +20,7 @@ pub record SpellParts (spelled : List ℕ → Result (List Item) GlobFault) (t :
   pub are_parts : AreParts parts t
   pub each : map spelled parts ≡ map Ok patterns
 
--- A part of a text has a class at a place of the part, and at that place of the whole text, where the parts before it and
+-- A part of a text has a class at a place of the part, and at that place of the whole text, for which the parts before it and
 -- the bars after these are counted too. All parts before it spell patterns.
 pub record HasFaultyPart (spelled : List ℕ → Result (List Item) GlobFault) (t : List ℕ) (at : ℕ) : Type 0 where
   pub before : List (List ℕ)
@@ -32,8 +32,8 @@ pub record HasFaultyPart (spelled : List ℕ → Result (List Item) GlobFault) (
   pub fault : spelled part ≡ Err (Class place)
   pub at_place : at ≡ sum_by (λ p. length p + 1) before + place
 
--- A function reads choices part by part: patterns where a text of at most 16,384 bytes has parts that spell them, the fault of
--- such a text's first faulty part, and TooLong for longer texts alone.
+-- A function reads choices part by part: patterns if a text of at most 16,384 bytes has parts that spell them, the fault of
+-- such a text's first faulty part, and TooLong only for longer texts.
 pub record ReadsParts (spelled : List ℕ → Result (List Item) GlobFault) (chosen : List ℕ → Result (List (List Item)) GlobFault) : Type 0 where
   pub patterns : (t : List ℕ) (patterns : List (List Item)) → (chosen t ≡ Ok patterns) ↔ ((length t ≤ max_len) × SpellParts spelled t patterns)
   pub class : (t : List ℕ) (at : ℕ) → (chosen t ≡ Err (Class at)) ↔ ((length t ≤ max_len) × HasFaultyPart spelled t at)

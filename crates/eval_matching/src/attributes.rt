@@ -139,7 +139,7 @@ pub fn attribute_at<'a>(state: &State<'a>, place: usize, name: &[u8]) -> Attribu
     }
 }
 
-/// Whether a comparison holds of what a match of ATTR or ATTRS looks at.
+/// Whether a comparison holds for what a match of ATTR or ATTRS looks at.
 #[tactic(auto, unfolding(crate::specs::Holding::holds))]
 pub(crate) fn lent_holds(wanted: &Comparison, attribute: &Attribute<'_>) -> bool
     ensures { result ≡ holds (lent_subject attribute.now) wanted.now }

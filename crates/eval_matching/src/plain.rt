@@ -28,7 +28,7 @@ pub fn is_known_constant(name: &[u8]) -> bool
     name == b"arch".as_slice() || name == b"virt".as_slice() || name == b"cvm".as_slice()
 }
 
-/// Whether a comparison holds of the constant of a name.
+/// Whether a comparison holds for the constant of a name.
 #[tactic(auto, unfolding(crate::specs::Holding::holds))]
 fn named_constant_holds(wanted: &Comparison, name: &[u8], state: &State<'_>) -> bool
     ensures { result ≡ holds (named_constant name.now state.now) wanted.now }
@@ -40,7 +40,7 @@ fn named_constant_holds(wanted: &Comparison, name: &[u8], state: &State<'_>) -> 
     }
 }
 
-/// Whether a comparison holds of the subsystem of the event device.
+/// Whether a comparison holds for the subsystem of the event device.
 fn subsystem_match_holds(wanted: &Comparison, state: &State<'_>) -> bool
     ensures { result ≡ holds (subsystem_by state.now.event.profile (or_empty state.now.event.device.subsystem)) wanted.now }
 {
@@ -51,7 +51,7 @@ fn subsystem_match_holds(wanted: &Comparison, state: &State<'_>) -> bool
     }
 }
 
-/// Whether a comparison holds of links or tags as rules left them.
+/// Whether a comparison holds for links or tags as rules left them.
 pub(crate) fn kept_hold(wanted: &Comparison, state: &State<'_>, texts: &[Vec<u8>]) -> bool
     ensures { result ≡ holds (members_by state.now.event.profile (map (λ t. t.items) texts.now)) wanted.now }
 {

@@ -59,7 +59,7 @@ fn subsystem_fits(wanted: &Comparison, text: &[u8]) -> bool
     }
 }
 
-/// Whether a comparison holds of a subsystem.
+/// Whether a comparison holds for a subsystem.
 #[tactic(auto, unfolding(crate::specs::Holding::holds))]
 pub(crate) fn subsystem_holds(wanted: &Comparison, text: &[u8]) -> bool
     ensures { result ≡ holds (udev_subsystem text.now) wanted.now }
@@ -88,7 +88,7 @@ fn given_members_fit(wanted: &Comparison, texts: &[&[u8]]) -> bool
     is_something(wanted) || some_given_fits(&wanted.choice, texts)
 }
 
-/// Whether a comparison holds of texts as rules left them.
+/// Whether a comparison holds for texts as rules left them.
 #[tactic(auto, unfolding(crate::specs::Holding::holds))]
 pub(crate) fn members_hold(wanted: &Comparison, texts: &[Vec<u8>]) -> bool
     ensures { result ≡ holds (udev_members (map (λ t. t.items) texts.now)) wanted.now }
@@ -96,7 +96,7 @@ pub(crate) fn members_hold(wanted: &Comparison, texts: &[Vec<u8>]) -> bool
     agrees(wanted.operator, members_fit(wanted, texts))
 }
 
-/// Whether a comparison holds of texts as the event gave them.
+/// Whether a comparison holds for texts as the event gave them.
 #[tactic(auto, unfolding(crate::specs::Holding::holds))]
 pub(crate) fn given_members_hold(wanted: &Comparison, texts: &[&[u8]]) -> bool
     ensures { result ≡ holds (udev_members (map (λ t. t.now) texts.now)) wanted.now }
@@ -188,7 +188,7 @@ fn value_fits(wanted: &Comparison, text: &[u8]) -> bool
         .fits(compared_with(wanted.written.as_slice(), text))
 }
 
-/// Whether a comparison holds of an attribute, which may be absent.
+/// Whether a comparison holds for an attribute, which may be absent.
 #[tactic(auto, unfolding(crate::specs::Holding::holds))]
 pub(crate) fn attribute_holds(wanted: &Comparison, value: Option<&[u8]>) -> bool
     ensures { result ≡ holds (udev_attribute (option_map (λ t. t.now) value.entry)) wanted.now }

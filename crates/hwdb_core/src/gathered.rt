@@ -1,6 +1,6 @@
 //! What was read so far: entries and messages, and how much of them there is.
 //!
-//! Nothing is kept that exceeds a bound, so that the bounds hold of each value here. If just one modalias is asked
+//! Nothing is kept that exceeds a bound, so that the bounds hold for each value here. If just one modalias is asked
 //! for, entries that it does not fit are counted but not kept.
 
 ghost use Rattle.std.specs.Prelude.{◌≡◌, ◌≤◌, ◌<◌, ◌+◌, ◌⊎◌, ◌∷◌, [], OnOk, OnErr};

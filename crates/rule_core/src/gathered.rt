@@ -1,6 +1,6 @@
 //! The rules so far, and how many tokens are left in them.
 //!
-//! A rule that would make the tokens too many is not kept, so that the bound holds of each value here.
+//! A rule that would make the tokens too many is not kept, so that the bound holds for each value here.
 ghost use Rattle.std.specs.Prelude.{◌≡◌, ◌∷◌, ◌-◌, ◌^◌, ◌≤◌, [], min};
 ghost use Rattle.rule_core.specs.Gathering.{Adds};
 ghost use Rattle.rule_types.specs.Rules.{name_count, rule_tokens, tokens_in};

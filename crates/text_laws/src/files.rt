@@ -1,4 +1,4 @@
-//! What holds of the order of files and of escaped texts, whichever they are.
+//! What holds for the order of files and of escaped texts, whichever they are.
 //!
 //! Each function has an empty body, and its contract is a law of the definitions that the other contracts cite.
 ghost use Rattle.std.specs.Prelude.{◌≡◌, ◌<◌, List, ℕ, All, Any};

@@ -107,7 +107,7 @@ impl Trie {
         })
     }
 
-    /// What holds of every trie. It is called only for the proofs, which learn it from the look at a field.
+    /// What holds for every trie. It is called only for the proofs, which learn it from the look at a field.
     fn known(&self)
         ensures { IsTrie self.now }
     {

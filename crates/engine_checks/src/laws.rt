@@ -19,7 +19,8 @@ ghost use Rattle.engine_checks.specs.Told.{is_about_style};
 
 use engine_formats::{messages_are_plain_diagnostics, messages_stand_at_their_words};
 
-/// By the manual, with the default format, without lints and with nothing ignored `verify` says what it says without these options.
+/// By the manual, with the default format, without lints and with nothing ignored `verify` says what it says
+/// without these options.
 pub fn plain_checks_are_as_before()
     ensures { (line : Line) (files : List SourceFile) → line.profile ≡ Profile.Manual → line.format ≡ Format.Plain → line.lint ≡ false → ignored_by line ≡ [] → checks_outcome line files ≡ verify_outcome line files }
 {

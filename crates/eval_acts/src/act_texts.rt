@@ -28,7 +28,8 @@ fn within_by(profile: Profile, most: usize, text: Rendered) -> Rendered
     }
 }
 
-/// Whether udev has room for a path with `/sys`, the path of a device and a slash before it; an absolute one is looked at as it is.
+/// Whether udev has room for a path with `/sys`, the path of a device and a slash before it; an absolute one is
+/// looked at as it is.
 fn has_room(device: &Device<'_>, path: &[u8]) -> bool
     ensures { result ≡ has_room device.now path.now }
 {

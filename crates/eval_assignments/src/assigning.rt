@@ -100,7 +100,8 @@ fn assign_manual(
     Ok(())
 }
 
-/// Sets the owner of the device's node as udev does (systemd 257): an empty one leaves a note, and the one before stays.
+/// Sets the owner of the device's node as udev does (systemd 257): an empty one leaves a note, and the one before
+/// stays.
 fn set_owner(
     alloc: Global,
     rule: &Rule,

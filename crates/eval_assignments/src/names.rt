@@ -20,8 +20,8 @@ fn is_net(subsystem: Option<&[u8]>) -> bool
 /// The numbers of interfaces are below this one.
 const INTERFACES: u64 = 1 << 31;
 
-/// Whether a device is an interface for udev (systemd 257): its property IFINDEX, as the kernel gives it, is a decimal number
-/// from 1 to 2,147,483,647.
+/// Whether a device is an interface for udev (systemd 257): its property IFINDEX, as the kernel gives it, is a
+/// decimal number from 1 to 2,147,483,647.
 pub fn is_interface(device: &Device<'_>) -> bool
     ensures { result ≡ is_interface device.now }
 {

@@ -34,8 +34,8 @@ pub fn a_named_device_is_looked_at()
     ensures unnamed { (text : Text) (event : EventValue) (own : Option Text) → named (open_bracket ∷ text) ≡ None → udev_subject (open_bracket ∷ text) event own ≡ udev_attribute None }
 {}
 
-/// A name that names no device looks at the device's own attribute, unless it has a byte that begins a substitution: then
-/// it is not read.
+/// A name that names no device looks at the device's own attribute, unless it has a byte that begins a
+/// substitution: then it is not read.
 pub fn a_plain_name_looks_at_the_device()
     ensures plain { (name : Text) (event : EventValue) (own : Option Text) → begins_with open_bracket name ≡ false → has_sign name ≡ false → udev_subject name event own ≡ udev_attribute own }
     ensures substituted { (name : Text) (event : EventValue) (own : Option Text) → begins_with open_bracket name ≡ false → has_sign name ≡ true → udev_subject name event own ≡ udev_unread }

@@ -37,7 +37,8 @@ IsEmptyOrRule by rules run = (run_text run ≡ []) ⊎ Contains (map (λ r. r.li
 abbrev pub IsKnown : Profile → SourceFile → NumberedLine → Type 0
 IsKnown by f l = (is_comment (unindented l) ≡ true) ⊎ Any (λ run. Contains run (piece_of (unindented l)) × IsEmptyOrRule by (file_rules by f) run) (runs_of f)
 
--- All that is in a file is understood: its joined lines are its rules, none is open at its end, and each physical line is a rule or part of one, empty, or a comment.
+-- All that is in a file is understood: its joined lines are its rules, none is open at its end, and each physical
+-- line is a rule or part of one, empty, or a comment.
 pub record IsUnderstood (by : Profile) (f : SourceFile) : Type 0 where
   pub rules : AllZip (IsWritten by f.name) (joined_lines by f.bytes).lines (file_rules by f)
   pub closed : (joined_lines by f.bytes).open_at ≡ None

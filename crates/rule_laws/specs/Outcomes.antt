@@ -58,7 +58,8 @@ AllComeTo by file [] (o ∷ outcomes) = ⊥
 AllComeTo by file (l ∷ lines) [] = ⊥
 AllComeTo by file (l ∷ lines) (o ∷ outcomes) = ComesTo by file l o (flat_map rules_in outcomes) × AllComeTo by file lines outcomes
 
--- The rules and messages of a file that is not given up are those of its joined lines: each is one rule, or no rule and one message. What is still open at the end has a message of its own.
+-- The rules and messages of a file that is not given up are those of its joined lines: each is one rule, or no rule
+-- and one message. What is still open at the end has a message of its own.
 pub record IsReadByLine (by : Profile) (f : SourceFile) : Type 0 where
   pub outcomes : List Outcome
   pub each : AllComeTo by f.name (joined_lines by f.bytes).lines outcomes

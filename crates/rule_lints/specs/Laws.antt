@@ -90,7 +90,8 @@ pub record AreOfOneGroup (tokens : List WrittenPart) : Type 0 where
   pub group : Group
   pub none_other : AllByRecursion (λ w. is_other group (group_of w) ≡ false) tokens
 
--- A token is the first whose attribute is of other devices than one before it: tokens come before it, of which some ask for an attribute of a group, and none for one of another group, while it does.
+-- A token is the first whose attribute is of other devices than one before it: tokens come before it, of which some
+-- ask for an attribute of a group, and none for one of another group, while it does.
 pub record IsStranger (tokens : List WrittenPart) (w : WrittenPart) : Type 0 where
   pub group : Group
   pub before : List WrittenPart

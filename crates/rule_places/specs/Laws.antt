@@ -132,7 +132,8 @@ tells_whole _ = false
 abbrev pub StandsWhole : List ℕ → Spot → Type 0
 StandsWhole line s = tells_whole s.kind ≡ true → (s.start ≡ 0) × (s.size ≡ length line)
 
--- A text is at a place of a file: the line of the place's number has from the column up to the end, which is after it, the first bytes of the text, and all of them unless the line gives no more to a joined line.
+-- A text is at a place of a file: the line of the place's number has from the column up to the end, which is after
+-- it, the first bytes of the text, and all of them unless the line gives no more to a joined line.
 pub record StandsIn (bytes text : List ℕ) (p : Place) : Type 0 where
   pub line : NumberedLine
   pub among : IsAmong line (numbered_lines bytes)

@@ -15,7 +15,9 @@ abbrev pub IsAmong : NumberedLine → List NumberedLine → Type 0
 IsAmong l [] = ⊥
 IsAmong l (x ∷ xs) = (l ≡ x) ⊎ IsAmong l xs
 
--- Among lines, of which these are the kept ones with this text after so many bytes of others, one has the byte of a place: from its column on the bytes of that line are those of the text, as many as the line has left up to the `\` at its end, if it has one.
+-- Among lines, of which these are the kept ones with this text after so many bytes of others, one has the byte of a
+-- place: from its column on the bytes of that line are those of the text, as many as the line has left up to the `\`
+-- at its end, if it has one.
 pub record Shows (kept : List KeptLine) (text : List ℕ) (ls : List NumberedLine) (start at : ℕ) : Type 0 where
   pub line : NumberedLine
   pub place : KeptLine

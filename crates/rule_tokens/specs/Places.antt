@@ -8,7 +8,8 @@ use Rattle.rule_tokens.specs.Grammar.{Placed, Item, TokenStands, Lexes, answers,
 abbrev pub StandsAt : List ℕ → ℕ → List ℕ → Type 0
 StandsAt line place part = take (length part) (drop place line) ≡ part
 
--- The token is a slice of the line: its bytes from start to end are this token and nothing more, it begins with its key and its attribute, and ends with its value between quotes.
+-- The token is a slice of the line: its bytes from start to end are this token and nothing more, it begins with its
+-- key and its attribute, and ends with its value between quotes.
 pub record IsSlice (line : List ℕ) (t : Placed) : Type 0 where
   pub some : t.span.start < t.span.end
   pub within : t.span.end ≤ length line

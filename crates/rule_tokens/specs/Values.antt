@@ -9,7 +9,8 @@ use Rattle.rule_tokens.specs.Letters.{bell, backspace, capital_u, letter_a, lett
 use Rattle.rule_tokens.specs.declared.kinds.Quote.{Quote}
 use Rattle.rule_tokens.specs.declared.kinds.Quote.TheVariants.{Plain, Escaped, Blind, BlindEscaped}
 
--- A piece of a value is a byte that stands for itself, a letter after a backslash, or a number by its digits: three octal digits, two hexadecimal ones after x, four after u, eight after U.
+-- A piece of a value is a byte that stands for itself, a letter after a backslash, or a number by its digits: three
+-- octal digits, two hexadecimal ones after x, four after u, eight after U.
 pub data Piece : Type 0 where
   byte letter : ℕ → Piece
   octal hex short long : List ℕ → Piece
@@ -65,7 +66,8 @@ is_plain_piece (hex digits) = false
 is_plain_piece (short digits) = false
 is_plain_piece (long digits) = false
 
--- A piece of an e value is an escape, or any byte but a quote, NUL and a backslash. No escape stands for NUL, an octal number is at most 377, and the number after u and U is a character's.
+-- A piece of an e value is an escape, or any byte but a quote, NUL and a backslash. No escape stands for NUL, an
+-- octal number is at most 377, and the number after u and U is a character's.
 abbrev pub is_escaped_piece : Piece → Bool
 is_escaped_piece (byte b) = not (b == double_quote) && (not (b == nul) && not (b == backslash))
 is_escaped_piece (letter c) = nat_lt 0 (letter_means c)

@@ -8,7 +8,7 @@ use std::alloc::Global;
 use std::process::Abort;
 use std::test::Fail;
 
-/// Hands an input to a session in pieces of so many bytes, and puts the answers after a text.
+/// Passes an input to a session in pieces of so many bytes, and appends the answers to a text.
 fn feed_in_pieces(
     alloc: Global,
     session: &mut Session<'_, Tables<PlainDb>>,
@@ -32,7 +32,7 @@ fn whole_block(alloc: Global, letters: usize) -> Result<Vec<u8>, Fail> {
     Ok(block)
 }
 
-/// How many bytes a session answers to an input in pieces of so many bytes, which goes well.
+/// How many bytes a session answers to an input in pieces of so many bytes, if nothing fails.
 fn answered(
     alloc: Global,
     tables: &Tables<PlainDb>,
@@ -50,7 +50,7 @@ fn answered(
 /// The sizes of pieces.
 const SIZES: [usize; 3] = [1, 4096, 65_537];
 
-/// Whether a session answers an input by so many bytes in pieces of each size.
+/// Whether a session answers an input with so many bytes in pieces of each size.
 fn each_size_answers(
     alloc: Global,
     tables: &Tables<PlainDb>,
@@ -77,7 +77,7 @@ fn a_block_of_65536_bytes_is_answered_in_any_pieces(rt: HostRuntime) -> Result<(
     Ok(())
 }
 
-/// Whether a fault is the one of a first block whose third line goes past the room.
+/// Whether a fault is that of a first block whose third line exceeds the room.
 fn is_too_long(fault: &SessionFault) -> bool {
     match fault {
         SessionFault::Block(number, fault) => {
@@ -104,7 +104,7 @@ fn is_refused(
     Ok(refused)
 }
 
-/// Whether an input ends a session so in pieces of each size.
+/// Whether an input ends a session like this in pieces of each size.
 fn each_size_is_refused(
     alloc: Global,
     tables: &Tables<PlainDb>,
@@ -142,7 +142,7 @@ fn chain_of(alloc: Global, count: usize) -> Result<Vec<u8>, Fail> {
     Ok(block)
 }
 
-/// Asserts how much a chain of so many devices is answered, what is reported it, and the status.
+/// Asserts how many bytes the answer to a chain of so many devices has, what is reported, and the status.
 fn assert_chain(
     rt: &(impl Abort + AllocGlobal),
     count: usize,

@@ -19,7 +19,7 @@ pub(crate) const OF_ONE_RANK: [Given<'static>; 3] = [
     (FileKind::Hwdb, 1, "80-c.txt", "m*\n A=4\n"),
 ];
 
-/// The same, and a file of less rank that hides the second of them.
+/// The same, and a file of lower rank that hides the second of them.
 pub(crate) const WITH_LESS_RANK: [Given<'static>; 4] = [
     (FileKind::Hwdb, 1, "60-a.hwdb", "m*\n A=1\n"),
     (FileKind::Hwdb, 1, "70-b.hwdb", "m*\n A=2\n"),
@@ -38,7 +38,7 @@ s.hwdb:7: H4 no =: B\n\
 s.hwdb:8: H3 unindented line after properties: m3\n\
 s.hwdb:11: H6 pattern not supported: [[.a.]]\n";
 
-/// Asserts what a query over files comes to.
+/// Asserts the outcome of a query over files.
 fn assert_query(
     rt: &(impl Abort + AllocGlobal),
     given: &[Given<'_>],

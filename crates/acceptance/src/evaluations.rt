@@ -1,8 +1,8 @@
 //! Whether an event is answered alike by `serve`, by the rules as they were read and by their program.
 //!
-//! Whole answers are compared, so that what a row says of one of them is said of all three. Each
-//! function owns one large value, and gives it back by name: where it goes back unnamed, all that it is
-//! made of is gone through once more, at each way out.
+//! Whole answers are compared, so that what a test says about one of them is said about all three. Each function
+//! owns one large value, and returns it by name: if it is returned unnamed, all its parts are visited once
+//! more at each way out.
 use crate::running::{Given, files_of, line, run_by};
 use device_core::{Event, read_block};
 use engine_answers::answer;
@@ -21,7 +21,7 @@ fn database_of(alloc: Global, text: &str) -> Result<PlainDb, Fail> {
     Ok(PlainDb::new(database.entries))
 }
 
-/// Whether the rules as they were read answer an event so.
+/// Whether the rules as they were read answer an event with this text.
 fn plain_answers(
     alloc: Global,
     rules: &RuleSet,
@@ -35,7 +35,7 @@ fn plain_answers(
     Ok(said?.as_slice() == wanted)
 }
 
-/// Whether a program answers an event so.
+/// Whether a program answers an event with this text.
 fn program_answers(
     alloc: Global,
     program: &Program,
@@ -49,7 +49,7 @@ fn program_answers(
     Ok(said?.as_slice() == wanted)
 }
 
-/// Whether both evaluations answer an event so.
+/// Whether both evaluations answer an event with this text.
 fn both_answer(
     alloc: Global,
     rules: RuleSet,
@@ -64,7 +64,7 @@ fn both_answer(
     Ok(by_rules? && by_program?)
 }
 
-/// Whether both evaluations answer a block so, which is no faulty one.
+/// Whether both evaluations answer a block, which is not faulty, with this text.
 fn both_answer_block(
     alloc: Global,
     rules: RuleSet,
@@ -85,8 +85,8 @@ fn both_answer_block(
     }
 }
 
-/// Fails where either evaluation, over files of rules and a text of the database, gives a block
-/// another answer than this one.
+/// Fails if either evaluation, over files of rules and a text of the database, gives a block another answer than
+/// this one.
 fn agree(
     alloc: Global,
     rules: &[Given<'_>],
@@ -107,8 +107,7 @@ fn agree(
     }
 }
 
-/// The answer of the program to a block by files of rules and a text of the database, in a run that
-/// goes well.
+/// The answer of the program to a block by files of rules and a text of the database, in a run that succeeds.
 fn answered<'a>(
     alloc: Global,
     rules: &[Given<'a>],

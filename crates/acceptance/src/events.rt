@@ -10,7 +10,7 @@ use text_bytes::FileKind;
 /// A disk.
 const DISK: &str = "C: add\nP: /devices/pci0/block/sda\nU: block\nN: sda\nD: 8:0\n";
 
-/// A device of which nothing is known but its path.
+/// A device about which nothing is known but its path.
 const BARE: &str = "C: add\nP: /x\n";
 
 /// A device whose kernel's name has capitals.
@@ -27,7 +27,7 @@ const APART: &str =
 const TOGETHER: &str =
     "C: add\nP: /devices/b/h/d/t0\nU: tty\nP: /devices/b/h/d\nU: usb\nA: serial=7\nP: /devices/b/h\nU: pci\n";
 
-/// The same, and an attribute that is named as the parent.
+/// The same, and an attribute that is named like the parent.
 const NAMED_AS_PARENT: &str =
     "C: add\nP: /devices/b/h/d/t0\nU: tty\nA: d=1\nP: /devices/b/h/d\nU: usb\nA: serial=7\nP: /devices/b/h\nU: pci\n";
 
@@ -43,7 +43,7 @@ const SPACED: &str = "C: add\nP: /x\nE: L= a  b \n";
 /// A device below one of USB that the database knows.
 const BELOW_USB: &str = "C: add\nP: /a/b\nP: /a\nU: usb\nE: MODALIAS=usb:v1D6Bp0002\n";
 
-/// The same with another one between, at which the search ends.
+/// The same with another device between, at which the search ends.
 const BELOW_USB_DEVICE: &str =
     "C: add\nP: /a/b/c\nP: /a/b\nU: usb\nE: DEVTYPE=usb_device\nP: /a\nU: usb\nE: MODALIAS=usb:v1D6Bp0002\n";
 
@@ -53,7 +53,7 @@ const DATABASE: &str = "usb:v1D6B*\n ID_VENDOR=Linux\n";
 /// Matches at one device of the chain.
 const USB_WITH_SERIAL: &str = "SUBSYSTEMS==\"usb\", ATTRS{serial}==\"7\", ENV{HIT}=\"$id\"\n";
 
-/// A command about the selected device, and what of it lasts over rules.
+/// A command about the selected device, and how long the selection lasts over rules.
 const SELECTIONS: &str =
     "SUBSYSTEMS==\"usb\", RUN+=\"/bin/x $id\"\nENV{P}=\"$id\"\nSUBSYSTEMS==\"none\", ENV{N}=\"1\"\nENV{Q}=\"$id\"\n";
 
@@ -89,7 +89,7 @@ fn has_line(answer: &[u8], wanted: &str) -> bool {
         .any(|line| line == wanted.as_bytes())
 }
 
-/// How many lines of an answer begin so.
+/// How many lines of an answer begin with a text.
 fn lines_with(answer: &[u8], first: &[u8]) -> usize {
     answer
         .split(|byte| *byte == b'\n')
@@ -103,7 +103,7 @@ fn tells(alloc: Global, name: &str, rules: &str, block: &str, line: &str) -> Res
     Ok(has_line(&answer, line))
 }
 
-/// How many lines of the answer by the rules of a file begin so.
+/// How many lines of the answer by the rules of a file begin with a text.
 fn lines_told(alloc: Global, rules: &str, block: &str, first: &str) -> Result<usize, Fail> {
     let answer = answer_by(alloc, "r.rules", rules, block)?;
     Ok(lines_with(&answer, first.as_bytes()))
@@ -243,7 +243,7 @@ fn nothing_else_is_changed(rt: HostRuntime) -> Result<(), Fail> {
     Ok(())
 }
 
-/// Asserts what a block is answered by the rules of one file.
+/// Asserts the answer to a block by the rules of one file.
 fn assert_answer(
     rt: &(impl Abort + AllocGlobal),
     rules: &str,

@@ -33,7 +33,7 @@ fn run_over(alloc: Global, verb: Verb, room: Room, error_room: Room) -> Result<O
     Ok(run_in(alloc, &asked, files, None, &mut input, (room, error_room))?)
 }
 
-/// Asserts that a command over outputs of so much room fails, with nothing on its output and this told.
+/// Asserts that a command over outputs of so much room fails, with nothing on its output and this reported.
 fn assert_failed(
     rt: &(impl Abort + AllocGlobal),
     verb: Verb,

@@ -34,12 +34,12 @@ const ASKS: &str = "IMPORT{builtin}=\"hwdb --subsystem=usb\"\n";
 /// A device below one of USB.
 const BELOW_USB: &str = "C: add\nP: /a/b\nP: /a\nU: usb\nE: MODALIAS=usb:v1D6Bp0002\n";
 
-/// The index that `update` writes of files.
+/// The index that `update` writes from files.
 fn index_of(alloc: Global, given: &[Given<'_>]) -> Result<Vec<u8>, Fail> {
     Ok(run(alloc, &line(alloc, Verb::Update, ""), given)?.output)
 }
 
-/// Asserts what a line comes to with this index, over files and an input.
+/// Asserts the outcome of a line with this index, over files and an input.
 fn assert_by(
     rt: &(impl Abort + AllocGlobal),
     line: &Line<'_>,
@@ -53,7 +53,7 @@ fn assert_by(
     Ok(())
 }
 
-/// Asserts what a query by an index comes to.
+/// Asserts the outcome of a query with an index.
 fn assert_query(
     rt: &(impl Abort + AllocGlobal),
     index: &[u8],
@@ -66,7 +66,7 @@ fn assert_query(
     assert_by(rt, &query, &[], index, b"", wanted(output, "", 0))
 }
 
-/// Asserts what a query by the index of files comes to.
+/// Asserts the outcome of a query with the index of files.
 fn assert_query_of(
     rt: &(impl Abort + AllocGlobal),
     given: &[Given<'_>],
@@ -78,7 +78,7 @@ fn assert_query_of(
     assert_query(rt, &index, modalias, sources, output)
 }
 
-/// Asserts that `update` writes this index of files.
+/// Asserts that `update` writes this index from files.
 fn assert_update(
     rt: &(impl Abort + AllocGlobal),
     given: &[Given<'_>],
@@ -214,7 +214,7 @@ fn an_index_answers_as_its_files(rt: HostRuntime) -> Result<(), Fail> {
 fn events_are_answered_from_an_index(rt: HostRuntime) -> Result<(), Fail> {
     let text = "usb:v1D6B*\n ID_VENDOR=Linux\n";
     let index = index_of(rt.alloc(), &[(FileKind::Hwdb, 1, "u.hwdb", text)])?;
-    // A database beside the index is not read: its mistake is not reported.
+    // With an index, a database is not read: its mistake is not reported.
     let given = [
         (FileKind::Rules, 0, "r.rules", ASKS),
         (FileKind::Hwdb, 0, "bad.hwdb", " A=1\n"),
@@ -274,7 +274,7 @@ fn stars_are_walked_without_going_back(rt: HostRuntime) -> Result<(), Fail> {
     Ok(())
 }
 
-/// Ten thousand records, of `usb:v0000` to `usb:v9999`.
+/// Ten thousand records, from `usb:v0000` to `usb:v9999`.
 fn ten_thousand(alloc: Global) -> Result<String, Fail> {
     let mut text = String::new(alloc);
     for number in 10_000_u32..20_000 {

@@ -36,7 +36,7 @@ const THREE_ANSWERS: &[u8] =
 event add /devices/pci0/block/sda\nlink disk/sda\nenv ACTION=add\nenv DEVNAME=/dev/sda\nenv DEVPATH=/devices/pci0/block/sda\nenv MAJOR=8\nenv MINOR=0\nenv SUBSYSTEM=block\n\n\
 event add /devices/pci0/block/sda\nlink disk/sda\nenv ACTION=add\nenv DEVNAME=/dev/sda\nenv DEVPATH=/devices/pci0/block/sda\nenv MAJOR=8\nenv MINOR=0\nenv SUBSYSTEM=block\n\n";
 
-/// Three blocks, of which the second has a wrong path in its third line.
+/// Three blocks, the second of which has a wrong path in its third line.
 const FAULTY: &[u8] = b"C: add\nP: /devices/pci0/block/sda\nU: block\nN: sda\nD: 8:0\n\n\
 C: add\nP: /devices/a\nP: /devices/b\n\n\
 C: add\nP: /devices/pci0/block/sda\nU: block\nN: sda\nD: 8:0\n\n";
@@ -50,14 +50,14 @@ const WRONG_PATH: SessionFault = SessionFault::Block(
     },
 );
 
-/// The answer to a device of which nothing is known but its path.
+/// The answer to a device about which nothing is known but its path.
 const ABOUT_X: &[u8] = b"event add /devices/x\nenv ACTION=add\nenv DEVPATH=/devices/x\n\n";
 
 const READ_FAILED: &[u8] = b"devdry: read failed\n";
 
 const WRITE_FAILED: &[u8] = b"devdry: write failed\n";
 
-/// What is answered by the rule.
+/// What the rule answers.
 fn tables(alloc: Global) -> Result<Tables<PlainDb>, Fail> {
     tables_of(alloc, &[(FileKind::Rules, 0, "r.rules", RULE)])
 }
@@ -74,7 +74,7 @@ fn run_over(
     Ok(run_in(alloc, &events, files, None, input, (room, error_room))?)
 }
 
-/// Asserts what an answer to the disk by the rule comes to, with an output of so much room.
+/// Asserts the outcome of answering the disk by the rule, with an output of so much room.
 fn assert_block(
     rt: &(impl Abort + AllocGlobal),
     room: Room,
@@ -86,7 +86,7 @@ fn assert_block(
     Ok(())
 }
 
-/// Asserts what an answer to an input by the rules of a file of this name comes to.
+/// Asserts the outcome of answering an input by the rules of a file with this name.
 fn assert_answer(
     rt: &(impl Abort + AllocGlobal),
     name: &str,
@@ -101,7 +101,7 @@ fn assert_answer(
     Ok(())
 }
 
-/// Asserts that the disk is answered where its input comes in pieces of so many bytes.
+/// Asserts that the disk is answered if its input comes in pieces of so many bytes.
 fn assert_pieces(rt: &(impl Abort + AllocGlobal), each: usize) -> Result<(), Fail> {
     let mut input = input_of(rt.alloc(), DISK, each)?;
     let done = run_over(rt.alloc(), &mut input, AMPLE, AMPLE)?;
@@ -144,7 +144,7 @@ fn ends(alloc: Global, session: &mut Session<'_, Tables<PlainDb>>, answer: Optio
     }
 }
 
-/// Whether there is this answer, or none where none is wanted.
+/// Whether there is this answer, or none if none is wanted.
 fn is_answer(answer: &Option<Bytes>, wanted: Option<&[u8]>) -> bool {
     match (answer, wanted) {
         (Some(answer), Some(wanted)) => answer.as_slice() == wanted,
@@ -195,7 +195,7 @@ fn a_faulty_block_is_the_last(alloc: Global, tables: &Tables<PlainDb>) -> Result
     Ok(ended)
 }
 
-/// Whether sessions answer a block where it is whole, and nothing after a faulty one.
+/// Whether sessions answer a block once it is whole, and nothing after a faulty one.
 fn sessions_answer(alloc: Global, tables: &Tables<PlainDb>) -> Result<bool, Fail> {
     Ok(
         each_block_is_answered(alloc, tables)?
@@ -243,8 +243,8 @@ fn goes_out_now(
     }
 }
 
-/// Whether an answer goes out in the turn that reads the last byte of its block, and nothing before,
-/// where the input gives a byte at a time.
+/// Whether an answer goes out in the turn that reads the last byte of its block, and nothing before, if the input
+/// gives a byte at a time.
 fn goes_out_at_its_end(alloc: Global, tables: &Tables<PlainDb>) -> Result<bool, Fail> {
     let mut input = input_of(alloc, BLOCK, 1)?;
     let mut output = output_of(alloc, AMPLE)?;
@@ -301,7 +301,7 @@ fn inputs_are_answered(rt: HostRuntime) -> Result<(), Fail> {
     Ok(())
 }
 
-/// The status with which a block ends that has a property of so many letters, and no rules.
+/// The status with which a block with a property of so many letters ends, without rules.
 fn status_of(alloc: Global, letters: usize) -> Result<u8, Fail> {
     let block = block_with(alloc, b'v', letters)?;
     let events = line(alloc, Verb::Events, "");
@@ -321,7 +321,7 @@ fn a_block_has_room_for_65536_bytes(rt: HostRuntime) -> Result<(), Fail> {
     )
 }
 
-/// What stands where the output takes the beginning of the answer alone.
+/// What there is if the output takes only the beginning of the answer.
 fn broken_off(taken: &[u8]) -> Expected<'_> {
     Expected {
         output: taken,
@@ -359,7 +359,7 @@ fn an_output_may_take_little_and_flush_nothing(rt: HostRuntime) -> Result<(), Fa
     assert_block(&rt, room_by(4096, false), broken_off(ANSWER))
 }
 
-/// Asserts what goes out where the reads of the block fail after so many bytes.
+/// Asserts what goes out if the reads of the block fail after so many bytes.
 fn assert_read(rt: &(impl Abort + AllocGlobal), read: usize, output: &[u8]) -> Result<(), Fail> {
     let alloc = rt.alloc();
     let bytes = Vec::from_slice(alloc, BLOCK)?;

@@ -5,7 +5,7 @@ use std::process::Abort;
 use std::test::Fail;
 use text_bytes::FileKind;
 
-/// Asserts what `verify` says of one file of a folder.
+/// Asserts what `verify` says about one file of a folder.
 fn assert_verified(
     rt: &(impl Abort + AllocGlobal),
     name: &str,
@@ -22,11 +22,11 @@ const ONE_BAD: &str = "1 files checked, 0 good, 1 bad\n";
 /// The summary of one good file.
 const ONE_GOOD: &str = "1 files checked, 1 good, 0 bad\n";
 
-/// A jump to a label that stands twice.
+/// A jump to a label that is there twice.
 pub(crate) const LABELS: &str =
     "LABEL=\"x\", ENV{A}=\"1\"\nGOTO=\"x\"\nENV{B}=\"1\"\nLABEL=\"x\", ENV{C}=\"1\"\n";
 
-/// A jump to a jump, and between them a label that stands twice, of no jump.
+/// A jump to a jump, and between them a label that is there twice, without a jump to it.
 pub(crate) const JUMP_BY_JUMP: &str =
     "GOTO=\"e\"\nLABEL=\"m\", ENV{A}=\"1\"\nLABEL=\"e\", GOTO=\"f\"\nLABEL=\"m\", ENV{B}=\"1\"\nLABEL=\"f\", ENV{C}=\"1\"\n";
 

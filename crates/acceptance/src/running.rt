@@ -1,7 +1,7 @@
 //! Runs over devices in memory.
 //!
-//! What owns the devices and what they took is here alone: a test that owns none of them, and only
-//! says what is to come of a run, is quick to check.
+//! Only what is here owns the devices and what they took: a test that owns none of them, and only says what a run
+//! should give, is quick to check.
 use engine_core::{Format, Line, MemorySink, MemorySource, Verb, serve};
 use std::alloc::{AllocError, Global};
 use std::process::Abort;
@@ -38,7 +38,7 @@ pub(crate) fn room_for(bytes: usize) -> Room {
     }
 }
 
-/// What a run wrote and answered.
+/// What a run wrote and returned.
 #[derive(Drop)]
 pub(crate) struct Outcome {
     pub(crate) output: Vec<u8>,
@@ -48,7 +48,7 @@ pub(crate) struct Outcome {
     pub(crate) is_flushed: bool,
 }
 
-/// What a run is to write and to answer.
+/// What a run has to write and return.
 #[derive(Clone, Copy)]
 pub(crate) struct Expected<'a> {
     pub(crate) output: &'a [u8],
@@ -56,7 +56,7 @@ pub(crate) struct Expected<'a> {
     pub(crate) status: u8,
 }
 
-/// What a run is to write and to answer, of texts.
+/// What a run has to write and return, from texts.
 pub(crate) fn wanted<'a>(output: &'a str, messages: &'a str, status: u8) -> Expected<'a> {
     Expected {
         output: output.as_bytes(),
@@ -65,7 +65,7 @@ pub(crate) fn wanted<'a>(output: &'a str, messages: &'a str, status: u8) -> Expe
     }
 }
 
-/// Asserts what a run wrote and answered, and that all of it was flushed where no device failed.
+/// Asserts what a run wrote and returned, and that all of it was flushed if no device failed.
 pub(crate) fn assert_outcome(rt: &impl Abort, done: &Outcome, wanted: Expected<'_>) {
     assert_eq!(rt; done.output.as_slice(), wanted.output);
     assert_eq!(rt; done.messages.as_slice(), wanted.messages);
@@ -116,7 +116,7 @@ pub(crate) fn files_of(alloc: Global, given: &[Given<'_>]) -> Result<Vec<SourceF
     Ok(files)
 }
 
-/// An input of a text that comes in pieces of so many bytes.
+/// An input with a text that comes in pieces of so many bytes.
 pub(crate) fn input_of(alloc: Global, text: &[u8], each: usize) -> Result<MemorySource, Fail> {
     let bytes = Vec::from_slice(alloc, text)?;
     let reads = text.len() + 2;
@@ -148,10 +148,10 @@ fn outcome_of(
     })
 }
 
-/// Runs a line over files, with an index in place of the database's where there is one, over an input
-/// and outputs of so much room.
+/// Runs a line over files, with an index instead of the database's if there is one, over an input and outputs of so
+/// much room.
 ///
-/// All tests come here: a function that calls `serve` itself is slow to check, by its long contract.
+/// All tests use this: a function that calls `serve` itself is slow to check, because of its long contract.
 pub(crate) fn run_in(
     alloc: Global,
     line: &Line<'_>,
@@ -167,8 +167,7 @@ pub(crate) fn run_in(
     outcome_of(alloc, &output, &error, status)
 }
 
-/// Runs a line with room enough over an input, with an index in place of the database's files where
-/// there is one.
+/// Runs a line with room enough over an input, with an index instead of the database's files if there is one.
 pub(crate) fn run_by(
     alloc: Global,
     line: &Line<'_>,
@@ -186,7 +185,7 @@ pub(crate) fn run(alloc: Global, line: &Line<'_>, given: &[Given<'_>]) -> Result
     run_by(alloc, line, given, None, b"")
 }
 
-/// Asserts what a run with room enough comes to, over no input.
+/// Asserts the outcome of a run with room enough, over no input.
 pub(crate) fn assert_run(
     rt: &(impl Abort + AllocGlobal),
     line: &Line<'_>,

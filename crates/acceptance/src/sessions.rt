@@ -1,4 +1,4 @@
-//! Sessions that are handed an input piece by piece, and blocks as long as a test asks for.
+//! Sessions that get an input piece by piece, and blocks as long as a test asks for.
 use crate::running::{Given, files_of};
 use engine_core::{Session, SessionFault, Tables};
 use hwdb_core::{PlainDb, read_sources};
@@ -6,7 +6,7 @@ use rule_core::read_rules;
 use std::alloc::Global;
 use std::test::Fail;
 
-/// What is answered by files of rules and no database.
+/// What files of rules answer without a database.
 pub(crate) fn tables_of(alloc: Global, given: &[Given<'_>]) -> Result<Tables<PlainDb>, Fail> {
     let Ok(rules) = read_rules(alloc, &files_of(alloc, given)?) else {
         return Err("no rules")?;
@@ -20,9 +20,9 @@ pub(crate) fn tables_of(alloc: Global, given: &[Given<'_>]) -> Result<Tables<Pla
     }
 }
 
-/// Hands a piece to a session, call by call, and puts the answers after a text.
+/// Passes a piece to a session, call by call, and appends the answers to a text.
 ///
-/// A call that says it used more than it was given ends here too.
+/// A call that says it used more than it was given also ends here.
 pub(crate) fn take_all(
     alloc: Global,
     session: &mut Session<'_, Tables<PlainDb>>,

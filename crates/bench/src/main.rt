@@ -20,7 +20,7 @@ use text_bytes::{Bytes, FileKind, SourceFile, split_once};
 /// The byte between two parts of the input.
 const BETWEEN: u8 = 0x1e;
 
-/// How many events there are, and what they come to.
+/// How many events there are, and their outcomes.
 #[derive(Clone, Copy)]
 struct Counts {
     events: u64,
@@ -119,7 +119,7 @@ fn with_event(
     Ok(counts)
 }
 
-/// The counts of all blocks among the parts of a text; a faulty block is no event.
+/// The counts of all blocks among the parts of a text; a faulty block is not an event.
 fn count(alloc: Global, rules: &Rules, times: u64, text: &[u8]) -> Result<Counts, AllocError> {
     let mut counts = Counts {
         events: 0,
@@ -139,7 +139,7 @@ fn count(alloc: Global, rules: &Rules, times: u64, text: &[u8]) -> Result<Counts
     Ok(counts)
 }
 
-/// Evaluates the blocks of a text by its rules, and tells what they come to.
+/// Evaluates the blocks of a text by its rules, and prints the total of their outcomes.
 fn run(out: &impl Print, alloc: Global, way: &[u8], times: u64, text: &[u8]) -> io::Result<()> {
     let Ok(read) = rules_of(alloc, text) else {
         return println!(out; "no rules");

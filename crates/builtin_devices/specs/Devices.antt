@@ -17,7 +17,7 @@ kernel_of device = kernel_name device.path
 abbrev pub is_at : (path : Text) → DeviceValue → Bool
 is_at path device = same_text path device.path
 
--- a device that is not of the chain, and that the block says about by its path
+-- a device that is not of the chain, and that the block describes by its path
 abbrev pub outside : EventValue → (path : Text) → Option DeviceValue
 outside event path = find (is_at path) (told_devices event)
 
@@ -51,6 +51,6 @@ has_type (Some kind) device = is_text kind (type_of device)
 abbrev pub is_of : (subsystem : Text) → (kind : Option Text) → DeviceValue → Bool
 is_of subsystem kind device = is_text subsystem device.subsystem && has_type kind device
 
--- the nearest device above a path that is of a subsystem and, if it is asked for, a type
+-- the nearest device above a path that is of a subsystem and, if one is asked for, of a type
 abbrev pub above : EventValue → (subsystem : Text) → (kind : Option Text) → (path : Text) → Option DeviceValue
 above event subsystem kind path = find (is_of subsystem kind) (parents_of event path)

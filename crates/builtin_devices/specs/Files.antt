@@ -1,4 +1,4 @@
--- Files that a block says about by constants: the name is a path below /sys, and the value what the file says.
+-- Files that a block describes by constants: the name is a path below /sys, and the value what the file says.
 use Rattle.std.specs.Prelude.{◌-◌, ◌&&◌, List, [], Option, Some, None, filter_map, option_map, length, take, drop, nat_eq, if◌then◌else◌, codes}
 use Rattle.std.specs.List.{ends_with, starts_with}
 use Rattle.text_bytes.specs.Names.{slash}
@@ -7,7 +7,7 @@ use Rattle.text_tables.specs.Texts.{Text}
 use Rattle.text_tables.specs.Pairs.{Pair, value_of, with_values}
 use Rattle.device_core.specs.Values.{DeviceValue, EventValue, told}
 
--- what the file with a path says; of a link, the path to which it leads
+-- what the file with a path says; for a link, the path to which it leads
 abbrev pub file_at : EventValue → (path : Text) → Option Text
 file_at event path = value_of event.constants path
 
@@ -25,7 +25,7 @@ file_below folder file = option_map (λ name. (name, file.1)) (name_below folder
 abbrev pub files_below : EventValue → (folder : Text) → List Pair
 files_below event folder = filter_map (file_below folder) event.constants
 
--- what follows the path of a device in the name of the file that says about its subsystem
+-- what follows the path of a device in the name of the file that gives its subsystem
 abbrev pub subsystem_file : Text
 subsystem_file = codes "/subsystem"
 
@@ -33,10 +33,10 @@ subsystem_file = codes "/subsystem"
 abbrev pub told_at : EventValue → (path subsystem : Text) → DeviceValue
 told_at event path subsystem = told path subsystem (with_values [] (files_below event path))
 
--- the device of whose subsystem a constant tells
+-- the device whose subsystem a constant gives
 abbrev pub told_by : EventValue → Pair → Option DeviceValue
 told_by event file = if ends_with nat_eq file.0 subsystem_file then Some (told_at event (take (length file.0 - length subsystem_file) file.0) file.1) else None
 
--- the devices that the block says about by paths, in its order
+-- the devices that the block describes by paths, in its order
 unfoldable pub told_devices : EventValue → List DeviceValue
 told_devices event = filter_map (told_by event) event.constants

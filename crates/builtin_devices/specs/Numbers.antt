@@ -1,4 +1,5 @@
--- Numbers as udev reads them in what the kernel tells, the number of a kernel's name, and bytes in hexadecimal digits.
+-- Numbers as udev reads them in what the kernel reports, the number of a kernel's name, and bytes in hexadecimal
+-- digits.
 use Rattle.std.specs.Prelude.{ℕ, ◌+◌, ◌-◌, ◌*◌, ◌==◌, ◌&&◌, ◌||◌, not, nat_le, nat_lt, Bool, false, List, [], ◌∷◌, Option, Some, None, drop, if◌then◌else◌}
 use Rattle.std.specs.List.{list_all}
 use Rattle.std.specs.Option.{option_and_then}
@@ -16,7 +17,7 @@ use Rattle.builtin_devices.specs.declared.numbers.Base.TheVariants.{AsWritten, D
 abbrev pub is_between : ℕ → ℕ → ℕ → Bool
 is_between first last b = nat_le first b && nat_le b last
 
--- the number that a digit writes, `0` to `9`, `a` to `f` and `A` to `F`; 16 for a byte that is none
+-- the number that a digit writes, `0` to `9`, `a` to `f` and `A` to `F`; 16 for a byte that is not a digit
 abbrev pub digit_value : ℕ → ℕ
 digit_value b =
     if is_between 48 57 b then b - 48
@@ -33,7 +34,7 @@ abbrev pub number_behind : (base n : ℕ) → Text → ℕ
 number_behind base n [] = n
 number_behind base n (b ∷ text) = number_behind base (base * n + digit_value b) text
 
--- the number that one digit of a base or more write, where it is not above `most`
+-- the number that one digit of a base or more write, if it is at most `most`
 unfoldable pub digits_in : (base most : ℕ) → Text → Option ℕ
 digits_in base most text =
     if not (is_empty text) && list_all (is_digit_in base) text && nat_le (number_behind base 0 text) most then Some (number_behind base 0 text)
@@ -50,8 +51,8 @@ pub record Written : Type 0 where
   pub base : ℕ
   pub digits : Text
 
--- Digits by the base that is said: where none is, `0x`, `0b` and `0o` say it, in small letters or large ones, a zero says eight, and else it is
--- ten. In base sixteen `0x` may stand.
+-- Digits by the base that is asked for: if none is, `0x`, `0b` and `0o`, with small or capital letters, say it, a
+-- leading zero means eight, and otherwise it is ten. In base sixteen there may be a `0x`.
 unfoldable pub written : Base → Text → Written
 written AsWritten text =
     if is_marked 120 88 text then record { base = 16; digits = drop 2 text }
@@ -70,15 +71,15 @@ is_signed text = begins_with minus text || begins_with plus text
 abbrev pub unsigned : Text → Text
 unsigned text = if is_signed text then drop 1 text else text
 
--- the size of the number that a text is without blanks before it: a sign may stand, then only digits
+-- the size of the number that a text is without blanks before it: perhaps a sign, then only digits
 abbrev pub size_in : Base → (most : ℕ) → Text → Option ℕ
 size_in base most text = digits_in (written base (unsigned text)).base most (written base (unsigned text)).digits
 
--- a number below zero is none, but `-0` is zero
+-- a number below zero is not natural, but `-0` is zero
 abbrev pub natural : (is_negative : Bool) → ℕ → Option ℕ
 natural is_negative size = if is_negative && not (size == 0) then None else Some size
 
--- the number that a text is, where it is not below zero and not above `most`: blanks may come before it, and a sign
+-- the number that a text is, if it is not below zero and at most `most`: blanks may come before it, and a sign
 unfoldable pub number_in : Base → (most : ℕ) → Text → Option ℕ
 number_in base most text =
     let bare = skip_while is_whitespace text in
@@ -101,6 +102,6 @@ name_number kernel =
     let digits = longest_end is_digit kernel in
     if is_empty digits || same_text digits kernel then None else Some digits
 
--- the bytes that hexadecimal digits write, two for each; none where another byte stands among them, or a digit is alone
+-- the bytes that hexadecimal digits write, two for each; none if another byte is among them, or a digit is alone
 abbrev pub bytes_of : Text → Option (List ℕ)
 bytes_of text = result_ok (decode_of text)

@@ -1,11 +1,11 @@
--- What a builtin comes to, and what the block would have to tell for it.
+-- The outcome of a builtin, and what the block would have to report for it.
 use Rattle.std.specs.Prelude.{Bool, true, false, List, [], ◌∷◌, is_some, if◌then◌else◌}
 use Rattle.text_tables.specs.Texts.{Text, with_texts}
 use Rattle.text_tables.specs.Pairs.{Pair, value_of}
 use Rattle.device_core.specs.Values.{DeviceValue}
 
--- Whether a builtin succeeds, the properties in the order in which it sets them, where an empty value takes one away, and names for what the
--- block would have to tell, each once.
+-- Whether a builtin succeeds, the properties in the order in which it sets them, where an empty value removes one,
+-- and names for what the block would have to report, each once.
 pub record OutcomeValue : Type 0 where
   pub is_done : Bool
   pub properties : List Pair
@@ -23,6 +23,6 @@ failing needs = record { is_done = false; properties = []; needs = needs }
 abbrev pub needs_of : List Text → List Text
 needs_of words = with_texts [] words
 
--- the word for an attribute, where a device lacks it
+-- the word for an attribute, if a device lacks it
 abbrev pub lacking : DeviceValue → (attribute word : Text) → List Text
 lacking device attribute word = if is_some (value_of device.attrs attribute) then [] else word ∷ []

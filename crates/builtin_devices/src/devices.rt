@@ -9,7 +9,7 @@ use device_core::{Device, Event};
 use std::alloc::{AllocError, Global};
 use std::marker::Model;
 
-/// An event that is borrowed, with the devices that its block says about by paths made ready.
+/// A borrowed event, with the devices outside of its chain that the block describes by their paths.
 #[derive(Drop)]
 pub struct Devices<'a> {
     event: &'a Event<'a>,
@@ -53,7 +53,7 @@ impl<'a> Devices<'a> {
         self.event
     }
 
-    /// The device with a path: of the chain, or else one that the block says about by its path.
+    /// The device with a path: of the chain, or else one that the block describes by its path.
     pub fn device_by(&self, path: &[u8]) -> Option<&Device<'a>>
         ensures { option_copied result ≡ device_by self.now path.now }
     {
@@ -94,7 +94,7 @@ impl<'a> Devices<'a> {
         Ok(parents)
     }
 
-    /// The nearest device above a path that is of a subsystem and, if one is asked for, a type.
+    /// The nearest device above a path that is of a subsystem and, if one is asked for, of a type.
     pub fn above(
         &self,
         alloc: Global,

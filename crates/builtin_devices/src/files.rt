@@ -1,4 +1,4 @@
-//! Files that a block says about by constants.
+//! Files that a block describes by constants.
 ghost use Rattle.std.specs.Prelude.{◌≡◌, ◌∷◌, ◌++◌, ◌≤◌, ◌+◌, [], IfOk, OnOk, filter_map, length, map, option_map, nat_eq, drop};
 ghost use Rattle.std.specs.List.{starts_with, ends_with};
 ghost use Rattle.text_bytes.specs.Names.{slash};
@@ -8,11 +8,11 @@ ghost use Rattle.builtin_devices.specs.Files.{file_at, file_below, files_below, 
 use device_core::{Device, Event, Pairs};
 use std::alloc::{AllocError, Global};
 
-/// What follows the path of a device in the name of the file that says about its subsystem.
+/// What follows the path of a device in the name of the file that gives its subsystem.
 const SUBSYSTEM_FILE: &[u8] = b"/subsystem";
 
-/// What the file with a path below `/sys` says, where a constant of the block says about it; of a link, the path to
-/// which it leads.
+/// What the file with a path below `/sys` says, if a constant of the block gives it; for a link, the path to which
+/// it leads.
 pub fn file_at<'a>(event: &Event<'a>, path: &[u8]) -> Option<&'a [u8]>
     ensures { option_map (λ t. t.now) result ≡ file_at event.now path.now }
 {
@@ -65,7 +65,7 @@ fn attributes_below<'a>(
     Ok(attrs)
 }
 
-/// The device of whose subsystem a constant tells.
+/// The device whose subsystem a constant gives.
 fn told_by<'a>(
     alloc: Global,
     event: &Event<'a>,
@@ -82,7 +82,7 @@ fn told_by<'a>(
     Ok(Some(Device::told(alloc, path, text, attrs)))
 }
 
-/// The devices that a block says about by paths, in its order.
+/// The devices that a block describes by paths, in its order.
 #[tactic(auto, unfolding(crate::specs::Files::told_devices))]
 pub(crate) fn told_devices<'a>(
     alloc: Global,

@@ -1,4 +1,4 @@
-//! Numbers as udev reads them in what the kernel tells.
+//! Numbers as udev reads them in what the kernel reports.
 ghost use Rattle.std.specs.Prelude.{◌≡◌, ◌≤◌, ◌<◌, ◌^◌, IfOk, IfSome, length, option_map};
 ghost use Rattle.std.specs.List.{prefix_len};
 ghost use Rattle.text_bytes.specs.Names.{minus, is_whitespace};
@@ -10,10 +10,10 @@ use std::alloc::{AllocError, Global};
 use text_bytes::{begins_with, is_whitespace};
 use text_links::last_digits;
 
-/// In which base a number stands.
+/// The base in which a number is written.
 #[derive(Clone, Copy)]
 pub enum Base {
-    /// As the number says itself: `0x` for 16, `0b` for 2, `0o` or a zero for 8, else 10.
+    /// As the number itself says: `0x` for 16, `0b` for 2, `0o` or a zero for 8, else 10.
     AsWritten,
     /// Ten.
     Decimal,
@@ -21,7 +21,7 @@ pub enum Base {
     Hexadecimal,
 }
 
-/// The number that a digit writes, and 16 for a byte that is none.
+/// The number that a digit writes, and 16 for a byte that is not a digit.
 fn digit_value(byte: u8) -> u8
     ensures value { result ≡ digit_value byte }
     ensures few { result ≤ 16 }
@@ -34,7 +34,7 @@ fn digit_value(byte: u8) -> u8
     }
 }
 
-/// The number that one digit of a base or more write, where it is not above `most`.
+/// The number that one digit of a base or more write, if it is at most `most`.
 #[tactic(auto, unfolding(crate::specs::Numbers::digits_in))]
 pub fn digits_in(base: u8, most: u64, text: &[u8]) -> Option<u64>
     requires some { 1 ≤ base }
@@ -122,8 +122,8 @@ fn size_in(base: Base, most: u64, text: &[u8]) -> Option<u64>
     digits_in(base, most, digits)
 }
 
-/// The number that a text is, where it is not below zero and not above `most`. Blanks may come before it, and a sign;
-/// after its digits nothing may. So udev of systemd 257 reads numbers of sysfs.
+/// The number that a text is, if it is not below zero and at most `most`. Blanks may come before it, and a sign;
+/// nothing may come after its digits. This is how udev of systemd 257 reads numbers in sysfs.
 #[tactic(auto, unfolding(crate::specs::Numbers::number_in))]
 pub fn number_in(base: Base, most: u64, text: &[u8]) -> Option<u64>
     ensures { result ≡ number_in base most text.now }
@@ -160,7 +160,7 @@ pub fn name_number(kernel: &[u8]) -> Option<&[u8]>
     Some(digits)
 }
 
-/// The bytes that hexadecimal digits write, two for each; `None` where another byte stands among them, or a digit is
+/// The bytes that hexadecimal digits write, two for each; `None` if another byte is among them, or a digit is
 /// alone.
 pub fn bytes_of(alloc: Global, text: &[u8]) -> Result<Option<Vec<u8>>, AllocError>
     ensures { IfOk result (λ bytes. option_map (λ b. b.items) bytes ≡ bytes_of text.now) }

@@ -1,4 +1,4 @@
-//! What a builtin comes to.
+//! The outcome of a builtin.
 ghost use Rattle.std.specs.Prelude.{◌≡◌, ◌++◌, ◌∷◌, [], OnOk};
 ghost use Rattle.text_tables.specs.Texts.{with_texts};
 ghost use Rattle.builtin_devices.specs.Outcomes.{failing, lacking, succeeding};
@@ -9,8 +9,8 @@ use std::marker::Model;
 use text_bytes::Bytes;
 use text_tables::OwnedTexts;
 
-/// What a builtin of udev comes to: whether it succeeds, the properties in the order in which it sets them, where an
-/// empty value takes one away, and names for what the block would have to tell for it, each once.
+/// The outcome of a builtin of udev: whether it succeeds, the properties in the order in which it sets them, where
+/// an empty value removes one, and names for what the block would have to report for it, each once.
 #[derive(Drop)]
 pub struct Outcome {
     is_done: bool,
@@ -63,7 +63,7 @@ impl Outcome {
         &self.properties
     }
 
-    /// Returns the names of what the block would have to tell.
+    /// Returns the names of what the block would have to report.
     pub fn needs(&self) -> &OwnedTexts
         ensures { result.now ≡ self.now.needs }
     {
@@ -85,7 +85,7 @@ pub fn add_property(
     Ok(properties.push((name, value))?)
 }
 
-/// Adds the word for an attribute to what is needed, where a device lacks it.
+/// Adds the word for an attribute to what is needed, if a device lacks it.
 pub fn need_attribute(
     alloc: Global,
     device: &Device<'_>,

@@ -1,4 +1,5 @@
--- Sets of small numbers, as the kernel writes them in attributes of an input device: words of 64 bits in base 16, the last the lowest.
+-- Sets of small numbers, as the kernel writes them in attributes of an input device: words of 64 bits in base 16, the
+-- lowest last.
 use Rattle.std.specs.Prelude.{ℕ, ◌*◌, ◌/◌, ◌%◌, ◌^◌, ◌-◌, Bool, ◌&&◌, ◌==◌, List, length, map, take, reverse, slice_index, unwrap_or, count_by}
 use Rattle.std.specs.Int.{bit_at}
 use Rattle.std.specs.List.{range_with_len, slice_split}
@@ -27,7 +28,7 @@ has words number = bit_at (slice_index words (number / word_bits)) (number % wor
 unfoldable pub count_of : (ℕ → Bool) → Bitmap → ℕ
 count_of test words = count_by (λ number. test number && has words number) (range_with_len 0 (word_bits * length words))
 
--- a word of a bitmap; one that is no number of 64 bits in base 16 is empty
+-- a word of a bitmap; one that is not a number of 64 bits in base 16 is empty
 unfoldable pub word : Text → ℕ
 word text = unwrap_or (number_in Hexadecimal (2 ^ 64 - 1) text) 0
 
@@ -35,6 +36,6 @@ word text = unwrap_or (number_in Hexadecimal (2 ^ 64 - 1) text) 0
 abbrev pub is_space : ℕ → Bool
 is_space b = b == space
 
--- the bitmap that a text writes, of which so many words count, from the right on; words are parted at each space
+-- the bitmap that a text writes, with at most so many words, counted from the right; each space separates two words
 unfoldable pub bitmap : (most : ℕ) → Text → Bitmap
 bitmap most text = take most (reverse (map word (slice_split is_space text)))

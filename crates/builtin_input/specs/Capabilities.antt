@@ -1,4 +1,4 @@
--- What an input device says about itself.
+-- What an input device reports about itself.
 use Rattle.std.specs.Prelude.{ℕ, ◌^◌, ◌-◌, [], unwrap_or, codes}
 use Rattle.text_tables.specs.Texts.{Text}
 use Rattle.text_tables.specs.Pairs.{value_of}
@@ -16,19 +16,19 @@ pub record CapabilitiesValue : Type 0 where
   pub properties : Bitmap
   pub bus : ℕ
 
--- what a device tells that has none of these, on a bus
+-- what a device reports that has none of these, on a bus
 abbrev pub nothing : (bus : ℕ) → CapabilitiesValue
 nothing bus = record { events = []; keys = []; absolute_axes = []; relative_axes = []; properties = []; bus = bus }
 
--- the text of an attribute, empty where it is absent
+-- the text of an attribute, empty if it is absent
 abbrev pub text_of : DeviceValue → Text → Text
 text_of device name = unwrap_or (value_of device.attrs name) []
 
--- the number of a bus: of base 16 and 16 bits, else 0
+-- the number of a bus: in base 16 and of 16 bits, else 0
 unfoldable pub bus_number : Text → ℕ
 bus_number text = unwrap_or (number_in Hexadecimal (2 ^ 16 - 1) text) 0
 
--- what a device says about itself; of each bitmap but that of keys one word counts
+-- what a device reports about itself; of each bitmap except that of keys one word counts
 unfoldable pub capabilities : DeviceValue → CapabilitiesValue
 capabilities device = record {
   events = bitmap 1 (text_of device (codes "capabilities/ev"));

@@ -1,4 +1,4 @@
--- What input_id makes of an event.
+-- The outcome of input_id.
 use Rattle.std.specs.Prelude.{Bool, ◌&&◌, not, if◌then◌else◌, ◌-◌, List, [], ◌∷◌, ◌++◌, Option, Some, None, is_some, length, map, take, nat_eq, codes}
 use Rattle.std.specs.List.{ends_with, find, flat_map, list_any, starts_with}
 use Rattle.text_bytes.specs.Numbers.{is_digit}
@@ -13,7 +13,7 @@ use Rattle.builtin_input.specs.Capabilities.{CapabilitiesValue, capabilities}
 use Rattle.builtin_input.specs.Signs.{has_position}
 use Rattle.builtin_input.specs.Kinds.{kinds, property_of}
 
--- whether a device tells which kinds of events it has
+-- whether a device reports which kinds of events it has
 abbrev pub tells : DeviceValue → Bool
 tells device = is_some (value_of device.attrs (codes "capabilities/ev"))
 
@@ -21,7 +21,7 @@ tells device = is_some (value_of device.attrs (codes "capabilities/ev"))
 abbrev pub is_input : DeviceValue → Bool
 is_input device = is_text (codes "input") device.subsystem
 
--- the device that says about itself: the event device, or else its nearest parent of the subsystem that does
+-- the device that reports about itself: the event device, or else its nearest parent of the subsystem that does
 abbrev pub input_device : EventValue → Option DeviceValue
 input_device event = if tells event.device then Some event.device else find (λ device. is_input device && tells device) event.parents
 
@@ -29,7 +29,7 @@ input_device event = if tells event.device then Some event.device else find (λ 
 abbrev pub set : Text → Pair
 set name = (name, codes "1")
 
--- the properties that are set for a device that tells this of itself
+-- the properties that are set for a device that reports this about itself
 unfoldable pub kind_properties : CapabilitiesValue → List Pair
 kind_properties c = set (codes "ID_INPUT") ∷ map (λ kind. set (property_of kind)) (kinds c)
 
@@ -37,19 +37,20 @@ kind_properties c = set (codes "ID_INPUT") ∷ map (λ kind. set (property_of ki
 abbrev pub expected : List Text
 expected = codes "id/bustype" ∷ codes "capabilities/abs" ∷ codes "capabilities/rel" ∷ codes "capabilities/key" ∷ codes "properties" ∷ []
 
--- whether the size of a device is asked of its node, which a block does not tell: of a node of events with axes for a place
+-- whether the node of a device is asked for its size, which a block does not report: a node of events with axes of a
+-- position is
 abbrev pub asks_size : EventValue → CapabilitiesValue → Bool
 asks_size event c = starts_with nat_eq (kernel_of event.device) (codes "event") && has_position c
 
--- the size, where it is asked
+-- the size, if it is asked for
 abbrev pub size_needs : EventValue → CapabilitiesValue → List Text
 size_needs event c = if asks_size event c then codes "absolute axes" ∷ [] else []
 
--- the attributes that a device would have to tell
+-- the attributes that a device would have to report
 abbrev pub attribute_needs : DeviceValue → List Text → List Text
 attribute_needs device names = flat_map (λ name. lacking device name name) names
 
--- what the block would have to say about a device and of its node
+-- what the block would have to report about a device and its node
 unfoldable pub device_needs : EventValue → DeviceValue → List Text
 device_needs event device = attribute_needs device expected ++ size_needs event (capabilities device)
 
@@ -59,19 +60,19 @@ is_input_path path =
     let digits = longest_end is_digit path in
     not (is_empty digits) && ends_with nat_eq (take (length path - length digits) path) (codes "/input")
 
--- whether a device is an input device by its subsystem and its name, which the kernel lets say about itself
+-- whether a device is an input device by its subsystem and its name, which the kernel makes report about itself
 abbrev pub is_input_device : DeviceValue → Bool
 is_input_device device = is_input device && is_input_path device.path
 
--- what is needed where no device says about itself: of an input device its kinds of events
+-- what is needed if no device reports about itself: for an input device its kinds of events
 unfoldable pub chain_needs : EventValue → List Text
 chain_needs event = if list_any is_input_device (chain event) then codes "capabilities/ev" ∷ [] else []
 
--- what comes of the device that says about itself, if there is one
+-- the outcome for the device that reports about itself, if there is one
 abbrev pub outcome_of : EventValue → Option DeviceValue → OutcomeValue
 outcome_of event None = succeeding [] (needs_of (chain_needs event))
 outcome_of event (Some device) = succeeding (kind_properties (capabilities device)) (needs_of (device_needs event device))
 
--- what input_id makes of an event: it always succeeds
+-- the outcome of input_id over an event: it always succeeds
 unfoldable pub input_id : EventValue → OutcomeValue
 input_id event = outcome_of event (input_device event)

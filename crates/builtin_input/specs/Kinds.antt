@@ -25,15 +25,18 @@ is_tablet_pad c = is_tablet c && has_pad_buttons c
 unfoldable pub is_touchpad : CapabilitiesValue → Bool
 is_touchpad c = (has_position c || has_multitouch c) && takes_finger c
 
--- a touchscreen takes touches, neither a pen nor the finger of a touchpad; with buttons of a mouse it has positions of each finger
+-- a touchscreen takes touches, and neither a pen nor the finger of a touchpad; with buttons of a mouse it has
+-- positions of each finger
 unfoldable pub is_touchscreen : CapabilitiesValue → Bool
 is_touchscreen c = not (takes_pen c) && not (takes_finger c) && takes_touch c && (has_multitouch c || has_position c && not (has_mouse_buttons c))
 
--- a device that may be a joystick, and is no mouse by its buttons then: it has parts of one, and is nothing that points at a position
+-- a device that may be a joystick, and is then not a mouse by its buttons: it has parts of one, and is nothing that
+-- points at a position
 unfoldable pub may_be_joystick : CapabilitiesValue → Bool
 may_be_joystick c = not (joystick_parts c == 0) && not (has_position c && (takes_pen c || takes_finger c || has_mouse_buttons c || takes_touch c))
 
--- a joystick has at least two parts of one, not the keys of a keyboard, and not a wheel with buttons of a pad
+-- a joystick has at least two parts of one, without the keys of a keyboard, and without a wheel together with buttons
+-- of a pad
 unfoldable pub is_joystick : CapabilitiesValue → Bool
 is_joystick c = may_be_joystick c && nat_le 2 (joystick_parts c) && not (has_usual_keys c) && not (has_wheel c && has_pad_buttons c)
 
@@ -53,7 +56,7 @@ is_pointing_stick c = has c.properties pointing_stick || is_plain_mouse c && c.b
 unfoldable pub is_pointer : CapabilitiesValue → Bool
 is_pointer c = is_accelerometer c || is_pointing_stick c || is_mouse c || is_touchpad c || is_touchscreen c || is_joystick c || is_tablet c
 
--- it has keys that are no buttons
+-- it has keys that are not buttons
 unfoldable pub has_keys : CapabilitiesValue → Bool
 has_keys c = has c.events key_event && nat_le 1 (count_of (is_in group.Key) c.keys)
 
@@ -83,7 +86,7 @@ all_kinds = kind.Accelerometer ∷ kind.PointingStick ∷ kind.Mouse ∷ kind.To
 unfoldable pub kinds : CapabilitiesValue → List Kind
 kinds c = filter (λ k. is_of k c) all_kinds
 
--- the property that tells a kind
+-- the property of a kind
 unfoldable pub property_of : Kind → Text
 property_of kind.Accelerometer = codes "ID_INPUT_ACCELEROMETER"
 property_of kind.PointingStick = codes "ID_INPUT_POINTINGSTICK"

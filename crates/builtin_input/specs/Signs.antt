@@ -1,4 +1,5 @@
--- Conditions on what an input device says about itself, by which its kinds are known. The numbers are those of the kernel's input codes.
+-- Conditions on what an input device says about itself, from which its kinds follow. The numbers are those of the
+-- kernel's input codes.
 use Rattle.std.specs.Prelude.{ℕ, ◌+◌, Bool, not, ◌&&◌, ◌||◌, nat_le, if◌then◌else◌}
 use Rattle.builtin_input.specs.Bitmaps.{has, count_of}
 use Rattle.builtin_input.specs.Groups.{is_in}
@@ -85,7 +86,8 @@ i2c_bus = 0x18
 unfoldable pub has_position : CapabilitiesValue → Bool
 has_position c = has c.absolute_axes axis_x && has c.absolute_axes axis_y
 
--- it has the absolute axes of a position for each finger; a device that has the axis before the number of the finger, too, just has all axes
+-- it has the absolute axes of a position for each finger; a device that also has the axis before the number of the
+-- finger just has all axes
 unfoldable pub has_multitouch : CapabilitiesValue → Bool
 has_multitouch c = has c.absolute_axes multitouch_x && has c.absolute_axes multitouch_y && not (has c.absolute_axes slot && has c.absolute_axes before_slot)
 
@@ -101,11 +103,11 @@ has_wheel c = has c.events relative_event && (has c.relative_axes wheel || has c
 unfoldable pub takes_pen : CapabilitiesValue → Bool
 takes_pen c = has c.keys pen || has c.keys stylus
 
--- it takes a finger and no pen, and is no screen
+-- it takes a finger and no pen, and is not a screen
 unfoldable pub takes_finger : CapabilitiesValue → Bool
 takes_finger c = not (takes_pen c) && has c.keys finger && not (has c.properties direct)
 
--- it is a screen, or says about touches
+-- it is a screen, or reports touches
 unfoldable pub takes_touch : CapabilitiesValue → Bool
 takes_touch c = has c.keys touch || has c.properties direct
 

@@ -40,14 +40,14 @@ fn word(text: &[u8]) -> u64
     number_in(Base::Hexadecimal, u64::MAX, text).unwrap_or(0)
 }
 
-/// Whether a byte parts two words.
+/// Whether a byte separates two words.
 fn is_space(byte: u8) -> bool
     ensures { result ≡ is_space byte }
 {
     byte == b' '
 }
 
-/// The words of a bitmap, as they stand.
+/// The words of a bitmap, in the order of the text.
 fn words(alloc: Global, text: &[u8]) -> Result<Vec<u64>, AllocError>
     ensures { IfOk result (λ words. words.items ≡ map word (slice_split is_space text.now)) }
 {
@@ -69,7 +69,7 @@ fn lowest_words(alloc: Global, text: &[u8], most: usize) -> Result<Vec<u64>, All
 }
 
 impl Bitmap {
-    /// The bitmap that a text writes, of which so many words count.
+    /// The bitmap that a text writes, with at most so many words.
     pub(crate) fn read(alloc: Global, text: &[u8], most: usize) -> Result<Bitmap, AllocError>
         requires { most ≤ most_words }
         ensures { IfOk result (λ b. b ≡ bitmap most text.now) }

@@ -1,4 +1,4 @@
-//! What an input device says about itself.
+//! What an input device reports about itself.
 ghost use Rattle.std.specs.Prelude.{◌≡◌, ◌≤◌, IfOk};
 ghost use Rattle.builtin_input.specs.Bitmaps.{bitmap, most_words};
 ghost use Rattle.builtin_input.specs.Capabilities.{bus_number, capabilities, text_of};
@@ -28,7 +28,7 @@ impl Model for Capabilities {
     ghost view = { λ c. record { events = c.events; keys = c.keys; absolute_axes = c.absolute_axes; relative_axes = c.relative_axes; properties = c.properties; bus = c.bus } };
 }
 
-/// The text of an attribute, empty where it is absent.
+/// The text of an attribute, empty if it is absent.
 fn text_of<'a>(device: &Device<'a>, name: &[u8]) -> &'a [u8]
     ensures { result.now ≡ text_of device.now name.now }
 {
@@ -38,7 +38,7 @@ fn text_of<'a>(device: &Device<'a>, name: &[u8]) -> &'a [u8]
     }
 }
 
-/// The bitmap of an attribute, of which so many words count.
+/// The bitmap of an attribute, with at most so many words.
 fn bitmap_of(
     alloc: Global,
     device: &Device<'_>,
@@ -60,7 +60,7 @@ fn bus_number(text: &[u8]) -> u64
 }
 
 impl Capabilities {
-    /// What a device says about itself.
+    /// What a device reports about itself.
     #[tactic(auto, unfolding(crate::specs::Capabilities::capabilities))]
     pub(crate) fn read(alloc: Global, device: &Device<'_>) -> Result<Capabilities, AllocError>
         ensures { IfOk result (λ c. c ≡ capabilities device.now) }

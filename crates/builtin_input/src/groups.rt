@@ -9,13 +9,13 @@ pub(crate) enum Group {
     MouseButton,
     /// The buttons of a joystick.
     JoystickButton,
-    /// The absolute axes of a joystick but the first three.
+    /// The absolute axes of a joystick except the first three.
     JoystickAxis,
-    /// Keys that keyboards have, by which they are reported from joysticks.
+    /// Keys that keyboards have, which tell them from joysticks.
     UsualKey,
     /// The keys from 1 to 31.
     FirstKey,
-    /// Keys that are no buttons.
+    /// Keys that are not buttons.
     Key,
 }
 

@@ -1,4 +1,4 @@
-//! What input_id makes of an event.
+//! The outcome of input_id.
 ghost use Rattle.std.specs.Prelude.{◌≡◌, ◌&&◌, ◌++◌, IfOk, OnOk, map, option_copied, Some};
 ghost use Rattle.std.specs.List.{find, list_any};
 ghost use Rattle.text_tables.specs.Texts.{with_texts};
@@ -26,7 +26,7 @@ const EXPECTED: [&[u8]; 5] = [
     b"properties",
 ];
 
-/// Whether a device tells which kinds of events it has.
+/// Whether a device reports which kinds of events it has.
 fn tells(device: &Device<'_>) -> bool
     ensures { result ≡ tells device.now }
 {
@@ -40,7 +40,7 @@ fn is_input(device: &Device<'_>) -> bool
     is_text(b"input", device.subsystem())
 }
 
-/// The nearest of these devices that is of the subsystem and says about itself.
+/// The nearest of these devices that is of the subsystem and reports about itself.
 fn nearest<'d, 'a>(devices: &'d [Device<'a>]) -> Option<&'d Device<'a>>
     ensures { option_copied result ≡ find (λ device. is_input device && tells device) devices.now }
 {
@@ -49,7 +49,7 @@ fn nearest<'d, 'a>(devices: &'d [Device<'a>]) -> Option<&'d Device<'a>>
         .find(|device| is_input(device) && tells(device))
 }
 
-/// The device that says about itself.
+/// The device that reports about itself.
 fn input_device<'d, 'a>(event: &'d Event<'a>) -> Option<&'d Device<'a>>
     ensures { option_copied result ≡ input_device event.now }
 {
@@ -60,7 +60,7 @@ fn input_device<'d, 'a>(event: &'d Event<'a>) -> Option<&'d Device<'a>>
     }
 }
 
-/// Adds the properties that tell these kinds.
+/// Adds the properties of these kinds.
 fn add_kinds(
     alloc: Global,
     kinds: &[Kind],
@@ -74,7 +74,7 @@ fn add_kinds(
     Ok(())
 }
 
-/// The properties that are set for a device that tells this of itself.
+/// The properties that are set for a device that reports this about itself.
 #[tactic(auto, unfolding(crate::specs::Input::kind_properties))]
 fn kind_properties(alloc: Global, device: &Capabilities) -> Result<Vec<(Bytes, Bytes)>, AllocError>
     ensures { IfOk result (λ p. p.items ≡ kind_properties device.now) }
@@ -86,7 +86,7 @@ fn kind_properties(alloc: Global, device: &Capabilities) -> Result<Vec<(Bytes, B
     Ok(properties)
 }
 
-/// Adds the size of a device to what is needed, where it is asked of the node.
+/// Adds the size of a device to what is needed, if the node is asked for it.
 fn add_size(
     alloc: Global,
     event: &Event<'_>,
@@ -102,7 +102,7 @@ fn add_size(
     Ok(())
 }
 
-/// Adds those of these attributes to what is needed that a device lacks.
+/// Adds those of these attributes that a device lacks to what is needed.
 fn add_lacking(
     alloc: Global,
     device: &Device<'_>,
@@ -117,7 +117,7 @@ fn add_lacking(
     Ok(())
 }
 
-/// What the block would have to say about a device and of its node.
+/// What the block would have to report about a device and its node.
 #[tactic(auto, using(crate::proofs::Needs::in_two), unfolding(crate::specs::Input::device_needs))]
 fn device_needs(
     alloc: Global,
@@ -164,7 +164,7 @@ fn has_input_device(event: &Event<'_>) -> bool
     is_input_device(event.device()) || some_input_device(event.parents())
 }
 
-/// What is needed where no device says about itself.
+/// What is needed if no device reports about itself.
 #[tactic(auto, unfolding(crate::specs::Input::chain_needs))]
 fn chain_needs(alloc: Global, event: &Event<'_>) -> Result<OwnedTexts, AllocError>
     ensures { IfOk result (λ needs. needs ≡ needs_of (chain_needs event.now)) }
@@ -176,7 +176,7 @@ fn chain_needs(alloc: Global, event: &Event<'_>) -> Result<OwnedTexts, AllocErro
     Ok(needs)
 }
 
-/// What comes of a device that says about itself.
+/// The outcome for a device that reports about itself.
 fn outcome_of(alloc: Global, event: &Event<'_>, device: &Device<'_>) -> Result<Outcome, AllocError>
     ensures { IfOk result (λ outcome. outcome ≡ outcome_of event.now (Some device.now)) }
 {
@@ -187,13 +187,13 @@ fn outcome_of(alloc: Global, event: &Event<'_>, device: &Device<'_>) -> Result<O
     Ok(Outcome::succeeding(properties, needs))
 }
 
-/// What input_id of udev of systemd 257 makes of an event: `ID_INPUT=1`, then a property for each kind of input device
-/// that the device is, as `ID_INPUT_MOUSE=1`.
+/// The outcome of input_id of udev (systemd 257) over an event: `ID_INPUT=1`, then a property for each kind of
+/// input device that the device is, such as `ID_INPUT_MOUSE=1`.
 ///
-/// The kinds follow from the attributes `capabilities/*`, `properties` and `id/bustype` of the event device where it has
-/// `capabilities/ev`, or else of its nearest parent of the subsystem `input` that has. It always succeeds, and sets
-/// nothing where no device has them. Needed are the attributes that an input device lacks, and `absolute axes` where
-/// udev would ask the node of a touchpad or a screen for its size, which is never set here.
+/// The kinds follow from the attributes `capabilities/*`, `properties` and `id/bustype` of the event device if it
+/// has `capabilities/ev`, or else of its nearest parent of the subsystem `input` that has. It always succeeds, and
+/// sets nothing if no device has them. What is needed are the attributes that an input device lacks, and `absolute
+/// axes` if udev would ask the node of a touchpad or a screen for its size, which is never set here.
 #[tactic(auto, unfolding(crate::specs::Input::input_id))]
 pub fn input_id(alloc: Global, event: &Event<'_>) -> Result<Outcome, AllocError>
     ensures { IfOk result (λ outcome. outcome ≡ input_id event.now) }

@@ -159,7 +159,7 @@ impl Capabilities {
             || self.is_tablet()
     }
 
-    /// Whether it has keys that are no buttons.
+    /// Whether it has keys that are not buttons.
     #[tactic(auto, unfolding(crate::specs::Kinds::has_keys))]
     fn has_keys(&self) -> bool
         ensures { result ≡ has_keys self.now }
@@ -209,7 +209,7 @@ impl Kind {
         }
     }
 
-    /// The property that tells the kind.
+    /// The property of the kind.
     #[tactic(auto, unfolding(crate::specs::Kinds::property_of))]
     pub(crate) fn property(self) -> &'static [u8]
         ensures { result.now ≡ property_of self }

@@ -1,4 +1,4 @@
-//! What is true of bitmaps and of the kinds of input devices, said without how they are reported.
+//! What is true of bitmaps and of the kinds of input devices, without saying how they are computed.
 //!
 //! Each function here is empty: its contract is the law.
 ghost use Rattle.std.specs.Prelude.{◌≡◌, ℕ, suc, ◌∷◌, ◌++◌, [], true, false};

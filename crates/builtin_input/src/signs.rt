@@ -1,4 +1,4 @@
-//! Conditions on what an input device says about itself, by which its kinds are known.
+//! Conditions on what an input device says about itself, from which its kinds follow.
 ghost use Rattle.std.specs.Prelude.{◌≡◌, ◌≤◌};
 ghost use Rattle.builtin_input.specs.Signs.{has_multitouch, has_motion, has_mouse_buttons, has_pad_buttons, has_position, has_usual_keys, has_wheel, takes_touch, joystick_buttons, joystick_parts, takes_finger, takes_pen};
 
@@ -24,7 +24,7 @@ const SIDE_WHEEL: usize = 6;
 const WHEEL: usize = 8;
 /// The absolute axis before the number of the finger.
 const BEFORE_SLOT: usize = 0x2E;
-/// The absolute axis of the number of the finger that is reported.
+/// The absolute axis with the number of the finger that is reported.
 const SLOT: usize = 0x2F;
 /// The first axis of the position of each finger.
 const MULTITOUCH_X: usize = 0x35;
@@ -93,7 +93,7 @@ impl Capabilities {
         self.keys.has(PEN) || self.keys.has(STYLUS)
     }
 
-    /// Whether it takes a finger and no pen, and is no screen.
+    /// Whether it takes a finger and no pen, and is not a screen.
     #[tactic(auto, unfolding(crate::specs::Signs::takes_finger))]
     pub(crate) fn takes_finger(&self) -> bool
         ensures { result ≡ takes_finger self.now }
@@ -101,7 +101,7 @@ impl Capabilities {
         !self.takes_pen() && self.keys.has(FINGER) && !self.properties.has(DIRECT)
     }
 
-    /// Whether it is a screen, or says about touches.
+    /// Whether it is a screen, or reports touches.
     #[tactic(auto, unfolding(crate::specs::Signs::takes_touch))]
     pub(crate) fn takes_touch(&self) -> bool
         ensures { result ≡ takes_touch self.now }

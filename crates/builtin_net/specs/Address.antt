@@ -1,4 +1,4 @@
--- Names by the address of an interface.
+-- Names from the address of an interface.
 use Rattle.std.specs.Prelude.{ℕ, ◌-◌, ◌==◌, ◌&&◌, not, Bool, List, [], ◌∷◌, ◌++◌, length, map, flat_map, nat_le, nat_eq, replicate, codes, Option, Some, None, option_map, if◌then◌else◌}
 use Rattle.std.specs.Char.{is_ascii_hexdigit, to_ascii_lowercase, to_ascii_uppercase}
 use Rattle.std.specs.List.{list_all, slice_split, starts_with}
@@ -11,7 +11,7 @@ use Rattle.text_tables.specs.Texts.{Text}
 unfoldable pub is_field : ℕ → Text → Bool
 is_field width text = not (is_empty text) && nat_le (length text) width && list_all is_ascii_hexdigit text
 
--- a field in so many small digits, with zeros before it
+-- a field in so many lower case digits, with zeros before it
 unfoldable pub field_digits : ℕ → Text → Text
 field_digits width text = replicate (width - length text) digit_zero ++ map to_ascii_lowercase text
 
@@ -26,11 +26,11 @@ digits_of count width texts = if are_fields count width texts then Some (flat_ma
 unfoldable pub marked_digits : (mark count width : ℕ) → Text → Option Text
 marked_digits mark count width text = digits_of count width (slice_split (λ b. b == mark) text)
 
--- The twelve small digits of an address of six bytes: six fields of one or two digits with `:` or with `-` in between, or three
--- of one to four digits with `.`.
+-- The twelve lower case digits of an address of six bytes: six fields of one or two digits with `:` or with `-` in
+-- between, or three of one to four digits with `.`.
 unfoldable pub address_digits : Text → Option Text
 address_digits text = option_or (marked_digits colon 6 2 text) (option_or (marked_digits minus 6 2 text) (marked_digits dot 3 4 text))
 
--- what the database is asked for an address: who made the interface; nothing where the first three bytes are 0
+-- what the database is asked for an address: who made the interface; nothing if the first three bytes are 0
 unfoldable pub maker_lookup : (digits : Text) → Option Text
 maker_lookup digits = if starts_with nat_eq digits (codes "000000") then None else Some (codes "OUI:" ++ map to_ascii_uppercase digits)

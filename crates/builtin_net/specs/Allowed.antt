@@ -1,4 +1,4 @@
--- The attributes that names of interfaces are made of, and which of them they may use.
+-- The attributes that names of interfaces are made from, and which of them they may use.
 use Rattle.std.specs.Prelude.{ℕ, Bool, true, not, ◌&&◌, List, [], ◌∷◌, ◌++◌, codes, map, Option, None, option_and_then, is_some, if◌then◌else◌}
 use Rattle.std.specs.Char.{to_ascii_lowercase, to_ascii_uppercase}
 use Rattle.std.specs.Option.{option_map_or, option_or}
@@ -32,7 +32,7 @@ attribute_name Modalias = codes "modalias"
 abbrev pub permission_of_all : Text
 permission_of_all = codes "ID_NET_NAME_ALLOW"
 
--- the property that says it of one attribute
+-- the property that says it for one attribute
 abbrev pub permission : Attribute → Text
 permission attribute = codes "ID_NET_NAME_ALLOW_" ++ map to_ascii_uppercase (attribute_name attribute)
 
@@ -40,15 +40,16 @@ permission attribute = codes "ID_NET_NAME_ALLOW_" ++ map to_ascii_uppercase (att
 abbrev pub yes_words : List Text
 yes_words = codes "1" ∷ codes "yes" ∷ codes "y" ∷ codes "true" ∷ codes "t" ∷ codes "on" ∷ []
 
--- whether a word means yes, in letters of any size
+-- whether a word means yes, regardless of case
 unfoldable pub is_yes : Text → Bool
 is_yes word = is_among yes_words (map to_ascii_lowercase word)
 
--- whether a word of its own lets names use an attribute, or else one for all attributes; where there is neither it is allowed
+-- whether names may use an attribute, by a word for it alone, or else by one for all attributes; without either it is
+-- allowed
 abbrev pub permits : (own all : Option Text) → Bool
 permits own all = option_map_or is_yes (option_or own all) true
 
--- whether properties let names use an attribute
+-- whether, by properties, names may use an attribute
 unfoldable pub is_allowed : List Pair → Attribute → Bool
 is_allowed env attribute = permits (value_of env (permission attribute)) (value_of env permission_of_all)
 
@@ -56,7 +57,7 @@ is_allowed env attribute = permits (value_of env (permission attribute)) (value_
 unfoldable pub read : DeviceValue → Attribute → Option Text
 read device attribute = if is_allowed device.env attribute then value_of device.attrs (attribute_name attribute) else None
 
--- the number that an attribute says
+-- the number that an attribute gives
 unfoldable pub number : DeviceValue → Attribute → Option ℕ
 number device attribute = option_and_then (number_in AsWritten most_number) (read device attribute)
 

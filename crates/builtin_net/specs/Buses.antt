@@ -33,11 +33,11 @@ is_there subsystem (Some device) = is_of subsystem None device
 unfoldable pub component : (folder path : Text) → Option Text
 component folder path = option_map (before_first (λ b. b == slash)) (behind folder path)
 
--- a text without so many bytes at its start; where these are all, the last one stays
+-- a text without so many bytes at its start; if these are all, the last one stays
 abbrev pub without_start : ℕ → Text → Text
 without_start count text = if count == length text then drop (length text - 1) text else drop count text
 
--- a text without bytes at its start that pass a test; where all do, the last one stays
+-- a text without the bytes at its start that pass a test; if all do, the last one stays
 abbrev pub trimmed : (ℕ → Bool) → Text → Text
 trimmed test text = without_start (prefix_len test text) text
 
@@ -51,18 +51,19 @@ unfoldable pub vio_text : Text → Option Text
 vio_text name =
     if length name == 8 && list_all is_ascii_hexdigit name then option_map (λ n. codes "v" ++ decimal n) (number_in Hexadecimal most_number (drop 4 name)) else None
 
--- whether a byte is a large letter or a digit
+-- whether a byte is a capital letter or a digit
 abbrev pub is_vendor_byte : ℕ → Bool
 is_vendor_byte b = is_ascii_uppercase b || is_ascii_digit b
 
--- whether a text names a maker of platform devices: three large letters, or four large letters and digits
+-- whether a text names a maker of platform devices: three capital letters, or four capital letters and digits
 unfoldable pub is_vendor : Text → Bool
 is_vendor text =
     if length text == 3 then list_all is_ascii_uppercase text
     else if length text == 4 then list_all is_vendor_byte text
     else false
 
--- maker, model and instance of a platform device: the model in small digits without zeros before it, the instance in decimal
+-- maker, model and instance of a platform device: the model in lower case digits without leading zeros, the instance
+-- in decimal
 abbrev pub acpi_text : (vendor model : Text) → ℕ → Text
 acpi_text vendor model instance =
     codes "a" ++ map to_ascii_lowercase vendor ++ map to_ascii_lowercase (trimmed (λ b. b == digit_zero) model) ++ codes "i" ++ decimal instance
@@ -82,7 +83,7 @@ platform_parts front instance = with_instance (take (length front - 4) front) (d
 unfoldable pub platform_text : Text → Option Text
 platform_text name = option_and_then (λ parts. platform_parts parts.0 parts.1) (split_once colon name)
 
--- whether a text is a number of 32 bits in decimal digits, without zeros before it
+-- whether a text is a number of 32 bits in decimal digits, without leading zeros
 abbrev pub is_written_number : Text → Bool
 is_written_number text = is_some (decimal_below (2 ^ 32) text) && (same_text text (codes "0") || not (begins_with digit_zero text))
 
@@ -103,7 +104,7 @@ unfoldable pub netdevsim_text : (interface device : DeviceValue) → Option Text
 netdevsim_text interface device =
     simulated (number_of_name (kernel_of device)) (some_text (read interface PhysPortName))
 
--- by the device above, where it is of ccw
+-- by the device above, if it is of ccw
 abbrev pub of_ccw : Option DeviceValue → Option Text
 of_ccw None = None
 of_ccw (Some device) = if is_of (codes "ccwgroup") None device || is_of (codes "ccw") None device then ccw_text (kernel_of device) else None

@@ -14,7 +14,7 @@ use Rattle.builtin_net.specs.Words.{most_number}
 use Rattle.builtin_net.specs.declared.allowed.Attribute.TheVariants.{AriEnabled}
 use Rattle.builtin_net.specs.declared.functions.Function.{Function}
 
--- the function of these numbers, where all four are there
+-- the function of these numbers, if all four are there
 abbrev pub with_numbers : Option ℕ → Option ℕ → Option ℕ → Option ℕ → Option Function
 with_numbers (Some domain) (Some bus) (Some slot) (Some function) = Some (record { domain = domain; bus = bus; slot = slot; function = function })
 with_numbers _ _ _ _ = None
@@ -30,11 +30,11 @@ in_bus domain bus place =
 unfoldable pub in_domain : Text → Text → Option Function
 in_domain domain rest = option_and_then (λ parts. in_bus domain parts.0 parts.1) (split_once colon rest)
 
--- the function that a name tells: domain, bus and slot in hexadecimal, the function in decimal
+-- the function that a name gives: domain, bus and slot in hexadecimal, the function in decimal
 unfoldable pub function_of : Text → Option Function
 function_of name = option_and_then (λ parts. in_domain parts.0 parts.1) (split_once colon name)
 
--- a function of a card that counts the functions of all its slots as one: eight times the slot more
+-- a function numbered as on a card that counts the functions of all its slots as one: eight times the slot more
 abbrev pub with_ari : Function → Function
 with_ari f = record f { function = f.function + 8 * f.slot }
 
@@ -61,11 +61,11 @@ several_type = 128
 abbrev pub header_type : Text → Option ℕ
 header_type digits = option_and_then (λ bytes. slice_get bytes header_place) (bytes_of digits)
 
--- whether a function says that its card has several
+-- whether a function reports that its card has several
 unfoldable pub is_several : EventValue → DeviceValue → Bool
 is_several event pci = option_map_or (nat_le several_type) (option_and_then header_type (config event pci)) false
 
--- the domain, which is left out where it is the first
+-- the domain, which is left out if it is the first
 abbrev pub domain_text : Function → Text
 domain_text f = if f.domain == 0 then [] else codes "P" ++ decimal f.domain
 
@@ -73,6 +73,6 @@ domain_text f = if f.domain == 0 then [] else codes "P" ++ decimal f.domain
 abbrev pub place_text : Function → Text
 place_text f = codes "p" ++ decimal f.bus ++ codes "s" ++ decimal f.slot
 
--- the function, which is left out where it is the first and the only one
+-- the function, which is left out if it is the first and the only one
 abbrev pub function_text : Function → Bool → Text
 function_text f several = if f.function == 0 && not several then [] else codes "f" ++ decimal f.function

@@ -17,7 +17,7 @@ use Rattle.builtin_net.specs.declared.prefixes.Prefix.{Prefix}
 abbrev pub index_in : Text → Option ℕ
 index_in text = number_in AsWritten (2 ^ 31 - 1) text
 
--- the index of the event device, which the kernel told
+-- the index of the event device, as the kernel reported it
 unfoldable pub index : EventValue → Option ℕ
 index event = positive (option_and_then index_in (value_of event.device.env (codes "IFINDEX")))
 
@@ -25,19 +25,19 @@ index event = positive (option_and_then index_in (value_of event.device.env (cod
 abbrev pub is_link : Text → Bool
 is_link text = is_some (index_in text) || is_below_zero AsWritten (2 ^ 31) text
 
--- whether an interface has an index, and tells the index of the interface that it stands upon, perhaps itself
+-- whether an interface has an index, and gives the index of the interface that it is stacked on, perhaps itself
 unfoldable pub is_identified : EventValue → (interface : DeviceValue) → Bool
 is_identified event interface = is_some (index event) && option_map_or is_link (read interface Iflink) false
 
--- the index of the interface that an interface stands upon
+-- the index of the interface that an interface is stacked on
 abbrev pub link : (interface : DeviceValue) → Option ℕ
 link interface = option_and_then index_in (read interface Iflink)
 
--- whether an interface stands upon no other
+-- whether an interface is not stacked on another
 unfoldable pub is_alone : EventValue → (interface : DeviceValue) → Bool
 is_alone event interface = option_map_or (is_number (link interface)) (index event) false
 
--- how names of an interface begin, where it has some
+-- how names of an interface begin, if it has some
 unfoldable pub naming : EventValue → (interface : DeviceValue) → Option Prefix
 naming event interface =
     if is_alone event interface then option_and_then (λ hardware. prefix_of hardware (type_of event.device)) (number interface Hardware) else None

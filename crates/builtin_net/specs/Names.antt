@@ -23,12 +23,12 @@ use Rattle.builtin_net.specs.declared.functions.Function.{Function}
 use Rattle.builtin_net.specs.declared.prefixes.Prefix.{Prefix}
 use Rattle.builtin_net.specs.declared.slots.Slot.{Slot}
 
--- a property of a prefix and a text after it, where there is one, and both have at most 127 bytes
+-- a property of a prefix and the text after it, if there is one, and both together have at most 127 bytes
 unfoldable pub given : (key prefix : Text) → Option Text → List Pair
 given key prefix None = []
 given key prefix (Some text) = if nat_le (length (prefix ++ text)) 127 then (key, prefix ++ text) ∷ [] else []
 
--- the digits of an address that stays, of an interface that is not of InfiniBand
+-- the digits of an address that stays, for an interface that is not of InfiniBand
 unfoldable pub lasting_address : Prefix → (interface : DeviceValue) → Option Text
 lasting_address prefix interface =
     if is_infiniband prefix || not (is_number (number interface AddrAssignType) 0) then None
@@ -38,7 +38,7 @@ lasting_address prefix interface =
 abbrev pub by_address : Prefix → (interface : DeviceValue) → Option Text
 by_address prefix interface = option_map (λ digits. codes "x" ++ digits) (lasting_address prefix interface)
 
--- the name by a device tree, which Ethernet alone has
+-- the name by a device tree, which only Ethernet has
 abbrev pub by_tree : EventValue → Prefix → Option Text
 by_tree event prefix = if is_ethernet prefix then tree_text event else None
 
@@ -54,14 +54,14 @@ path_text f tail = domain_text f ++ place_text f ++ tail
 abbrev pub slot_text : Function → (tail : Text) → Slot → Text
 slot_text f tail slot = (if slot.drops_domain then [] else domain_text f) ++ codes "s" ++ decimal slot.number ++ tail
 
--- both names of a function with what follows, where that can be reported
+-- both names of a function with what follows, if that can be given
 abbrev pub with_tail : EventValue → Prefix → (pci : DeviceValue) → Function → (tail : Option Text) → List Pair
 with_tail event prefix pci f None = []
 with_tail event prefix pci f (Some tail) =
     given (codes "ID_NET_NAME_PATH") (prefix_text prefix) (Some (path_text f tail))
     ++ given (codes "ID_NET_NAME_SLOT") (prefix_text prefix) (option_map (slot_text f tail) (slot_of event pci))
 
--- both names of a device, where it is a function
+-- both names of a device, if it is a function
 abbrev pub of_function : EventValue → Prefix → (interface pci : DeviceValue) → (suffix : Text) → Option Function → List Pair
 of_function event prefix interface pci suffix None = []
 of_function event prefix interface pci suffix (Some f) = with_tail event prefix pci f (tail event prefix interface pci suffix f)
@@ -139,7 +139,7 @@ bcma_end event = option_and_then (λ core. bcma_suffix (kernel_of core)) (bcma_c
 unfoldable pub by_bcma : EventValue → Prefix → (interface : DeviceValue) → List Pair
 by_bcma event prefix interface = of_bcma event prefix interface (bcma_function event) (bcma_end event)
 
--- the names by what the device above is called
+-- the names by the name of the device above
 unfoldable pub by_kernels : EventValue → (prefix : Text) → List Pair
 by_kernels event prefix =
     given (codes "ID_NET_NAME_PATH") prefix (by_ccw event)
@@ -153,7 +153,8 @@ by_buses event prefix interface =
     ++ given (codes "ID_NET_NAME_PATH") prefix (by_netdevsim event interface)
     ++ given (codes "ID_NET_NAME_SLOT") prefix (by_xen event)
 
--- All names in the order in which they are set, with what they were made by. A name that is given twice is the later one.
+-- All names in the order in which they are set, with what they are made from. If a name is given twice, the later one
+-- counts.
 unfoldable pub names : EventValue → Prefix → (interface : DeviceValue) → List Pair
 names event prefix interface =
     (codes "ID_NET_NAMING_SCHEME", codes "v257") ∷ []

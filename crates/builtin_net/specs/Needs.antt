@@ -1,4 +1,4 @@
--- What a block would have to tell for the names of an interface: what net_id asks for and each such device has.
+-- What a block would have to report for the names of an interface: what net_id asks for and each such device has.
 use Rattle.std.specs.Prelude.{ℕ, ◌==◌, ◌||◌, ◌&&◌, Bool, false, true, not, List, [], ◌∷◌, ◌++◌, codes, Option, Some, None, flat_map, option_and_then, is_some, if◌then◌else◌}
 use Rattle.std.specs.Option.{option_map_or, option_to_list}
 use Rattle.text_tables.specs.Texts.{Text}
@@ -26,24 +26,24 @@ use Rattle.builtin_net.specs.declared.prefixes.Prefix.{Prefix}
 abbrev pub when : Bool → Text → List Text
 when holds word = if holds then word ∷ [] else []
 
--- of the index, the hardware and the address
+-- for the index, the hardware and the address
 abbrev pub own_needs : EventValue → (interface : DeviceValue) → List Text
 own_needs event interface =
     when (is_of (codes "net") None event.device && not (is_some (value_of event.device.env (codes "IFINDEX")))) (codes "IFINDEX")
     ++ when (is_some (index event) && lacks interface Iflink) (codes "iflink")
     ++ when (is_alone event interface && lacks interface Hardware) (codes "type")
 
--- of the address
+-- for the address
 abbrev pub address_needs : Prefix → (interface : DeviceValue) → List Text
 address_needs prefix interface =
     when (not (is_infiniband prefix) && lacks interface AddrAssignType) (codes "addr_assign_type")
     ++ when (not (is_infiniband prefix) && is_number (number interface AddrAssignType) 0 && lacks interface Address) (codes "address")
 
--- of the aliases
+-- for the aliases
 abbrev pub tree_needs : EventValue → Prefix → List Text
 tree_needs event prefix = when (is_ethernet prefix && is_some (node_link event) && not (is_told event aliases_folder)) (codes "aliases")
 
--- of the port
+-- for the port
 abbrev pub port_needs : Prefix → (interface : DeviceValue) → (by_id : Bool) → List Text
 port_needs prefix interface by_id =
     let is_named = is_some (some_text (read interface PhysPortName)) in
@@ -54,7 +54,8 @@ port_needs prefix interface by_id =
 abbrev pub is_bridge_there : Option DeviceValue → Bool
 is_bridge_there device = option_map_or is_bridge device false
 
--- of the configuration: it says whether a function with the number 0 is the only one, and whether the slot of a bridge is its own
+-- for the configuration: it says whether a function with the number 0 is the only one, and whether the slot of a
+-- bridge is its own
 abbrev pub config_needs : EventValue → (pci : DeviceValue) → Function → (has_port : Bool) → List Text
 config_needs event pci f has_port =
     when ((f.function == 0 || has_port && not (is_some (firmware_number pci)) && is_bridge_there (pci_above event pci)) && not (is_some (config event pci))) (codes "config")
@@ -63,23 +64,24 @@ config_needs event pci f has_port =
 abbrev pub lacks_modalias : Option DeviceValue → Bool
 lacks_modalias device = option_map_or (λ d. lacks d Modalias) device false
 
--- the same of the device at which the search for a slot ends: a function of System z is not asked
+-- the same for the device at which the search for a slot ends: a function of System z is not asked
 abbrev pub lacks_at_end : Option DeviceValue → Bool
 lacks_at_end device = option_map_or (λ d. lacks d Modalias && not (is_some (read d FunctionId))) device false
 
--- whether a device lacks its modalias that is asked whether it is a bridge: the device above, or that at which the search ends
+-- whether a device that is asked whether it is a bridge lacks its modalias: the device above, or that at which the
+-- search ends
 abbrev pub lacks_a_modalias : EventValue → (pci : DeviceValue) → Bool
 lacks_a_modalias event pci =
     not (is_some (firmware_number pci)) && lacks_modalias (pci_above event pci)
     || not (is_some (number_by_firmware event pci)) && lacks_at_end (search_end event pci)
 
--- of the slot
+-- for the slot
 abbrev pub slot_needs : EventValue → (pci : DeviceValue) → List Text
 slot_needs event pci =
     when (lacks_a_modalias event pci) (codes "modalias")
     ++ when (not (is_some (number_by_firmware event pci)) && not (is_told event slots_folder)) (codes "slots")
 
--- of a function
+-- for a function
 abbrev pub of_function : EventValue → Prefix → (interface pci : DeviceValue) → Option Function → List Text
 of_function event prefix interface pci None = []
 of_function event prefix interface pci (Some f) =
@@ -89,18 +91,18 @@ of_function event prefix interface pci (Some f) =
 unfoldable pub function_needs : EventValue → Prefix → (interface pci : DeviceValue) → List Text
 function_needs event prefix interface pci = of_function event prefix interface pci (function pci)
 
--- of the function by which an interface of PCI is named
+-- for the function by which an interface of PCI is named
 abbrev pub of_own : EventValue → Prefix → (interface : DeviceValue) → Option Named → List Text
 of_own event prefix interface None = when (is_there (codes "pci") (parent_behind_virtio event)) (codes "physfn")
 of_own event prefix interface (Some own) =
     (if is_some (board_number own.0) then port_needs prefix interface false else []) ++ function_needs event prefix interface own.0
 
--- of a function above, by which an interface is named that has this suffix
+-- for a function above, by which an interface that has this suffix is named
 abbrev pub of_above : EventValue → Prefix → (interface : DeviceValue) → Option DeviceValue → (suffix : Option Text) → List Text
 of_above event prefix interface (Some pci) (Some suffix) = function_needs event prefix interface pci
 of_above event prefix interface _ _ = []
 
--- of the names, in no order that means anything
+-- for the names, in no particular order
 abbrev pub names_needs : EventValue → (interface : DeviceValue) → Option Prefix → List Text
 names_needs event interface None = []
 names_needs event interface (Some prefix) =

@@ -1,4 +1,4 @@
--- What net_id makes of an event.
+-- The outcome of net_id.
 use Rattle.std.specs.Prelude.{ℕ, ◌^◌, ◌-◌, ◌==◌, ◌||◌, ◌&&◌, Bool, false, List, [], codes, Option, Some, None, option_and_then, is_some, if◌then◌else◌}
 use Rattle.std.specs.Option.{option_map_or}
 use Rattle.text_tables.specs.Texts.{Text}
@@ -24,6 +24,6 @@ net_id event env =
     if is_identified event (interface event env) then succeeding (properties event (interface event env)) (needs event (interface event env))
     else failing (needs event (interface event env))
 
--- what is asked of the hardware database: who made an interface by its address
+-- what the hardware database is asked: who made an interface, by its address
 unfoldable pub lookup : EventValue → (env : List Pair) → Option Text
 lookup event env = option_and_then (λ prefix. option_and_then maker_lookup (lasting_address prefix (interface event env))) (naming event (interface event env))

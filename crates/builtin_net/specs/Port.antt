@@ -1,4 +1,4 @@
--- What tells the ports of one function apart.
+-- What distinguishes the ports of one function.
 use Rattle.std.specs.Prelude.{ℕ, ◌==◌, ◌&&◌, Bool, [], ◌++◌, codes, decimal, Option, Some, None, option_map, option_and_then, if◌then◌else◌}
 use Rattle.std.specs.Bool.{then_some}
 use Rattle.std.specs.Option.{option_or}
@@ -11,15 +11,15 @@ use Rattle.builtin_net.specs.Words.{behind, behind_digits, leading_number, is_pl
 use Rattle.builtin_net.specs.declared.allowed.Attribute.TheVariants.{PhysPortName, DevPort, DevId}
 use Rattle.builtin_net.specs.declared.prefixes.Prefix.{Prefix}
 
--- the number of the virtual function after that of a physical one, as in `0vf3`
+-- the number of the virtual function after that of a physical one, such as in `0vf3`
 unfoldable pub virtual_of : Text → Option ℕ
 virtual_of text = option_and_then (λ physical. option_and_then leading_number (behind (codes "vf") (behind_digits text))) (leading_number text)
 
--- the virtual function that the interface of a switch stands for, as 3 where its port is called `pf0vf3`
+-- the virtual function that the interface of a switch stands for, such as 3 if its port is called `pf0vf3`
 unfoldable pub represented : Text → Option ℕ
 represented name = option_and_then virtual_of (behind (codes "pf") name)
 
--- a port by its name, where that may be part of one
+-- a port by its name, if that may be part of an interface's name
 unfoldable pub named_port : Text → Option Text
 named_port name = option_or (option_map (λ n. codes "r" ++ decimal n) (represented name)) (then_some (is_plain name) (codes "n" ++ name))
 
@@ -27,21 +27,21 @@ named_port name = option_or (option_map (λ n. codes "r" ++ decimal n) (represen
 abbrev pub numbered_port : ℕ → Text
 numbered_port n = if n == 0 then [] else codes "d" ++ decimal n
 
--- the number of a port: of InfiniBand dev_id where dev_port is 0, if dev_id counts
+-- the number of a port: for InfiniBand dev_id if dev_port is 0 and dev_id counts
 unfoldable pub port_number : Prefix → DeviceValue → (by_id : Bool) → Option ℕ
 port_number prefix interface by_id =
     option_and_then (λ n. if n == 0 && (by_id && is_infiniband prefix) then number interface DevId else Some n) (number interface DevPort)
 
--- a text that is not empty
+-- a text, if it is not empty
 abbrev pub some_text : Option Text → Option Text
 some_text None = None
 some_text (Some text) = if is_empty text then None else Some text
 
--- a port by its name where it has one, else by its number; none where it can't be reported
+-- a port by its name if it has one, else by its number; none if it can't be given
 abbrev pub port_by : (name : Option Text) → (number : Option ℕ) → Option Text
 port_by None number = option_map numbered_port number
 port_by (Some name) number = named_port name
 
--- what names of an interface say about its port; none where no name can be given
+-- what names of an interface say about its port; none if no name can be given
 unfoldable pub port_text : Prefix → DeviceValue → (by_id : Bool) → Option Text
 port_text prefix interface by_id = port_by (some_text (read interface PhysPortName)) (port_number prefix interface by_id)

@@ -19,11 +19,11 @@ use Rattle.builtin_net.specs.Words.{is_number, most_number, positive}
 use Rattle.builtin_net.specs.declared.allowed.Attribute.TheVariants.{Sun, FunctionId, Modalias}
 use Rattle.builtin_net.specs.declared.slots.Slot.{Slot}
 
--- the number of a slot that the firmware says about a device
+-- the number of a slot that the firmware gives for a device
 abbrev pub firmware_number : DeviceValue → Option ℕ
 firmware_number pci = positive (number pci Sun)
 
--- whether a modalias is that of a bridge: it is of PCI, and after the last `s` in it stands `c04`
+-- whether a modalias is that of a bridge: it is of PCI, and the last `s` in it is followed by `c04`
 unfoldable pub is_bridge_alias : Text → Bool
 is_bridge_alias alias = starts_with nat_eq alias (codes "pci:") && starts_with nat_eq (after_last (λ b. b == 115) alias) (codes "c04")
 
@@ -35,12 +35,13 @@ is_bridge pci = option_map_or is_bridge_alias (read pci Modalias) false
 abbrev pub pci_above : EventValue → DeviceValue → Option DeviceValue
 pci_above event device = above event (codes "pci") None device.path
 
--- what the firmware says about the device above a function: that of a bridge counts only for a function that is one of several
+-- what the firmware gives for the device above a function: that of a bridge counts only for a function that is one of
+-- several
 abbrev pub number_of_above : (several : Bool) → Option DeviceValue → Option ℕ
 number_of_above several None = None
 number_of_above several (Some pci) = if is_bridge pci && not several then None else firmware_number pci
 
--- the number that the firmware says about a function, or else of the device above
+-- the number that the firmware gives for a function, or else for the device above
 unfoldable pub number_by_firmware : EventValue → DeviceValue → Option ℕ
 number_by_firmware event pci = option_or (firmware_number pci) (number_of_above (is_several event pci) (pci_above event pci))
 
@@ -51,11 +52,11 @@ slots_folder = codes "/bus/pci/slots"
 abbrev pub slot_files : EventValue → List Pair
 slot_files event = files_below event slots_folder
 
--- whether a block says about a folder, perhaps that it is empty
+-- whether a block describes a folder, perhaps as empty
 unfoldable pub is_told : EventValue → (folder : Text) → Bool
 is_told event folder = is_some (file_at event folder) || not (is_empty (files_below event folder))
 
--- the name of the slot whose file `NAME/address` tells what is in it
+-- the name of the slot whose file `NAME/address` says what is in it
 abbrev pub addressed : Option Pair → Option Text
 addressed None = None
 addressed (Some parts) = if same_text parts.1 (codes "address") then Some parts.0 else None
@@ -75,7 +76,7 @@ holds kernel file = starts_with nat_eq kernel file.1 && is_some (slot_number fil
 unfoldable pub number_by_place : EventValue → DeviceValue → Option ℕ
 number_by_place event pci = option_and_then (λ file. slot_number file.0) (find (holds (kernel_of pci)) (slot_files event))
 
--- whether a name is this number in eight hexadecimal digits with small letters
+-- whether a name is this number in eight hexadecimal digits with lower case letters
 unfoldable pub is_identity : ℕ → Text → Bool
 is_identity n name =
     length name == 8 && list_all is_ascii_hexdigit name && not (list_any is_ascii_uppercase name) && is_number (number_in Hexadecimal most_number name) n
@@ -93,11 +94,11 @@ slot_by_identity event identity =
 unfoldable pub ends_search : EventValue → DeviceValue → Bool
 ends_search event pci = is_some (read pci FunctionId) || is_some (number_by_place event pci)
 
--- whether it ends at a device, which is to be of PCI
+-- whether it ends at a device, which has to be of PCI
 abbrev pub ends_search_in_pci : EventValue → DeviceValue → Bool
 ends_search_in_pci event device = is_of (codes "pci") None device && ends_search event device
 
--- the device at which the search ends that begins at a function and goes on above it
+-- the device at which the search that begins at a function and goes on above it ends
 unfoldable pub search_end : EventValue → DeviceValue → Option DeviceValue
 search_end event pci =
     if ends_search event pci then Some pci

@@ -38,11 +38,11 @@ alias_end file = behind (codes "ethernet") file.0
 unfoldable pub is_alias : (node : Text) → Pair → Bool
 is_alias node file = is_some (alias_end file) && same_text file.1 node
 
--- what an alias is taken for that has the same number, 0
+-- the other alias with the same number, 0
 abbrev pub other_alias : (behind : Text) → Text
 other_alias behind = if is_empty behind then codes "/firmware/devicetree/base/aliases/ethernet0" else codes "/firmware/devicetree/base/aliases/ethernet"
 
--- the number of an alias, 0 where it has none
+-- the number of an alias, 0 if it has none
 abbrev pub alias_number : (behind : Text) → Option ℕ
 alias_number behind = if is_empty behind then Some 0 else number_in AsWritten most_number behind
 

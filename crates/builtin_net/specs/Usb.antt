@@ -14,16 +14,16 @@ port_byte b = if b == dot then 117 else b
 abbrev pub ports_text : Text → Text
 ports_text ports = map port_byte ports
 
--- a number after a letter, left out where it is the usual one
+-- a number after a letter, left out if it is the usual one
 abbrev pub unless_usual : (usual letter number : Text) → Text
 unless_usual usual letter number = if same_text number usual then [] else letter ++ number
 
--- ports, and configuration and interface where they are not the first
+-- ports, and configuration and interface if they are not the first
 abbrev pub usb_text : (ports configuration interface : Text) → Text
 usb_text ports configuration interface =
     codes "u" ++ ports_text ports ++ unless_usual (codes "1") (codes "c") configuration ++ unless_usual (codes "0") (codes "i") interface
 
--- ports with what follows them, and what comes before and after the dot in that
+-- ports with what follows them, which is what comes before and after a dot
 abbrev pub usb_numbers : Text → Text → Option Text
 usb_numbers ports numbers = option_map (λ parts. usb_text ports parts.0 parts.1) (split_once dot numbers)
 
@@ -34,11 +34,11 @@ usb_ports rest = option_and_then (λ parts. usb_numbers parts.0 parts.1) (split_
 unfoldable pub usb_suffix : Text → Option Text
 usb_suffix name = option_and_then (λ parts. usb_ports parts.1) (split_once minus name)
 
--- the core after the bus, where both are numbers
+-- the core after the bus, if both are numbers
 abbrev pub core_of : (bus core : Text) → Option ℕ
 core_of bus core = option_and_then (λ n. number_in Decimal most_number core) (number_in Decimal most_number bus)
 
--- the core that a name `bcmaBUS:CORE` tells
+-- the core that a name `bcmaBUS:CORE` gives
 abbrev pub core_in : Text → Option ℕ
 core_in name = option_and_then (λ parts. core_of parts.0 parts.1) (option_and_then (split_once colon) (behind (codes "bcma") name))
 

@@ -9,7 +9,7 @@ use Rattle.builtin_devices.specs.Devices.{device_by}
 use Rattle.builtin_devices.specs.Files.{file_at, files_below}
 use Rattle.builtin_net.specs.Words.{behind}
 
--- a function by which names are reported, and what follows them: the number of the virtual function
+-- a function by which an interface is named, and what follows them: the number of the virtual function
 abbrev pub Named : Type 0
 Named = DeviceValue × Text
 
@@ -29,12 +29,12 @@ leads_to path file = option_map_or is_decimal (virtual_digits file) false && sam
 unfoldable pub virtual_number : EventValue → (physical path : Text) → Option Text
 virtual_number event physical path = option_and_then virtual_digits (find (leads_to path) (files_below event physical))
 
--- the physical function, where it has the virtual one, and else the function itself
+-- the physical function if it has the virtual one, and else the function itself
 abbrev pub by_number : (pci physical : DeviceValue) → (number : Option Text) → Named
 by_number pci physical None = (pci, [])
 by_number pci physical (Some digits) = (physical, codes "v" ++ digits)
 
--- a function with a link to a physical one; nothing where the block does not say about that
+-- a function with a link to a physical one; nothing if the block does not describe that
 abbrev pub by_physical : EventValue → DeviceValue → Option DeviceValue → Option Named
 by_physical event pci None = None
 by_physical event pci (Some physical) = Some (by_number pci physical (virtual_number event physical.path pci.path))
@@ -44,6 +44,6 @@ abbrev pub by_link : EventValue → DeviceValue → Option Text → Option Named
 by_link event pci None = Some (pci, [])
 by_link event pci (Some path) = by_physical event pci (device_by event path)
 
--- by which function names are reported
+-- the function by which an interface is named
 unfoldable pub named_function : EventValue → DeviceValue → Option Named
 named_function event pci = by_link event pci (physical_path event pci)

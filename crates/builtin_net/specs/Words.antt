@@ -10,7 +10,7 @@ use Rattle.text_tables.specs.Texts.{Text}
 abbrev pub most_number : ℕ
 most_number = 2 ^ 32 - 1
 
--- what follows a beginning, where a text begins with it
+-- what follows a beginning, if a text begins with it
 unfoldable pub behind : (front : Text) → Text → Option Text
 behind front text = if starts_with nat_eq text front then Some (drop (length front) text) else None
 
@@ -34,7 +34,7 @@ abbrev pub positive : Option ℕ → Option ℕ
 positive None = None
 positive (Some n) = if n == 0 then None else Some n
 
--- whether a number is there, and this one
+-- whether there is a number, and it is this one
 abbrev pub is_number : Option ℕ → ℕ → Bool
 is_number None n = false
 is_number (Some m) n = m == n

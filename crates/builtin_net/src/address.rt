@@ -1,4 +1,4 @@
-//! Names by the address of an interface.
+//! Names from the address of an interface.
 ghost use Rattle.std.specs.Prelude.{◌≡◌, ◌==◌, flat_map, map, option_map, IfOk};
 ghost use Rattle.std.specs.List.{list_all, slice_split};
 ghost use Rattle.builtin_net.specs.Address.{address_digits, are_fields, field_digits, is_field, maker_lookup, marked_digits};
@@ -14,7 +14,7 @@ fn is_field(width: usize, text: &[u8]) -> bool
     !text.is_empty() && text.len() <= width && is_hexadecimal(text)
 }
 
-/// A field in so many small digits, with zeros before it.
+/// A field in so many lower case digits, with zeros before it.
 #[tactic(auto, unfolding(crate::specs::Address::field_digits))]
 fn field_digits(alloc: Global, width: usize, field: &[u8]) -> Result<Vec<u8>, AllocError>
     ensures { IfOk result (λ digits. digits.items ≡ field_digits width field.now) }
@@ -24,7 +24,7 @@ fn field_digits(alloc: Global, width: usize, field: &[u8]) -> Result<Vec<u8>, Al
     Ok(digits)
 }
 
-/// The texts of a text with a mark in between.
+/// The parts of a text that a mark separates.
 fn parts(alloc: Global, mark: u8, text: &[u8]) -> Result<Vec<&[u8]>, AllocError>
     ensures { IfOk result (λ parts. map (λ t. t.now) parts.items ≡ slice_split (λ b. b == mark) text.now) }
 {
@@ -75,7 +75,7 @@ fn marked_digits(
     Ok(Some(all_digits(alloc, width, &parts)?))
 }
 
-/// The twelve small digits of an address of six bytes.
+/// The twelve lower case digits of an address of six bytes.
 #[tactic(auto, unfolding(crate::specs::Address::address_digits))]
 pub(crate) fn address_digits(alloc: Global, text: &[u8]) -> Result<Option<Vec<u8>>, AllocError>
     ensures { IfOk result (λ digits. option_map (λ d. d.items) digits ≡ address_digits text.now) }

@@ -1,4 +1,4 @@
-//! The attributes that names are made of, and which of them they may use.
+//! The attributes that names are made from, and which of them they may use.
 ghost use Rattle.std.specs.Prelude.{◌≡◌, map, option_map};
 ghost use Rattle.std.specs.Char.{to_ascii_lowercase};
 ghost use Rattle.text_tables.specs.Texts.{same_text};
@@ -10,10 +10,10 @@ use builtin_devices::{Base, number_in};
 use device_core::{Device, Event};
 use text_tables::{OwnedPairs, Pairs};
 
-/// An attribute that names are made of.
+/// An attribute that names are made from.
 #[derive(Clone, Copy)]
 pub enum Attribute {
-    /// `iflink`, the index of the interface that this one stands upon.
+    /// `iflink`, the index of the interface that this one is stacked on.
     Iflink,
     /// `type`, the number of the hardware.
     Hardware,
@@ -92,14 +92,14 @@ impl Attribute {
     }
 }
 
-/// Whether a word is another, in letters of any size.
+/// Whether a word is another, regardless of case.
 fn is_word(word: &[u8], other: &[u8]) -> bool
     ensures { result ≡ same_text (map to_ascii_lowercase word.now) (map to_ascii_lowercase other.now) }
 {
     word.eq_ignore_ascii_case(other)
 }
 
-/// Whether a word means yes, in letters of any size.
+/// Whether a word means yes, regardless of case.
 #[tactic(auto, unfolding(crate::specs::Allowed::is_yes))]
 pub(crate) fn is_yes(word: &[u8]) -> bool
     ensures { result ≡ is_yes word.now }
@@ -112,7 +112,7 @@ pub(crate) fn is_yes(word: &[u8]) -> bool
         || is_word(word, b"on")
 }
 
-/// Whether a word of its own lets names use an attribute, or else one for all attributes.
+/// Whether names may use an attribute, by a word for it alone, or else by one for all attributes.
 fn permits(own: Option<&[u8]>, all: Option<&[u8]>) -> bool
     ensures { result ≡ permits (option_map (λ t. t.now) own.entry) (option_map (λ t. t.now) all.entry) }
 {
@@ -122,7 +122,7 @@ fn permits(own: Option<&[u8]>, all: Option<&[u8]>) -> bool
     }
 }
 
-/// Whether properties that udev has kept let names use an attribute.
+/// Whether, by properties that udev has kept, names may use an attribute.
 #[tactic(auto, unfolding(crate::specs::Allowed::is_allowed))]
 fn is_allowed(env: &Pairs<'_>, attribute: Attribute) -> bool
     ensures { result ≡ is_allowed env.now attribute }
@@ -140,7 +140,7 @@ fn property<'e>(env: &'e OwnedPairs, name: &[u8]) -> Option<&'e [u8]>
     }
 }
 
-/// Whether current properties let names use an attribute.
+/// Whether, by current properties, names may use an attribute.
 #[tactic(auto, unfolding(crate::specs::Allowed::is_allowed))]
 fn is_allowed_now(env: &OwnedPairs, attribute: Attribute) -> bool
     ensures { result ≡ is_allowed env.now attribute }
@@ -163,7 +163,7 @@ pub(crate) fn read<'a>(device: &Device<'a>, attribute: Attribute) -> Option<&'a 
     }
 }
 
-/// The number that an attribute says.
+/// The number that an attribute gives.
 #[tactic(auto, unfolding(crate::specs::Allowed::number))]
 pub(crate) fn number(device: &Device<'_>, attribute: Attribute) -> Option<u64>
     ensures { result ≡ number device.now attribute }
@@ -198,7 +198,7 @@ pub(crate) fn read_own<'a>(
     }
 }
 
-/// The number that an attribute of the event device says.
+/// The number that an attribute of the event device gives.
 #[tactic(auto, unfolding(crate::specs::Allowed::number))]
 pub(crate) fn own_number(event: &Event<'_>, env: &OwnedPairs, attribute: Attribute) -> Option<u64>
     ensures { result ≡ number (interface event.now env.now) attribute }

@@ -13,17 +13,17 @@ use std::alloc::{AllocError, Global};
 use text_bytes::Bytes;
 use text_tables::OwnedPairs;
 
-/// What net_id comes to.
+/// The outcome of net_id, with a query.
 #[derive(Drop)]
 pub struct NetNames {
-    /// Whether it succeeds, the names and what the block would have to tell.
+    /// Whether it succeeds, the names, and what the block would have to report.
     pub outcome: Outcome,
-    /// What is asked of the hardware database: who made the interface. Its properties are set after the name by the
+    /// What the hardware database is asked: who made the interface. Its properties are set after the name by the
     /// address.
     pub lookup: Option<Bytes>,
 }
 
-/// What is asked of the hardware database.
+/// What the hardware database is asked.
 #[tactic(auto, unfolding(crate::specs::NetId::lookup))]
 fn lookup(alloc: Global, event: &Event<'_>, env: &OwnedPairs) -> Result<Option<Bytes>, AllocError>
     ensures { IfOk result (λ text. text ≡ lookup event.now env.now) }
@@ -68,10 +68,10 @@ fn outcome(alloc: Global, devices: &Devices<'_>, env: &OwnedPairs) -> Result<Out
 
 /// The names of the network interface that the event device is, as the builtin net_id of udev of systemd 257 gives
 /// them by its naming scheme v257; systemd.net-naming-scheme(7) has the forms. `env` are the current properties of
-/// the event device, which say what names may use of it; the kernel's own count for IFINDEX and DEVTYPE.
+/// the event device, which say what names may use of it; for IFINDEX and DEVTYPE the kernel's own count.
 ///
-/// It fails where IFINDEX is no number above 0, or `iflink` is no number. It sets nothing for an interface upon
-/// another and for hardware other than Ethernet, InfiniBand and SLIP.
+/// It fails if IFINDEX is not a number above 0, or `iflink` is not a number. It sets nothing for an interface that
+/// is stacked on another, or for hardware other than Ethernet, InfiniBand and SLIP.
 pub fn net_id(alloc: Global, event: &Event<'_>, env: &OwnedPairs) -> Result<NetNames, AllocError>
     ensures outcome { IfOk result (λ names. names.outcome ≡ net_id event.now env.now) }
     ensures lookup { IfOk result (λ names. names.lookup ≡ lookup event.now env.now) }

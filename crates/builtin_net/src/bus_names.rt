@@ -130,7 +130,7 @@ pub(crate) fn give_by_bcma(
     }
 }
 
-/// Gives the names by what the device above is called.
+/// Gives the names by the name of the device above.
 #[tactic(auto, unfolding(crate::specs::Names::by_kernels))]
 fn give_by_kernels(
     alloc: Global,

@@ -86,7 +86,7 @@ fn leading_zeros(text: &[u8]) -> usize
     text.iter().take_while(|byte| **byte == b'0').count()
 }
 
-/// A text without so many bytes at its start; where that are all, the last one stays.
+/// A text without so many bytes at its start; if these are all, the last one stays.
 fn without_start(text: &[u8], count: usize) -> &[u8]
     requires { count ≤ length text.now }
     ensures { result.now ≡ without_start count text.now }
@@ -124,14 +124,14 @@ fn vio_text(alloc: Global, name: &[u8]) -> Result<Option<Vec<u8>>, AllocError>
     Ok(Some(text))
 }
 
-/// Whether a byte is a large letter or a digit.
+/// Whether a byte is a capital letter or a digit.
 fn is_vendor_byte(byte: u8) -> bool
     ensures { result ≡ is_vendor_byte byte }
 {
     byte.is_ascii_uppercase() || byte.is_ascii_digit()
 }
 
-/// Whether a text has only large letters and digits.
+/// Whether a text has only capital letters and digits.
 fn has_vendor_bytes(text: &[u8]) -> bool
     ensures { result ≡ list_all is_vendor_byte text.now }
 {

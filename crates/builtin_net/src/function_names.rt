@@ -64,7 +64,7 @@ fn slot_text(alloc: Global, f: Function, tail: &[u8], slot: Slot) -> Result<Vec<
     Ok(text)
 }
 
-/// The name by the slot of a function, where it is in one.
+/// The name by the slot of a function, if it is in one.
 fn by_slot<'a>(
     alloc: Global,
     devices: &Devices<'a>,
@@ -80,7 +80,7 @@ fn by_slot<'a>(
     }
 }
 
-/// Gives the name by the slot of a function, where it is in one.
+/// Gives the name by the slot of a function, if it is in one.
 fn give_slot<'a>(
     alloc: Global,
     names: &mut Vec<(Bytes, Bytes)>,
@@ -113,7 +113,7 @@ fn give_with_tail<'a>(
     give_slot(alloc, names, devices, prefix, pci, f, tail)
 }
 
-/// Gives both names of a device, where it is a function.
+/// Gives both names of a device, if it is a function.
 #[tactic(auto, unfolding(crate::specs::Names::by_function))]
 pub(crate) fn give_by_function<'a>(
     alloc: Global,

@@ -60,7 +60,7 @@ fn in_domain(domain: &[u8], rest: &[u8]) -> Option<Function>
     in_bus(domain, bus, place)
 }
 
-/// The function that a name tells.
+/// The function that a name gives.
 #[tactic(auto, unfolding(crate::specs::Function::function_of))]
 fn function_of(name: &[u8]) -> Option<Function>
     ensures value { result ≡ function_of name.now }
@@ -71,7 +71,7 @@ fn function_of(name: &[u8]) -> Option<Function>
     in_domain(domain, rest)
 }
 
-/// A function of a card that counts the functions of all its slots as one.
+/// A function numbered as on a card that counts the functions of all its slots as one.
 fn with_ari(f: Function) -> Function
     requires slot { f.slot ≤ most_number }
     requires function { f.function ≤ most_number }
@@ -130,7 +130,7 @@ fn header_type(alloc: Global, digits: &[u8]) -> Result<Option<u8>, AllocError>
     }
 }
 
-/// Whether a function says that its card has several.
+/// Whether a function reports that its card has several.
 #[tactic(auto, unfolding(crate::specs::Function::is_several))]
 pub(crate) fn is_several(
     alloc: Global,
@@ -148,7 +148,7 @@ pub(crate) fn is_several(
     }
 }
 
-/// Puts the domain after a text, unless it is the first.
+/// Appends the domain, unless it is the first.
 pub(crate) fn push_domain(text: &mut Vec<u8>, f: Function) -> Result<(), AllocError>
     ensures { OnOk result (text.new.items ≡ text.old.items ++ domain_text f) }
 {
@@ -158,7 +158,7 @@ pub(crate) fn push_domain(text: &mut Vec<u8>, f: Function) -> Result<(), AllocEr
     push_number(text, b"P", f.domain)
 }
 
-/// Puts bus and slot after a text.
+/// Appends bus and slot.
 pub(crate) fn push_place(text: &mut Vec<u8>, f: Function) -> Result<(), AllocError>
     ensures { OnOk result (text.new.items ≡ text.old.items ++ place_text f) }
 {
@@ -166,7 +166,7 @@ pub(crate) fn push_place(text: &mut Vec<u8>, f: Function) -> Result<(), AllocErr
     push_number(text, b"s", f.slot)
 }
 
-/// Puts the function after a text, unless it is the first and the only one.
+/// Appends the function, unless it is the first and the only one.
 pub(crate) fn push_function(
     text: &mut Vec<u8>,
     f: Function,

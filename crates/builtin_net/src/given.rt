@@ -12,7 +12,7 @@ use text_bytes::Bytes;
 /// The most bytes of a name.
 const MAX_NAME: usize = 127;
 
-/// Adds a property of a prefix and a text after it, where there is one and both are not too long.
+/// Adds a property of a prefix and the text after it, if there is one and both together are not too long.
 #[tactic(auto, unfolding(crate::specs::Names::given))]
 pub(crate) fn give(
     alloc: Global,

@@ -17,7 +17,7 @@ fn index_in(text: &[u8]) -> Option<u64>
     number_in(Base::AsWritten, (1 << 31) - 1, text)
 }
 
-/// The index of the event device, which the kernel told.
+/// The index of the event device, as the kernel reported it.
 #[tactic(auto, unfolding(crate::specs::Identity::index))]
 pub(crate) fn index(event: &Event<'_>) -> Option<u64>
     ensures { result ≡ index event.now }
@@ -35,7 +35,7 @@ fn is_link(text: &[u8]) -> bool
     index_in(text).is_some() || is_below_zero(Base::AsWritten, 1 << 31, text)
 }
 
-/// Whether the event device has an index, and tells that of the interface that it stands upon.
+/// Whether the event device has an index, and gives that of the interface that it is stacked on.
 #[tactic(auto, unfolding(crate::specs::Identity::is_identified))]
 pub(crate) fn is_identified(event: &Event<'_>, env: &OwnedPairs) -> bool
     ensures { result ≡ is_identified event.now (interface event.now env.now) }
@@ -49,14 +49,14 @@ pub(crate) fn is_identified(event: &Event<'_>, env: &OwnedPairs) -> bool
     }
 }
 
-/// The index of the interface that the event device stands upon.
+/// The index of the interface that the event device is stacked on.
 fn link(event: &Event<'_>, env: &OwnedPairs) -> Option<u64>
     ensures { result ≡ link (interface event.now env.now) }
 {
     index_in(read_own(event, env, Attribute::Iflink)?)
 }
 
-/// Whether the event device stands upon no other interface.
+/// Whether the event device is not stacked on another interface.
 #[tactic(auto, unfolding(crate::specs::Identity::is_alone))]
 pub(crate) fn is_alone(event: &Event<'_>, env: &OwnedPairs) -> bool
     ensures { result ≡ is_alone event.now (interface event.now env.now) }
@@ -67,7 +67,7 @@ pub(crate) fn is_alone(event: &Event<'_>, env: &OwnedPairs) -> bool
     }
 }
 
-/// How names of the event device begin, where it has some.
+/// How names of the event device begin, if it has some.
 #[tactic(auto, unfolding(crate::specs::Identity::naming))]
 pub(crate) fn naming(event: &Event<'_>, env: &OwnedPairs) -> Option<Prefix>
     ensures { result ≡ naming event.now (interface event.now env.now) }

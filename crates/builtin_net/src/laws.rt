@@ -15,12 +15,12 @@ pub fn names_are_short()
     ensures { (event : EventValue) (env : List Pair) → All (λ pair. length pair.1 ≤ 127) (net_id event env).properties }
 {}
 
-/// An interface that stands upon another has no names.
+/// An interface that is stacked on another has no names.
 pub fn stacked_interfaces_have_no_names()
     ensures { (event : EventValue) (env : List Pair) → is_alone event (interface event env) ≡ false → (net_id event env).properties ≡ [] }
 {}
 
-/// Where a property forbids all attributes of an interface, and none allows its index of the link, it fails.
+/// If a property forbids all attributes of an interface, and none allows its `iflink`, net_id fails.
 pub fn forbidden_interfaces_fail()
     ensures { (event : EventValue) (env : List Pair) (word : Text) → value_of env permission_of_all ≡ Some word → is_yes word ≡ false → value_of env (permission Iflink) ≡ None → (net_id event env).is_done ≡ false }
 {}

@@ -1,4 +1,4 @@
-//! What a block would have to tell for the names of an interface.
+//! What a block would have to report for the names of an interface.
 ghost use Rattle.std.specs.Prelude.{◌≡◌, ◌++◌, is_some, option_copied, option_map, IfOk, OnOk, Some};
 ghost use Rattle.text_tables.specs.Texts.{with_texts};
 ghost use Rattle.builtin_net.specs.Allowed.{interface};
@@ -36,7 +36,7 @@ fn need(alloc: Global, needs: &mut OwnedTexts, holds: bool, word: &[u8]) -> Resu
     }
 }
 
-/// Adds what is needed of the index and the hardware.
+/// Adds what is needed for the index and the hardware.
 fn need_own(
     alloc: Global,
     needs: &mut OwnedTexts,
@@ -54,7 +54,7 @@ fn need_own(
     need(alloc, needs, lacks_type, b"type")
 }
 
-/// Adds what is needed of the address.
+/// Adds what is needed for the address.
 fn need_address(
     alloc: Global,
     needs: &mut OwnedTexts,
@@ -74,7 +74,7 @@ fn need_address(
     need(alloc, needs, lacks_address, b"address")
 }
 
-/// Adds what is needed of the aliases of a device tree.
+/// Adds what is needed for the aliases of a device tree.
 fn need_tree(
     alloc: Global,
     needs: &mut OwnedTexts,
@@ -93,7 +93,7 @@ fn need_tree(
     )
 }
 
-/// Adds what is needed of the port.
+/// Adds what is needed for the port.
 fn need_port(
     alloc: Global,
     needs: &mut OwnedTexts,
@@ -129,7 +129,7 @@ fn is_bridge_there(device: Option<&Device<'_>>) -> bool
     }
 }
 
-/// Adds what is needed of the configuration of a function.
+/// Adds what is needed for the configuration of a function.
 fn need_config(
     alloc: Global,
     needs: &mut OwnedTexts,
@@ -156,7 +156,7 @@ fn lacks_modalias(device: Option<&Device<'_>>) -> bool
     }
 }
 
-/// Whether there is a device, it lacks its modalias, and is no function of System z.
+/// Whether there is a device, it lacks its modalias, and is not a function of System z.
 fn lacks_at_end(device: Option<&Device<'_>>) -> bool
     ensures { result ≡ lacks_at_end (option_copied device.entry) }
 {
@@ -168,7 +168,7 @@ fn lacks_at_end(device: Option<&Device<'_>>) -> bool
     }
 }
 
-/// Whether a device lacks its modalias that is asked whether it is a bridge.
+/// Whether a device that is asked whether it is a bridge lacks its modalias.
 fn lacks_a_modalias<'a>(
     alloc: Global,
     devices: &Devices<'a>,
@@ -182,7 +182,7 @@ fn lacks_a_modalias<'a>(
     Ok(firmware_number(pci).is_none() && lacks_above || number.is_none() && lacks_end)
 }
 
-/// Adds what is needed of the slot of a function.
+/// Adds what is needed for the slot of a function.
 fn need_slot<'a>(
     alloc: Global,
     needs: &mut OwnedTexts,
@@ -198,7 +198,7 @@ fn need_slot<'a>(
     need(alloc, needs, number.is_none() && !is_told, b"slots")
 }
 
-/// Adds what is needed of a function.
+/// Adds what is needed for a function.
 #[tactic(auto, unfolding(crate::specs::Needs::function_needs))]
 fn need_function<'a>(
     alloc: Global,
@@ -223,7 +223,7 @@ fn need_function<'a>(
     }
 }
 
-/// Adds what is needed of the function by which an interface of PCI is named.
+/// Adds what is needed for the function by which an interface of PCI is named.
 fn need_pci(
     alloc: Global,
     needs: &mut OwnedTexts,
@@ -247,7 +247,7 @@ fn need_pci(
     need_function(alloc, needs, devices, prefix, env, pci)
 }
 
-/// Adds what is needed of a function above, by which an interface is named that has a suffix.
+/// Adds what is needed for a function above, by which an interface with a suffix is named.
 fn need_above<'a>(
     alloc: Global,
     needs: &mut OwnedTexts,
@@ -268,7 +268,7 @@ fn need_above<'a>(
     }
 }
 
-/// Adds what is needed of the names of an interface.
+/// Adds what is needed for the names of an interface.
 fn need_names(
     alloc: Global,
     needs: &mut OwnedTexts,
@@ -303,7 +303,7 @@ fn need_names(
     )
 }
 
-/// What a block would have to tell for the names of an interface, each once.
+/// What a block would have to report for the names of an interface, each once.
 #[tactic(auto, unfolding(crate::specs::Needs::needs))]
 pub(crate) fn needs(
     alloc: Global,

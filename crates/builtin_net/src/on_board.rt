@@ -6,7 +6,7 @@ use crate::allowed::{Attribute, number, read};
 use crate::words::is_plain;
 use device_core::Device;
 
-/// The label of a function, where it may be reported.
+/// The label of a function, if it may be part of a name.
 #[tactic(auto, unfolding(crate::specs::OnBoard::label))]
 pub(crate) fn label<'a>(pci: &Device<'a>) -> Option<&'a [u8]>
     ensures { option_map (λ t. t.now) result ≡ label pci.now }

@@ -1,4 +1,4 @@
-//! What tells the ports of one function apart.
+//! What distinguishes the ports of one function.
 ghost use Rattle.std.specs.Prelude.{◌≡◌, IfOk, option_map};
 ghost use Rattle.builtin_net.specs.Allowed.{interface};
 ghost use Rattle.builtin_net.specs.Port.{named_port, numbered_port, port_number, port_text, represented, some_text, virtual_of};
@@ -28,7 +28,7 @@ fn represented(name: &[u8]) -> Option<u64>
     virtual_of(behind(b"pf", name)?)
 }
 
-/// A port by its name, where that may be part of one.
+/// A port by its name, if that may be part of an interface's name.
 #[tactic(auto, unfolding(crate::specs::Port::named_port))]
 fn named_port(alloc: Global, name: &[u8]) -> Result<Option<Vec<u8>>, AllocError>
     ensures { IfOk result (λ text. option_map (λ t. t.items) text ≡ named_port name.now) }
@@ -77,8 +77,8 @@ pub(crate) fn some_text(text: Option<&[u8]>) -> Option<&[u8]>
     }
 }
 
-/// What names of an interface say about its port; `None` where no name can be given. The number of the
-/// port of InfiniBand counts where `by_id` says so.
+/// What names of an interface say about its port; `None` if no name can be given. The number of the port of
+/// InfiniBand counts if `by_id` says so.
 #[tactic(auto, unfolding(crate::specs::Port::port_text))]
 pub(crate) fn port_text(
     alloc: Global,

@@ -62,8 +62,8 @@ fn ethernet_prefix(kind: Option<&[u8]>) -> Prefix
     Prefix::Ethernet
 }
 
-/// The kind of an interface by the number of its hardware (`type`) and the type that the kernel told;
-/// `None` where interfaces of this hardware have no names.
+/// The kind of an interface by the number of its hardware (`type`) and the type that the kernel reported; `None` if
+/// interfaces of this hardware have no names.
 #[tactic(auto, unfolding(crate::specs::Prefixes::prefix_of))]
 pub(crate) fn prefix_of(hardware: u64, kind: Option<&[u8]>) -> Option<Prefix>
     ensures { result ≡ prefix_of hardware (option_map (λ t. t.now) kind.entry) }

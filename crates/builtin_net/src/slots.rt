@@ -28,14 +28,14 @@ pub struct Slot {
     pub drops_domain: bool,
 }
 
-/// The number of a slot that the firmware says about a device.
+/// The number of a slot that the firmware gives for a device.
 pub(crate) fn firmware_number(pci: &Device<'_>) -> Option<u64>
     ensures { result ≡ firmware_number pci.now }
 {
     positive(number(pci, Attribute::Sun))
 }
 
-/// How many bytes follow the last `s` of a text, all where it has none.
+/// How many bytes follow the last `s` of a text, all if it has none.
 fn bytes_behind_s(text: &[u8]) -> usize
     ensures value { result ≡ suffix_len (λ b. not (b == 115)) text.now }
     ensures within { result ≤ length text.now }
@@ -80,7 +80,7 @@ pub(crate) fn pci_above<'d, 'a>(
     devices.above(alloc, b"pci", None, device.path())
 }
 
-/// What the firmware says about the device above a function.
+/// What the firmware gives for the device above a function.
 fn number_of_above(several: bool, above: Option<&Device<'_>>) -> Option<u64>
     ensures { result ≡ number_of_above several (option_copied above.entry) }
 {
@@ -91,7 +91,7 @@ fn number_of_above(several: bool, above: Option<&Device<'_>>) -> Option<u64>
     firmware_number(pci)
 }
 
-/// The number that the firmware says about a function, or else of the device above.
+/// The number that the firmware gives for a function, or else for the device above.
 #[tactic(auto, unfolding(crate::specs::Slots::number_by_firmware))]
 pub(crate) fn number_by_firmware(
     alloc: Global,
@@ -108,7 +108,7 @@ pub(crate) fn number_by_firmware(
     Ok(number_of_above(several, above))
 }
 
-/// Whether a block says about a folder, perhaps that it is empty.
+/// Whether a block describes a folder, perhaps as empty.
 #[tactic(auto, unfolding(crate::specs::Slots::is_told))]
 pub(crate) fn is_told(alloc: Global, event: &Event<'_>, folder: &[u8]) -> Result<bool, AllocError>
     ensures { IfOk result (λ told. told ≡ is_told event.now folder.now) }
@@ -117,7 +117,7 @@ pub(crate) fn is_told(alloc: Global, event: &Event<'_>, folder: &[u8]) -> Result
     Ok(file_at(event, folder).is_some() || !files.is_empty())
 }
 
-/// The name of the slot whose file tells what is in it.
+/// The name of the slot whose file says what is in it.
 #[tactic(auto, unfolding(crate::specs::Slots::slot_name))]
 fn slot_name(path: &[u8]) -> Option<&[u8]>
     ensures { option_map (λ t. t.now) result ≡ slot_name path.now }
@@ -178,14 +178,14 @@ fn number_by_place(
     Ok(number_among(kernel.as_slice(), &files))
 }
 
-/// Whether a text has a large letter.
+/// Whether a text has a capital letter.
 fn has_large(text: &[u8]) -> bool
     ensures { result ≡ list_any is_ascii_uppercase text.now }
 {
     text.iter().any(|byte| byte.is_ascii_uppercase())
 }
 
-/// Whether a name is a number in eight hexadecimal digits with small letters.
+/// Whether a name is a number in eight hexadecimal digits with lower case letters.
 #[tactic(auto, unfolding(crate::specs::Slots::is_identity))]
 fn is_identity(number: u64, name: &[u8]) -> bool
     ensures { result ≡ is_identity number name.now }
@@ -269,7 +269,7 @@ fn search_above<'d, 'a>(
     Ok(None)
 }
 
-/// The device at which the search ends that begins at a function.
+/// The device at which the search that begins at a function ends.
 #[tactic(auto, unfolding(crate::specs::Slots::search_end))]
 pub(crate) fn search_end<'d, 'a>(
     alloc: Global,

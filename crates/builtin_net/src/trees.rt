@@ -59,7 +59,7 @@ fn is_alias(node: &[u8], file: (&[u8], &[u8])) -> bool
     behind(b"ethernet", file.0).is_some() && file.1 == node
 }
 
-/// The alias that is taken for the same number, 0.
+/// The other alias with the same number, 0.
 fn other_alias(behind: &[u8]) -> &'static [u8]
     ensures { result.now ≡ other_alias behind.now }
 {
@@ -70,7 +70,7 @@ fn other_alias(behind: &[u8]) -> &'static [u8]
     }
 }
 
-/// The number of an alias, 0 where it has none.
+/// The number of an alias, 0 if it has none.
 fn alias_number(behind: &[u8]) -> Option<u64>
     ensures { result ≡ alias_number behind.now }
 {

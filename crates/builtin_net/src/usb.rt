@@ -7,7 +7,7 @@ use builtin_devices::{Base, number_in};
 use std::alloc::{AllocError, Global};
 use text_bytes::split_once;
 
-/// A byte of ports, where `u` stands for a dot.
+/// A byte of ports, with `u` for a dot.
 fn port_byte(byte: u8) -> u8
     ensures { result ≡ port_byte byte }
 {
@@ -21,7 +21,7 @@ fn ports_text(alloc: Global, ports: &[u8]) -> Result<Vec<u8>, AllocError>
     ports.iter().map(|byte| port_byte(*byte)).collect(alloc)
 }
 
-/// Puts a number after a text, with a letter before it, unless it is the usual one.
+/// Appends a number, with a letter before it, unless it is the usual one.
 fn push_unless_usual(
     text: &mut Vec<u8>,
     usual: &[u8],
@@ -86,7 +86,7 @@ pub(crate) fn usb_suffix(alloc: Global, name: &[u8]) -> Result<Option<Vec<u8>>, 
     }
 }
 
-/// The core after a bus, where both are numbers.
+/// The core after a bus, if both are numbers.
 fn core_of(bus: &[u8], core: &[u8]) -> Option<u64>
     ensures { result ≡ core_of bus.now core.now }
 {
@@ -94,7 +94,7 @@ fn core_of(bus: &[u8], core: &[u8]) -> Option<u64>
     number_in(Base::Decimal, MAX_NUMBER, core)
 }
 
-/// The core that a name of bcma tells.
+/// The core that a name of bcma gives.
 fn core_in(name: &[u8]) -> Option<u64>
     ensures { result ≡ core_in name.now }
 {

@@ -11,7 +11,7 @@ use std::alloc::{AllocError, Global};
 use std::marker::Model;
 use text_bytes::is_digit;
 
-/// A function by which names are reported.
+/// A function by which an interface is named.
 #[derive(Drop)]
 pub(crate) struct NamedFunction<'d, 'a> {
     /// The device.
@@ -99,7 +99,7 @@ fn virtual_number<'a>(
     Ok(number_among(path, &links))
 }
 
-/// By which function names are reported; `None` where the block does not say about the physical one.
+/// The function by which an interface is named; `None` if the block does not describe the physical one.
 #[tactic(auto, unfolding(crate::specs::Virtual::named_function))]
 pub(crate) fn named_function<'d, 'a>(
     alloc: Global,

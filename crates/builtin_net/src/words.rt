@@ -14,7 +14,7 @@ use text_bytes::{decimal_below, is_digit};
 /// The greatest number of 32 bits.
 pub(crate) const MAX_NUMBER: u64 = u32::MAX as u64;
 
-/// What follows a beginning, where a text begins with it.
+/// What follows a beginning, if a text begins with it.
 #[tactic(auto, unfolding(crate::specs::Words::behind))]
 pub(crate) fn behind<'a>(front: &[u8], text: &'a [u8]) -> Option<&'a [u8]>
     ensures { option_map (λ t. t.now) result ≡ behind front.now text.now }
@@ -42,7 +42,7 @@ pub(crate) fn behind_digits(text: &[u8]) -> &[u8]
     behind
 }
 
-/// The number of 32 bits that the digits write with which a text begins.
+/// The number of 32 bits that the digits at the start of a text write.
 #[tactic(auto, unfolding(crate::specs::Words::leading_number))]
 pub(crate) fn leading_number(text: &[u8]) -> Option<u64>
     ensures value { result ≡ leading_number text.now }
@@ -73,7 +73,7 @@ pub(crate) fn is_hexadecimal(text: &[u8]) -> bool
     text.iter().all(|byte| byte.is_ascii_hexdigit())
 }
 
-/// A text in small letters.
+/// A text in lower case letters.
 pub(crate) fn small(alloc: Global, text: &[u8]) -> Result<Vec<u8>, AllocError>
     ensures { IfOk result (λ letters. letters.items ≡ map to_ascii_lowercase text.now) }
 {
@@ -82,7 +82,7 @@ pub(crate) fn small(alloc: Global, text: &[u8]) -> Result<Vec<u8>, AllocError>
         .collect(alloc)
 }
 
-/// A text in large letters.
+/// A text in capital letters.
 pub(crate) fn large(alloc: Global, text: &[u8]) -> Result<Vec<u8>, AllocError>
     ensures { IfOk result (λ letters. letters.items ≡ map to_ascii_uppercase text.now) }
 {
@@ -106,7 +106,7 @@ pub(crate) fn is_plain(text: &[u8]) -> bool
     is_utf8(text) && !has_control(text)
 }
 
-/// Puts a number after a text, with letters before it.
+/// Appends a number, with letters before it.
 pub(crate) fn push_number(text: &mut Vec<u8>, letters: &[u8], number: u64) -> Result<(), AllocError>
     ensures { OnOk result (text.new.items ≡ text.old.items ++ letters.now ++ decimal number) }
 {
@@ -134,7 +134,7 @@ pub(crate) fn joined(alloc: Global, front: &[u8], behind: &[u8]) -> Result<Vec<u
     Ok(text)
 }
 
-/// Whether a number is there, and a certain one.
+/// Whether there is a number, and it is a certain one.
 pub(crate) fn is_number(number: Option<u64>, other: u64) -> bool
     ensures { result ≡ is_number number other }
 {

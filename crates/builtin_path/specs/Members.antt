@@ -28,15 +28,15 @@ folder path = take (length path - (length (last_component path) + 1)) path
 abbrev pub attribute : DeviceValue → Text → Option Text
 attribute m name = value_of m.attrs name
 
--- the attribute of the device of a class that has this device's name and stands right below it
+-- the attribute of the device of a class that has this device's name and is directly below it
 unfoldable pub class_attribute : (class name : Text) → DeviceValue → Option Text
 class_attribute class name m = attribute m (concat (class ∷ codes "/" ∷ last_component m.path ∷ codes "/" ∷ name ∷ []))
 
--- the same of the device at a place of a list, where there is one
+-- the same for the device at a place of a list, if there is one
 abbrev pub class_attribute_at : List DeviceValue → ℕ → (class name : Text) → Option Text
 class_attribute_at members place class name = option_and_then (class_attribute class name) (slice_get members place)
 
--- an attribute of the device at a place of a list, where there is one
+-- an attribute of the device at a place of a list, if there is one
 abbrev pub attribute_at : List DeviceValue → ℕ → (name : Text) → Option Text
 attribute_at members place name = option_and_then (λ m. attribute m name) (slice_get members place)
 

@@ -23,25 +23,25 @@ namespace event = value_of event.device.attrs (codes "nsid")
 unfoldable pub controller_name : Text → Option Text
 controller_name name = if begins (codes "nvme") name then Some (take (4 + prefix_len is_digit (drop 4 name)) name) else None
 
--- where a link of a device leads, which a constant tells
+-- where a link of a device leads, which a constant gives
 abbrev pub link_told : EventValue → (path name : Text) → Option Text
 link_told event path name = file_at event (concat (path ∷ codes "/" ∷ name ∷ []))
 
--- the controller of the disk among the links of its NVMe subsystem, where it is reported, too
+-- the controller of the disk among the links of its NVMe subsystem, if it is also reported
 unfoldable pub controller_told : EventValue → DeviceValue → Option DeviceValue
 controller_told event subsystem =
     option_and_then (device_by event)
     (option_and_then (link_told event subsystem.path) (controller_name (last_component event.device.path)))
 
--- a device that is no virtual one
+-- a device that is not virtual
 abbrev pub if_real : DeviceValue → Option DeviceValue
 if_real device = if begins (codes "/devices/virtual/") device.path then None else Some device
 
--- the controller, where it is reported and no virtual device
+-- the controller, if it is reported and is not a virtual device
 abbrev pub controller : EventValue → DeviceValue → Option DeviceValue
 controller event subsystem = option_and_then if_real (controller_told event subsystem)
 
--- what a block does not say about the controller: its name
+-- what a block does not report about the controller: its name
 abbrev pub name_needed : Option Text → List Text
 name_needed None = []
 name_needed (Some name) = name ∷ []
@@ -49,7 +49,8 @@ name_needed (Some name) = name ∷ []
 abbrev pub controller_needs : EventValue → DeviceValue → List Text
 controller_needs event subsystem = if is_some (controller_told event subsystem) then [] else name_needed (controller_name (last_component event.device.path))
 
--- what a device of subsystem nvme adds, or one of nvme-subsystem whose controller is above it: nothing, where the event device has no namespace
+-- what a device of subsystem nvme adds, or one of nvme-subsystem whose controller is above it: nothing, if the event
+-- device has no namespace
 abbrev pub is_bare_disk : EventValue → Bool
 is_bare_disk event = is_text (codes "block") event.device.subsystem && is_text (codes "disk") (type_of event.device)
 

@@ -1,4 +1,4 @@
--- path_id: what comes of the parts.
+-- path_id: what is made from the parts.
 use Rattle.std.specs.Prelude.{ℕ, ◌+◌, ◌-◌, Bool, false, true, not, ◌&&◌, ◌||◌, ◌==◌, List, [], ◌∷◌, ◌++◌, codes, drop, filter_map, flat_map, if◌then◌else◌, is_none, is_some, length, map, Option, Some, None, position, reverse, slice_index, take}
 use Rattle.std.specs.Char.{is_ascii_alphanumeric}
 use Rattle.std.specs.List.{join_with_byte, list_any, prefix_len, suffix_len}
@@ -48,7 +48,8 @@ is_failing (On count) = false
 is_failing Ends = false
 is_failing Fails = true
 
--- whether stops are a path: one of them adds a part, one is of a parent that is known, and of a block device one is of a transport that is known
+-- whether stops are a path: one of them adds a part, one is a known parent, and for a block device one is a known
+-- transport
 abbrev pub is_reached : EventValue → List Stop → Bool
 is_reached event stops = not (is_text (codes "block") event.device.subsystem) || list_any (λ s. s.transport) stops
 
@@ -59,11 +60,11 @@ is_whole event stops =
     && (list_any (λ s. s.parent) stops
     && is_reached event stops))
 
--- whether after the place where `-usbv` stands a digit and `-` follow
+-- whether a digit and `-` follow the `-usbv` at a place
 abbrev pub is_revision : Text → ℕ → Bool
 is_revision text place = is_digit (slice_index text (place + 5)) && slice_index text (place + 6) == minus
 
--- the first place of `-usbv`, where a digit and `-` follow
+-- the first place of `-usbv`, if a digit and `-` follow
 abbrev pub if_revision : Text → Option ℕ → Option ℕ
 if_revision text None = None
 if_revision text (Some place) = if is_revision text place then Some place else None
@@ -99,7 +100,7 @@ abbrev pub plain_path : Text → Option ℕ → Text
 plain_path text None = text
 plain_path text (Some place) = without_revision text place
 
--- what is set of a text that tells a revision, and of one without it
+-- what is set for a text that has a revision, and for one without it
 abbrev pub revision_pairs : Text → Option ℕ → List Pair
 revision_pairs text None = []
 revision_pairs text (Some place) = (codes "ID_PATH_WITH_USB_REVISION", text) ∷ []
@@ -118,18 +119,18 @@ properties_of stops =
     let place = revision_place text in
     revision_pairs text place ++ path_pairs (plain_path text place) ++ compatible_pairs (compatible_parts stops)
 
--- each device of usb and scsi has a type
+-- whether a device of usb or scsi has no type, though each of these has one
 abbrev pub lacks_type : DeviceValue → Bool
 lacks_type m = (is_in (codes "usb") m || is_in (codes "scsi") m) && is_none (type_of m)
 
 abbrev pub type_needs : List DeviceValue → List Text
 type_needs members = if list_any lacks_type members then codes "DEVTYPE" ∷ [] else []
 
--- what a block would have to tell, each once
+-- what a block would have to report, each once
 unfoldable pub needs : List DeviceValue → List Stop → List Text
 needs members stops = with_texts (type_needs members) (flat_map (λ s. s.needs) stops)
 
--- what path_id makes of an event
+-- the outcome of path_id over an event
 unfoldable pub path_id : EventValue → OutcomeValue
 path_id event =
     let stops = stops_of event in

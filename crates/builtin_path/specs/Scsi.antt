@@ -1,4 +1,4 @@
--- SCSI: the transport that the path of a device says about, and what the device adds by it.
+-- SCSI: the transport that the path of a device shows, and what the device adds by it.
 use Rattle.std.specs.Prelude.{ℕ, ◌+◌, ◌-◌, ◌^◌, ◌==◌, ◌/◌, ◌%◌, Bool, false, true, not, ◌&&◌, nat_lt, List, [], ◌∷◌, ◌++◌, codes, decimal, drop, filter, filter_map, find, fold, if◌then◌else◌, is_some, length, min, Option, Some, None, option_and_then, option_map, slice_get, slice_index, take}
 use Rattle.std.specs.List.{concat, list_any, prefix_len}
 use Rattle.text_bytes.specs.Names.{close_brace, colon, minus, open_brace, slash}
@@ -20,7 +20,7 @@ use Rattle.builtin_path.specs.declared.stops.Next.TheVariants.{Fails, On}
 use Rattle.builtin_path.specs.declared.stops.Share.TheVariants.{Apart, Ata}
 use Rattle.builtin_path.specs.declared.stops.Stop.{Stop}
 
--- texts that are in the path of a device, each with the transport that it says about
+-- texts that are in the path of a device, each with the transport that it shows
 abbrev pub transports : List (Text × Transport)
 transports =
     (codes "/rport-", transport.FibreChannel)
@@ -31,7 +31,7 @@ transports =
     ∷ (codes "/VMBUS", transport.HyperVByAcpi)
     ∷ []
 
--- the transport that a path says about: that of the first of these texts that is in it
+-- the transport that a path shows: that of the first of these texts that is in it
 abbrev pub told_by : List (Text × Transport) → (path : Text) → Option Transport
 told_by [] path = None
 told_by (r ∷ rows) path = if contains r.0 path then Some r.1 else told_by rows path
@@ -43,7 +43,7 @@ transport_of path = told_by transports path
 unfoldable pub before_colon : Text → Option (ℕ × Text)
 before_colon text = option_and_then (λ cut. option_map (λ n. (n, cut.1)) (decimal_below (2 ^ 32) cut.0)) (split_once colon text)
 
--- the address that a SCSI device's name is: four numbers below 2^32 with colons in between
+-- the address in the name of a SCSI device: four numbers below 2^32 with colons in between
 unfoldable pub address_of : Text → Option Address
 address_of text =
     option_and_then (λ host.
@@ -171,7 +171,7 @@ is_session m = begins (codes "session") (last_component m.path)
 unfoldable pub iscsi_stop : DeviceValue → List DeviceValue → Stop
 iscsi_stop m above = iscsi_by m (find is_session above)
 
--- ATA: the port above the host, and the target; with a bus that is not 0 the bus in its place, after a multiplier
+-- ATA: the port above the host, and the target; with a bus that is not 0 the bus instead, after a multiplier
 abbrev pub ata_place : Address → Text
 ata_place place = if place.bus == 0 then decimal place.target else concat (decimal place.bus ∷ codes ".0" ∷ [])
 
@@ -187,7 +187,7 @@ ata_by (Some place) above = ata_port_stop place (class_attribute_at (from_host a
 unfoldable pub ata_stop : DeviceValue → List DeviceValue → Stop
 ata_stop m above = ata_by (address m) above
 
--- what is between braces at the start of a text of at least so many bytes, the braces among them, without `-`
+-- what is between braces at the start of a text, so many bytes including the braces, without `-`
 abbrev pub has_braces : ℕ → Text → Bool
 has_braces size text = begins_with open_brace text && slice_index text (size - 1) == close_brace
 
@@ -204,7 +204,7 @@ guid_stop m size (Some guid) =
 unfoldable pub guid_by : DeviceValue → List DeviceValue → (size : ℕ) → Stop
 guid_by m above size = guid_stop m size (attribute_at (from_host above) 1 (codes "device_id"))
 
--- the name of a folder `host*` in which an attribute lies
+-- the name of a folder `host*` in which an attribute is
 abbrev pub in_host : Text → Option Text
 in_host folder = if begins (codes "host") folder then Some folder else None
 
@@ -236,13 +236,13 @@ abbrev pub numbered_host_stop : Address → ℕ → Option ℕ → Stop
 numbered_host_stop place count None = record (passing true) { next = On count }
 numbered_host_stop place count (Some first) = adding (host_part place first) true false count
 
--- where the block does not say about the host's own folder, it says about none, and nothing is found out
+-- if the block does not report the host's own folder, it reports none, and nothing can be found out
 abbrev pub hosts_stop : Address → ℕ → (host : Text) → (hosts : List Text) → Stop
 hosts_stop place count host hosts =
     if is_among hosts host then numbered_host_stop place count (lowest hosts)
     else record (ending true false (codes "host*" ∷ [])) { next = Fails }
 
--- the folders of hosts beside a host: those in its folder, where this is that of the device above it
+-- the folders of hosts beside a host: those in the folder that it is in, if this is that of the device above it
 abbrev pub beside_host : (host : DeviceValue) → (above : Option DeviceValue) → List Text
 beside_host host None = []
 beside_host host (Some above) = if same_text above.path (folder host.path) then host_names above else []
@@ -269,7 +269,7 @@ transport_stop (Some transport.Ata) m above = ata_stop m above
 transport_stop (Some transport.HyperV) m above = guid_by m above 37
 transport_stop (Some transport.HyperVByAcpi) m above = guid_by m above 38
 
--- FireWire goes before what the path tells
+-- FireWire counts before what the path shows
 abbrev pub firewire_stop : Option Text → DeviceValue → List DeviceValue → Stop
 firewire_stop None m above = transport_stop (transport_of m.path) m above
 firewire_stop (Some id) m above = adding (concat (codes "ieee1394-0x" ∷ id ∷ [])) true true (row (codes "scsi") above)

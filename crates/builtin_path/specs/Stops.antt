@@ -7,13 +7,13 @@ use Rattle.builtin_path.specs.declared.stops.Next.TheVariants.{On, Ends, Fails}
 use Rattle.builtin_path.specs.declared.stops.Share.TheVariants.{Apart, Both}
 use Rattle.builtin_path.specs.declared.stops.Stop.{Stop}
 
--- how many of the devices above one are passed over: all where the way ends
+-- how many of the devices above one are skipped: all if the way ends
 abbrev pub passed : Next → List DeviceValue → ℕ
 passed (On count) above = count
 passed Ends above = length above
 passed Fails above = length above
 
--- a name that a block would have to tell, where it does not
+-- a name that a block would have to report, if it does not
 abbrev pub absent : (name : Text) → Option Text → List Text
 absent name None = name ∷ []
 absent name (Some value) = []
@@ -26,10 +26,10 @@ passing transport = record { part = None; share = Apart; transport = transport; 
 abbrev pub ending : (transport parent : Bool) → (needs : List Text) → Stop
 ending transport parent needs = record { part = None; share = Apart; transport = transport; parent = parent; needs = needs; next = Ends }
 
--- a device that adds a part, above which so many devices are passed over
+-- a device that adds a part, above which so many devices are skipped
 abbrev pub adding : (part : Text) → (transport parent : Bool) → ℕ → Stop
 adding part transport parent count = record { part = Some part; share = Apart; transport = transport; parent = parent; needs = []; next = On count }
 
--- a device whose part counts for the compatible path, too
+-- a device whose part also counts for the compatible path
 abbrev pub adding_both : (part : Text) → (transport : Bool) → ℕ → Stop
 adding_both part transport count = record { part = Some part; share = Both; transport = transport; parent = true; needs = []; next = On count }

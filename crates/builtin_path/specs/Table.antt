@@ -17,8 +17,8 @@ use Rattle.builtin_path.specs.declared.table.Manner.TheVariants as manner
 use Rattle.builtin_path.specs.declared.stops.Next.TheVariants.{On}
 use Rattle.builtin_path.specs.declared.stops.Stop.{Stop}
 
--- Each subsystem whose devices add to a path, and how: the parents that are known by their names, some of which are transports, too, and
--- those with a rule of their own.
+-- Each subsystem whose devices add to a path, and how: the parents that are known by their names, some of which are
+-- also transports, and those with a rule of their own.
 abbrev pub manners : List (Text × Manner)
 manners =
     (codes "pci", manner.Parent)
@@ -43,7 +43,7 @@ manners =
     ∷ (codes "scsi_tape", manner.ScsiTape)
     ∷ []
 
--- what is beside a subsystem in such a table
+-- what such a table has beside a subsystem
 abbrev pub beside : List (Text × Manner) → Text → Option Manner
 beside [] subsystem = None
 beside (r ∷ rows) subsystem = if same_text r.0 subsystem then Some r.1 else beside rows subsystem
@@ -52,11 +52,11 @@ beside (r ∷ rows) subsystem = if same_text r.0 subsystem then Some r.1 else be
 unfoldable pub manner_of : Text → Option Manner
 manner_of subsystem = beside manners subsystem
 
--- a device by its subsystem and its name; the row of its subsystem is passed over
+-- a device by its subsystem and its name; the row of its subsystem is skipped
 abbrev pub named_stop : Text → (transport : Bool) → DeviceValue → List DeviceValue → Stop
 named_stop subsystem transport m above = adding_both (concat (subsystem ∷ codes "-" ∷ kernel_name m.path ∷ [])) transport (row subsystem above)
 
--- a queue of cryptographic adapters: by its type and functions, where one of them is absent by its name
+-- a queue of cryptographic adapters: by its type and functions, or by its name if one of these is absent
 abbrev pub ap_part : Option Text → Option Text → (name : Text) → Text
 ap_part (Some type) (Some functions) name = concat (codes "ap-" ∷ type ∷ codes "-" ∷ functions ∷ [])
 ap_part type functions name = concat (codes "ap-" ∷ name ∷ [])
@@ -64,11 +64,11 @@ ap_part type functions name = concat (codes "ap-" ∷ name ∷ [])
 abbrev pub ap_stop : DeviceValue → List DeviceValue → Stop
 ap_stop m above = adding (ap_part (attribute m (codes "type")) (attribute m (codes "ap_functions")) (kernel_name m.path)) true true (row (codes "ap") above)
 
--- a device of virtio adds nothing; its row is passed over
+-- a device of virtio adds nothing; its row is skipped
 abbrev pub virtio_stop : Text → List DeviceValue → Stop
 virtio_stop subsystem above = record (passing true) { next = On (row subsystem above) }
 
--- a device by the number at the end of its name: one without a number adds nothing, and no row is passed over
+-- a device by the number at the end of its name: one without a number adds nothing, and no row is skipped
 abbrev pub numbered_by : Text → Text → Option Text → List DeviceValue → Stop
 numbered_by subsystem start None above = passing false
 numbered_by subsystem start (Some digits) above = adding (concat (start ∷ digits ∷ [])) false false (row subsystem above)
@@ -82,7 +82,7 @@ leading_number text =
     let digits = prefix_len is_digit text in
     option_map (λ n. (n, drop digits text)) (decimal_below (2 ^ 32) (take digits text))
 
--- what follows a start, where a text begins with it
+-- what follows a start, if a text begins with it
 abbrev pub behind : (start text : Text) → Option Text
 behind start text = if begins start text then Some (drop (length start) text) else None
 
@@ -122,7 +122,7 @@ first_begun (start ∷ starts) name = if begins start name then Some start else 
 unfoldable pub tape_part : (name : Text) → Option Text
 tape_part name = if is_among whole_tapes name then Some name else first_begun begun_tapes name
 
--- a tape adds a part only where no device below has added one
+-- a tape adds a part only if no device below has added one
 abbrev pub tape_by : Option Text → Stop
 tape_by None = passing false
 tape_by (Some part) = adding part false false 0

@@ -25,7 +25,7 @@ is_at_port m = is_text (codes "usb_device") (type_of m) || is_text (codes "usb_i
 abbrev pub port_of : DeviceValue → Option Text
 port_of m = if is_at_port m then option_map (λ cut. cut.1) (split_once minus (kernel_name m.path)) else None
 
--- the last of the devices of USB that are above one another: the root hub
+-- the last of the devices of USB above one another: the root hub
 abbrev pub root : DeviceValue → List DeviceValue → DeviceValue
 root m above = unwrap_or (slice_get (m ∷ above) (row (codes "usb") above)) m
 
@@ -47,7 +47,7 @@ revision_by (Some protocol) speed =
 abbrev pub protocol_of : DeviceValue → Option ℕ
 protocol_of m = option_and_then (number_in Hexadecimal 255) (attribute m (codes "bDeviceProtocol"))
 
--- the revision of a root hub, where it says one
+-- the revision of a root hub, if it reports one
 unfoldable pub revision_of : DeviceValue → Option Revision
 revision_of m = revision_by (protocol_of m) (attribute m (codes "speed"))
 

@@ -15,7 +15,7 @@ use Rattle.builtin_path.specs.declared.stops.Stop.{Stop}
 abbrev pub from_device : EventValue → DeviceValue → List DeviceValue
 from_device event device = device ∷ parents_of event device.path
 
--- how many devices a list begins with that are no NVMe subsystem
+-- how many devices a list begins with that are not an NVMe subsystem
 abbrev pub below_subsystem : List DeviceValue → ℕ
 below_subsystem members = prefix_len (λ m. not (is_in (codes "nvme-subsystem") m)) members
 
@@ -28,12 +28,12 @@ abbrev pub with_controller : EventValue → List DeviceValue → Option DeviceVa
 with_controller event members None = members
 with_controller event members (Some device) = take (below_subsystem members + 1) members ++ from_device event device
 
--- the devices of the way: the event device and those above it; of a disk of several ways what is above its NVMe subsystem are the controller and
--- the devices above that
+-- the devices of the way: the event device and those above it; for a disk of several ways, what is above its NVMe
+-- subsystem are the controller and the devices above that
 unfoldable pub members_of : EventValue → List DeviceValue
 members_of event = let members = from_device event event.device in with_controller event members (way_by event members (namespace event))
 
--- what the devices add, from the first on after so many that are passed over
+-- what the devices add, from the first on after so many that are skipped
 abbrev pub stops_from : EventValue → (is_begun : Bool) → ℕ → List DeviceValue → List Stop
 stops_from event is_begun n [] = []
 stops_from event is_begun zero (m ∷ above) =

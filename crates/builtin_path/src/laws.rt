@@ -1,4 +1,4 @@
-//! What holds of paths.
+//! What is true of paths.
 ghost use Rattle.std.specs.Prelude.{◌≡◌, ◌∷◌, ◌++◌, ◌≤◌, [], List, Option, false, length};
 ghost use Rattle.std.specs.List.{join_with_byte};
 ghost use Rattle.text_bytes.specs.Names.{minus};
@@ -8,17 +8,17 @@ ghost use Rattle.builtin_path.specs.Path.{path_id, tag};
 ghost use Rattle.builtin_path.specs.Usb.{port_start};
 ghost use Rattle.builtin_path.specs.declared.usb.Revision.{Revision};
 
-/// Paths whose parts are the same but for one are the same only where that one is.
+/// Paths whose parts are the same except for one are the same only if that one is.
 pub fn each_part_tells_paths_apart()
     ensures { (front back : List Text) (part other : Text) → join_with_byte minus (front ++ part ∷ back) ≡ join_with_byte minus (front ++ other ∷ back) → part ≡ other }
 {}
 
-/// Parts of ports below root hubs of one revision are the same only where the ports are.
+/// Parts of ports below root hubs of one revision are the same only if the ports are.
 pub fn parts_tell_ports_apart()
     ensures { (revision : Option Revision) (port other : Text) → port_start revision ++ port ≡ port_start revision ++ other → port ≡ other }
 {}
 
-/// Where path_id fails it sets nothing.
+/// If path_id fails it sets nothing.
 pub fn nothing_is_set_without_a_path()
     ensures { (event : EventValue) → (path_id event).is_done ≡ false → (path_id event).properties ≡ [] }
 {}

@@ -82,7 +82,7 @@ impl<'d> Member<'d> {
         self.device.attrs().get(name)
     }
 
-    /// The attribute of the device of a class that has its name and stands right below it.
+    /// The attribute of the device of a class that has its name and is directly below it.
     #[tactic(auto, unfolding(crate::specs::Members::class_attribute))]
     pub(crate) fn class_attribute(
         &self,
@@ -130,7 +130,7 @@ pub(crate) fn from_first<'m, 'd>(
     members.split_at(below_first(subsystem, kind, members)).1
 }
 
-/// The attribute of the device of a class at a place of a list, where there is one.
+/// The attribute of the device of a class at a place of a list, if there is one.
 pub(crate) fn class_attribute_at<'d>(
     alloc: Global,
     members: &[Member<'d>],
@@ -146,7 +146,7 @@ pub(crate) fn class_attribute_at<'d>(
     }
 }
 
-/// An attribute of the device at a place of a list, where there is one.
+/// An attribute of the device at a place of a list, if there is one.
 pub(crate) fn attribute_at<'d>(
     members: &[Member<'d>],
     place: usize,

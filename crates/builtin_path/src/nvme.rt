@@ -50,7 +50,7 @@ fn link_told<'a>(
     Ok(file_at(event, link.as_slice()))
 }
 
-/// The controller of the disk among the links of its NVMe subsystem, where it is reported.
+/// The controller of the disk among the links of its NVMe subsystem, if it is reported.
 #[tactic(auto, unfolding(crate::specs::Nvme::controller_told))]
 fn controller_told<'d>(
     alloc: Global,
@@ -69,7 +69,7 @@ fn controller_told<'d>(
     }
 }
 
-/// The controller of the disk, where it is reported and no virtual device.
+/// The controller of the disk, if it is reported and is not a virtual device.
 pub(crate) fn controller<'d>(
     alloc: Global,
     devices: &'d Devices<'d>,
@@ -94,7 +94,7 @@ fn if_real<'d>(device: &'d Device<'d>) -> Option<&'d Device<'d>>
     }
 }
 
-/// What the block would have to say about the controller: its name, if the disk has the name of one.
+/// What the block would have to report about the controller: its name, if the disk's name gives one.
 fn name_needed(alloc: Global, name: Option<&[u8]>) -> Result<OwnedTexts, AllocError>
     ensures { IfOk result (λ needs. needs ≡ name_needed (option_map (λ t. t.now) name.entry)) }
 {
@@ -104,7 +104,7 @@ fn name_needed(alloc: Global, name: Option<&[u8]>) -> Result<OwnedTexts, AllocEr
     }
 }
 
-/// What the block would have to say about the controller.
+/// What the block would have to report about the controller.
 fn controller_needs(
     alloc: Global,
     devices: &Devices<'_>,
@@ -121,7 +121,7 @@ fn controller_needs(
     )
 }
 
-/// What the block would have to tell where the event device has no namespace.
+/// What the block would have to report if the event device has no namespace.
 fn namespace_needs(alloc: Global, event: &Event<'_>) -> Result<OwnedTexts, AllocError>
     ensures { IfOk result (λ needs. needs ≡ namespace_needs event.now) }
 {
@@ -142,7 +142,7 @@ fn bare_stop(alloc: Global, event: &Event<'_>) -> Result<Stop, AllocError>
     Ok(stop)
 }
 
-/// A device that adds the number of a namespace; the controllers directly above are passed over.
+/// A device that adds the number of a namespace; the controllers directly above are skipped.
 fn namespace_stop(alloc: Global, nsid: &[u8], above: &[Member<'_>]) -> Result<Stop, AllocError>
     ensures { IfOk result (λ stop. stop ≡ namespace_stop nsid.now above.now) }
 {
@@ -165,7 +165,7 @@ pub(crate) fn nvme_stop(
     }
 }
 
-/// What a device of subsystem nvme-subsystem adds, where the event device has a namespace.
+/// What a device of subsystem nvme-subsystem adds, if the event device has a namespace.
 fn reached_stop(
     alloc: Global,
     devices: &Devices<'_>,

@@ -1,4 +1,4 @@
-//! path_id: what comes of the parts.
+//! path_id: what is made from the parts.
 ghost use Rattle.std.specs.Prelude.{◌≡◌, ◌++◌, ◌+◌, ◌≤◌, IfOk, IfSome, OnOk, not, filter_map, length, map, option_map, is_some, reverse, ◌<◌};
 ghost use Rattle.std.specs.List.{join_with_byte, list_any, prefix_len};
 ghost use Rattle.text_bytes.specs.Names.{minus};
@@ -75,7 +75,7 @@ fn shares_up(alloc: Global, stops: &[Stop]) -> Result<Vec<&[u8]>, AllocError>
     Ok(parts)
 }
 
-/// Texts turned round.
+/// Texts in reverse order.
 #[tactic(auto, using(crate::proofs::Turning::turned))]
 fn turned<'t>(mut texts: Vec<&'t [u8]>) -> Vec<&'t [u8]>
     ensures { map (λ t. t.now) result.items ≡ reverse (map (λ t. t.now) texts.entry.items) }
@@ -91,7 +91,7 @@ fn parts(alloc: Global, stops: &[Stop]) -> Result<Vec<&[u8]>, AllocError>
     Ok(turned(parts_up(alloc, stops)?))
 }
 
-/// How many stops a list begins with that are no port of ATA.
+/// How many stops a list begins with that are not a port of ATA.
 fn below_ata(stops: &[Stop]) -> usize
     ensures value { result ≡ prefix_len (λ s. not (is_ata s.share)) stops.now }
     ensures within { result ≤ length stops.now }
@@ -107,7 +107,7 @@ fn compatible_parts(alloc: Global, stops: &[Stop]) -> Result<Vec<&[u8]>, AllocEr
     Ok(turned(shares_up(alloc, begun)?))
 }
 
-/// Whether path_id fails where the way goes on so.
+/// Whether path_id fails if the way goes on so.
 fn is_failing(next: Next) -> bool
     ensures { result ≡ is_failing next }
 {
@@ -132,21 +132,21 @@ fn has_part(stops: &[Stop]) -> bool
     stops.iter().any(|stop| stop.part.is_some())
 }
 
-/// Whether a stop is of a parent that is known.
+/// Whether a stop is a known parent.
 fn has_parent(stops: &[Stop]) -> bool
     ensures { result ≡ list_any (λ s. s.parent) stops.now }
 {
     stops.iter().any(|stop| stop.parent)
 }
 
-/// Whether a stop is of a transport that is known.
+/// Whether a stop is a known transport.
 fn has_transport(stops: &[Stop]) -> bool
     ensures { result ≡ list_any (λ s. s.transport) stops.now }
 {
     stops.iter().any(|stop| stop.transport)
 }
 
-/// Whether the event device is no block device, or is reached by a transport that is known.
+/// Whether the event device is not a block device, or is reached by a known transport.
 fn is_reached(event: &Event<'_>, stops: &[Stop]) -> bool
     ensures { result ≡ is_reached event.now stops.now }
 {
@@ -161,7 +161,7 @@ fn is_whole(event: &Event<'_>, stops: &[Stop]) -> bool
     !has_failing(stops) && has_part(stops) && has_parent(stops) && is_reached(event, stops)
 }
 
-/// Adds what is set of a path without a revision.
+/// Adds what is set for a path without a revision.
 fn add_path(
     alloc: Global,
     path: &[u8],
@@ -174,7 +174,7 @@ fn add_path(
     add_property(alloc, b"ID_PATH_TAG", tag.as_slice(), properties)
 }
 
-/// Adds what is set of a text that tells the revision of USB at a place, if at one.
+/// Adds what is set for a text that has the revision of USB at a place, if it has one.
 fn add_revision(
     alloc: Global,
     text: &[u8],
@@ -189,7 +189,7 @@ fn add_revision(
     }
 }
 
-/// A text without its revision of USB, which is at a place, if at one.
+/// A text without its revision of USB, which is at a place, if there is one.
 fn plain_path(alloc: Global, text: &[u8], place: Option<usize>) -> Result<Bytes, AllocError>
     requires { IfSome place (λ at. at < length text.now) }
     ensures { IfOk result (λ path. path ≡ plain_path text.now place) }
@@ -200,7 +200,7 @@ fn plain_path(alloc: Global, text: &[u8], place: Option<usize>) -> Result<Bytes,
     }
 }
 
-/// Adds the compatible path, where there is one.
+/// Adds the compatible path, if there is one.
 fn add_compatible(
     alloc: Global,
     stops: &[Stop],
@@ -239,21 +239,21 @@ fn properties_of(alloc: Global, stops: &[Stop]) -> Result<Vec<(Bytes, Bytes)>, A
     Ok(properties)
 }
 
-/// Whether a device has no type, though each of its subsystem has one.
+/// Whether a device of usb or scsi has no type, though each of these has one.
 fn lacks_type(member: &Member<'_>) -> bool
     ensures { result ≡ lacks_type member.now }
 {
     (member.is_in(b"usb") || member.is_in(b"scsi")) && type_of(member.device).is_none()
 }
 
-/// Whether a device has no type, though each of its subsystem has one.
+/// Whether a device of usb or scsi has no type, though each of these has one.
 fn has_untyped(members: &[Member<'_>]) -> bool
     ensures { result ≡ list_any lacks_type members.now }
 {
     members.iter().any(|member| lacks_type(member))
 }
 
-/// What a block would have to say about types.
+/// What a block would have to report about types.
 fn type_needs(alloc: Global, members: &[Member<'_>]) -> Result<OwnedTexts, AllocError>
     ensures { IfOk result (λ needs. needs ≡ type_needs members.now) }
 {
@@ -264,7 +264,7 @@ fn type_needs(alloc: Global, members: &[Member<'_>]) -> Result<OwnedTexts, Alloc
     }
 }
 
-/// What a block would have to tell.
+/// What a block would have to report.
 #[tactic(auto, unfolding(crate::specs::Path::needs))]
 fn needs(alloc: Global, members: &[Member<'_>], stops: &[Stop]) -> Result<OwnedTexts, AllocError>
     ensures { IfOk result (λ texts. texts ≡ needs members.now stops.now) }
@@ -302,7 +302,7 @@ pub fn path_id(alloc: Global, event: &Event<'_>) -> Result<Outcome, AllocError>
     outcome_of(alloc, &devices)
 }
 
-/// What path_id makes of the devices of an event.
+/// The outcome of path_id over the devices of an event.
 #[tactic(auto, unfolding(crate::specs::Path::path_id, crate::specs::Way::stops_of))]
 fn outcome_of(alloc: Global, devices: &Devices<'_>) -> Result<Outcome, AllocError>
     ensures { IfOk result (λ outcome. outcome ≡ path_id devices.now) }

@@ -6,7 +6,7 @@ use crate::texts::{behind_first, first_bytes, first_place};
 use std::alloc::{AllocError, Global};
 use text_bytes::{Bytes, is_digit};
 
-/// Whether a digit and `-` follow the place where `-usbv` stands.
+/// Whether a digit and `-` follow the `-usbv` at a place.
 fn is_revision(text: &[u8], place: usize) -> bool
     requires { place < length text.now }
     ensures { result ≡ is_revision text.now place }
@@ -17,7 +17,7 @@ fn is_revision(text: &[u8], place: usize) -> bool
     }
 }
 
-/// The first place of `-usbv` in a text, where a digit and `-` follow.
+/// The first place of `-usbv` in a text, if a digit and `-` follow.
 #[tactic(auto, unfolding(crate::specs::Path::revision_place))]
 pub(crate) fn revision_place(text: &[u8]) -> Option<usize>
     ensures value { result ≡ revision_place text.now }

@@ -37,7 +37,7 @@ fn expander_start(alloc: Global, sas: Option<&[u8]>) -> Result<Bytes, AllocError
     }
 }
 
-/// What the block would have to say about an expander.
+/// What the block would have to report about an expander.
 fn expander_needs(
     alloc: Global,
     expander: &Member<'_>,
@@ -144,7 +144,7 @@ fn number_of(value: Option<&[u8]>) -> Option<u64>
     number_in(Base::AsWritten, (1 << 32) - 1, value?)
 }
 
-/// What a disk of SAS adds, by the devices from the target on and how many phys its port tells.
+/// What a disk of SAS adds, by the devices from the target on and how many phys its port reports.
 #[tactic(auto, unfolding(crate::specs::Scsi::phys_stop))]
 fn phys_stop(
     alloc: Global,

@@ -1,4 +1,4 @@
-//! SCSI: the transport that the path of a device says about, its address and its unit, and what the device adds.
+//! SCSI: the transport that the path of a device shows, its address and its unit, and what the device adds.
 ghost use Rattle.std.specs.Prelude.{◌≡◌, ◌∷◌, ◌<◌, ◌^◌, [], codes, decimal, IfOk, IfSome, length, map, option_map};
 ghost use Rattle.std.specs.List.{concat};
 ghost use Rattle.builtin_path.specs.Members.{attribute};
@@ -15,7 +15,7 @@ use itoa::Buffer;
 use std::alloc::{AllocError, Global};
 use text_bytes::{Bytes, decimal_below, split_once};
 
-/// By what a device of SCSI is reached, as its path tells.
+/// The transport by which a device of SCSI is reached, as its path shows.
 #[derive(Clone, Copy)]
 pub enum Transport {
     /// Fibre Channel.
@@ -32,7 +32,7 @@ pub enum Transport {
     HyperVByAcpi,
 }
 
-/// Texts that are in the path of a device, each with the transport that it says about.
+/// Texts that are in the path of a device, each with the transport that it shows.
 const TRANSPORTS: [(&[u8], Transport); 6] = [
     (b"/rport-", Transport::FibreChannel),
     (b"/end_device-", Transport::Sas),
@@ -42,7 +42,7 @@ const TRANSPORTS: [(&[u8], Transport); 6] = [
     (b"/VMBUS", Transport::HyperVByAcpi),
 ];
 
-/// What the numbers of an address are below.
+/// The numbers of an address are below this.
 const NUMBERS: u64 = 1 << 32;
 
 /// The digits in base 16.
@@ -61,7 +61,7 @@ pub struct Address {
     pub unit: u64,
 }
 
-/// What is in a table beside the first text that is in a path.
+/// What a table has beside the first of its texts that is in a path.
 fn told_by(rows: &[(&[u8], Transport)], path: &[u8]) -> Option<Transport>
     ensures { result ≡ told_by (map (λ row. (row.0.now, row.1)) rows.now) path.now }
 {
@@ -73,7 +73,7 @@ fn told_by(rows: &[(&[u8], Transport)], path: &[u8]) -> Option<Transport>
     None
 }
 
-/// The transport that a path says about.
+/// The transport that a path shows.
 #[tactic(auto, unfolding(crate::specs::Scsi::transport_of))]
 fn transport_of(path: &[u8]) -> Option<Transport>
     ensures { result ≡ transport_of path.now }
@@ -151,7 +151,7 @@ fn numbered_unit(alloc: Global, number: Option<u64>) -> Result<Bytes, AllocError
     }
 }
 
-/// A unit by its number, where it has one.
+/// A unit by its number, if it has one.
 fn known_unit(alloc: Global, number: u64) -> Result<Bytes, AllocError>
     ensures { IfOk result (λ text. text ≡ numbered_unit (Some number)) }
 {

@@ -14,7 +14,7 @@ use std::alloc::{AllocError, Global};
 use text_bytes::{Bytes, split_once};
 use text_tables::OwnedTexts;
 
-/// The name of a folder `host*` in which an attribute lies.
+/// The name of a folder `host*` in which an attribute is.
 fn host_name(name: &[u8]) -> Option<&[u8]>
     ensures { option_map (λ t. t.now) result ≡ host_name name.now }
 {
@@ -47,7 +47,7 @@ fn host_number(name: &[u8]) -> Option<u64>
     number_in(Base::Decimal, (1 << 32) - 1, behind_first(4, name))
 }
 
-/// The lower of two numbers, of which the first may not be there.
+/// The lower of two numbers, the first of which may be absent.
 fn lower(lowest: Option<u64>, number: u64) -> Option<u64>
     ensures { result ≡ lower lowest number }
 {
@@ -164,7 +164,7 @@ fn host_stop(
     hosts_stop(alloc, place, count, host.component(), &hosts)
 }
 
-/// What a device adds whose path says about no transport.
+/// What a device whose path shows no transport adds.
 #[tactic(auto, unfolding(crate::specs::Scsi::other_stop))]
 pub(crate) fn other_stop(
     alloc: Global,

@@ -59,7 +59,7 @@ fn portal_attribute<'d>(
     Ok(session.attribute(path.as_slice()))
 }
 
-/// What the block would have to say about a portal.
+/// What the block would have to report about a portal.
 fn portal_needs(
     alloc: Global,
     address: Option<&[u8]>,
@@ -217,7 +217,7 @@ pub(crate) fn ata_stop(
     }
 }
 
-/// Whether a text has braces at its start and at the end of so many bytes.
+/// Whether a text has braces at its start and as the last of so many bytes.
 fn has_braces(size: usize, text: &[u8]) -> bool
     requires { 1 ≤ size }
     ensures { result ≡ has_braces size text.now }
@@ -260,7 +260,7 @@ fn guid_stop(
     Ok(Stop::adding(alloc, part, true, false, 0))
 }
 
-/// What a disk of Hyper-V adds, whose name has so many bytes with its braces.
+/// What a disk of Hyper-V adds if its name has so many bytes with its braces.
 #[tactic(auto, unfolding(crate::specs::Scsi::guid_by))]
 pub(crate) fn guid_stop_above(
     alloc: Global,

@@ -23,7 +23,7 @@ pub enum Next {
 pub enum Share {
     /// Nothing.
     Apart,
-    /// The same as to the path, where the compatible path has begun.
+    /// The same as to the path, if the compatible path has begun.
     Both,
     /// A port of ATA, with which it begins.
     Ata(Bytes),
@@ -36,17 +36,17 @@ pub struct Stop {
     pub part: Option<Bytes>,
     /// What it adds to the compatible path.
     pub share: Share,
-    /// Whether it is a transport that is known.
+    /// Whether it is a known transport.
     pub transport: bool,
-    /// Whether it is a parent that is known.
+    /// Whether it is a known parent.
     pub parent: bool,
-    /// Names of what the block would have to tell.
+    /// Names of what the block would have to report.
     pub needs: OwnedTexts,
     /// Where the way goes on.
     pub next: Next,
 }
 
-/// A name that the block would have to tell, where it does not.
+/// A name that the block would have to report, if it does not.
 pub(crate) fn absent(
     alloc: Global,
     name: &[u8],
@@ -60,7 +60,7 @@ pub(crate) fn absent(
     }
 }
 
-/// A name that the block would have to tell.
+/// A name that the block would have to report.
 pub(crate) fn needed(alloc: Global, name: &[u8]) -> Result<OwnedTexts, AllocError>
     ensures { IfOk result (λ needs. needs ≡ name.now ∷ []) }
 {
@@ -69,7 +69,8 @@ pub(crate) fn needed(alloc: Global, name: &[u8]) -> Result<OwnedTexts, AllocErro
     Ok(needs)
 }
 
-/// The way ends at a device after a transport whose parent is known, as a name is not reported.
+/// The way ends at a device with a known transport, as a name is not reported; `parent` says whether it is a known
+/// parent.
 pub(crate) fn lost(alloc: Global, name: &[u8], parent: bool) -> Result<Stop, AllocError>
     ensures { IfOk result (λ stop. stop ≡ ending true parent (name.now ∷ [])) }
 {
@@ -105,7 +106,7 @@ impl Stop {
         }
     }
 
-    /// A device that adds a part, above which so many devices are passed over.
+    /// A device that adds a part, above which so many devices are skipped.
     pub(crate) fn adding(
         alloc: Global,
         part: Bytes,
@@ -125,7 +126,7 @@ impl Stop {
         }
     }
 
-    /// A device that adds a part to both paths, above which so many devices are passed over.
+    /// A device that adds a part to both paths, above which so many devices are skipped.
     pub(crate) fn adding_both(alloc: Global, part: Bytes, transport: bool, count: usize) -> Stop
         ensures { result ≡ adding_both part transport count }
     {
@@ -140,7 +141,7 @@ impl Stop {
     }
 }
 
-/// The devices from that on where the way goes on, of those above a device.
+/// Of the devices above a device, those from where the way goes on.
 pub(crate) fn behind<'m, 'd>(next: Next, above: &'m [Member<'d>]) -> &'m [Member<'d>]
     ensures { result.now ≡ drop (passed next above.now) above.now }
 {

@@ -21,13 +21,13 @@ use text_tables::OwnedTexts;
 /// How devices of a subsystem add to a path.
 #[derive(Clone, Copy)]
 pub enum Manner {
-    /// A parent that is known, by its name.
+    /// A known parent, by its name.
     Parent,
-    /// A parent and a transport that is known, by its name.
+    /// A known parent and transport, by its name.
     Transport,
     /// A queue of cryptographic adapters.
     Ap,
-    /// Nothing; a transport that is known.
+    /// Nothing; a known transport.
     Virtio,
     /// A port.
     Usb,
@@ -35,7 +35,7 @@ pub enum Manner {
     Scsi,
     /// The namespace of the event device.
     Nvme,
-    /// The same, of a disk of several ways.
+    /// The same, for a disk of several ways.
     NvmeSubsystem,
     /// The number of a port.
     Serio,
@@ -76,13 +76,13 @@ const MANNERS: [(&[u8], Manner); 20] = [
 /// Names of tapes that count whole.
 const WHOLE_TAPES: [&[u8]; 2] = [b"nst", b"st"];
 
-/// What names of other tapes begin with.
+/// What the names of other tapes begin with.
 const BEGUN_TAPES: [&[u8]; 6] = [b"nstl", b"nstm", b"nsta", b"stl", b"stm", b"sta"];
 
-/// What the numbers of a name are below.
+/// The numbers of a name are below this.
 const NUMBERS: u64 = 1 << 32;
 
-/// What is beside a subsystem in a table.
+/// What a table has beside a subsystem.
 fn beside(rows: &[(&[u8], Manner)], subsystem: &[u8]) -> Option<Manner>
     ensures { result ≡ beside (map (λ row. (row.0.now, row.1)) rows.now) subsystem.now }
 {
@@ -143,7 +143,7 @@ fn ap_stop(alloc: Global, member: &Member<'_>, above: &[Member<'_>]) -> Result<S
     Ok(Stop::adding(alloc, part, true, true, row(b"ap", above)))
 }
 
-/// What a device of virtio adds: nothing, and its row is passed over.
+/// What a device of virtio adds: nothing, and its row is skipped.
 fn virtio_stop(alloc: Global, subsystem: &[u8], above: &[Member<'_>]) -> Stop
     ensures { result ≡ virtio_stop subsystem.now above.now }
 {
@@ -188,7 +188,7 @@ fn leading_number(text: &[u8]) -> Option<(u64, &[u8])>
     Some((decimal_below(NUMBERS, digits)?, behind))
 }
 
-/// What follows a start, where a text begins with it.
+/// What follows a start, if a text begins with it.
 fn behind<'t>(start: &[u8], text: &'t [u8]) -> Option<&'t [u8]>
     ensures { option_map (λ t. t.now) result ≡ behind start.now text.now }
 {
@@ -270,7 +270,7 @@ fn tape_part(name: &[u8]) -> Option<&[u8]>
     }
 }
 
-/// What a tape adds, where no device below has added a part.
+/// What a tape adds, if no device below has added a part.
 fn tape_stop(alloc: Global, is_begun: bool, member: &Member<'_>) -> Result<Stop, AllocError>
     ensures { IfOk result (λ stop. stop ≡ tape_stop is_begun member.now) }
 {
@@ -284,7 +284,7 @@ fn tape_stop(alloc: Global, is_begun: bool, member: &Member<'_>) -> Result<Stop,
     }
 }
 
-/// What a device adds in a manner; `is_begun` says whether a device below has added a part.
+/// What a device adds, in a manner; `is_begun` says whether a device below has added a part.
 fn stop_as(
     alloc: Global,
     manner: Manner,

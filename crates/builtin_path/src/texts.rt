@@ -22,14 +22,14 @@ pub(crate) fn first_bytes(count: usize, text: &[u8]) -> &[u8]
     text.get(..count).unwrap_or(text)
 }
 
-/// Whether a text is at a place of another one.
+/// Whether a text is at a place of another.
 fn stands_at(wanted: &[u8], text: &[u8], place: usize) -> bool
     ensures { result ≡ stands_at wanted.now text.now place }
 {
     behind_first(place, text).starts_with(wanted)
 }
 
-/// The first place of a text where another one stands.
+/// The first place of a text where another one is.
 #[tactic(auto, unfolding(crate::specs::Texts::first_place))]
 pub(crate) fn first_place(wanted: &[u8], text: &[u8]) -> Option<usize>
     ensures value { result ≡ first_place wanted.now text.now }
@@ -38,7 +38,7 @@ pub(crate) fn first_place(wanted: &[u8], text: &[u8]) -> Option<usize>
     (0..text.len()).position(|place| stands_at(wanted, text, place))
 }
 
-/// Whether a text is in another one.
+/// Whether a text is in another.
 #[tactic(auto, unfolding(crate::specs::Texts::contains))]
 pub(crate) fn contains(wanted: &[u8], text: &[u8]) -> bool
     ensures { result ≡ contains wanted.now text.now }
@@ -69,7 +69,7 @@ pub(crate) fn concatenated(alloc: Global, texts: &[&[u8]]) -> Result<Bytes, Allo
     Ok(Bytes::new(whole))
 }
 
-/// Texts with a `-` between each two.
+/// Texts joined by `-`.
 #[tactic(auto, using(crate::proofs::Joining::join_more))]
 pub(crate) fn joined(alloc: Global, texts: &[&[u8]]) -> Result<Bytes, AllocError>
     ensures { IfOk result (λ whole. whole ≡ join_with_byte minus (map (λ t. t.now) texts.now)) }

@@ -13,7 +13,7 @@ use text_bytes::{Bytes, split_once};
 use text_links::kernel_name;
 use text_tables::OwnedTexts;
 
-/// The revision of USB that a root hub is of.
+/// The revision of USB that a root hub has.
 #[derive(Clone, Copy)]
 pub enum Revision {
     /// 1 and 1.1.
@@ -53,7 +53,7 @@ fn port_of(alloc: Global, member: &Member<'_>) -> Result<Option<Bytes>, AllocErr
     behind_bus(alloc, name.as_slice())
 }
 
-/// The last of the devices of USB that are above one another, the first of which is given: the root hub.
+/// The last of the devices of USB above one another, the first of which is given: the root hub.
 fn root<'m, 'd>(member: &'m Member<'d>, above: &'m [Member<'d>]) -> &'m Member<'d>
     ensures { result.now ≡ root member.now above.now }
 {
@@ -93,7 +93,7 @@ fn protocol_of(root: &Member<'_>) -> Option<u64>
     number_in(Base::Hexadecimal, 255, root.attribute(b"bDeviceProtocol")?)
 }
 
-/// The revision of a root hub, where it says one.
+/// The revision of a root hub, if it reports one.
 #[tactic(auto, unfolding(crate::specs::Usb::revision_of))]
 fn revision_of(root: &Member<'_>) -> Option<Revision>
     ensures { result ≡ revision_of root.now }
@@ -101,7 +101,7 @@ fn revision_of(root: &Member<'_>) -> Option<Revision>
     revision_by(protocol_of(root), root.attribute(b"speed"))
 }
 
-/// What the revision of a root hub is read from, and is not there, where it tells its protocol.
+/// What the revision of a root hub that reports its protocol is read from, and is not there.
 fn speed_needs(alloc: Global, root: &Member<'_>) -> Result<OwnedTexts, AllocError>
     ensures { IfOk result (λ needs. needs ≡ speed_needs (protocol_of root.now) (attribute root.now (codes "speed"))) }
 {
@@ -155,7 +155,8 @@ fn port_stop(
     })
 }
 
-/// What a device of subsystem usb adds: one of a type that has a port adds the port, and the devices of USB above it are passed over.
+/// What a device of subsystem usb adds: one of a type that has a port adds the port, and the devices of USB above
+/// it are skipped.
 #[tactic(auto, unfolding(crate::specs::Usb::usb_stop))]
 pub(crate) fn usb_stop(
     alloc: Global,

@@ -29,7 +29,7 @@ fn from_device<'d>(
     Ok(members)
 }
 
-/// How many devices a list begins with that are no NVMe subsystem.
+/// How many devices a list begins with that are not an NVMe subsystem.
 fn below_subsystem(members: &[Member<'_>]) -> usize
     ensures value { result ≡ below_subsystem members.now }
     ensures within { result ≤ length members.now }
@@ -87,7 +87,7 @@ pub(crate) fn members_of<'d>(
     }
 }
 
-/// Whether a device has added a part, one of those below or this one.
+/// Whether a device has added a part: one of those below, or this one.
 fn is_begun_above(is_begun: bool, stop: &Stop) -> bool
     ensures { result ≡ (is_begun || is_some stop.now.part) }
 {

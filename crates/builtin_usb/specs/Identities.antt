@@ -1,4 +1,4 @@
--- What a USB device says of itself, and the properties that say about it.
+-- What a USB device reports about itself, and the properties that give it.
 use Rattle.std.specs.Prelude.{ℕ, Bool, true, not, ◌&&◌, nat_le, ◌==◌, List, [], ◌∷◌, ◌++◌, take, Option, Some, None, unwrap_or, option_map, filter_map, codes, if◌then◌else◌}
 use Rattle.std.specs.List.{list_all}
 use Rattle.text_bytes.specs.Names.{comma, delete, minus, space, underscore}
@@ -12,7 +12,7 @@ use Rattle.device_core.specs.Values.{DeviceValue}
 use Rattle.builtin_usb.specs.Kinds.{attribute}
 use Rattle.builtin_usb.specs.Units.{UnitValue}
 
--- what is known of a device, its texts as it has them; empty where there is none
+-- what is known about a device, with its texts as it has them; empty if there are none
 pub record IdentityValue : Type 0 where
   pub vendor : Text
   pub vendor_id : Text
@@ -30,11 +30,12 @@ most_bytes = 63
 abbrev pub most_serial_bytes : ℕ
 most_serial_bytes = 511
 
--- a text as it is reported: of so many bytes at its start, the words with `_` between them, without the bytes that a link may not have
+-- a text as it is reported: of at most so many bytes at its start, the words with `_` between them, made safe as a
+-- value
 unfoldable pub shown : (most : ℕ) → Text → Text
 shown most text = safe value_marks (underscored (take most text))
 
--- the first of two texts where something of it is reported, else the second
+-- the first of two texts if anything of it is reported, else the second
 abbrev pub from_first : Option Text → Text → Text
 from_first None other = other
 from_first (Some text) other = if is_empty (shown most_bytes text) then other else text
@@ -44,16 +45,17 @@ abbrev pub says_nothing : Option Text → Bool
 says_nothing None = true
 says_nothing (Some text) = is_empty (shown most_bytes text)
 
--- whether a serial number may have a byte: a space, a letter, a digit or a sign of ASCII, or the byte after these, but no comma
+-- whether a serial number may have a byte: a space, a letter, a digit or a sign of ASCII, or the byte after these,
+-- but not a comma
 abbrev pub may_number : ℕ → Bool
 may_number b = nat_le space b && nat_le b delete && not (b == comma)
 
--- a serial number, where each of its bytes may be one of it
+-- a serial number, if each of its bytes may be in one
 abbrev pub serial_of : Option Text → Text
 serial_of None = []
 serial_of (Some text) = if list_all may_number text then text else []
 
--- what is known of a device whose vendor and product have numbers
+-- what is known about a device whose vendor and product have numbers
 abbrev pub known_as : DeviceValue → UnitValue → (kind vendor_id model_id : Text) → IdentityValue
 known_as device unit kind vendor_id model_id = record {
   vendor = from_first unit.vendor (unwrap_or (attribute device (codes "manufacturer")) vendor_id);
@@ -66,18 +68,19 @@ known_as device unit kind vendor_id model_id = record {
   instance = unwrap_or unit.instance [];
 }
 
--- the same, by these numbers as far as they are there
+-- the same, if both numbers are there
 abbrev pub known_by : DeviceValue → UnitValue → (kind : Text) → (vendor_id model_id : Option Text) → Option IdentityValue
 known_by device unit kind None model_id = None
 known_by device unit kind (Some vendor_id) None = None
 known_by device unit kind (Some vendor_id) (Some model_id) = Some (known_as device unit kind vendor_id model_id)
 
--- What is known of a USB device, with a SCSI device that is asked and the kind that ID_TYPE tells. Texts of the SCSI device go before its own, and
--- the numbers are in for texts that are absent. Without either number nothing is known.
+-- What is known about a USB device, with a SCSI device that is asked and the kind that ID_TYPE gives. Texts of the
+-- SCSI device count before its own, and the numbers replace texts that are absent. Without either number nothing is
+-- known.
 abbrev pub identity_of : DeviceValue → UnitValue → (kind : Text) → Option IdentityValue
 identity_of device unit kind = known_by device unit kind (attribute device (codes "idVendor")) (attribute device (codes "idProduct"))
 
--- a text after a mark, and nothing where it is empty
+-- a text after a mark, or nothing if it is empty
 abbrev pub marked : (mark : ℕ) → Text → Text
 marked mark text = if is_empty text then [] else mark ∷ text
 
@@ -87,15 +90,15 @@ all_texts i =
     shown most_bytes i.vendor ++ underscore ∷ shown most_bytes i.model ++ marked underscore (shown most_serial_bytes i.serial)
     ++ marked minus i.instance
 
--- ID_SERIAL: that text, of which 255 bytes are reported
+-- ID_SERIAL: that text, of which at most 255 bytes are reported
 unfoldable pub full_serial : IdentityValue → Text
 full_serial i = take 255 (all_texts i)
 
--- a text that is set only where it is not empty
+-- a text that is set only if it is not empty
 abbrev pub unless_empty : Text → Option Text
 unless_empty text = if is_empty text then None else Some text
 
--- names after a prefix, and the values that are set, an empty one to take the property away
+-- names after a prefix, and the values that are set; an empty one removes the property
 unfoldable pub rows : IdentityValue → List (Text × Option Text)
 rows i =
     (codes "MODEL", Some (shown most_bytes i.model))

@@ -32,8 +32,9 @@ ending is_closed = record { from = []; is_closed = is_closed }
 abbrev pub in_front : Text → Descriptors → Descriptors
 in_front text others = record { from = text ∷ others.from; is_closed = others.is_closed }
 
--- The descriptors of a text after its first bytes, so many as are passed over. The first byte of a descriptor is its length. One counts where more
--- bytes are left, from its start on, than an interface has. A length below 3 ends them, and so does one over the longest, which is no good end.
+-- The descriptors of a text after so many bytes to be skipped. The first byte of a descriptor is its length. A
+-- descriptor counts if more bytes are left, from its start on, than an interface has. A length below 3 ends them, and
+-- so does one over the longest, which is not a proper end.
 abbrev pub descriptors : (longest passed : ℕ) → Text → Descriptors
 descriptors longest passed [] = ending true
 descriptors longest (suc passed) (b ∷ text) = descriptors longest passed text
@@ -46,7 +47,8 @@ descriptors longest zero (b ∷ text) =
 abbrev pub descriptors_of : Text → Descriptors
 descriptors_of file = descriptors (length file - interface_bytes) 0 file
 
--- the interface that a descriptor says about: that of kind 4, by the bytes 5 to 7 from its start on, which need not be its own
+-- the interface that a descriptor describes, which is of kind 4, by the bytes 5 to 7 from its start on, which need
+-- not be its own
 abbrev pub interface_of : Text → Option Interface
 interface_of text = if slice_index text 1 == 4 then Some (record { class = slice_index text 5; subclass = slice_index text 6; protocol = slice_index text 7 }) else None
 
@@ -62,7 +64,7 @@ with_interface found interface = if nat_lt (length found) most_interfaces && not
 abbrev pub interfaces : Text → List Interface
 interfaces file = fold with_interface [] (filter_map interface_of (descriptors_of file).from)
 
--- a byte as two small hexadecimal digits
+-- a byte as two lower case hexadecimal digits
 abbrev pub two_digits : ℕ → Text
 two_digits b = slice_index small_digits (b / 16) ∷ slice_index small_digits (b % 16) ∷ []
 
@@ -70,14 +72,15 @@ two_digits b = slice_index small_digits (b / 16) ∷ slice_index small_digits (b
 abbrev pub written : Interface → Text
 written interface = colon ∷ two_digits interface.class ++ two_digits interface.subclass ++ two_digits interface.protocol
 
--- a colon after interfaces, where there are some and they end as they should
+-- a colon after interfaces, if there are some and they end as they should
 abbrev pub closing : List Interface → Bool → Text
 closing found is_closed = if not (is_empty found) && is_closed then colon ∷ [] else []
 
--- Interfaces in one text, with a colon after where all descriptors were read or as many interfaces were found as are reported.
+-- Interfaces in one text, with a colon at the end if all descriptors were read or as many interfaces were found as
+-- are reported.
 abbrev pub joined : List Interface → Bool → Text
 joined found is_closed = flat_map written found ++ closing found (is_closed || length found == most_interfaces)
 
--- what ID_USB_INTERFACES is by the file of descriptors: nothing where it is shorter than the descriptor of a device
+-- what ID_USB_INTERFACES is by the file of descriptors: nothing if it is shorter than the descriptor of a device
 unfoldable pub packed : Text → Text
 packed file = if nat_lt (length file) device_bytes then [] else joined (interfaces file) (descriptors_of file).is_closed

@@ -1,4 +1,4 @@
--- What ID_TYPE says, by numbers that the kernel tells.
+-- What ID_TYPE says, by numbers that the kernel reports.
 use Rattle.std.specs.Prelude.{ℕ, ◌-◌, ◌^◌, ◌==◌, ◌&&◌, ◌||◌, Bool, false, List, [], ◌∷◌, Option, Some, None, codes, if◌then◌else◌}
 use Rattle.std.specs.Option.{option_and_then}
 use Rattle.text_tables.specs.Texts.{Text}
@@ -49,7 +49,7 @@ abbrev pub kind_beside : List (ℕ × Text) → ℕ → Text
 kind_beside [] number = codes "generic"
 kind_beside (row ∷ rows) number = if row.0 == number then row.1 else kind_beside rows number
 
--- the same for a text that may be no number, which is `generic`, too
+-- the same for a text that may not be a number, which is then also `generic`
 abbrev pub kind_in : List (ℕ × Text) → Option ℕ → Text
 kind_in rows None = codes "generic"
 kind_in rows (Some number) = kind_beside rows number
@@ -66,7 +66,7 @@ subclass_number text = number_in AsWritten (2 ^ 31 - 1) text
 abbrev pub subclass_of : (interface : DeviceValue) → Option ℕ
 subclass_of interface = option_and_then subclass_number (attribute interface (codes "bInterfaceSubClass"))
 
--- whether a number is there, and the same
+-- whether there is a number, and it is the same
 abbrev pub is_number : ℕ → Option ℕ → Bool
 is_number number None = false
 is_number number (Some other) = number == other
@@ -79,7 +79,7 @@ is_storage interface = is_number 8 (class_of interface)
 abbrev pub takes_scsi : (interface : DeviceValue) → Bool
 takes_scsi interface = is_storage interface && (is_number 2 (subclass_of interface) || is_number 6 (subclass_of interface))
 
--- the kind of storage, by the text of the subclass; empty where it is not reported
+-- the kind of storage, by the text of the subclass; empty if it is not reported
 abbrev pub storage_kind : Option Text → Text
 storage_kind None = []
 storage_kind (Some text) = kind_in storage_kinds (subclass_number text)
@@ -90,7 +90,8 @@ interface_kind interface =
     if is_storage interface then storage_kind (attribute interface (codes "bInterfaceSubClass"))
     else kind_in class_kinds (class_of interface)
 
--- what ID_TYPE says: by the type of the SCSI device where it is reported, else by the interface; empty where there is neither
+-- what ID_TYPE says: by the type of the SCSI device if it is reported, else by the interface; empty if there is
+-- neither
 abbrev pub told_kind : (interface : Option DeviceValue) → (unit_type : Option Text) → Text
 told_kind interface (Some text) = kind_in unit_kinds (number_in AsWritten (2 ^ 32 - 1) text)
 told_kind None None = []

@@ -1,4 +1,4 @@
--- What laws.rt says of the definitions.
+-- What laws.rt says about the definitions.
 use Rattle.std.specs.Prelude.{◌≡◌, ◌≢◌, ℕ, Bool, true, false, nat_eq, List, [], ◌++◌, drop, filter, map, codes}
 use Rattle.std.specs.List.{starts_with}
 use Rattle.text_bytes.specs.Names.{colon}
@@ -9,7 +9,7 @@ use Rattle.builtin_usb.specs.Interfaces.{descriptors_of, packed}
 use Rattle.builtin_usb.specs.Identities.{IdentityValue, named, rows}
 use Rattle.builtin_usb.specs.UsbId.{usb_id}
 
--- the same property with ID_USB_ in place of ID_
+-- the same property with ID_USB_ instead of ID_
 abbrev pub as_usb : Pair → Pair
 as_usb pair = (codes "ID_USB_" ++ drop 3 pair.0, pair.1)
 
@@ -17,17 +17,18 @@ as_usb pair = (codes "ID_USB_" ++ drop 3 pair.0, pair.1)
 abbrev pub is_usb : Pair → Bool
 is_usb pair = starts_with nat_eq pair.0 (codes "ID_USB_")
 
--- what is reported after ID_ is reported after ID_USB_, too, with the same values in the same order
+-- what is reported after ID_ is also reported after ID_USB_, with the same values in the same order
 abbrev pub ToldTwice : IdentityValue → Type 0
 ToldTwice i = named (codes "ID_USB_") (rows i) ≡ map as_usb (named (codes "ID_") (rows i))
 
--- whether ID_BUS is set before decides neither whether the builtin succeeds, nor which ID_USB_ properties it sets, nor what is needed
+-- whether ID_BUS was set before decides neither whether the builtin succeeds, nor which ID_USB_ properties it sets,
+-- nor what is needed
 pub record BusDoesNotMatter (event : EventValue) : Type 0 where
   pub success : (usb_id event true).is_done ≡ (usb_id event false).is_done
   pub properties : filter is_usb (usb_id event true).properties ≡ filter is_usb (usb_id event false).properties
   pub needs : (usb_id event true).needs ≡ (usb_id event false).needs
 
--- where the descriptors end as they should, a text of interfaces begins with a colon and ends in one
+-- if the descriptors end as they should, a text of interfaces begins with a colon and ends in one
 abbrev pub StandsInColons : (file : List ℕ) → Type 0
 StandsInColons file =
     packed file ≢ [] → (descriptors_of file).is_closed ≡ true → (begins_with colon (packed file) ≡ true) × (ends_in colon (packed file) ≡ true)

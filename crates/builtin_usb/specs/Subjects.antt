@@ -1,4 +1,4 @@
--- Which devices usb_id says about.
+-- Which devices usb_id is about.
 use Rattle.std.specs.Prelude.{Bool, Option, Some, None, is_some, codes, if◌then◌else◌}
 use Rattle.std.specs.Option.{option_and_then}
 use Rattle.device_core.specs.Values.{DeviceValue, EventValue}
@@ -13,7 +13,7 @@ is_usb_device device = is_text (codes "usb_device") (type_of device)
 abbrev pub interface_above : EventValue → Option DeviceValue
 interface_above event = above event (codes "usb") (Some (codes "usb_interface")) event.device.path
 
--- the interface of an event device that is no USB device itself
+-- the interface of an event device that is not itself a USB device
 abbrev pub interface_of : EventValue → Option DeviceValue
 interface_of event = if is_usb_device event.device then None else interface_above event
 
@@ -25,10 +25,10 @@ device_above event interface = if is_some (class_of interface) then above event 
 abbrev pub device_of : EventValue → (interface : Option DeviceValue) → Option DeviceValue
 device_of event interface = if is_usb_device event.device then Some event.device else option_and_then (device_above event) interface
 
--- the SCSI device above the event device, where the interface takes commands of SCSI
+-- the SCSI device above the event device, if the interface takes commands of SCSI
 abbrev pub unit_above : EventValue → (interface : DeviceValue) → Option DeviceValue
 unit_above event interface = if takes_scsi interface then above event (codes "scsi") (Some (codes "scsi_device")) event.device.path else None
 
--- the SCSI device that is asked, where there is a USB device
+-- the SCSI device that is asked, if there is a USB device
 abbrev pub unit_of : EventValue → (interface device : Option DeviceValue) → Option DeviceValue
 unit_of event interface device = if is_some device then option_and_then (unit_above event) interface else None

@@ -1,4 +1,4 @@
--- What a SCSI device says of itself.
+-- What a SCSI device reports about itself.
 use Rattle.std.specs.Prelude.{ℕ, ◌^◌, ◌∷◌, ◌++◌, Option, Some, None, option_map, decimal, codes}
 use Rattle.std.specs.Option.{option_and, option_and_then}
 use Rattle.text_bytes.specs.Names.{colon}
@@ -10,7 +10,7 @@ use Rattle.device_core.specs.Values.{DeviceValue}
 use Rattle.builtin_devices.specs.Devices.{kernel_of}
 use Rattle.builtin_usb.specs.Kinds.{attribute}
 
--- texts of a SCSI device, as far as they count, and which unit of which target it is
+-- texts of a SCSI device, as far as they count, and its target and unit
 pub record UnitValue : Type 0 where
   pub vendor : Option Text
   pub model : Option Text

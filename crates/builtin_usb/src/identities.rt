@@ -1,4 +1,4 @@
-//! What a USB device says of itself.
+//! What a USB device reports about itself.
 ghost use Rattle.std.specs.Prelude.{◌≡◌, ◌++◌, [], IfOk, OnOk, codes, option_map, unwrap_or};
 ghost use Rattle.std.specs.List.{list_all};
 ghost use Rattle.builtin_usb.specs.Kinds.{attribute};
@@ -21,7 +21,7 @@ const MAX_SERIAL_BYTES: usize = 511;
 /// The most bytes of vendor, model, serial number and instance in one text.
 const MAX_ALL_BYTES: usize = 255;
 
-/// What is known of a device, its texts as it has them; empty where there is none.
+/// What is known about a device, with its texts as it has them; empty if there are none.
 #[derive(Drop)]
 pub(crate) struct Identity<'a> {
     pub(crate) vendor: &'a [u8],
@@ -43,7 +43,7 @@ impl<'a> Model for Identity<'a> {
     ghost view = { λ i. record { vendor = i.vendor.now; vendor_id = i.vendor_id.now; model = i.model.now; model_id = i.model_id.now; revision = i.revision.now; serial = i.serial.now; kind = i.kind.now; instance = i.instance } };
 }
 
-/// A text as it is reported, of so many bytes at its start.
+/// A text as it is reported, by at most so many bytes at its start.
 #[tactic(auto, unfolding(crate::specs::Identities::shown), using(std::proofs::lemmas::List::take_min))]
 fn shown_of(alloc: Global, most: usize, text: &[u8]) -> Result<Vec<u8>, AllocError>
     ensures { IfOk result (λ made. made.items ≡ shown most text.now) }
@@ -66,7 +66,7 @@ pub(crate) fn shown_serial(alloc: Global, text: &[u8]) -> Result<Vec<u8>, AllocE
     shown_of(alloc, MAX_SERIAL_BYTES, text)
 }
 
-/// The first of two texts where something of it is reported, else the second.
+/// The first of two texts if anything of it is reported, else the second.
 fn from_first<'a>(
     alloc: Global,
     first: Option<&'a [u8]>,
@@ -85,7 +85,7 @@ fn from_first<'a>(
     }
 }
 
-/// A text, or another where there is none.
+/// A text, or another one if there is none.
 fn text_or<'a>(text: Option<&'a [u8]>, other: &'a [u8]) -> &'a [u8]
     ensures { result.now ≡ unwrap_or (option_map (λ t. t.now) text.entry) other.now }
 {
@@ -119,7 +119,7 @@ fn is_number_text(text: &[u8]) -> bool
     text.iter().all(|byte| may_number(*byte))
 }
 
-/// A serial number, empty where there is none or where it has a byte that none may have.
+/// A serial number, empty if there is none or it has a byte that is not allowed.
 fn serial_of<'a>(text: Option<&'a [u8]>) -> &'a [u8]
     ensures { result.now ≡ serial_of (option_map (λ t. t.now) text.entry) }
 {
@@ -129,7 +129,7 @@ fn serial_of<'a>(text: Option<&'a [u8]>) -> &'a [u8]
     }
 }
 
-/// The instance of a SCSI device, empty where there is none.
+/// The instance of a SCSI device, empty if there is none.
 fn instance_of(alloc: Global, unit: &Unit<'_>) -> Result<Bytes, AllocError>
     ensures { IfOk result (λ instance. instance ≡ unwrap_or unit.now.instance []) }
 {
@@ -139,21 +139,21 @@ fn instance_of(alloc: Global, unit: &Unit<'_>) -> Result<Bytes, AllocError>
     }
 }
 
-/// The serial number of a USB device, empty where there is none that counts.
+/// The serial number of a USB device, empty if there is none that counts.
 fn device_serial<'a>(device: &Device<'a>) -> &'a [u8]
     ensures { result.now ≡ serial_of (attribute device.now (codes "serial")) }
 {
     serial_of(attribute(device, b"serial"))
 }
 
-/// An attribute of a device, or another text where there is none.
+/// An attribute of a device, or another text if there is none.
 fn attribute_or<'a>(device: &Device<'a>, name: &[u8], other: &'a [u8]) -> &'a [u8]
     ensures { result.now ≡ unwrap_or (attribute device.now name.now) other.now }
 {
     text_or(attribute(device, name), other)
 }
 
-/// What is known of a USB device whose vendor and product have numbers.
+/// What is known about a USB device whose vendor and product have numbers.
 fn known_as<'a>(
     alloc: Global,
     device: &Device<'a>,
@@ -183,7 +183,8 @@ fn known_as<'a>(
     })
 }
 
-/// What is known of a USB device with a SCSI device that is asked: `None` where its vendor or its product has no number.
+/// What is known about a USB device, with the SCSI device that is asked: `None` if its vendor or its product has no
+/// number.
 pub(crate) fn identity_of<'a>(
     alloc: Global,
     device: &Device<'a>,
@@ -202,7 +203,7 @@ pub(crate) fn identity_of<'a>(
     Ok(Some(identity))
 }
 
-/// Puts a text that is not empty after another, with a mark in between.
+/// Appends a text to another, with a mark in between, unless it is empty.
 fn push_marked(made: &mut Vec<u8>, mark: u8, text: &[u8]) -> Result<(), AllocError>
     ensures { OnOk result (made.new.items ≡ made.old.items ++ marked mark text.now) }
 {

@@ -14,7 +14,7 @@ const INTERFACE_BYTES: usize = 9;
 /// The most interfaces that are reported.
 const MAX_INTERFACES: usize = 72;
 
-/// The kind of descriptor that says about an interface.
+/// The kind of descriptor that describes an interface.
 const INTERFACE_KIND: u8 = 4;
 
 /// The digits of a hexadecimal number.
@@ -35,7 +35,7 @@ struct Found {
     is_closed: bool,
 }
 
-/// The interface that a descriptor says about, if it is of that kind.
+/// The interface that a descriptor describes, if it is of that kind.
 fn interface_of(descriptor: &[u8]) -> Option<Interface>
     requires { 8 ≤ length descriptor.now }
     ensures { result ≡ interface_of descriptor.now }
@@ -50,7 +50,7 @@ fn interface_of(descriptor: &[u8]) -> Option<Interface>
     })
 }
 
-/// Puts the interface that a descriptor says about after others, if it is of that kind.
+/// Adds the interface that a descriptor describes, if it is of that kind.
 fn push_told(interfaces: &mut Vec<Interface>, descriptor: &[u8]) -> Result<(), AllocError>
     requires { 8 ≤ length descriptor.now }
     ensures { OnOk result (interfaces.new.items ≡ interfaces.old.items ++ option_to_list (interface_of descriptor.now)) }
@@ -61,7 +61,7 @@ fn push_told(interfaces: &mut Vec<Interface>, descriptor: &[u8]) -> Result<(), A
     Ok(())
 }
 
-/// What follows so many bytes of a text, nothing where it has no more.
+/// What follows so many bytes of a text, nothing if it has no more.
 #[tactic(auto, using(std::proofs::lemmas::List::drop_min))]
 fn behind(text: &[u8], size: usize) -> &[u8]
     ensures { result.now ≡ drop size text.now }
@@ -98,7 +98,7 @@ fn read(alloc: Global, file: &[u8]) -> Result<Found, AllocError>
     })
 }
 
-/// Puts one more interface after those that are there, unless one is the same or there are as many as are reported.
+/// Adds an interface, unless the same one is there already or there are as many as are reported.
 fn add(found: &mut Vec<Interface>, interface: Interface) -> Result<(), AllocError>
     ensures { OnOk result (found.new.items ≡ with_interface found.old.items interface) }
 {
@@ -129,7 +129,7 @@ fn two_digits(byte: u8) -> [u8; 2]
     ]
 }
 
-/// Puts an interface after a text.
+/// Appends an interface to a text.
 fn push_interface(text: &mut Vec<u8>, interface: &Interface) -> Result<(), AllocError>
     ensures { OnOk result (text.new.items ≡ text.old.items ++ written interface.now) }
 {
@@ -153,13 +153,12 @@ fn joined(alloc: Global, found: &[Interface], is_closed: bool) -> Result<Vec<u8>
     Ok(text)
 }
 
-/// The class, subclass and protocol of each interface that a file of descriptors says about, each once and at most 72:
-/// a colon
-/// and six hexadecimal digits for each, and a colon after. It is empty where there are none or the file has fewer than
-/// 18
-/// bytes. A descriptor that is longer than the file allows ends the text without a colon.
+/// The class, subclass and protocol of each interface that a file of descriptors describes, each once and at most
+/// 72: a colon and six hexadecimal digits for each, and a colon at the end. It is empty if there are none or the
+/// file has fewer than 18 bytes. A descriptor that is longer than the file allows ends the text without a colon,
+/// unless there are 72 interfaces.
 ///
-/// So udev of systemd 257 has it.
+/// This is what udev of systemd 257 reports.
 #[tactic(auto, unfolding(crate::specs::Interfaces::packed))]
 pub(crate) fn packed(alloc: Global, file: &[u8]) -> Result<Vec<u8>, AllocError>
     ensures { IfOk result (λ text. text.items ≡ packed file.now) }

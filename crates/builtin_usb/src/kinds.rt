@@ -1,4 +1,4 @@
-//! What ID_TYPE says, by numbers that the kernel tells.
+//! What ID_TYPE says, by numbers that the kernel reports.
 ghost use Rattle.std.specs.Prelude.{◌≡◌, map, option_copied, option_map};
 ghost use Rattle.builtin_usb.specs.Kinds.{attribute, class_of, interface_kind, is_number, is_storage, kind_beside, kind_in, storage_kind, subclass_number, subclass_of, takes_scsi, told_kind};
 
@@ -14,7 +14,7 @@ const ATAPI: u64 = 2;
 /// The subclass of storage that takes commands of SCSI.
 const SCSI: u64 = 6;
 
-/// What stands for numbers that have no kind of their own.
+/// The kind of numbers that have none of their own.
 const GENERIC: &[u8] = b"generic";
 
 /// The kinds of devices, by the class of an interface.
@@ -66,7 +66,7 @@ fn kind_beside(rows: &[(u64, &'static [u8])], number: u64) -> &'static [u8]
     GENERIC
 }
 
-/// The same for what may be no number.
+/// The same for what may not be a number.
 fn kind_in(rows: &[(u64, &'static [u8])], number: Option<u64>) -> &'static [u8]
     ensures { result.now ≡ kind_in (map (λ row. (row.0, row.1.now)) rows.now) number }
 {
@@ -98,7 +98,7 @@ fn subclass_of(interface: &Device<'_>) -> Option<u64>
     subclass_number(attribute(interface, b"bInterfaceSubClass")?)
 }
 
-/// Whether a number is there, and the same.
+/// Whether there is a number, and it is the same.
 fn is_number(number: u64, held: Option<u64>) -> bool
     ensures { result ≡ is_number number held }
 {
@@ -123,7 +123,7 @@ pub(crate) fn takes_scsi(interface: &Device<'_>) -> bool
     is_storage(interface) && (is_number(ATAPI, subclass) || is_number(SCSI, subclass))
 }
 
-/// The kind of storage, empty where the subclass is not reported.
+/// The kind of storage, empty if the subclass is not reported.
 fn storage_kind(subclass: Option<&[u8]>) -> &'static [u8]
     ensures { result.now ≡ storage_kind (option_map (λ t. t.now) subclass.entry) }
 {
@@ -144,7 +144,7 @@ fn interface_kind(interface: &Device<'_>) -> &'static [u8]
     }
 }
 
-/// What ID_TYPE says, empty where nothing tells it: the type of the SCSI device goes before the interface.
+/// What ID_TYPE says, empty if nothing determines it: the type of the SCSI device counts before the interface.
 pub(crate) fn told_kind(interface: Option<&Device<'_>>, unit_type: Option<&[u8]>) -> &'static [u8]
     ensures { result.now ≡ told_kind (option_copied interface.entry) (option_map (λ t. t.now) unit_type.entry) }
 {

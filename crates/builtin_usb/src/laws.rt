@@ -17,18 +17,18 @@ pub fn interfaces_are_few()
     ensures { (file : List ℕ) → length (interfaces file) ≤ most_interfaces }
 {}
 
-/// Where the descriptors end as they should, a text of interfaces begins with a colon and ends in one.
+/// If the descriptors end as they should, a text of interfaces begins with a colon and ends in one.
 pub fn interfaces_stand_in_colons()
     ensures { (file : List ℕ) → StandsInColons file }
 {}
 
-/// What is reported after `ID_` is reported after `ID_USB_`, too, with the same values in the same order.
+/// What is reported after `ID_` is also reported after `ID_USB_`, with the same values in the same order.
 pub fn properties_are_told_twice()
     ensures { (i : IdentityValue) → ToldTwice i }
 {}
 
-/// Whether ID_BUS is set before decides neither whether the builtin succeeds, nor which `ID_USB_` properties it sets, nor
-/// what the block would have to tell.
+/// Whether ID_BUS was set before decides neither whether the builtin succeeds, nor which `ID_USB_` properties it
+/// sets, nor what the block would have to report.
 pub fn bus_does_not_matter()
     ensures { (event : EventValue) → BusDoesNotMatter event }
 {}

@@ -1,4 +1,4 @@
-//! What the block would have to tell for usb_id.
+//! What the block would have to report for usb_id.
 ghost use Rattle.std.specs.Prelude.{◌≡◌, IfOk, OnOk, map, option_copied, option_map};
 ghost use Rattle.text_tables.specs.Texts.{with_texts};
 ghost use Rattle.builtin_devices.specs.Outcomes.{lacking, needs_of};
@@ -14,14 +14,14 @@ use device_core::{Device, Event};
 use std::alloc::{AllocError, Global};
 use text_tables::OwnedTexts;
 
-/// Whether a device of a subsystem tells no type.
+/// Whether a device of a subsystem has no type.
 fn is_untyped(subsystem: &[u8], device: &Device<'_>) -> bool
     ensures { result ≡ is_untyped subsystem.now device.now }
 {
     is_text(subsystem, device.subsystem()) && type_of(device).is_none()
 }
 
-/// Whether the first of these that is of a subsystem and a type follows one of the subsystem that tells no type.
+/// Whether, before the first of these devices that is of a subsystem and a type, one of the subsystem has no type.
 fn untyped_among(subsystem: &[u8], kind: &[u8], devices: &[&Device<'_>]) -> bool
     ensures { result ≡ untyped_among subsystem.now kind.now (map (λ device. device.now) devices.now) }
 {
@@ -36,7 +36,7 @@ fn untyped_among(subsystem: &[u8], kind: &[u8], devices: &[&Device<'_>]) -> bool
     false
 }
 
-/// Whether the search for the nearest device above a path meets one that tells no type.
+/// Whether the search for the nearest device above a path meets one that has no type.
 fn meets_untyped(
     alloc: Global,
     devices: &Devices<'_>,
@@ -84,7 +84,7 @@ fn meets_unit(
     }
 }
 
-/// Whether a device is asked for a type that it does not tell.
+/// Whether a device is asked for a type that it does not have.
 fn lacks_type(
     alloc: Global,
     devices: &Devices<'_>,
@@ -118,7 +118,7 @@ fn need(
     need_attribute(alloc, device, name, name, needs)
 }
 
-/// Adds the subclass, where an interface is storage and lacks it.
+/// Adds the subclass, if an interface is storage and lacks it.
 fn need_subclass(
     alloc: Global,
     interface: &Device<'_>,
@@ -147,7 +147,7 @@ fn need_attributes(
     Ok(())
 }
 
-/// Adds what an interface lacks, where there is one.
+/// Adds what an interface lacks, if there is one.
 fn need_of_interface(
     alloc: Global,
     interface: Option<&Device<'_>>,
@@ -200,7 +200,7 @@ fn need_of_unit(
     Ok(())
 }
 
-/// The bytes of the file of descriptors of a device, if the block tells them.
+/// The bytes of the file of descriptors of a device, if the block reports them.
 pub(crate) fn descriptors_at(
     alloc: Global,
     event: &Event<'_>,
@@ -216,7 +216,7 @@ pub(crate) fn descriptors_at(
     }
 }
 
-/// Adds the file of descriptors, where the block does not tell it.
+/// Adds the file of descriptors, if the block does not report it.
 fn need_descriptors(
     alloc: Global,
     event: &Event<'_>,
@@ -231,7 +231,7 @@ fn need_descriptors(
     Ok(())
 }
 
-/// Adds the number of the product, where that of the vendor is there and it is not.
+/// Adds the number of the product, if that of the vendor is there and it is not.
 fn need_product(
     alloc: Global,
     device: &Device<'_>,
@@ -255,7 +255,7 @@ fn asks_revision(alloc: Global, device: &Device<'_>, texts: &Unit<'_>) -> Result
     Ok(is_known && nothing)
 }
 
-/// Adds the revision, where a USB device is asked for it and lacks it.
+/// Adds the revision, if a USB device is asked for it and lacks it.
 fn need_revision(
     alloc: Global,
     device: &Device<'_>,
@@ -290,7 +290,7 @@ fn need_of_device(
     need_revision(alloc, device, texts, needs)
 }
 
-/// Adds a type, where a device is asked for one that it does not tell.
+/// Adds a type, if a device is asked for one that it does not have.
 fn need_type(
     alloc: Global,
     devices: &Devices<'_>,
@@ -306,7 +306,8 @@ fn need_type(
     Ok(())
 }
 
-/// All that the block would have to tell, by the devices that the builtin looks at and the texts of the SCSI device.
+/// All that the block would have to report, by the devices that the builtin looks at and the texts of the SCSI
+/// device.
 #[tactic(auto, using(crate::proofs::Needed::four_more), unfolding(crate::specs::Needs::words))]
 pub(crate) fn needs_by(
     alloc: Global,

@@ -14,7 +14,7 @@ use std::alloc::{AllocError, Global};
 use text_bytes::Bytes;
 use text_links::encoded;
 
-/// A name, and the value that it is set to, if it is.
+/// A name, and the value that it is set to, if any.
 type Row = (&'static [u8], Option<Bytes>);
 
 /// A text that is set whatever it is.
@@ -24,7 +24,7 @@ fn always(text: Vec<u8>) -> Option<Bytes>
     Some(Bytes::new(text))
 }
 
-/// A text that is set only where it is not empty.
+/// A text that is set only if it is not empty.
 fn unless_empty(text: Vec<u8>) -> Option<Bytes>
     ensures { result ≡ unless_empty text.items }
 {
@@ -44,7 +44,7 @@ fn copy_of(alloc: Global, text: Option<&[u8]>) -> Result<Option<Bytes>, AllocErr
     }
 }
 
-/// Sets a name after a prefix.
+/// Sets a name with a prefix.
 fn set(
     alloc: Global,
     prefix: &[u8],
@@ -76,7 +76,7 @@ fn set_rows(
     Ok(())
 }
 
-/// Sets what is known of a device after a prefix.
+/// Sets what is known about a device, with a prefix to the names.
 #[tactic(auto, unfolding(crate::specs::Identities::rows))]
 fn set_identity(
     alloc: Global,
@@ -113,7 +113,7 @@ fn set_identity(
     set_rows(alloc, prefix, &rows, properties)
 }
 
-/// The interfaces of a USB device whose file of descriptors the block may tell.
+/// The interfaces of a USB device whose file of descriptors the block may report.
 fn interfaces_of(
     alloc: Global,
     event: &Event<'_>,
@@ -127,7 +127,7 @@ fn interfaces_of(
     }
 }
 
-/// The same where there is a USB device, and nothing where there is none.
+/// The same if there is a USB device, and nothing if there is none.
 fn interfaces_text(
     alloc: Global,
     event: &Event<'_>,
@@ -155,7 +155,7 @@ fn driver_of<'a>(interface: Option<&Device<'a>>) -> Option<&'a [u8]>
     interface?.driver()
 }
 
-/// Sets what stands only after `ID_USB_`.
+/// Sets what comes only after `ID_USB_`.
 #[tactic(auto, unfolding(crate::specs::UsbId::rows_apart))]
 fn set_apart(
     alloc: Global,

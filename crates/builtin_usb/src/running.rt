@@ -1,4 +1,4 @@
-//! What the builtin comes to.
+//! The outcome of the builtin.
 ghost use Rattle.std.specs.Prelude.{◌≡◌, IfOk, option_copied};
 ghost use Rattle.builtin_usb.specs.UsbId.{known, usb_id};
 
@@ -12,7 +12,7 @@ use builtin_devices::{Devices, Outcome};
 use device_core::{Device, Event};
 use std::alloc::{AllocError, Global};
 
-/// What is known of the USB device.
+/// What is known about the USB device.
 fn known<'a>(
     alloc: Global,
     interface: Option<&Device<'_>>,
@@ -28,10 +28,11 @@ fn known<'a>(
     identity_of(alloc, device, texts, kind)
 }
 
-/// What usb_id of udev of systemd 257 comes to over an event: the properties `ID_USB_*` of the USB device that the event
-/// device is or belongs to, and where ID_BUS is not set before, that and the same properties with `ID_` in front.
+/// The outcome of usb_id of udev (systemd 257) over an event: the properties `ID_USB_*` of the USB device that the
+/// event device is or belongs to, and if ID_BUS was not set before, that and the same properties with the prefix
+/// `ID_`.
 ///
-/// The builtin fails where there is no USB device, where the class of its interface is no number, and where its vendor or
+/// The builtin fails if there is no USB device, if the class of its interface is not a number, or if its vendor or
 /// its product has no number.
 #[tactic(auto, unfolding(crate::specs::UsbId::usb_id))]
 pub fn usb_id(alloc: Global, event: &Event<'_>, is_bus_set: bool) -> Result<Outcome, AllocError>

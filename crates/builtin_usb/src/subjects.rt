@@ -1,4 +1,4 @@
-//! Which devices usb_id says about.
+//! Which devices usb_id is about.
 ghost use Rattle.std.specs.Prelude.{◌≡◌, IfOk, option_copied};
 ghost use Rattle.builtin_usb.specs.Subjects.{device_above, device_of, interface_above, interface_of, is_usb_device, unit_above, unit_of};
 
@@ -25,7 +25,7 @@ fn interface_above<'d, 'a>(
     devices.above(alloc, b"usb", Some(b"usb_interface"), path)
 }
 
-/// The interface of an event device that is no USB device itself.
+/// The interface of an event device that is not itself a USB device.
 pub(crate) fn interface_of<'d, 'a>(
     alloc: Global,
     devices: &'d Devices<'a>,
@@ -85,7 +85,7 @@ fn unit_above<'d, 'a>(
     devices.above(alloc, b"scsi", Some(b"scsi_device"), path)
 }
 
-/// The SCSI device that is asked, where there is a USB device.
+/// The SCSI device that is asked, if there is a USB device.
 pub(crate) fn unit_of<'d, 'a>(
     alloc: Global,
     devices: &'d Devices<'a>,

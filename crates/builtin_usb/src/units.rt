@@ -1,4 +1,4 @@
-//! What a SCSI device says of itself.
+//! What a SCSI device reports about itself.
 ghost use Rattle.std.specs.Prelude.{◌≡◌, IfOk, is_some, option_copied, option_map};
 ghost use Rattle.builtin_devices.specs.Devices.{kernel_of};
 ghost use Rattle.builtin_usb.specs.Units.{before_colon, instance_text, silent, target_and_unit, texts_of, unit_texts};
@@ -11,10 +11,10 @@ use std::marker::Model;
 use text_bytes::{Bytes, decimal_below, split_once};
 use text_links::kernel_name;
 
-/// What the numbers of a name are below.
+/// The numbers of a name are below this.
 const NUMBERS: u64 = 1 << 32;
 
-/// Texts of a SCSI device as far as they count, and which unit of which target it is.
+/// Texts of a SCSI device, as far as they count, and its target and unit.
 #[derive(Drop)]
 pub(crate) struct Unit<'a> {
     pub(crate) vendor: Option<&'a [u8]>,
@@ -76,7 +76,7 @@ fn silent<'a>() -> Unit<'a>
     }
 }
 
-/// The texts of a SCSI device whose name tells an instance.
+/// The texts of a SCSI device whose name gives an instance.
 fn texts_of<'a>(unit: &Device<'a>, instance: Bytes) -> Unit<'a>
     ensures { result ≡ texts_of unit.now instance }
 {
@@ -93,7 +93,7 @@ fn texts_of<'a>(unit: &Device<'a>, instance: Bytes) -> Unit<'a>
     }
 }
 
-/// Whether the name of a SCSI device tells an instance.
+/// Whether the name of a SCSI device gives an instance.
 pub(crate) fn has_instance(alloc: Global, unit: &Device<'_>) -> Result<bool, AllocError>
     ensures { IfOk result (λ has. has ≡ is_some (target_and_unit (kernel_of unit.now))) }
 {

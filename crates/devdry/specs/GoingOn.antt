@@ -1,4 +1,4 @@
--- What runs do that go on after what can't be read.
+-- What runs that go on after what can't be read do.
 use Rattle.std.specs.Prelude.{◌≡◌, ℕ, ◌⊎◌, List, [], None, max}
 use Rattle.engine_ends.specs.declared.line.Line.{Line}
 use Rattle.engine_ends.specs.Delivery.{Delivers, IsRefused}
@@ -10,8 +10,8 @@ use Rattle.devdry_folders.specs.Surveys.{IsListed, IsReadSome}
 use Rattle.devdry_folders.specs.declared.reading.Listed.{Listed}
 use Rattle.devdry_folders.specs.declared.reading.ReadSome.{ReadSome}
 
--- The error output has what is reported, and the run after that goes on from there; the status is the run's own, or the least one
--- where that is greater.
+-- The error output has what is reported, and the run after that goes on from there; the status is the run's own, or
+-- the least one if that is greater.
 pub record GoesOn (told : List ℕ) (least : ℕ) (Own : ℕ → Streams → Streams → Type 0) (status : ℕ) (before now : Streams) : Type 0 where
   pub err : SinkState
   pub hands_on : HandsOn before.err told err
@@ -26,22 +26,22 @@ pub record FailsAtTold (told : List ℕ) (status : ℕ) (before now : Streams) :
   pub unread : now.input ≡ before.input
   pub untouched : now.out ≡ before.out
 
--- what is reported goes first, and the run after it
+-- what is reported is written first, and the run follows
 abbrev pub RunsBehind : List ℕ → ℕ → (ℕ → Streams → Streams → Type 0) → ℕ → Streams → Streams → Type 0
 RunsBehind told least Own status before now = GoesOn told least Own status before now ⊎ FailsAtTold told status before now
 
--- Memory was refused to the reading, and that is reported; no input is read.
+-- The reading ran out of memory, and that is reported; no input is read.
 pub record IsRefusedToRead (status : ℕ) (before now : Streams) : Type 0 where
   pub refused : IsRefused status (outputs before) (outputs now)
   pub unread : now.input ≡ before.input
 
--- What can be read of what the line asks for was read, and the line is run over that.
+-- What can be read of all that the line asks for was read, and the line is run over that.
 pub record RunsOverSome (may : Answer → Type 0) (line : Line) (status : ℕ) (before now : Streams) : Type 0 where
   pub some : ReadSome
   pub is_some : IsReadSome may line some
   pub runs : RunsBehind some.told.items some.least (RunsOver line some.files.items None) status before now
 
--- what a line does that goes on after what can't be read
+-- what a line that goes on after what can't be read does
 abbrev pub RunsSome : (Answer → Type 0) → Line → ℕ → Streams → Streams → Type 0
 RunsSome may line status before now = RunsOverSome may line status before now ⊎ IsRefusedToRead status before now
 

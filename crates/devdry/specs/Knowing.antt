@@ -7,7 +7,7 @@ use Rattle.devdry_files.specs.Answers.{Answer}
 use Rattle.devdry_files.specs.Faults.{HasPath}
 use Rattle.devdry_files.specs.declared.fault.ReadFault.{ReadFault}
 
--- the same request, of whose line the files of users and groups were read; `files` and `compare` name none
+-- the same request, with the files of users and groups of its line read; `files` and `compare` name none
 abbrev pub KnowsAccounts : (Answer → Type 0) → Request → Request → Type 0
 KnowsAccounts may (Run named) (Run line) = AreAccountsRead may named line
 KnowsAccounts may (Run named) _ = ⊥

@@ -1,4 +1,4 @@
--- What a line asks for, as it comes from the disk, and what is reported where it can't be read.
+-- What a line asks for, as it comes from the disk, and what is reported if it can't be read.
 use Rattle.std.specs.Prelude.{◌≡◌, ℕ, ◌⊎◌, List, Option}
 use Rattle.text_bytes.specs.declared.source_file.SourceFile.{SourceFile}
 use Rattle.engine_ends.specs.declared.line.Line.{Line}
@@ -34,7 +34,8 @@ abbrev pub IsFaultOf : (Answer → Type 0) → Line → ReadFault → Type 0
 IsFaultOf may line fault = (fault ≡ Memory)
     ⊎ ((wanted : Wanted) × Wants line wanted × HasPath (IsFaultyRead may wanted) fault)
 
--- What was asked for could not be read, for a fault of which this holds, and that is reported; no input is read, and the output stays as it is.
+-- What was asked for could not be read, because of a fault for which this holds, and that is reported; no input is
+-- read, and the output stays as it is.
 pub record FailsAt (IsFault : ReadFault → Type 0) (status : ℕ) (before now : Streams) : Type 0 where
   pub fault : ReadFault
   pub is_fault : IsFault fault
@@ -42,6 +43,6 @@ pub record FailsAt (IsFault : ReadFault → Type 0) (status : ℕ) (before now :
   pub unread : now.input ≡ before.input
   pub untouched : now.out ≡ before.out
 
--- the same of what a line asks for
+-- the same for what a line asks for
 abbrev pub FailsToRead : (Answer → Type 0) → Line → ℕ → Streams → Streams → Type 0
 FailsToRead may line status before now = FailsAt (IsFaultOf may line) status before now

@@ -1,4 +1,4 @@
--- What a run of the program does with its words, at a disk that may give these answers.
+-- What a run of the program does with its words, with a disk that may give these answers.
 use Rattle.std.specs.Prelude.{◌≡◌, ◌&&◌, ℕ, ◌⊎◌, Bool, List, [], Option, codes, true, false}
 use Rattle.clap.specs.Words.{fault_of, subcommand_of}
 use Rattle.text_bytes.specs.declared.source_file.SourceFile.{SourceFile}
@@ -30,7 +30,7 @@ pub record RunsOverFiles (may : Answer → Type 0) (line : Line) (status : ℕ) 
   pub are_read : AreReadFor may line files index
   pub over : RunsOver line files index status before now
 
--- what a line does that ends at what can't be read
+-- what a line that ends at what can't be read does
 abbrev pub RunsWanted : (Answer → Type 0) → Line → ℕ → Streams → Streams → Type 0
 RunsWanted may line status before now =
     RunsOverFiles may line status before now ⊎ FailsToRead may line status before now
@@ -78,7 +78,7 @@ abbrev pub DoesBehind : Bool → (Answer → Type 0) → Request → ℕ → Str
 DoesBehind true may request status before now = DoesWaiting may request status before now ⊎ FailsAtTold waiting status before now
 DoesBehind false may request status before now = DoesRequest may request status before now
 
--- what a request does, told whether the input is a terminal
+-- what a request does, given whether the input is a terminal
 abbrev pub RunsRequest : Bool → (Answer → Type 0) → Request → ℕ → Streams → Streams → Type 0
 RunsRequest from_terminal may request status before now =
     DoesBehind (from_terminal && takes_blocks request) may request status before now
@@ -89,7 +89,7 @@ pub record RunsOverAccounts (from_terminal : Bool) (may : Answer → Type 0) (na
   pub knows : KnowsAccounts may named request
   pub runs : RunsRequest from_terminal may request status before now
 
--- what a request does, told whether the input is a terminal
+-- what a request does, given whether the input is a terminal
 abbrev pub RunsKnowing : Bool → (Answer → Type 0) → Request → ℕ → Streams → Streams → Type 0
 RunsKnowing from_terminal may named status before now =
     RunsOverAccounts from_terminal may named status before now ⊎ FailsAt (IsFaultOfAccounts may named) status before now
@@ -108,7 +108,7 @@ pub record RefusesWords (words : List (List ℕ)) (status : ℕ) (before now : S
   pub tells : TellsLineFault fault status (outputs before) (outputs now)
   pub unread : now.input ≡ before.input
 
--- what words do, told which streams are terminals
+-- what words do, given which streams are terminals
 abbrev pub Runs : Terminals → (Answer → Type 0) → List (List ℕ) → ℕ → Streams → Streams → Type 0
 Runs terminals may words status before now =
     RunsWords terminals may words status before now ⊎ RefusesWords words status before now

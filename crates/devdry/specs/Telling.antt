@@ -1,4 +1,4 @@
--- What is reported for words, of lines and of files that can't be used, by the status.
+-- What is reported for words and files that can't be used, by the status.
 use Rattle.std.specs.Prelude.{◌≡◌, ℕ, List, [], ◌∷◌, ◌++◌, codes, string_bytes}
 use Rattle.text_bytes.specs.Escapes.{escape_text}
 use Rattle.text_bytes.specs.Names.{newline}
@@ -10,16 +10,16 @@ use Rattle.engine_ends.specs.Delivery.{Delivers, Tells, out_of_memory}
 use Rattle.devdry_files.specs.declared.fault.ReadFault.{ReadFault}
 use Rattle.devdry_files.specs.declared.fault.ReadFault.TheVariants as read
 
--- the line on a file or a folder that could not be read, its path escaped
+-- the line on a file or a folder that could not be read, with its path escaped
 abbrev pub cannot_read : List ℕ → List ℕ
 cannot_read path = codes "devdry: cannot read " ++ escape_text path ++ newline ∷ []
 
--- what is reported where an argument is not UTF-8
+-- what is reported if an argument is not UTF-8
 abbrev pub not_text : List ℕ
 not_text = codes "error: an argument is not UTF-8\n\nFor more information, try '--help'.\n"
 
--- Words are no line: help goes to the output with status 0; what is wrong, to the error output, with status 2, and the output
--- stays as it is.
+-- Words are not a line: help goes to the output with status 0; what is wrong goes to the error output with status 2,
+-- and the output stays as it is.
 abbrev pub TellsLineFault : LineFault → ℕ → Outputs → Outputs → Type 0
 TellsLineFault (Help text) status before now =
     Delivers (record { output = string_bytes text; messages = []; status = 0 }) status before now

@@ -1,4 +1,4 @@
--- What the program shows otherwise on a terminal than in a file.
+-- What the program shows differently on a terminal than in a file.
 use Rattle.std.specs.Prelude.{Bool, true, false}
 use Rattle.engine_ends.specs.declared.line.Format.{Format}
 use Rattle.engine_ends.specs.declared.line.Format.TheVariants.{Human, HumanInColor}
@@ -11,7 +11,7 @@ abbrev pub in_color : Format → Format
 in_color Human = HumanInColor
 in_color format = format
 
--- the format that is shown, told whether colors are
+-- the format that is shown, given whether colors are
 abbrev pub shown_format : Bool → Format → Format
 shown_format true format = in_color format
 shown_format false format = format

@@ -10,7 +10,7 @@ use engine_ends::{Line, Sink, Source};
 use std::alloc::Global;
 use text_bytes::{Bytes, SourceFile};
 
-/// What the two lines ask for, as it was read.
+/// What the two lines ask for, as read.
 #[derive(Drop)]
 struct BothInputs {
     /// The files of the old line.
@@ -19,8 +19,8 @@ struct BothInputs {
     new: Inputs,
 }
 
-/// Compares the answers of two lines of `events` over the files that they ask for. What can't be read
-/// of them is reported on `error`, and the status is 3.
+/// Compares the answers of two lines of `events` over the files that they ask for. What can't be read of them is
+/// reported on `error`, and the status is 3.
 pub(crate) fn run_compare<D: Disk, I: Source, W: Sink, E: Sink>(
     alloc: Global,
     disk: &D,

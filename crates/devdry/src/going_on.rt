@@ -1,7 +1,7 @@
 //! Runs that go on after what can't be read.
 //!
-//! What is reported for the reading is written first. Then the run is as any other, and its status is no
-//! less than what the reading asks for.
+//! What is reported for the reading is written first. Then the run is like any other, and its status is at least
+//! the one that the reading asks for.
 ghost use Rattle.engine_core.specs.Runs.{RunsOver};
 ghost use Rattle.engine_ends.specs.Sources.{SourceState};
 ghost use Rattle.std.specs.Prelude.{None};
@@ -13,7 +13,7 @@ use engine_core::serve;
 use engine_ends::{DeviceFault, Line, Sink, Source, deliver, hand_on, tell_out_of_memory};
 use std::alloc::Global;
 
-/// Runs a line over what can be read of what it asks for.
+/// Runs a line over what can be read of all that it asks for.
 pub(crate) fn run_some<D: Disk, I: Source, W: Sink, E: Sink>(
     alloc: Global,
     disk: &D,
@@ -32,7 +32,7 @@ pub(crate) fn run_some<D: Disk, I: Source, W: Sink, E: Sink>(
     }
 }
 
-/// Tells what could not be read, and runs a line over what could.
+/// Reports what could not be read, and runs a line over what could.
 fn run_over<I: Source, W: Sink, E: Sink>(
     alloc: Global,
     line: &Line<'_>,
@@ -54,7 +54,7 @@ fn run_over<I: Source, W: Sink, E: Sink>(
     }
 }
 
-/// Tells which files of the folders that a line asks for count. No input is read.
+/// Reports which files of the folders that a line asks for count. No input is read.
 pub(crate) fn run_files<D: Disk, W: Sink, E: Sink>(
     alloc: Global,
     disk: &D,

@@ -1,4 +1,4 @@
-//! Runs that know the users and the groups that their lines name files of.
+//! Runs that know users and groups from files that their lines name.
 ghost use Rattle.std.specs.Prelude.{IfErr, IfOk};
 ghost use Rattle.devdry.specs.Knowing.{IsFaultOfAccounts, KnowsAccounts};
 ghost use Rattle.devdry.specs.Runs.{RunsKnowing};

@@ -39,7 +39,7 @@ fn arguments<R: Env + AllocGlobal>(rt: &R) -> io::Result<Vec<String>> {
     Ok(words_of(env::args(rt)?.collect(rt.alloc())?))
 }
 
-// Whether the environment refuses colors, by a text in `NO_COLOR`.
+// Whether the environment refuses colors: `NO_COLOR` has a text.
 fn refuses_colors<R: Env + AllocGlobal>(rt: &R) -> bool {
     match env::var(rt, "NO_COLOR") {
         Ok(text) => !text.is_empty(),

@@ -19,7 +19,7 @@ use text_bytes::{Bytes, SourceFile};
 const WAITING: &[u8] =
     b"devdry: waiting for event blocks, each ended by an empty line; devdry-capture DEVICE prints them\n";
 
-/// What a line asks for, as it was read.
+/// What a line asks for, as read.
 #[derive(Drop)]
 pub(crate) struct Inputs {
     /// The files.
@@ -28,10 +28,10 @@ pub(crate) struct Inputs {
     pub(crate) index: Option<Bytes>,
 }
 
-/// Runs the words that follow the program's name, and gives the status to exit with.
+/// Runs the words that follow the program's name, and returns the status to exit with.
 ///
-/// Words that ask for something are run over the files that this takes. Else help goes to `output`
-/// with status 0, or what is wrong with the words to `error` with status 2.
+/// Words that ask for something are run over the files that this takes. Otherwise help goes to `output` with status
+/// 0, or what is wrong with the words to `error` with status 2.
 pub(crate) fn run_words<D: Disk, I: Source, W: Sink, E: Sink>(
     alloc: Global,
     disk: &D,
@@ -54,8 +54,8 @@ pub(crate) fn run_words<D: Disk, I: Source, W: Sink, E: Sink>(
     }
 }
 
-/// Runs what words ask for. Where that takes event blocks and the input is a terminal, it first says
-/// that it waits for them.
+/// Runs what words ask for. If that takes event blocks and the input is a terminal, it first says that it waits for
+/// them.
 pub(crate) fn run_request<D: Disk, I: Source, W: Sink, E: Sink>(
     alloc: Global,
     disk: &D,

@@ -1,4 +1,4 @@
-//! What is reported for words, of lines and of files that can't be used, and the status that comes of it.
+//! What is reported for words and files that can't be used, and the status for that.
 //!
 //! Nothing here takes memory: a line on a failure is written from the texts that are there.
 ghost use Rattle.std.specs.IoError.{error_kind};
@@ -22,7 +22,7 @@ const NOT_TEXT: &[u8] = b"error: an argument is not UTF-8
 For more information, try '--help'.
 ";
 
-/// Tells why the words could not be had: one of them is not UTF-8, or memory runs out.
+/// Reports why the words could not be obtained: one of them is not UTF-8, or memory ran out.
 pub(crate) fn tell_arguments_fault<E: Sink>(fault: &io::Error, error: &mut E) -> u8
     ensures memory { error_kind fault.now ≡ ErrorKind.OutOfMemory
         → Tells out_of_memory 4 result (E.shown error.old) (E.shown error.new) }
@@ -35,8 +35,7 @@ pub(crate) fn tell_arguments_fault<E: Sink>(fault: &io::Error, error: &mut E) ->
     }
 }
 
-/// Tells what there is to say where words are no line: help on the output, and what is wrong on the
-/// error output.
+/// Writes what there is to say if words are not a line: help on the output, and what is wrong on the error output.
 pub(crate) fn tell_line_fault<W: Sink, E: Sink>(
     fault: &LineFault,
     output: &mut W,
@@ -53,7 +52,7 @@ pub(crate) fn tell_line_fault<W: Sink, E: Sink>(
     }
 }
 
-/// Tells which file or folder could not be read, or that memory runs out.
+/// Reports which file or folder could not be read, or that memory ran out.
 pub(crate) fn tell_read_fault<E: Sink>(fault: &ReadFault, error: &mut E) -> u8
     ensures { TellsReadFault fault.now result (E.shown error.old) (E.shown error.new) }
 {
@@ -63,8 +62,8 @@ pub(crate) fn tell_read_fault<E: Sink>(fault: &ReadFault, error: &mut E) -> u8
     }
 }
 
-/// Tells which file or folder could not be read, its path escaped: a name in an image may hold any
-/// byte but a slash and a NUL, also a newline with a line of its own after it.
+/// Reports which file or folder could not be read, with its path escaped: a name in an image may hold any byte but
+/// a slash and a NUL, even a newline with a line of its own after it.
 fn tell_unreadable<E: Sink>(path: &str, error: &mut E) -> u8
     ensures { Tells (cannot_read path.now) 3 result (E.shown error.old) (E.shown error.new) }
 {

@@ -1,10 +1,10 @@
-//! What the program shows otherwise on a terminal than in a file.
+//! What the program shows differently on a terminal than in a file.
 ghost use Rattle.std.specs.Prelude.{◌≡◌};
 ghost use Rattle.devdry.specs.Terminals.{shown_format, shown_line, shown_request};
 
 use engine_ends::{Format, Line, Request};
 
-/// Which of the program's streams somebody looks at.
+/// Which of the program's streams are terminals.
 #[derive(Clone, Copy, Debug, PartialEq, Eq)]
 pub(crate) struct Terminals {
     /// Whether the input is a terminal.
@@ -14,7 +14,7 @@ pub(crate) struct Terminals {
     pub(crate) colors: bool,
 }
 
-/// A request, whose messages are in colors where these are shown.
+/// A request, with its messages in colors if these are shown.
 pub(crate) fn shown_request<'a>(request: Request<'a>, colors: bool) -> Request<'a>
     ensures { result ≡ shown_request colors request.entry }
 {
@@ -25,7 +25,7 @@ pub(crate) fn shown_request<'a>(request: Request<'a>, colors: bool) -> Request<'
     }
 }
 
-/// A line, whose messages are in colors where these are shown.
+/// A line, with its messages in colors if these are shown.
 fn shown_line<'a>(mut line: Line<'a>, colors: bool) -> Line<'a>
     ensures { result ≡ shown_line colors line.entry }
 {
@@ -33,7 +33,7 @@ fn shown_line<'a>(mut line: Line<'a>, colors: bool) -> Line<'a>
     line
 }
 
-/// The format for people in colors where these are shown, and any other as it is.
+/// The format for people in colors if these are shown, and any other as it is.
 fn shown_format(format: Format, colors: bool) -> Format
     ensures { result ≡ shown_format colors format }
 {

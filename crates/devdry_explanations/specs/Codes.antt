@@ -5,10 +5,10 @@ use Rattle.engine_formats.specs.Codes.{remarks}
 use Rattle.engine_formats.specs.Remarks.{code_of}
 use Rattle.engine_formats.specs.declared.remark.Remark.{Remark}
 
--- the text is the code of the remark, its letter in either case
+-- the text is the code of the remark, with its letter in either case
 abbrev pub has_code : Remark → List ℕ → Bool
 has_code remark text = str_eq_ignore_ascii_case (code_of remark) text
 
--- the remark of a code, if it is one
+-- the remark with a code, if there is one
 unfoldable pub remark_with : List ℕ → Option Remark
 remark_with text = find (λ remark. has_code remark text) remarks

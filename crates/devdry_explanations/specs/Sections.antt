@@ -5,7 +5,7 @@ use Rattle.engine_formats.specs.Advice.{advice_of}
 use Rattle.engine_formats.specs.Remarks.{remark_heading}
 use Rattle.engine_formats.specs.declared.remark.Remark.{Remark}
 
--- the sign that stands around code in a text
+-- the sign around code in a text
 abbrev pub backtick : ℕ
 backtick = 96
 
@@ -17,7 +17,7 @@ unquoted text = filter (λ b. not (b == backtick)) text
 abbrev pub HasHeading : Remark → List ℕ → Type 0
 HasHeading remark text = take (length (remark_heading remark) + 2) text ≡ remark_heading remark ++ newline ∷ newline ∷ []
 
--- after these the text goes on, but for backticks, with how what the remark is about is mended
+-- after these the text goes on, apart from backticks, with how to fix what the remark is about
 abbrev pub HasAdvice : Remark → List ℕ → Type 0
 HasAdvice remark text = take (length (advice_of remark)) (unquoted (drop (length (remark_heading remark) + 2) text)) ≡ advice_of remark
 

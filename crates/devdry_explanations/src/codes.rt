@@ -1,18 +1,18 @@
-//! The codes of remarks, as `V6`.
+//! The codes of remarks, such as `V6`.
 ghost use Rattle.std.specs.Prelude.{◌≡◌, Some};
 ghost use Rattle.devdry_explanations.specs.Codes.{has_code, remark_with};
 ghost use Rattle.engine_formats.specs.Remarks.{code_of};
 
 use engine_formats::{Remark, remarks};
 
-/// Whether a text is the code of a remark, its letter in either case.
+/// Whether a text is the code of a remark, with its letter in either case.
 fn has_code(remark: Remark, text: &[u8]) -> bool
     ensures { result ≡ has_code remark text.now }
 {
     remark.code().eq_ignore_ascii_case(text)
 }
 
-/// The remark of a code, which may be written with a small letter; any other text is none.
+/// The remark with a code, which may be written with a lower case letter, if there is one.
 #[tactic(auto, unfolding(crate::specs::Codes::remark_with))]
 pub fn remark_with(code: &[u8]) -> Option<Remark>
     ensures { result ≡ remark_with code.now }

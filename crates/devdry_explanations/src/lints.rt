@@ -2,7 +2,7 @@
 //!
 //! `tests/test_explain.sh` compares them with those of `docs/messages.md`.
 
-/// Mode is no octal number.
+/// Mode is not an octal number.
 pub(crate) const W1: &str = r#"W1 mode is no octal number
 
 Write the mode in octal digits, as 0660. udev ignores any other mode when the rule is run. A value with `$` or `%` is not looked at, as its text is not known before that.

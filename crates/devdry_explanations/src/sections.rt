@@ -80,8 +80,8 @@ fn section_on_lint(lint: Lint) -> &'static str
     }
 }
 
-/// The section on a remark. Its first line is the heading of the remark, and after an empty line stand
-/// what it means, a file that earns it, and the mended one.
+/// The section on a remark. Its first line is the heading of the remark, and after an empty line come what it
+/// means, a file that causes it, and the corrected file.
 pub fn section_on(remark: Remark) -> &'static str
     ensures heading { HasHeading remark result.now }
     ensures advice { HasAdvice remark result.now }
@@ -94,8 +94,8 @@ pub fn section_on(remark: Remark) -> &'static str
     }
 }
 
-/// The section on the remark of a code, which may be written with a small letter: `V6` or `v6`. A text
-/// that is no code has none.
+/// The section on the remark with a code, which may be written with a lower case letter: `V6` or `v6`. `None` for a
+/// text that is not a code.
 pub fn explanation(code: &str) -> Option<&'static str>
     ensures { MatchOption (remark_with code.now) (result ≡ None)
         (λ remark. IsSomeAnd result (λ section. IsSectionOn remark section.now)) }

@@ -1,4 +1,4 @@
-//! The sections on what `--udev` alone says about.
+//! The sections on what only `--udev` reports.
 //!
 //! `tests/test_explain.sh` compares them with those of `docs/messages.md`.
 

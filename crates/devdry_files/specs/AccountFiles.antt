@@ -7,18 +7,18 @@ use Rattle.devdry_files.specs.Answers.{Answer}
 use Rattle.devdry_files.specs.Answers.Answer.{Content}
 use Rattle.devdry_files.specs.Faults.{IsUnread}
 
--- the same file with the bytes that the disk may say are at its path, and none where none is named
+-- the same file with the bytes that the disk may say are at its path, and none if none is named
 abbrev pub IsAccountRead : (Answer → Type 0) → Option AccountFile → Option AccountFile → Type 0
 IsAccountRead may (Some named) (Some file) = (file.path ≡ named.path) × may (Content named.path.now file.bytes)
 IsAccountRead may (Some named) None = ⊥
 IsAccountRead may None (Some file) = ⊥
 IsAccountRead may None None = ⊤
 
--- a line with these files of users and groups in place of its own
+-- a line with these files of users and groups instead of its own
 abbrev pub with_accounts : Option AccountFile → Option AccountFile → Line → Line
 with_accounts users groups line = record line { users = users; groups = groups }
 
--- the files of users and groups that the line names were read, and the rest of it stays
+-- the files of users and groups that the line names were read, and the rest of the line stays
 pub record AreAccountsRead (may : Answer → Type 0) (named line : Line) : Type 0 where
   pub users : IsAccountRead may named.users line.users
   pub groups : IsAccountRead may named.groups line.groups

@@ -8,21 +8,22 @@ use Rattle.devdry_files.specs.declared.disk.DiskFault.TheVariants.{Absent, Unrea
 use Rattle.devdry_files.specs.declared.look.Look.{Look}
 use Rattle.devdry_files.specs.declared.look.Look.TheVariants as look
 
--- nothing is there, memory runs out, or what is there can't be read
+-- nothing is there, memory ran out, or what is there can't be read
 abbrev pub fault_from : ErrorKind → DiskFault
 fault_from kind.NotFound = Absent
 fault_from kind.OutOfMemory = OutOfMemory
 fault_from _ = Unreadable
 
--- what an entry means that could not be taken from a folder's listing: a name that is not UTF-8, or what an error of the folder means
+-- what it means that an entry could not be taken from a folder's listing: a name that is not UTF-8, or what an error
+-- of the folder means
 abbrev pub entry_fault_from : ErrorKind → DiskFault
 entry_fault_from kind.InvalidFilename = NotUtf8
 entry_fault_from kind.NotFound = Absent
 entry_fault_from kind.OutOfMemory = OutOfMemory
 entry_fault_from _ = Unreadable
 
--- What a look shows that failed, and nothing where memory runs out. Nothing that can be read is below a file, and links that lead
--- to one another lead nowhere: neither is an absence.
+-- What a look that failed shows, or nothing if memory ran out. Nothing that can be read is below a file, and links
+-- that lead to one another lead nowhere: neither is an absence.
 abbrev pub look_from : ErrorKind → Option Look
 look_from kind.NotFound = Some look.Absent
 look_from kind.NotADirectory = Some look.Other
@@ -30,7 +31,8 @@ look_from kind.PermissionDenied = Some look.Forbidden
 look_from kind.OutOfMemory = None
 look_from _ = Some look.Failed
 
--- what is reported for a symlink that can't be read: a question mark for a target that is not UTF-8, no target, or that memory runs out
+-- what is reported for a symlink that can't be read: a question mark for a target that is not UTF-8, no target, or
+-- that memory ran out
 abbrev pub target_unread : ErrorKind → Result (Option (List ℕ)) AllocError
 target_unread kind.OutOfMemory = Err alloc_error
 target_unread kind.InvalidFilename = Ok (Some (codes "?"))

@@ -1,4 +1,4 @@
--- What is said of a disk that did not answer, and of files that could not be read.
+-- What is said about a disk that did not answer, and about files that could not be read.
 use Rattle.std.specs.Prelude.{ℕ, List, ◌++◌, codes, string_bytes}
 use Rattle.devdry_files.specs.declared.disk.DiskFault.{DiskFault}
 use Rattle.devdry_files.specs.declared.disk.DiskFault.TheVariants.{Absent, Unreadable, NotUtf8, OutOfMemory}

@@ -1,4 +1,4 @@
--- What the fault of a reading speaks of.
+-- What the fault of a reading is about.
 use Rattle.std.specs.Prelude.{◌≡◌, ◌++◌, ◌∷◌, ◌⊎◌, ⊤, ℕ, List, Some, String, map, string_bytes}
 use Rattle.std.specs.Option.{option_copied}
 use Rattle.std.specs.declared.alloc.Global.{Global}
@@ -21,7 +21,7 @@ fault_of path Unreadable = Path path
 fault_of path NotUtf8 = Path path
 fault_of path OutOfMemory = Memory
 
--- the fault has a path of which this holds, or memory ran out
+-- the fault has a path for which this holds, or memory ran out
 abbrev pub HasPath : (List ℕ → Type 0) → ReadFault → Type 0
 HasPath P (Path path) = P (string_bytes path)
 HasPath P Memory = ⊤
@@ -61,7 +61,7 @@ pub record IsFaultyFileIn (may : Answer → Type 0) (folder : Folder) (path : Li
 abbrev pub IsFaultyIn : (Answer → Type 0) → Folder → List ℕ → Type 0
 IsFaultyIn may folder path = ((path ≡ string_bytes folder.path) × IsUnlisted may path) ⊎ IsFaultyFileIn may folder path
 
--- so it is of one of the folders; those before it were read
+-- the same for one of the folders; those before it were read
 pub record IsFaultyInOneOf (may : Answer → Type 0) (folders : List Folder) (path : List ℕ) : Type 0 where
   pub before : List Folder
   pub folder : Folder
@@ -71,7 +71,7 @@ pub record IsFaultyInOneOf (may : Answer → Type 0) (folders : List Folder) (pa
   pub were_read : AreInFolders may before files
   pub faulty : IsFaultyIn may folder path
 
--- so it is of one of the folders that are wanted; all named files were read
+-- the same for one of the folders that are wanted; all named files were read
 pub record IsFaultyFound (may : Answer → Type 0) (w : Wanted) (path : List ℕ) : Type 0 where
   pub files : List SourceFile
   pub were_read : AreNamed may w.kind (map (λ f. f.now) w.files.now) files

@@ -16,7 +16,7 @@ use Rattle.devdry_files.specs.declared.disk.Entry.{Entry}
 use Rattle.devdry_files.specs.declared.places.Folder.{Folder}
 use Rattle.devdry_files.specs.declared.places.Wanted.{Wanted}
 
--- whether an entry of a folder is a file of the kind: its name ends so, and it is no folder
+-- whether an entry of a folder is a file of the kind: its name ends in the kind's suffix, and it is not a folder
 abbrev pub counts : FileKind → Entry → Bool
 counts kind e = ends_with nat_eq (string_bytes e.name) (suffix_of kind) && not e.is_folder
 
@@ -24,11 +24,11 @@ counts kind e = ends_with nat_eq (string_bytes e.name) (suffix_of kind) && not e
 abbrev pub path_in : Folder → List ℕ → List ℕ
 path_in folder name = string_bytes folder.path ++ slash ∷ name
 
--- the entries at the path are these as the disk may list them, or none where it may say that nothing is there
+-- the entries at the path are these as the disk may list them, or none if it may say that nothing is there
 abbrev pub IsListing : (Answer → Type 0) → List ℕ → List Entry → Type 0
 IsListing may path entries = may (Listing path entries) ⊎ (may (NoListing path Absent) × (entries ≡ []))
 
--- the names of a folder's files of its kind: of one listing all entries that count, each once, by name
+-- the names of a folder's files of its kind: in one listing all entries that count, each once, by name
 pub record AreNamesIn (may : Answer → Type 0) (folder : Folder) (names : List (String Global)) : Type 0 where
   pub entries : List Entry
   pub listed : IsListing may (string_bytes folder.path) entries
@@ -45,7 +45,7 @@ pub record IsFileAt (may : Answer → Type 0) (kind : FileKind) (rank : ℕ) (pa
 abbrev pub names : List SourceFile → List (List ℕ)
 names files = map (λ file. file.name) files
 
--- files of these names, of one kind and rank, each with the bytes at the path of its name
+-- files with these names, of one kind and rank, each with the bytes at the path of its name
 pub record AreFilesAt (may : Answer → Type 0) (kind : FileKind) (rank : ℕ) (path_of : List ℕ → List ℕ) (given : List (List ℕ)) (files : List SourceFile) : Type 0 where
   pub named_so : names files ≡ given
   pub each : All (λ file. IsFileAt may kind rank (path_of file.name) file) files
@@ -64,12 +64,12 @@ pub record AreInFolderAnd (may : Answer → Type 0) (folder : Folder) (Others : 
   pub in_folder : AreInFolder may folder own
   pub others : Others behind
 
--- the files of the folders, one folder after the other
+-- the files of the folders, one folder after another
 abbrev pub AreInFolders : (Answer → Type 0) → List Folder → List SourceFile → Type 0
 AreInFolders may [] files = files ≡ []
 AreInFolders may (folder ∷ rest) files = AreInFolderAnd may folder (AreInFolders may rest) files
 
--- the files that are named, in their order: of rank 0, with the bytes at the path that is the name
+-- the named files, in their order: of rank 0, with the bytes at the path that is the name
 abbrev pub AreNamed : (Answer → Type 0) → FileKind → List (List ℕ) → List SourceFile → Type 0
 AreNamed may kind paths files = AreFilesAt may kind 0 (λ path. path) paths files
 
@@ -81,13 +81,13 @@ pub record AreWanted (may : Answer → Type 0) (w : Wanted) (files : List Source
   pub are_named : AreNamed may w.kind (map (λ f. f.now) w.files.now) named
   pub are_found : AreInFolders may w.folders.items found
 
--- the bytes that the disk may say are at the path, if there is a path, and none where there isn't
+-- the bytes that the disk may say are at the path, if there is a path, and none if there isn't
 abbrev pub IsContentAt : (Answer → Type 0) → Option (List ℕ) → Option (List ℕ) → Type 0
 IsContentAt may (Some path) (Some bytes) = may (Content path bytes)
 IsContentAt may (Some path) None = ⊥
 IsContentAt may None (Some bytes) = ⊥
 IsContentAt may None None = ⊤
 
--- the bytes of the index that is wanted, and none where none is wanted
+-- the bytes of the index that is wanted, and none if none is wanted
 abbrev pub IsIndexWanted : (Answer → Type 0) → Wanted → Option (List ℕ) → Type 0
 IsIndexWanted may w index = IsContentAt may (option_copied w.index) index

@@ -14,7 +14,7 @@ use Rattle.devdry_files.specs.declared.memory_disk.MemoryEntry.{MemoryEntry}
 use Rattle.devdry_files.specs.declared.memory_disk.Stands.{Stands}
 use Rattle.devdry_files.specs.declared.memory_disk.Stands.TheVariants as stands
 
--- an entry, its name as bytes
+-- an entry, with its name as bytes
 pub record Seen : Type 0 where
   pub name : List ℕ
   pub is_folder : Bool
@@ -31,14 +31,14 @@ seen_in_memory e = record { name = e.name.now; is_folder = e.is_folder }
 abbrev pub stands_at : MemoryDisk → List ℕ → Option Stands
 stands_at disk path = option_map (λ p. p.stands) (find (λ p. bytes_eq p.path.now path) disk.places.now)
 
--- what is there is listed so
+-- what is there is listed like this
 abbrev pub ListsAs : Option Stands → List Entry → Type 0
 ListsAs (Some (stands.Folder own)) entries = map seen entries ≡ map seen_in_memory own.now
 ListsAs (Some (stands.File bytes)) entries = ⊥
 ListsAs (Some stands.Unreadable) entries = ⊥
 ListsAs None entries = ⊥
 
--- what is there is read so
+-- what is there is read like this
 abbrev pub ReadsAs : Option Stands → List ℕ → Type 0
 ReadsAs (Some (stands.Folder own)) bytes = ⊥
 ReadsAs (Some (stands.File own)) bytes = bytes ≡ own.now
@@ -66,7 +66,7 @@ look_of (Some (stands.File bytes)) = look.File
 look_of (Some stands.Unreadable) = look.Failed
 look_of None = look.Absent
 
--- the answers that a disk over memory gives: to each question one, or out of memory in place of a text
+-- the answers that a disk over memory gives: one to each question, or out of memory instead of a text
 abbrev pub MayAnswer : MemoryDisk → Answer → Type 0
 MayAnswer disk (Listing path entries) = ListsAs (stands_at disk path) entries
 MayAnswer disk (NoListing path fault) = ListsNot (stands_at disk path) fault

@@ -33,7 +33,7 @@ abbrev pub folders_of : FileKind → List ℕ → List Place
 folders_of Hwdb root = place Hwdb 0 root ∷ place Hwdb 1 root ∷ []
 folders_of Rules root = place Rules 0 root ∷ place Rules 1 root ∷ place Rules 2 root ∷ place Rules 3 root ∷ []
 
--- the folders of a kind that a line asks for: none where it names what is in their place
+-- the folders of a kind that a line asks for: none if it names what replaces them
 abbrev pub folders_of_kind : Line → FileKind → List Place
 folders_of_kind line kind = if reads_folders_of line kind then folders_of kind line.root.now else []
 

@@ -9,10 +9,10 @@ use crate::reading::bytes_at;
 use engine_ends::{AccountFile, Line};
 use std::alloc::Global;
 
-/// Reads the files of users and groups that a line names, that of users first: all their bytes.
+/// Reads the files of users and groups that a line names, first that of users: all their bytes.
 ///
-/// `ReadFault::Path` comes where a file can't be read, or where there is none, with the path as it is
-/// named; `ReadFault::Memory` where an allocation was refused. What the bytes list is not looked at.
+/// `ReadFault::Path` means that a file can't be read or does not exist, with the path as it is named;
+/// `ReadFault::Memory` that an allocation failed. What the bytes list is not looked at.
 pub fn read_account_files<D: Disk>(
     alloc: Global,
     disk: &D,

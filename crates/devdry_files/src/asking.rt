@@ -66,13 +66,12 @@ fn asked_folders(alloc: Global, line: &Line<'_>) -> Result<Vec<Folder>, AllocErr
 
 /// The files, the folders and the index that a line asks for.
 ///
-/// Named files are in place of the folders of their kind, as with `udevadm verify`, and an index in
-/// place of those of the database. `update` and
-/// `query` ask for files of the database, and their folders are those of hwdb(7):
-/// `/etc/udev/hwdb.d` with rank 0 and `/usr/lib/udev/hwdb.d` with rank 1. `verify` asks for files of
-/// rules, and its folders are those of udev(7): `/etc/udev/rules.d` with rank 0,
-/// `/run/udev/rules.d` with 1, `/usr/local/lib/udev/rules.d` with 2 and `/usr/lib/udev/rules.d` with
-/// 3. Each follows the line's root, which is put before it as it is. `Err` is out of memory.
+/// Named files replace the folders of their kind, as with `udevadm verify`, and an index replaces those of the
+/// database. `update` and `query` ask for files of the database, and their folders are those of hwdb(7):
+/// `/etc/udev/hwdb.d` with rank 0 and `/usr/lib/udev/hwdb.d` with rank 1. `verify` asks for files of rules, and its
+/// folders are those of udev(7): `/etc/udev/rules.d` with rank 0, `/run/udev/rules.d` with 1,
+/// `/usr/local/lib/udev/rules.d` with 2 and `/usr/lib/udev/rules.d` with 3. Each is prefixed with the line's root,
+/// unchanged. `Err` means out of memory.
 pub fn wanted<'b, 'a>(alloc: Global, line: &'b Line<'a>) -> Result<Wanted<'b, 'a>, AllocError>
     ensures { IfOk result (Wants line.now) }
 {

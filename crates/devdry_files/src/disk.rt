@@ -1,9 +1,9 @@
 //! The disk as the reading sees it.
 //!
-//! No contract can say what a file of the system holds. So the reading is written over a trait,
-//! whose ghost member says which answers the disk may give, and its contracts say how what was read
-//! comes from such answers: they hold at each disk. A disk over memory says just what it answers; the
-//! real one allows every answer, and what it adds is shown by tests alone.
+//! No contract can say what a file of the system holds. So the reading is written over a trait whose ghost member
+//! says which answers the disk may give, and its contracts say how what was read comes from such answers: they hold
+//! for each disk. A disk over memory says just what it answers; the real one allows every answer, and what it adds
+//! is shown only by tests.
 ghost use Rattle.std.specs.IoError.{error_kind};
 ghost use Rattle.std.specs.Prelude.{◌≡◌, IfErr, IfOk};
 ghost use Rattle.devdry_files.specs.Answers.{Answer};
@@ -34,7 +34,7 @@ pub enum DiskFault {
     Unreadable,
     /// 3: the folder at the path has a name that is not UTF-8.
     NotUtf8,
-    /// 4: memory runs out.
+    /// 4: memory ran out.
     OutOfMemory,
 }
 
@@ -71,10 +71,10 @@ pub trait Disk {
     // the answers that the disk may give
     ghost may_answer: { Self → Answer → Type 0 };
 
-    /// All entries of the folder at a path but `.` and `..`, in any order.
+    /// All entries of the folder at a path except `.` and `..`, in any order.
     ///
-    /// `DiskFault::Unreadable` comes where no folder is at the path and where the listing fails,
-    /// `DiskFault::NotUtf8` where a name in it is not UTF-8.
+    /// `DiskFault::Unreadable` means that there is no folder at the path or that the listing fails,
+    /// `DiskFault::NotUtf8` that a name in it is not UTF-8.
     fn list(&self, alloc: Global, path: &str) -> Result<Vec<Entry>, DiskFault>
         ensures listed { IfOk result (λ entries.
             may_answer self.now (Listing path.now entries.items)) }
@@ -82,18 +82,18 @@ pub trait Disk {
 
     /// All bytes of the file at a path. A symlink is followed.
     ///
-    /// `DiskFault::Unreadable` comes where a folder is at the path, and where the reading fails.
+    /// `DiskFault::Unreadable` means that there is a folder at the path, or that the reading fails.
     fn read(&self, alloc: Global, path: &str) -> Result<Bytes, DiskFault>
         ensures read { IfOk result (λ bytes. may_answer self.now (Content path.now bytes)) }
         ensures fault { IfErr result (λ fault. may_answer self.now (NoContent path.now fault)) };
 
-    /// What is at a path. A symlink is followed, and nothing is read: a FIFO is not opened, so that a
-    /// look never waits.
+    /// What is at a path. A symlink is followed, and nothing is read: a FIFO is not opened, so that a look never
+    /// waits.
     fn look(&self, path: &str) -> Result<Look, AllocError>
         ensures { IfOk result (λ look. may_answer self.now (Looked path.now look)) };
 
-    /// Where the symlink at a path leads, as it is written, or `?` where that is not UTF-8; `None` where
-    /// no symlink is at the path, or where it can't be read.
+    /// Where the symlink at a path leads, as it is written, or `?` if that is not UTF-8; `None` if there is no
+    /// symlink at the path, or if it can't be read.
     fn target(&self, alloc: Global, path: &str) -> Result<Option<Bytes>, AllocError>
         ensures { IfOk result (λ target. may_answer self.now (Target path.now target)) };
 }

@@ -13,7 +13,7 @@ use std::fmt;
 pub enum ReadFault {
     /// 1: this file or folder could not be read: its path, with what the line puts before it.
     Path(String),
-    /// 2: memory runs out.
+    /// 2: memory ran out.
     Memory,
 }
 
@@ -67,7 +67,7 @@ impl<T: Drop> From<AllocFailed<T>> for ReadFault {
     }
 }
 
-/// The fault of a disk at a path. It takes the path over, so that telling of it needs no memory.
+/// The fault of a disk at a path. It takes over the path, so that reporting it needs no memory.
 pub(crate) fn fault_at(path: String, fault: DiskFault) -> ReadFault
     ensures { result ≡ fault_of path fault }
 {

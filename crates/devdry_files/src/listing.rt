@@ -1,4 +1,4 @@
-//! The names in a folder that count.
+//! The names in a folder that are to be read.
 ghost use Rattle.std.specs.Prelude.{◌≡◌, IfErr, IfOk, filter, map, string_bytes};
 ghost use Rattle.devdry_files.specs.Answers.Answer.{NoListing};
 ghost use Rattle.devdry_files.specs.Faults.{HasPath, IsUnlisted};
@@ -10,8 +10,7 @@ use crate::places::Folder;
 use std::alloc::{AllocError, Global};
 use text_bytes::FileKind;
 
-/// Whether an entry of a folder is a file of a kind: its name ends in the kind's suffix, and it is no
-/// folder.
+/// Whether an entry of a folder is a file of a kind: its name ends in the kind's suffix, and it is not a folder.
 pub fn counts(kind: FileKind, entry: &Entry) -> bool
     ensures { result ≡ counts kind entry.now }
 {
@@ -49,7 +48,7 @@ fn names_of(alloc: Global, kind: FileKind, entries: Vec<Entry>) -> Result<Vec<St
 
 /// The names of a folder's files of its kind, sorted byte by byte.
 ///
-/// Folders in it are passed over, and an absent folder is empty. A fault has the folder's path.
+/// Folders in it are skipped, and an absent folder is empty. A fault has the folder's path.
 pub fn names_in<D: Disk>(alloc: Global, disk: &D, folder: &Folder) -> Result<Vec<String>, ReadFault>
     ensures names { IfOk result (λ names.
         AreNamesIn (D.may_answer disk.now) folder.now names.items) }

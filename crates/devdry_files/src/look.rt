@@ -1,9 +1,9 @@
 //! What a look at a path shows.
 
-/// What is at a path, symlinks followed.
+/// What is at a path, with symlinks followed.
 #[derive(Clone, Copy, Debug, PartialEq, Eq)]
 pub enum Look {
-    /// 1: nothing, which is also what a symlink to nothing leads to.
+    /// 1: nothing, also at the end of a symlink to nothing.
     Absent,
     /// 2: a folder that may be listed.
     Folder,
@@ -13,6 +13,6 @@ pub enum Look {
     Forbidden,
     /// 5: neither a folder nor such a file: a FIFO, a socket, another device, or a path below a file.
     Other,
-    /// 6: the look failed, as at a symlink that leads to itself.
+    /// 6: the look failed, such as at a symlink that leads to itself.
     Failed,
 }

@@ -32,13 +32,13 @@ pub enum Stands<'a> {
 /// A path, and what is there.
 #[derive(Clone, Copy, Debug)]
 pub struct MemoryPlace<'a> {
-    /// The path, which has to be asked for byte by byte.
+    /// The path, with which a request has to agree byte by byte.
     pub path: &'a str,
     /// What is there.
     pub stands: Stands<'a>,
 }
 
-/// A disk over memory. Of places with one path the first counts; at any other path is nothing. It has
+/// A disk over memory. Of places with the same path the first counts; at any other path there is nothing. It has
 /// no symlinks.
 #[derive(Clone, Copy, Debug)]
 pub struct MemoryDisk<'a> {

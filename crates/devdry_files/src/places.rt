@@ -7,7 +7,7 @@ use text_bytes::FileKind;
 pub struct Folder {
     /// What its files hold.
     pub kind: FileKind,
-    /// Its place among the folders of its kind: the least wins where names are equal.
+    /// Its place among the folders of its kind: of equal names the least wins.
     pub rank: u8,
     /// Its path, with what the line puts before it.
     pub path: String,

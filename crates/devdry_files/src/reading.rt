@@ -27,7 +27,7 @@ pub(crate) fn bytes_at<D: Disk>(alloc: Global, disk: &D, path: String) -> Result
     }
 }
 
-// The file at a path, told of by a name.
+// The file at a path, with a name by which it is reported.
 fn file_at<D: Disk>(
     alloc: Global,
     disk: &D,
@@ -62,7 +62,7 @@ fn path_in(alloc: Global, folder: &Folder, name: &str) -> Result<String, AllocEr
     Ok(path)
 }
 
-// The file of a name in a folder.
+// The file with a name in a folder.
 fn file_in<D: Disk>(
     alloc: Global,
     disk: &D,
@@ -94,7 +94,7 @@ fn files_in<D: Disk>(alloc: Global, disk: &D, folder: &Folder) -> Result<Vec<Sou
     Ok(files)
 }
 
-// The files of the folders, one folder after the other.
+// The files of the folders, one folder after another.
 fn files_of_folders<D: Disk>(
     alloc: Global,
     disk: &D,
@@ -111,7 +111,7 @@ fn files_of_folders<D: Disk>(
     Ok(files)
 }
 
-// A file that is named.
+// A named file.
 fn named_file<D: Disk>(
     alloc: Global,
     disk: &D,
@@ -128,7 +128,7 @@ fn named_file<D: Disk>(
     file_at(alloc, disk, path, kind, 0, name)
 }
 
-// The files that are named, in their order.
+// The named files, in their order.
 fn named_files<D: Disk>(
     alloc: Global,
     disk: &D,
@@ -147,18 +147,18 @@ fn named_files<D: Disk>(
     Ok(files)
 }
 
-/// Reads all that a line asks for: the named files in the order given, and then the folders, each
-/// by the names in it, byte by byte.
+/// Reads all that a line asks for: the named files in the order given, and then the folders, each by the names in
+/// it, byte by byte.
 ///
-/// Named files are read whatever their suffix, and have rank 0 and their names as given. In a
-/// folder only files whose names end in the suffix of their kind are opened, `.hwdb` as hwdb(7) says
-/// or `.rules` as udev(7) does, each under its name without the folder; folders in it are passed
-/// over, a symlink is followed, and an absent folder is empty.
+/// Named files are read whatever their suffix, and have rank 0 and their names as given. In a folder only files
+/// whose names end in the suffix of their kind are opened, `.hwdb` as hwdb(7) says or `.rules` as udev(7) does,
+/// each under its name without the folder; folders in it are skipped, a symlink is followed, and an absent folder
+/// is empty.
 ///
-/// `ReadFault::Path` comes at the first file that can't be read, with its path; a folder given as
-/// a file is one, and so is a symlink to nothing in a folder, as `systemd-hwdb update --strict`
-/// has it. Where a folder can't be listed, or a name in it is not UTF-8, it has the folder's path.
-/// `ReadFault::Memory` comes where an allocation was refused.
+/// `ReadFault::Path` means a file that can't be read, the first one, with its path; a folder given as a file is
+/// one, and so is a symlink to nothing in a folder, as `systemd-hwdb update --strict` has it. If a folder can't be
+/// listed, or a name in it is not UTF-8, it has the folder's path. `ReadFault::Memory` means that an allocation
+/// failed.
 pub fn read_all<D: Disk>(
     alloc: Global,
     disk: &D,
@@ -175,9 +175,8 @@ pub fn read_all<D: Disk>(
 
 /// Reads the index that is wanted, if one is: all bytes of the file at its path.
 ///
-/// `ReadFault::Path` comes where the file can't be read, or where there is none, with the path as it
-/// is named; `ReadFault::Memory` where an allocation was refused. Whether the bytes are an index is
-/// not looked at.
+/// `ReadFault::Path` means that the file can't be read or does not exist, with the path as it is named;
+/// `ReadFault::Memory` that an allocation failed. Whether the bytes are an index is not looked at.
 pub fn read_index<D: Disk>(
     alloc: Global,
     disk: &D,

@@ -1,9 +1,8 @@
 //! The disk of the system.
 //!
-//! This is the one place where files are opened. Its `may_answer` allows each answer, since no
-//! contract can say what the system gives; that the answers are those of the disk is shown by tests.
-//! So it is kept thin: what is made of an answer of the system, a listing, an open file or an error,
-//! is said by clauses of their own.
+//! This is the one place where files are opened. Its `may_answer` allows each answer, since no contract can say
+//! what the system gives; that the answers are those of the disk is shown by tests. So it is kept thin: what is
+//! made from an answer of the system (a listing, an open file or an error) is said by clauses of their own.
 ghost use Rattle.std.specs.Fs.{dir_entry_name};
 ghost use Rattle.std.specs.IoError.{error_kind};
 ghost use Rattle.std.specs.Iterator.{Drains, IsFinite};
@@ -37,8 +36,8 @@ impl<'r, R> RealDisk<'r, R> {
     }
 }
 
-// Whether a folder is at a path, by the look at it. What can't be looked at is none, so that reading
-// it says why; but memory that is refused to the look itself is reported.
+// Whether there is a folder at a path, by the look at it. What can't be looked at is not one, so that reading it
+// says why; but running out of memory in the look itself is reported.
 fn folder_by(looked: Result<bool, DiskFault>) -> Result<bool, DiskFault>
     ensures { MatchResult looked (λ is. result ≡ Ok is)
         (λ fault. (fault ≡ OutOfMemory → result ≡ Err OutOfMemory)
@@ -51,7 +50,7 @@ fn folder_by(looked: Result<bool, DiskFault>) -> Result<bool, DiskFault>
     }
 }
 
-// Whether a folder is at the path, or a symlink to one.
+// Whether there is a folder at the path, or a symlink to one.
 fn is_folder<R: Files>(rt: &R, path: Path<'_>) -> Result<bool, DiskFault> {
     let looked = fs::metadata(rt, path).map(|metadata| metadata.is_dir());
     folder_by(looked.map_err(DiskFault::from))
@@ -77,7 +76,7 @@ fn entry_fault(error: io::Error) -> DiskFault
     }
 }
 
-// An entry that may not have been taken from a listing.
+// An entry, or why it could not be taken from a listing.
 fn entry_from<R: Files + Drop>(
     alloc: Global,
     rt: &R,
@@ -93,7 +92,7 @@ fn entry_from<R: Files + Drop>(
     }
 }
 
-// All entries of a listing, in its order, none of which failed.
+// All entries of a listing, in its order, if none of them failed.
 fn entries_of<R: Files + Drop, I: Iterator<Item = io::Result<DirEntry<R>>> + Drop>(
     alloc: Global,
     rt: &R,
@@ -112,7 +111,7 @@ fn entries_of<R: Files + Drop, I: Iterator<Item = io::Result<DirEntry<R>>> + Dro
     Ok(entries)
 }
 
-// The entries of a listing that may not have been opened.
+// The entries of a listing, or why it could not be opened.
 fn entries_from<R: Files + Drop, I: Iterator<Item = io::Result<DirEntry<R>>> + Drop>(
     alloc: Global,
     rt: &R,
@@ -141,7 +140,7 @@ pub(crate) fn bytes_of<F: Read + Drop>(alloc: Global, mut file: F) -> io::Result
     Ok(Bytes::new(bytes))
 }
 
-// The bytes of a file that may not have been opened.
+// The bytes of a file, or why it could not be opened.
 fn bytes_from<F: Read + Drop>(alloc: Global, opened: io::Result<F>) -> Result<Bytes, DiskFault>
     ensures { MatchResult opened
         (λ file. IfOk result (λ read. IfSome (F.remaining file) (λ bytes. read ≡ bytes)))

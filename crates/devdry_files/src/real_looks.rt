@@ -1,6 +1,6 @@
-//! Looks of the disk of the system at what is at a path.
+//! How the disk of the system looks at what is at a path.
 //!
-//! What is made of an answer of the system is said by clauses, as in `real_disk`.
+//! What is made from an answer of the system is said by clauses, as in `real_disk`.
 ghost use Rattle.std.specs.Fs.{IsDir, IsFile, file_type};
 ghost use Rattle.std.specs.IoError.{error_kind};
 ghost use Rattle.std.specs.Path.{path_buf_bytes};
@@ -20,7 +20,7 @@ use text_bytes::Bytes;
 /// The number of the null device, 1:3 as the system writes it.
 const NULL_DEVICE: u64 = 0x103;
 
-// What a look that failed shows, and nothing where memory runs out to it.
+// What a look that failed shows, or nothing if it ran out of memory.
 fn failed_look(error: &io::Error) -> Option<Look>
     ensures { result ≡ look_from (error_kind error.now) }
 {
@@ -33,16 +33,16 @@ fn failed_look(error: &io::Error) -> Option<Look>
     }
 }
 
-// Whether a device is the null device, which hides a file where a link leads to it: a character
-// device of that number.
+// Whether a device is the null device, which hides a file if a link leads to it: a character device with that
+// number.
 fn is_null(is_char_device: bool, number: u64) -> bool
     ensures { result ≡ (is_char_device && number == NULL_DEVICE) }
 {
     is_char_device & (number == NULL_DEVICE)
 }
 
-// What is at a path, by what the system says about it, and whether it is the null device. All else that is
-// neither a folder nor a regular file, as a FIFO, is told apart, since it must not be opened.
+// What is at a path, by what the system says about it, and whether it is the null device. All else that is neither
+// a folder nor a regular file, such as a FIFO, is kept apart, since it must not be opened.
 fn look_of(metadata: &Metadata, is_null: bool) -> Look
     ensures folder { IsDir (file_type metadata.now) → result ≡ Look.Folder }
     ensures file { IsFile (file_type metadata.now) → result ≡ Look.File }
@@ -58,7 +58,7 @@ fn look_of(metadata: &Metadata, is_null: bool) -> Look
     }
 }
 
-// What a look shows where what it saw could be opened, or could not.
+// What a look shows, by whether what it saw could be opened.
 fn opened_look<F: Drop>(look: Look, opened: io::Result<F>) -> Result<Look, AllocError>
     ensures { MatchResult opened (λ _. result ≡ Ok look)
         (λ error. result ≡ ok_or (look_from (error_kind error)) alloc_error) }
@@ -79,8 +79,8 @@ fn tried_look<R: Files>(rt: &R, path: &str, look: Look) -> Result<Look, AllocErr
     }
 }
 
-/// What is at a path: what is there is looked at, and a folder or a file is opened, so that one that may
-/// not be is told apart.
+/// What is at a path: what is there is looked at, and a folder or a file is opened, so that one that may not be
+/// opened is recognized.
 pub(crate) fn look_at<R: Files>(rt: &R, path: &str) -> Result<Look, AllocError> {
     match fs::metadata(rt, path) {
         Ok(metadata) => {
@@ -91,7 +91,7 @@ pub(crate) fn look_at<R: Files>(rt: &R, path: &str) -> Result<Look, AllocError> 
     }
 }
 
-/// Where a symlink leads that may not have been read.
+/// Where a symlink leads, if it could be read.
 pub(crate) fn target_from(
     alloc: Global,
     read: io::Result<PathBuf>,

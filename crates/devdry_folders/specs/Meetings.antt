@@ -10,12 +10,12 @@ use Rattle.devdry_folders.specs.declared.reasons.Reason.TheVariants as reasons
 use Rattle.devdry_folders.specs.declared.sights.Met.{Met}
 use Rattle.devdry_folders.specs.declared.sights.Met.TheVariants as met
 
--- why nothing is at a path, by the target of the symlink there, if one is there
+-- why nothing is at a path, by the target of the symlink there, if there is one
 abbrev pub absence : Option (List ℕ) → Reason
 absence None = reasons.Absent
 absence (Some target) = reasons.LinkToNothing target
 
--- a file at the path is read so, as the disk may say
+-- a file at the path is read like this, as the disk may answer
 abbrev pub IsReadSo : (Answer → Type 0) → List ℕ → Met → Type 0
 IsReadSo may path (met.File bytes) = may (Content path bytes)
 IsReadSo may path (met.Unread reasons.Absent) = may (NoContent path disk.Absent)
@@ -23,11 +23,11 @@ IsReadSo may path (met.Unread reasons.Failed) = may (NoContent path disk.Unreada
 IsReadSo may path (met.Unread reasons.NotUtf8) = may (NoContent path disk.NotUtf8)
 IsReadSo may path _ = ⊥
 
--- nothing is at the path, for the reason that the symlink there tells, if one is there
+-- nothing is at the path, for the reason that the symlink there gives, if there is one
 abbrev pub IsMissing : (Answer → Type 0) → List ℕ → Met → Type 0
 IsMissing may path it = (target : Option (List ℕ)) × may (Target path target) × (it ≡ met.Unread (absence target))
 
--- What is met at the path, by a look at it: a file is read, a folder is passed over, and all else can't be read.
+-- What is met at the path, by a look at it: a file is read, a folder is skipped, and all else can't be read.
 abbrev pub IsMetBy : (Answer → Type 0) → List ℕ → Look → Met → Type 0
 IsMetBy may path looks.Absent it = IsMissing may path it
 IsMetBy may path looks.Folder it = it ≡ met.Folder
@@ -36,7 +36,7 @@ IsMetBy may path looks.Forbidden it = it ≡ met.Unread reasons.Forbidden
 IsMetBy may path looks.Other it = it ≡ met.Unread reasons.NotRegular
 IsMetBy may path looks.Failed it = it ≡ met.Unread reasons.Failed
 
--- so it is met by a look that the disk may give
+-- it is met like this by a look that the disk may give
 pub record IsMet (may : Answer → Type 0) (path : List ℕ) (it : Met) : Type 0 where
   pub look : Look
   pub looked : may (Looked path look)

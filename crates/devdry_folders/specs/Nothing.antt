@@ -1,4 +1,4 @@
--- What is reported where no file was read at all.
+-- What is reported if no file was read at all.
 use Rattle.std.specs.Prelude.{◌≡◌, ◌++◌, ◌∷◌, ◌⊎◌, ◌==◌, ℕ, All, Bool, true, false, List, [], None, Option, Some, codes, decimal, filter, flat_map, if◌then◌else◌, length, map}
 use Rattle.std.specs.List.{count_by, list_all, list_any}
 use Rattle.text_bytes.specs.Escapes.{escape_text}
@@ -34,7 +34,7 @@ is_unread _ = false
 abbrev pub has_unread : List Sight → Bool
 has_unread sights = list_any (λ s. is_unread s.met) sights
 
--- why a folder gave no file, if nothing in it was reported for yet
+-- why a folder gave no file, if nothing in it has been reported yet
 abbrev pub why_no_file : FileKind → List Sight → List ℕ
 why_no_file kind sights =
     if length sights == 0 then codes ": empty"
@@ -54,7 +54,8 @@ line_on_target path (first ∷ rest) =
     if first == slash then line_on path (codes ": link out of the root: " ++ escape_text (first ∷ rest)) else []
 line_on_target path [] = []
 
--- the same where a link is at the path, and the root is neither empty nor slashes alone, which are the root of the running system
+-- the same if there is a link at the path, and the root is neither empty nor only slashes, which mean the root of the
+-- running system
 abbrev pub link_line : List ℕ → List ℕ → Option (List ℕ) → List ℕ
 link_line root path None = []
 link_line root path (Some target) = if list_all (λ b. b == slash) root then [] else line_on_target path target
@@ -63,7 +64,7 @@ link_line root path (Some target) = if list_all (λ b. b == slash) root then [] 
 abbrev pub lines_on_place : List ℕ → Visit → List ℕ
 lines_on_place root v = folder_line v.kind v.path v.scan.spot v.scan.sights.items ++ link_line root v.path v.link
 
--- where an image keeps the files of a kind whose `/lib` is no link to `/usr/lib`
+-- where an image whose `/lib` is not a link to `/usr/lib` keeps the files of a kind
 abbrev pub unmerged_folder : FileKind → List ℕ
 unmerged_folder Hwdb = codes "/lib/udev/hwdb.d"
 unmerged_folder Rules = codes "/lib/udev/rules.d"
@@ -72,16 +73,16 @@ unmerged_folder Rules = codes "/lib/udev/rules.d"
 abbrev pub files_word : ℕ → List ℕ
 files_word count = if count == 1 then codes " file" else codes " files"
 
--- the line on files that stand where none is read, if there are any
+-- the line on files that are where none is read, if there are any
 abbrev pub line_elsewhere : Elsewhere → List ℕ
 line_elsewhere e = if e.count == 0 then [] else line_on e.path (codes " has " ++ decimal e.count ++ files_word e.count)
 
--- all that is reported where no file was read
+-- all that is reported if no file was read
 abbrev pub nothing_lines : List ℕ → List Visit → List Elsewhere → List ℕ
 nothing_lines root visits others =
     codes "devdry: no files\n" ++ flat_map (lines_on_place root) visits ++ flat_map line_elsewhere others
 
--- how many files of the kind are in the folder at the path, as the disk may list it, and none where it may not
+-- how many files of the kind are in the folder at the path, as the disk may list it, and none if it may not
 pub record IsCounted (may : Answer → Type 0) (kind : FileKind) (path : List ℕ) (count : ℕ) : Type 0 where
   pub entries : List Entry
   pub listed : may (Listing path entries) ⊎ ((entries ≡ []) × (may (NoListing path Absent) ⊎ (may (NoListing path Unreadable) ⊎ may (NoListing path NotUtf8))))
@@ -101,13 +102,13 @@ pub record AreElsewhereOf (may : Answer → Type 0) (root : List ℕ) (kinds : L
 abbrev pub lib_of : List ℕ → List ℕ
 lib_of root = root ++ codes "/lib"
 
--- such a folder for each kind whose folders the line reads; but none where a symlink is at `/lib`, since the files below it are
--- those of the folder that it leads to
+-- such a folder for each kind whose folders the line reads; but none if there is a symlink at `/lib`, since the files
+-- below it are those of the folder that it leads to
 abbrev pub AreElsewhereBy : (Answer → Type 0) → Line → Option (List ℕ) → List Elsewhere → Type 0
 AreElsewhereBy may line None others = AreElsewhereOf may line.root.now (filter (reads_folders_of line) (kinds_read line.verb)) others
 AreElsewhereBy may line (Some target) others = others ≡ []
 
--- the same, by what the disk may say of a symlink at `/lib`
+-- the same, by what the disk may say about a symlink at `/lib`
 pub record AreElsewhere (may : Answer → Type 0) (line : Line) (others : List Elsewhere) : Type 0 where
   pub link : Option (List ℕ)
   pub linked : may (Target (lib_of line.root.now) link)

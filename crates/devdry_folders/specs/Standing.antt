@@ -1,4 +1,4 @@
--- Which files of the folders count, as it is reported line by line.
+-- Which files of the folders count, as reported line by line.
 use Rattle.std.specs.Prelude.{◌≡◌, ◌++◌, ◌∷◌, ◌==◌, ◌&&◌, ℕ, IsPermutation, IsSortedByKey, List, [], None, Option, Some, codes, find, flat_map, if◌then◌else◌, length}
 use Rattle.std.specs.List.Sorted.{IsStableByKey}
 use Rattle.text_bytes.specs.Escapes.{escape_text}
@@ -16,7 +16,7 @@ use Rattle.devdry_folders.specs.declared.sights.Met.TheVariants as met
 use Rattle.devdry_folders.specs.declared.sights.Sight.{Sight}
 use Rattle.devdry_folders.specs.declared.sights.Visit.{Visit}
 
--- the sights of one visit, where it is of the kind
+-- the sights of one visit, if it is of the kind
 abbrev pub sights_if : FileKind → Visit → List Sight
 sights_if kind v = if same_kind kind v.kind then v.scan.sights.items else []
 
@@ -24,17 +24,18 @@ sights_if kind v = if same_kind kind v.kind then v.scan.sights.items else []
 abbrev pub sights_of : FileKind → List Visit → List Sight
 sights_of kind visits = flat_map (sights_if kind) visits
 
--- these sights by name, byte by byte, and those of one name as they came, that is, in the order of their folders
+-- these sights by name, byte by byte, and those with the same name as they came, that is, in the order of their
+-- folders
 pub record AreByName (sights sorted : List Sight) : Type 0 where
   pub same : IsPermutation sights sorted
   pub rise : IsSortedByKey (λ s. s.name) text_order sorted
   pub stable : IsStableByKey (λ s. s.name) text_order sights sorted
 
--- the file that counts of those with a name: the first one
+-- of the files with a name the one that counts: the first
 abbrev pub counting : List Sight → List ℕ → Option Sight
 counting sights name = find (λ s. is_file s.met && same_text name s.name) sights
 
--- whether a file that counts is used: an empty one, as the null device is, masks those of its name
+-- whether a file that counts is used: an empty one, such as the null device, masks those of its name
 abbrev pub use_text : List ℕ → List ℕ
 use_text bytes = if length bytes == 0 then codes "masked" else codes "used"
 

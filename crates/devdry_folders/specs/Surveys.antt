@@ -1,4 +1,4 @@
--- What a line comes to that goes on after what can't be read.
+-- The outcome of a line whose reading goes on after what can't be read.
 use Rattle.std.specs.Prelude.{◌≡◌, ◌++◌, ℕ, Bool, false, List, [], if◌then◌else◌}
 use Rattle.engine_ends.specs.declared.line.Line.{Line}
 use Rattle.devdry_files.specs.Answers.{Answer}
@@ -19,19 +19,20 @@ pub record AreVisitsFor (may : Answer → Type 0) (line : Line) (visits : List V
   pub wants : Wants line wanted
   pub are_visits : AreVisits may wanted visits
 
--- What is reported where no file was read: what was looked at; and nothing where some file was.
+-- What is reported if no file was read: what was looked at; and nothing if some file was.
 pub record TellsNothing (may : Answer → Type 0) (line : Line) (visits : List Visit) (some : Bool) (lines : List ℕ) : Type 0 where
   pub others : List Elsewhere
   pub elsewhere : some ≡ false → AreElsewhere may line others
   pub told : lines ≡ (if some then [] else nothing_lines line.root.now visits others)
 
--- What is reported for visits before the run: what can't be read, and what was looked at where no file was read.
+-- What is reported for visits before the run: what can't be read, and what was looked at if no file was read.
 pub record IsTold (may : Answer → Type 0) (line : Line) (visits : List Visit) (told : List ℕ) : Type 0 where
   pub nothing : List ℕ
   pub tells : TellsNothing may line visits (has_files visits) nothing
   pub told_is : told ≡ unread_lines visits ++ nothing
 
--- What the line asks for was visited; the files that were read, what is reported and the least status come of that.
+-- What the line asks for was visited; the files that were read, what is reported and the least status follow from
+-- that.
 pub record IsReadSome (may : Answer → Type 0) (line : Line) (some : ReadSome) : Type 0 where
   pub visits : List Visit
   pub are_visits : AreVisitsFor may line visits
@@ -39,7 +40,8 @@ pub record IsReadSome (may : Answer → Type 0) (line : Line) (some : ReadSome) 
   pub told : IsTold may line visits some.told.items
   pub least : some.least ≡ least_status visits
 
--- What the line asks for was visited; the lines on all that was met, what is reported and the least status come of that.
+-- What the line asks for was visited; the lines on all that was met, what is reported and the least status follow
+-- from that.
 pub record IsListed (may : Answer → Type 0) (line : Line) (listed : Listed) : Type 0 where
   pub visits : List Visit
   pub are_visits : AreVisitsFor may line visits

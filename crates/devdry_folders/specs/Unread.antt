@@ -53,12 +53,12 @@ has_file sights = list_any (λ s. is_file s.met) sights
 abbrev pub has_files : List Visit → Bool
 has_files visits = list_any (λ v. has_file v.scan.sights.items) visits
 
--- the file of a name that was met, if one was
+-- the file with a name, if one was met
 abbrev pub file_of_met : FileKind → ℕ → List ℕ → Met → List SourceFile
 file_of_met kind rank name (met.File bytes) = record { kind = kind; rank = rank; name = name; bytes = bytes } ∷ []
 file_of_met kind rank name _ = []
 
--- how a file is named: in a folder of the system by its name there, else by its path
+-- the name of a file: in a folder of the system its name there, else its path
 abbrev pub name_told : Bool → Sight → List ℕ
 name_told named s = if named then s.path else s.name
 
@@ -78,6 +78,6 @@ files_of visits = flat_map files_of_visit visits
 abbrev pub least_of : List ℕ → Bool → ℕ
 least_of unread some = if not (length unread == 0) then 3 else if some then 0 else 1
 
--- the least status of a run over visits: 3 where something can't be read, else 1 where no file was read
+-- the least status of a run over visits: 3 if something can't be read, else 1 if no file was read
 abbrev pub least_status : List Visit → ℕ
 least_status visits = least_of (unread_lines visits) (has_files visits)

@@ -1,4 +1,5 @@
--- The folders and files that a line asks for, and what came of each, as it comes from the answers that a disk may give.
+-- The folders and files that a line asks for, and the outcome of each visit, as it comes from the answers that a disk
+-- may give.
 use Rattle.std.specs.Prelude.{◌≡◌, ◌++◌, ◌∷◌, ℕ, All, true, false, IsPermutation, IsSorted, List, [], None, Option, Some, String, if◌then◌else◌, map, nat_eq, string_bytes}
 use Rattle.std.specs.List.{ends_with}
 use Rattle.std.specs.String.{string_cmp}
@@ -35,7 +36,8 @@ pub record AreAllNames (may : Answer → Type 0) (folder : List ℕ) (names : Li
   pub once : IsPermutation (map (λ e. e.name) entries) names
   pub rise : IsSorted string_cmp names
 
--- what is met at a name in a folder of files of a kind: a name that ends in another way is not looked at
+-- what is met at a name in a folder of files of a kind: a name that does not end like those of the kind is not looked
+-- at
 pub record IsSightIn (may : Answer → Type 0) (kind : FileKind) (folder : List ℕ) (s : Sight) : Type 0 where
   pub path_is : s.path ≡ below folder s.name
   pub of_kind : ends_with nat_eq s.name (suffix_of kind) ≡ true → IsMet may s.path s.met
@@ -52,7 +54,8 @@ pub record AreSightsIn (may : Answer → Type 0) (kind : FileKind) (folder : Lis
   pub are_names : AreAllNames may folder names
   pub are_sights : AreSightsAt may kind folder (map string_bytes names) sights
 
--- what comes of listing the folder at a path: its sights, or that it is gone, can't be listed, or has a name that is not UTF-8
+-- the outcome of listing the folder at a path: its sights, or that it is gone, can't be listed, or has a name that is
+-- not UTF-8
 abbrev pub IsListedSo : (Answer → Type 0) → FileKind → List ℕ → Spot → List Sight → Type 0
 IsListedSo may kind path spot.Folder sights = AreSightsIn may kind path sights
 IsListedSo may kind path spot.Absent sights = may (NoListing path disk.Absent) × (sights ≡ [])
@@ -60,7 +63,8 @@ IsListedSo may kind path (spot.Unread reasons.Failed) sights = may (NoListing pa
 IsListedSo may kind path (spot.Unread reasons.NotUtf8) sights = may (NoListing path disk.NotUtf8) × (sights ≡ [])
 IsListedSo may kind path _ sights = ⊥
 
--- what nothing at a folder's path is, by the symlink there, if one is there: no folder, or a folder that can't be read
+-- what it means that nothing is at a folder's path, by the symlink there, if there is one: no folder, or a folder
+-- that can't be read
 abbrev pub missing_folder : Option (List ℕ) → Spot
 missing_folder None = spot.Absent
 missing_folder (Some target) = spot.Unread (reasons.LinkToNothing target)
@@ -69,7 +73,7 @@ missing_folder (Some target) = spot.Unread (reasons.LinkToNothing target)
 abbrev pub IsUnlisted : Spot → Scan → Type 0
 IsUnlisted it scan = (scan.spot ≡ it) × (scan.sights.items ≡ [])
 
--- what comes of a folder that is wanted, by the symlink at its path, if one is there, and a look
+-- the outcome for a folder that is wanted, by the symlink at its path, if there is one, and a look
 abbrev pub IsScannedBy : (Answer → Type 0) → FileKind → List ℕ → Option (List ℕ) → Look → Scan → Type 0
 IsScannedBy may kind path link looks.Absent scan = IsUnlisted (missing_folder link) scan
 IsScannedBy may kind path link looks.Folder scan = IsListedSo may kind path scan.spot scan.sights.items
@@ -78,7 +82,7 @@ IsScannedBy may kind path link looks.Forbidden scan = IsUnlisted (spot.Unread re
 IsScannedBy may kind path link looks.Other scan = IsUnlisted (spot.Unread reasons.NotFolder) scan
 IsScannedBy may kind path link looks.Failed scan = IsUnlisted (spot.Unread reasons.Failed) scan
 
--- a folder that is wanted
+-- a visit of a folder that is wanted
 pub record IsFolderVisit (may : Answer → Type 0) (v : Visit) : Type 0 where
   pub unnamed : v.is_named ≡ false
   pub linked : may (Target v.path v.link)
@@ -86,23 +90,23 @@ pub record IsFolderVisit (may : Answer → Type 0) (v : Visit) : Type 0 where
   pub looked : may (Looked v.path look)
   pub scanned : IsScannedBy may v.kind v.path v.link look v.scan
 
--- the sight of what is met at the path of a file that is named
+-- the sight of what is met at the path of a named file
 abbrev pub sight_at : List ℕ → Met → Sight
 sight_at path it = record { name = path; path = path; met = it }
 
--- what comes of a file that is named: what is met there
+-- the outcome for a named file: what is met there
 pub record IsOneFile (may : Answer → Type 0) (path : List ℕ) (look : Look) (scan : Scan) : Type 0 where
   pub at_file : scan.spot ≡ spot.File
   pub it : Met
   pub alone : scan.sights.items ≡ sight_at path it ∷ []
   pub met_so : IsMetBy may path look it
 
--- what comes of what is named, by a look: a folder is listed
+-- the outcome for what is named, by a look: a folder is listed
 abbrev pub IsNamedSo : (Answer → Type 0) → FileKind → List ℕ → Look → Scan → Type 0
 IsNamedSo may kind path looks.Folder scan = IsListedSo may kind path scan.spot scan.sights.items
 IsNamedSo may kind path look scan = IsOneFile may path look scan
 
--- what is named: a file, or a folder whose files of the kind are taken
+-- a visit of what is named: a file, or a folder whose files of the kind are taken
 pub record IsNamedVisit (may : Answer → Type 0) (kind : FileKind) (v : Visit) : Type 0 where
   pub kind_is : v.kind ≡ kind
   pub rank_is : v.rank ≡ 0

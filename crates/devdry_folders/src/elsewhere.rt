@@ -1,4 +1,4 @@
-//! Files that stand where none is read: below `/lib` where that is no symlink, as it is to `/usr/lib`.
+//! Files that are where none is read: below `/lib`, if that is not a symlink, as it mostly is to `/usr/lib`.
 ghost use Rattle.std.specs.Prelude.{◌≡◌, ◌⊎◌, [], IfOk, filter};
 ghost use Rattle.engine_ends.specs.Kinds.{kinds_read, reads_folders_of};
 ghost use Rattle.devdry_files.specs.Answers.Answer.{Listing, NoListing, Target};
@@ -21,7 +21,7 @@ pub struct Elsewhere {
     pub count: usize,
 }
 
-// Where an image keeps the files of a kind whose `/lib` is no link to `/usr/lib`.
+// Where an image whose `/lib` is not a link to `/usr/lib` keeps the files of a kind.
 fn unmerged_folder(kind: FileKind) -> &'static str
     ensures { result.now ≡ unmerged_folder kind }
 {
@@ -31,7 +31,7 @@ fn unmerged_folder(kind: FileKind) -> &'static str
     }
 }
 
-// The entries of the folder at a path, and none where it can't be listed.
+// The entries of the folder at a path, and none if it can't be listed.
 fn entries_at<D: Disk>(alloc: Global, disk: &D, path: &str) -> Result<Vec<Entry>, AllocError>
     ensures { IfOk result (λ entries. D.may_answer disk.now (Listing path.now entries.items)
         ⊎ ((entries.items ≡ []) × (D.may_answer disk.now (NoListing path.now faults.Absent)
@@ -58,7 +58,7 @@ fn count_at<D: Disk>(
     Ok(entries.iter().filter(|entry| counts(kind, entry)).count())
 }
 
-// The files of a kind that stand elsewhere after a root.
+// The files of a kind that are elsewhere, after a root.
 fn elsewhere_of<D: Disk>(
     alloc: Global,
     disk: &D,
@@ -88,7 +88,7 @@ fn kinds_in_folders(alloc: Global, line: &Line<'_>) -> Result<Vec<FileKind>, All
         .collect(alloc)
 }
 
-// The files of kinds that stand elsewhere after a root.
+// The files of kinds that are elsewhere, after a root.
 fn elsewhere_of_kinds<D: Disk>(
     alloc: Global,
     disk: &D,
@@ -105,7 +105,7 @@ fn elsewhere_of_kinds<D: Disk>(
     Ok(others)
 }
 
-// Where the symlink at `/lib` after a root leads, if one is there.
+// Where the symlink at `/lib` after a root leads, if there is one.
 fn lib_target<D: Disk>(alloc: Global, disk: &D, root: &str) -> Result<Option<Bytes>, AllocError>
     ensures { IfOk result (λ target. D.may_answer disk.now (Target (lib_of root.now) target)) }
 {
@@ -114,8 +114,8 @@ fn lib_target<D: Disk>(alloc: Global, disk: &D, root: &str) -> Result<Option<Byt
     disk.target(alloc, path.as_str())
 }
 
-/// The files that stand elsewhere, for each kind that the line reads from folders; none where `/lib` is
-/// a symlink, whose files are those of the folder that it leads to.
+/// The files that are elsewhere, for each kind that the line reads from folders; none if `/lib` is a symlink, since
+/// the files below it are those of the folder that it leads to.
 pub fn files_elsewhere<D: Disk>(
     alloc: Global,
     disk: &D,

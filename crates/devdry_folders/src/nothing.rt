@@ -1,6 +1,6 @@
-//! What is reported where no file was read at all.
+//! What is reported if no file was read at all.
 //!
-//! A check of no file must not look like a good one, so each place that was looked at is named.
+//! A check of no files must not look like a successful one, so each place that was looked at is named.
 ghost use Rattle.std.specs.List.{list_all};
 ghost use Rattle.std.specs.Prelude.{◌≡◌, ◌++◌, ◌==◌, IfOk, OnOk, flat_map, option_map};
 ghost use Rattle.text_bytes.specs.Names.{slash};
@@ -13,7 +13,7 @@ use itoa::Buffer;
 use std::alloc::{AllocError, Global};
 use text_bytes::{Bytes, FileKind};
 
-// Puts a line on a place after others.
+// Adds a line on a place.
 fn push_line(alloc: Global, lines: &mut Vec<u8>, path: &[u8], text: &[u8]) -> Result<(), AllocError>
     ensures { OnOk result (lines.new.items ≡ lines.old.items ++ line_on path.now text.now) }
 {
@@ -50,7 +50,7 @@ fn why_no_file(alloc: Global, kind: FileKind, sights: &[Sight]) -> Result<Vec<u8
     Ok(text)
 }
 
-// Puts the line on a folder that was listed after others, unless what is in it is reported already.
+// Adds the line on a folder that was listed, unless what is in it is already reported.
 fn push_listed(
     alloc: Global,
     lines: &mut Vec<u8>,
@@ -67,7 +67,7 @@ fn push_listed(
     push_line(alloc, lines, path, &why_no_file(alloc, kind, sights)?)
 }
 
-// Puts the line on a place that was looked at after others.
+// Adds the line on a place that was looked at.
 fn push_folder(alloc: Global, lines: &mut Vec<u8>, visit: &Visit) -> Result<(), AllocError>
     ensures { OnOk result (lines.new.items ≡ lines.old.items
         ++ folder_line visit.now.kind visit.now.path visit.now.scan.spot visit.now.scan.sights.items) }
@@ -80,7 +80,7 @@ fn push_folder(alloc: Global, lines: &mut Vec<u8>, visit: &Visit) -> Result<(), 
     }
 }
 
-// Puts the line on a link to an absolute path after others.
+// Adds the line on a link to an absolute path.
 fn push_target(
     alloc: Global,
     lines: &mut Vec<u8>,
@@ -97,14 +97,14 @@ fn push_target(
     push_line(alloc, lines, path, &text)
 }
 
-// Whether a root is that of the running system: it is empty, or slashes alone.
+// Whether a root is that of the running system: it is empty, or only slashes.
 fn is_own_root(root: &str) -> bool
     ensures { result ≡ list_all (λ b. b == slash) root.now }
 {
     root.bytes().all(|byte| byte == b'/')
 }
 
-// Puts the line on a link at a path after others, if it is an absolute one in an image.
+// Adds the line on a link at a path, if it is an absolute one in an image.
 fn push_link(
     alloc: Global,
     lines: &mut Vec<u8>,
@@ -121,7 +121,7 @@ fn push_link(
     }
 }
 
-// Puts the lines on a place that was looked at after others.
+// Adds the lines on a place that was looked at.
 fn push_place(
     alloc: Global,
     lines: &mut Vec<u8>,
@@ -147,7 +147,7 @@ fn files_word(count: usize) -> &'static [u8]
     if count == 1 { b" file" } else { b" files" }
 }
 
-// Puts the line on files that stand elsewhere after others, if there are any.
+// Adds the line on files that are elsewhere, if there are any.
 fn push_elsewhere(alloc: Global, lines: &mut Vec<u8>, other: &Elsewhere) -> Result<(), AllocError>
     ensures { OnOk result (lines.new.items ≡ lines.old.items ++ line_elsewhere other.now) }
 {
@@ -160,7 +160,7 @@ fn push_elsewhere(alloc: Global, lines: &mut Vec<u8>, other: &Elsewhere) -> Resu
     push_line(alloc, lines, other.path.as_slice(), &text)
 }
 
-// Puts the lines on all places that were looked at after others.
+// Adds the lines on all places that were looked at.
 fn push_places(
     alloc: Global,
     lines: &mut Vec<u8>,
@@ -176,11 +176,10 @@ fn push_places(
     Ok(())
 }
 
-/// The lines that say that no file was read: `devdry: no files`, then for each folder that was looked
-/// at `devdry: PATH: absent`, `empty` or `has no .rules files`, with `devdry: PATH: link out of the
-/// root: TARGET` after it where it is an absolute link and the root is not that of the running system,
-/// and `devdry: PATH has 12 files` (`1 file`) for files that stand elsewhere. What can't be read has no
-/// line here.
+/// The lines that say that no file was read: `devdry: no files`, then for each folder that was looked at `devdry:
+/// PATH: absent`, `empty` or `has no .rules files`, with `devdry: PATH: link out of the root: TARGET` after it if
+/// it is an absolute link and the root is not that of the running system, and `devdry: PATH has 12 files` (`1
+/// file`) for files that are elsewhere. What can't be read has no line here.
 pub fn nothing_lines(
     alloc: Global,
     root: &str,

@@ -1,4 +1,4 @@
-//! What a line comes to that goes on after what can't be read.
+//! The outcome of a line whose reading goes on after what can't be read.
 ghost use Rattle.std.specs.Prelude.{◌≡◌, ◌≤◌, IfOk};
 ghost use Rattle.devdry_folders.specs.Surveys.{AreVisitsFor, IsListed, IsReadSome, IsTold, TellsNothing};
 ghost use Rattle.devdry_folders.specs.Unread.{least_of, least_status};
@@ -15,7 +15,7 @@ use engine_ends::Line;
 use std::alloc::{AllocError, Global};
 use text_bytes::SourceFile;
 
-/// What could be read of what a line asks for.
+/// What could be read of all that a line asks for.
 #[derive(Debug, Drop)]
 pub struct ReadSome {
     /// The files that were read, in the order of reading.
@@ -65,7 +65,7 @@ fn least_of(unread: &[u8], some: bool) -> u8
     }
 }
 
-// What is reported where no file was read, and nothing else.
+// What is reported if no file was read, and nothing otherwise.
 fn told_of_nothing<D: Disk>(
     alloc: Global,
     disk: &D,
@@ -99,14 +99,14 @@ fn told_of<D: Disk>(
     Ok(Told { lines, least })
 }
 
-/// Reads what can be read of what a line asks for: the files that it names in the order given, then the
+/// Reads what can be read of all that a line asks for: the files that it names in the order given, then the
 /// folders.
 ///
-/// Where the line names a folder, the files in it are taken whose names end in the suffix of their
-/// kind, by name, each as `FILE/NAME`, with one slash. What can't be read is reported, `devdry: cannot read
-/// PATH: REASON`, and the least status is then 3; nothing is opened that is neither a folder nor a
-/// regular file, but for the null device. An absent folder is no fault. Where no file was read, each
-/// folder that was looked at is reported, and the least status is 1, unless it is 3.
+/// If the line names a folder, the files in it whose names end in the suffix of their kind are taken, by name, each
+/// as `FILE/NAME`, with one slash. What can't be read is reported, `devdry: cannot read PATH: REASON`, and the
+/// least status is then 3; nothing is opened that is neither a folder nor a regular file, except the null device.
+/// An absent folder is not a fault. If no file was read, each folder that was looked at is reported, and the least
+/// status is 1, unless it is 3.
 pub fn read_what_can<D: Disk>(
     alloc: Global,
     disk: &D,
@@ -124,9 +124,9 @@ pub fn read_what_can<D: Disk>(
     })
 }
 
-/// Tells which files of the folders that a line asks for count: each file is used, masks those of its
-/// name, is hidden by another, or is passed over with the reason; what can't be read is reported besides,
-/// and the least status is as with `read_what_can`.
+/// Reports which files of the folders that a line asks for count: each file is used, masks those of its name, is
+/// hidden by another, or is skipped with the reason; what can't be read is also reported, and the least status is
+/// as with `read_what_can`.
 pub fn list_files<D: Disk>(alloc: Global, disk: &D, line: &Line<'_>) -> Result<Listed, AllocError>
     ensures listed { IfOk result (IsListed (D.may_answer disk.now) line.now) }
     ensures least { IfOk result (λ listed. listed.least ≤ 3) }

@@ -13,19 +13,19 @@ pub enum Reason {
     Absent,
     /// 2: whoever runs the program may not read it.
     Forbidden,
-    /// 3: a symlink is there that leads to nothing: its target, as it is written.
+    /// 3: there is a symlink that leads to nothing: its target, as it is written.
     LinkToNothing(Bytes),
-    /// 4: what is there is no folder.
+    /// 4: what is there is not a folder.
     NotFolder,
-    /// 5: what is there is neither a folder nor a regular file, as a FIFO, or it would be below a file.
+    /// 5: what is there is neither a folder nor a regular file, such as a FIFO, or it would be below a file.
     NotRegular,
     /// 6: a folder has a name that is not UTF-8.
     NotUtf8,
-    /// 7: the system failed to read it, as where a symlink leads to itself.
+    /// 7: the system failed to read it, such as when a symlink leads to itself.
     Failed,
 }
 
-/// Puts a front and a word after a text, the word escaped.
+/// Appends a front and a word, with the word escaped.
 pub fn push_escaped(
     alloc: Global,
     text: &mut Vec<u8>,
@@ -38,7 +38,7 @@ pub fn push_escaped(
     text.extend_from_slice(&escape(alloc, word)?)
 }
 
-/// Puts a reason after a text, in words.
+/// Appends a reason, in words.
 pub fn push_reason(alloc: Global, text: &mut Vec<u8>, reason: &Reason) -> Result<(), AllocError>
     ensures { OnOk result (text.new.items ≡ text.old.items ++ reason_text reason.now) }
 {

@@ -1,14 +1,14 @@
-//! What is met where files are looked for.
+//! What is met when files are looked for.
 
 use crate::reasons::Reason;
 use text_bytes::{Bytes, FileKind};
 
-/// What is met at a name in a folder, or at the path of a file that is named.
+/// What is met at a name in a folder, or at the path of a named file.
 #[derive(Debug, Drop)]
 pub enum Met {
     /// A file, which was read: all its bytes.
     File(Bytes),
-    /// Something whose name ends in another way than those of the kind; it is not looked at.
+    /// Something whose name does not end like those of the kind; it is not looked at.
     OtherName,
     /// A folder.
     Folder,
@@ -16,10 +16,10 @@ pub enum Met {
     Unread(Reason),
 }
 
-/// A name, where it stands, and what is met there.
+/// A name, its path, and what is met there.
 #[derive(Debug, Drop)]
 pub struct Sight {
-    /// The name without its folder; of a file that is named the path.
+    /// The name without its folder; for a named file the path.
     pub name: Bytes,
     /// The path.
     pub path: Bytes,
@@ -27,16 +27,16 @@ pub struct Sight {
     pub met: Met,
 }
 
-/// What is at the path of a folder that is wanted, or of a file that is named.
+/// What is at the path of a folder that is wanted, or of a named file.
 #[derive(Debug, Drop)]
 pub enum Spot {
-    /// Nothing, which is no fault of a folder.
+    /// Nothing, which is not a fault for a folder.
     Absent,
     /// A folder, which was listed.
     Folder,
-    /// A file, or what is in its place.
+    /// A file, or what is there instead.
     File,
-    /// A folder that can't be listed, or what is in its place, and why it can't be.
+    /// A folder that can't be listed, or what is there instead, and the reason.
     Unread(Reason),
 }
 
@@ -49,19 +49,19 @@ pub struct Scan {
     pub sights: Vec<Sight>,
 }
 
-/// A folder or a file that a line asks for, and what came of it.
+/// A folder or a file that a line asks for, and the outcome of visiting it.
 #[derive(Debug, Drop)]
 pub struct Visit {
     /// What files there hold.
     pub kind: FileKind,
-    /// The place among the folders of the kind; 0 where the line names it.
+    /// The place among the folders of the kind; 0 if the line names it.
     pub rank: u8,
     /// Whether the line names it.
     pub is_named: bool,
     /// Its path.
     pub path: Bytes,
-    /// Where the symlink at the path of a folder leads, if one is there; of what is named, nothing.
+    /// Where the symlink at the path of a folder leads, if there is one; `None` for what is named.
     pub link: Option<Bytes>,
-    /// What came of it.
+    /// The outcome of the visit.
     pub scan: Scan,
 }

@@ -1,7 +1,7 @@
 //! Which files of the folders count.
 //!
-//! Of files of one name the one in the folder of least rank counts, and hides the others; one that is
-//! empty masks them, as a link to the null device does.
+//! Of files with the same name the one in the folder of least rank counts, and hides the others; one that is empty
+//! masks them, as a link to the null device does.
 ghost use Rattle.std.specs.Prelude.{◌≡◌, ◌++◌, ◌∷◌, ℕ, IfOk, List, [], OnOk, codes, if◌then◌else◌, option_copied};
 ghost use Rattle.text_bytes.specs.Escapes.{escape_text};
 ghost use Rattle.text_bytes.specs.Names.{newline};
@@ -23,7 +23,7 @@ struct ByKind {
     database: Vec<Sight>,
 }
 
-// Puts the sights of a visit after those of its kind.
+// Adds the sights of a visit to those of its kind.
 fn push_visit(held: &mut ByKind, mut visit: Visit) -> Result<(), AllocError>
     ensures rules { OnOk result (held.new.rules.items
         ≡ held.old.rules.items ++ sights_if FileKind.Rules visit) }
@@ -52,7 +52,7 @@ fn by_kind(alloc: Global, visits: Vec<Visit>) -> Result<ByKind, AllocError>
     Ok(held)
 }
 
-// The sights by name, and those of one name in the order of their folders.
+// The sights by name, and those with the same name in the order of their folders.
 fn by_name(mut sights: Vec<Sight>) -> Result<Vec<Sight>, AllocError>
     ensures { IfOk result (λ sorted. AreByName sights.items sorted.items) }
 {
@@ -60,7 +60,7 @@ fn by_name(mut sights: Vec<Sight>) -> Result<Vec<Sight>, AllocError>
     Ok(sights)
 }
 
-// Puts a sight into a table under its name, if it is a file, in place of the one that had it.
+// Puts a sight into a table under its name, if it is a file, instead of the one that had it.
 fn add_file<'b>(files: &mut Table<'b, &'b Sight>, sight: &'b Sight) -> Result<(), AllocError>
     ensures { OnOk result (files.new ≡ (if is_file sight.now.met
         then with_value files.old sight.now.name sight.entry else files.old)) }
@@ -93,7 +93,7 @@ fn use_text(bytes: &[u8]) -> &'static [u8]
     if bytes.is_empty() { b"masked" } else { b"used" }
 }
 
-// Puts what is reported for a file after a text.
+// Appends what is reported for a file.
 fn push_file(
     alloc: Global,
     text: &mut Vec<u8>,
@@ -112,7 +112,7 @@ fn push_file(
     }
 }
 
-// Puts what is reported for what was met after a text.
+// Appends what is reported for what was met.
 fn push_standing(
     alloc: Global,
     text: &mut Vec<u8>,
@@ -137,7 +137,7 @@ fn push_standing(
     }
 }
 
-// Puts two texts after another.
+// Appends two texts.
 fn push_both(text: &mut Vec<u8>, front: &[u8], behind: &[u8]) -> Result<(), AllocError>
     ensures { OnOk result (text.new.items ≡ text.old.items ++ (front.now ++ behind.now)) }
 {
@@ -145,7 +145,7 @@ fn push_both(text: &mut Vec<u8>, front: &[u8], behind: &[u8]) -> Result<(), Allo
     text.extend_from_slice(behind)
 }
 
-// Puts the line on a sight after others, by the files that count.
+// Adds the line on a sight, by the files that count.
 fn push_line(
     alloc: Global,
     lines: &mut Vec<u8>,
@@ -166,7 +166,7 @@ fn push_line(
     Ok(())
 }
 
-// Puts the lines on sights of a kind after others.
+// Adds the lines on sights of a kind.
 fn push_lines(
     alloc: Global,
     lines: &mut Vec<u8>,
@@ -182,9 +182,9 @@ fn push_lines(
     Ok(())
 }
 
-/// The lines on what was met in the folders, those on rules before those on the database, each by name
-/// and those of one name in the order of their folders: `PATH: used`, `PATH: masked`, `PATH: hidden by
-/// PATH` or `PATH: passed over: REASON`, the paths escaped.
+/// The lines on what was met in the folders, those on rules before those on the database, each by name and those
+/// with the same name in the order of their folders: `PATH: used`, `PATH: masked`, `PATH: hidden by PATH` or `PATH:
+/// passed over: REASON`, with the paths escaped.
 pub fn standing_lines(alloc: Global, visits: Vec<Visit>) -> Result<Vec<u8>, AllocError>
     ensures { IfOk result (λ lines. AreListed visits.items lines.items) }
 {

@@ -6,7 +6,7 @@ use crate::reasons::{Reason, push_escaped, push_reason};
 use crate::sights::{Met, Sight, Spot, Visit};
 use std::alloc::{AllocError, Global};
 
-// Puts the line on what can't be read after others.
+// Adds the line on what can't be read.
 fn push_unread(
     alloc: Global,
     lines: &mut Vec<u8>,
@@ -22,7 +22,7 @@ fn push_unread(
     Ok(())
 }
 
-// Puts the line on what is met at a path after others, if it can't be read.
+// Adds the line on what is met at a path, if it can't be read.
 fn push_on_met(alloc: Global, lines: &mut Vec<u8>, path: &[u8], met: &Met) -> Result<(), AllocError>
     ensures { OnOk result (lines.new.items ≡ lines.old.items ++ line_on_met path.now met.now) }
 {
@@ -32,7 +32,7 @@ fn push_on_met(alloc: Global, lines: &mut Vec<u8>, path: &[u8], met: &Met) -> Re
     }
 }
 
-// Puts the line on what is at a path after others, if it can't be listed.
+// Adds the line on what is at a path, if it can't be listed.
 fn push_on_spot(
     alloc: Global,
     lines: &mut Vec<u8>,
@@ -47,7 +47,7 @@ fn push_on_spot(
     }
 }
 
-// Puts the lines on a visit after others.
+// Adds the lines on a visit.
 fn push_on_visit(alloc: Global, lines: &mut Vec<u8>, visit: &Visit) -> Result<(), AllocError>
     ensures { OnOk result (lines.new.items ≡ lines.old.items ++ lines_on_visit visit.now) }
 {
@@ -58,8 +58,8 @@ fn push_on_visit(alloc: Global, lines: &mut Vec<u8>, visit: &Visit) -> Result<()
     Ok(())
 }
 
-/// The lines on all that can't be read, in the order of the visits: `devdry: cannot read PATH: REASON`,
-/// the path escaped.
+/// The lines on all that can't be read, in the order of the visits: `devdry: cannot read PATH: REASON`, with the
+/// path escaped.
 pub fn unread_lines(alloc: Global, visits: &[Visit]) -> Result<Vec<u8>, AllocError>
     ensures { IfOk result (λ lines. lines.items ≡ unread_lines visits.now) }
 {

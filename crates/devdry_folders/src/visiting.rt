@@ -1,4 +1,4 @@
-//! Visits what a line asks for, one file or folder after the other, whatever comes of it.
+//! Visits what a line asks for, one file or folder after another, whatever the outcome.
 ghost use Rattle.std.specs.List.{ends_with};
 ghost use Rattle.std.specs.Prelude.{◌≡◌, IfOk, IsPermutation, IsSorted, false, map, nat_eq, option_map, string_bytes, true};
 ghost use Rattle.std.specs.String.{string_cmp};
@@ -95,7 +95,7 @@ fn sights_of_names<D: Disk>(
     Ok(sights)
 }
 
-// The sights in a folder that was listed so.
+// The sights in a folder with these entries.
 fn sights_in<D: Disk>(
     alloc: Global,
     disk: &D,
@@ -111,7 +111,7 @@ fn sights_in<D: Disk>(
     sights_of_names(alloc, disk, kind, folder, &names)
 }
 
-// What is at a path and is not listed.
+// The scan of a path that is not listed.
 fn unlisted(alloc: Global, spot: Spot) -> Scan
     ensures { IsUnlisted spot result }
 {
@@ -121,7 +121,7 @@ fn unlisted(alloc: Global, spot: Spot) -> Scan
     }
 }
 
-// What comes of listing the folder at a path.
+// The outcome of listing the folder at a path.
 fn scan_listed<D: Disk>(
     alloc: Global,
     disk: &D,
@@ -143,7 +143,7 @@ fn scan_listed<D: Disk>(
     }
 }
 
-// What nothing at a folder's path is, by the symlink there, if one is there.
+// What it means that nothing is at a folder's path, by the symlink there, if there is one.
 fn missing_folder(alloc: Global, link: Option<&Bytes>) -> Result<Spot, AllocError>
     ensures { IfOk result (λ it. it ≡ missing_folder (option_map (λ t. t.now) link.entry)) }
 {
@@ -156,7 +156,7 @@ fn missing_folder(alloc: Global, link: Option<&Bytes>) -> Result<Spot, AllocErro
     }
 }
 
-// What comes of a folder that is wanted, by a look at it.
+// The outcome for a folder that is wanted, by a look at it.
 fn scan_by<D: Disk>(
     alloc: Global,
     disk: &D,
@@ -196,7 +196,7 @@ fn visit_folder<D: Disk>(alloc: Global, disk: &D, folder: &Folder) -> Result<Vis
     })
 }
 
-// What comes of a file that is named, by a look at it.
+// The outcome for a named file, by a look at it.
 fn scan_file<D: Disk>(alloc: Global, disk: &D, path: &str, look: Look) -> Result<Scan, AllocError>
     ensures { IfOk result (IsOneFile (D.may_answer disk.now) path.now look) }
 {
@@ -212,7 +212,7 @@ fn scan_file<D: Disk>(alloc: Global, disk: &D, path: &str, look: Look) -> Result
     })
 }
 
-// What comes of what is named, by a look at it.
+// The outcome for what is named, by a look at it.
 fn scan_named<D: Disk>(
     alloc: Global,
     disk: &D,
@@ -285,9 +285,9 @@ fn folder_visits<D: Disk>(
 
 /// Visits all that is wanted: what is named in the order given, and then the folders.
 ///
-/// A file that is named is read whatever its name; of a folder that is named, and of the folders, the
-/// files are read whose names end in the suffix of their kind, by name. What can't be read is kept with
-/// its reason, and the next is visited. An absent folder is no fault, but a symlink to nothing is.
+/// A named file is read whatever its name; in a named folder, and in the folders, the files whose names end in the
+/// suffix of their kind are read, by name. What can't be read is kept with its reason, and the next is visited. An
+/// absent folder is not a fault, but a symlink to nothing is.
 pub fn visits<D: Disk>(
     alloc: Global,
     disk: &D,

@@ -1,4 +1,4 @@
--- What is answered to words that ask for no run.
+-- The answer to words that do not ask for a run.
 use Rattle.std.specs.Prelude.{◌≡◌, ◌⊎◌, ◌++◌, ⊤, List, [], Option, IsSomeAnd, MatchOption, codes, string_bytes}
 use Rattle.clap.specs.Words.{IsAmong, Kinds, Row, Text}
 use Rattle.clap.specs.declared.error.kind.ErrorKind.{ErrorKind}
@@ -16,7 +16,7 @@ use Rattle.devdry_words.specs.Values.{text_of}
 abbrev pub AsksForHelp : ErrorKind → Type 0
 AsksForHelp k = (k ≡ kind.DisplayHelp) ⊎ (k ≡ kind.DisplayVersion)
 
--- help answers a request, usage any other kind, and out of memory may answer each
+-- help answers a request for it, usage any other kind, and out of memory may answer each
 abbrev pub IsAnswer : LineFault → ErrorKind → Type 0
 IsAnswer (Help text) k = AsksForHelp k
 IsAnswer (Usage text) k = AsksForHelp k → ⊥
@@ -33,27 +33,28 @@ IsUsageOf said (Help text) = ⊥
 IsUsageOf said (Usage text) = string_bytes text ≡ said
 IsUsageOf said Memory = ⊤
 
--- it is help with a text of which this holds, or memory ran out
+-- it is help with a text for which this holds, or memory ran out
 abbrev pub IsHelpWith : (Text → Type 0) → LineFault → Type 0
 IsHelpWith P (Help text) = P (string_bytes text)
 IsHelpWith P (Usage text) = ⊥
 IsHelpWith P Memory = ⊤
 
--- what is said after a code that there is not
+-- what is said after an unknown code
 abbrev pub no_such_code : Text
 no_such_code = codes "' for '<CODE>'\n  [possible values: " ++ known_codes ++ codes "]\n\nFor more information, try '--help'.\n"
 
--- a code is answered with the section on its remark, and what is no code with usage that lists the codes
+-- a code is answered with the section on its remark, and a text that is not a code with usage that lists the codes
 abbrev pub Explains : Text → LineFault → Type 0
 Explains code fault =
     MatchOption (remark_with code) (IsUsageOf (invalid_value code no_such_code) fault) (λ remark. IsHelpWith (IsSectionOn remark) fault)
 
--- what `devdry` itself answers to the matches of a subcommand that asks for no run: why it is refused, or to `explain` the section
+-- what `devdry` itself answers to the matches of a subcommand that does not ask for a run: why it is refused, or for
+-- `explain` the section
 abbrev pub AnswersMatches : Text → List Row → LineFault → Type 0
 AnswersMatches name rows fault =
     MatchOption (refusal_of name rows) ((subcommand_name Explain ≡ name) × Explains (text_of (codes "CODE") rows) fault) (λ r. IsUsageOf (said_of r rows) fault)
 
--- the same, of a subcommand that is named with its matches
+-- the same, for a subcommand that is named with its matches
 abbrev pub AnswersSubcommand : Option (Text × List Row) → LineFault → Type 0
 AnswersSubcommand asked fault = IsSomeAnd asked (λ p. AnswersMatches p.0 p.1 fault)
 

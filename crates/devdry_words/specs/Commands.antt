@@ -136,8 +136,8 @@ compare_shape = with_rules (codes "compare") (index_rule ∷ udev_rule ∷ old_r
 abbrev pub explain_shape : Shape
 explain_shape = with_rules (codes "explain") (code_rule ∷ [])
 
--- the program without its subcommands: the words come without its name, one subcommand has to be
--- there, and each has the program's version
+-- the program without its subcommands: the words come without its name, one subcommand has to be there, and each has
+-- the program's version
 abbrev pub program : App
 program = record {
   top = record (new_shape (codes "devdry")) {

@@ -1,4 +1,4 @@
--- The line that the matches of a subcommand stand for.
+-- The line that the matches of a subcommand mean.
 use Rattle.std.specs.Prelude.{◌≡◌, ℕ, ◌∷◌, if◌then◌else◌, List, [], Option, Some, find, flat_map, map, not, unwrap_or, codes}
 use Rattle.std.specs.Option.{option_map, option_map_or}
 use Rattle.std.specs.Str.{bytes_eq}
@@ -20,7 +20,7 @@ name_of Query = codes "query"
 name_of Verify = codes "verify"
 name_of Events = codes "events"
 
--- the name of a format; a terminal alone adds colors
+-- the name of a format; only a terminal adds colors
 abbrev pub format_name : Format → Text
 format_name Plain = codes "plain"
 format_name Gcc = codes "gcc"
@@ -30,15 +30,15 @@ format_name Json = codes "json"
 format_name Human = codes "human"
 format_name HumanInColor = codes "human"
 
--- the format of a name, if it is one
+-- the format with a name, if there is one
 abbrev pub format_named : Text → Option Format
 format_named name = find (λ f. bytes_eq name (format_name f)) (Plain ∷ Gcc ∷ Github ∷ Gitlab ∷ Json ∷ Human ∷ [])
 
--- the format that is asked for, plain where none is; an unknown name is none
+-- the format that is asked for, plain if none is; none if the name is unknown
 abbrev pub format_of : List Row → Option Format
 format_of rows = option_map_or format_named (first_of (codes "format") rows) (Some Plain)
 
--- by whose word rules are read and evaluated: by udev's where `--udev` is given, else by the manual's
+-- the profile by which rules are read and evaluated: udev's if `--udev` is given, otherwise the manual's
 abbrev pub profile_of : List Row → Profile
 profile_of rows = if is_set (codes "udev") rows then Udev else Manual
 
@@ -46,7 +46,7 @@ profile_of rows = if is_set (codes "udev") rows then Udev else Manual
 abbrev pub path_and_bytes : AccountFile → Text × List ℕ
 path_and_bytes file = (file.path.now, file.bytes)
 
--- a file of which none of the bytes is read yet
+-- a file of which no byte has been read yet
 abbrev pub unread : Text → Text × List ℕ
 unread path = (path, [])
 

@@ -1,4 +1,4 @@
--- What `devdry` itself refuses of the words that clap takes, and what it says of them.
+-- Which of the words that clap takes `devdry` itself refuses, and what it says about them.
 use Rattle.std.specs.Prelude.{◌&&◌, ◌||◌, ◌++◌, List, [], Bool, Option, Some, None, if◌then◌else◌, find, flat_map, is_some, not, unwrap_or, codes}
 use Rattle.std.specs.Option.{is_none}
 use Rattle.std.specs.Str.{bytes_eq}
@@ -13,7 +13,7 @@ use Rattle.devdry_words.specs.Values.{cut_at_commas, has_value, is_empty_text, i
 abbrev pub names_two : Text → List Row → Bool
 names_two name rows = bytes_eq name (codes "query") && (is_some (first_of (codes "index") rows) && has_value (codes "FILE") rows)
 
--- all is asked for, or what becomes of files, below a root that is given and empty
+-- all is asked for, or which files count, below a root that is given and empty
 abbrev pub lacks_root : Text → List Row → Bool
 lacks_root name rows = (is_set (codes "all") rows || bytes_eq name (codes "files")) && is_empty_text (codes "root") rows
 
@@ -21,7 +21,7 @@ lacks_root name rows = (is_set (codes "all") rows || bytes_eq name (codes "files
 abbrev pub lacks_side : List Row → Bool
 lacks_side rows = is_empty_text (codes "OLD") rows || is_empty_text (codes "NEW") rows
 
--- users or groups are named, and it is not asked to read rules as udev reads them
+-- users or groups are named, and rules are not to be read as udev reads them
 abbrev pub lacks_udev : List Row → Bool
 lacks_udev rows = (is_some (first_of (codes "users") rows) || is_some (first_of (codes "groups") rows)) && not (is_set (codes "udev") rows)
 
@@ -37,42 +37,43 @@ first_unknown parts = find (λ part. not (is_ignorable part)) parts
 abbrev pub unknown_part : List Row → Option Text
 unknown_part rows = first_unknown (flat_map cut_at_commas (texts_of (codes "ignore") rows))
 
--- why a value is refused that has to be one of a few, if it is: no format has the name, or a part of `--ignore` names nothing
+-- why a value that has to be one of a few is refused, if it is: no format has the name, or a part of `--ignore` names
+-- nothing
 abbrev pub unknown_value : List Row → Option Refusal
 unknown_value rows = if is_none (format_of rows) then Some UnknownFormat else (if is_some (unknown_part rows) then Some UnknownPart else None)
 
--- why the matches of a subcommand are no line, if they are none
+-- why the matches of a subcommand are refused, if they are
 abbrev pub refusal_of : Text → List Row → Option Refusal
 refusal_of name rows = if names_two name rows then Some TwoDatabases
     else (if lacks_root name rows then Some EmptyRoot
     else (if lacks_side rows then Some EmptySide
     else (if lacks_udev rows then Some NoUdev else unknown_value rows)))
 
--- what is said of a value that its argument does not take, by what comes before and after the value
+-- what is said about a value that its argument does not take, by what comes before and after the value
 abbrev pub invalid_value : Text → Text → Text
 invalid_value value behind = codes "error: invalid value '" ++ value ++ behind
 
--- what is said of a query that names two databases
+-- what is said about a query that names two databases
 abbrev pub two_databases : Text
 two_databases = codes "error: the argument '--index <FILE>' cannot be used with '[FILE]...'\n\nUsage: devdry query --index <FILE> <MODALIAS>\n\nFor more information, try '--help'.\n"
 
--- what is said of an empty root where all is asked for, or what becomes of files
+-- what is said about an empty root if all is asked for, or which files count
 abbrev pub empty_root : Text
 empty_root = codes "error: an empty value of '--root <DIR>' names no folder\n\nFor more information, try '--help'.\n"
 
--- what is said of an empty root that is compared
+-- what is said about an empty root that is compared
 abbrev pub empty_side : Text
 empty_side = codes "error: an empty value of '<OLD>' or '<NEW>' names no folder; '/' is that of the running system\n\nFor more information, try '--help'.\n"
 
--- what is said of users or groups that are named where rules are not read as udev reads them
+-- what is said about users or groups that are named although rules are not read as udev reads them
 abbrev pub no_udev : Text
 no_udev = codes "error: the arguments '--users <FILE>' and '--groups <FILE>' need '--udev'\n\nUsage: devdry verify --udev --users <FILE> --groups <FILE> [FILE]...\n\nFor more information, try '--help'.\n"
 
--- what is said after the name of a format that there is not
+-- what is said after the name of an unknown format
 abbrev pub no_such_format : Text
 no_such_format = codes "' for '--format <FORMAT>'\n  [possible values: plain, gcc, github, gitlab, json, human]\n\nFor more information, try '--help'.\n"
 
--- the codes of all remarks, a comma and a blank between two
+-- the codes of all remarks, with a comma and a space between them
 abbrev pub known_codes : Text
 known_codes = codes "V1, V2, V3, V4, V5, V6, V7, V8, V9, V10, V11, V12, V13, V14, V15, V16, V17, V18, V19, V20, V21, V22, V23, V24, V25, V26, S1, S2, S3, S4, S5, S6, H1, H2, H3, H4, H5, H6, W1, W2, W3, W4, W5, W6, W7, W8, W9, W10, W11, W12, W13, I1, I2"
 
@@ -80,7 +81,7 @@ known_codes = codes "V1, V2, V3, V4, V5, V6, V7, V8, V9, V10, V11, V12, V13, V14
 abbrev pub not_ignorable : Text
 not_ignorable = codes "' for '--ignore <CODES>'\n  [possible values: " ++ known_codes ++ codes ", comments]\n\nFor more information, try '--help'.\n"
 
--- what is said of matches that are refused
+-- what is said about matches that are refused
 abbrev pub said_of : Refusal → List Row → Text
 said_of TwoDatabases rows = two_databases
 said_of EmptyRoot rows = empty_root

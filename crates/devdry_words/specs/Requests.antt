@@ -25,8 +25,8 @@ IsSubcommandName name = (s : Subcommand) × (subcommand_name s ≡ name)
 abbrev pub NamesSubcommand : Option (Text × List Row) → Type 0
 NamesSubcommand asked = IsSomeAnd asked (λ p. IsSubcommandName p.0)
 
--- a subcommand of this name asks for the request with these matches: one that is run for its line below the root, `files` for the
--- line of `events` below the root, and `compare` for two such lines, one below each of its roots
+-- a subcommand of this name asks for the request with these matches: one that is run for its line below the root,
+-- `files` for the line of `events` below the root, and `compare` for two such lines, one below each of its roots
 abbrev pub AsksFor : Text → List Row → Request → Type 0
 AsksFor name rows (request.Run line) = (name_of line.verb ≡ name) × Reads line.verb (text_of (codes "root") rows) rows line
 AsksFor name rows (request.Files line) = (subcommand_name Files ≡ name) × Reads Events (text_of (codes "root") rows) rows line

@@ -5,7 +5,7 @@ use Rattle.std.specs.Option.{option_map_or}
 use Rattle.std.specs.Str.{bytes_eq}
 use Rattle.clap.specs.Words.{Row, Text, all_of, first_of}
 
--- the value of an argument, empty where it was not given
+-- the value of an argument, empty if it was not given
 abbrev pub text_of : Text → List Row → Text
 text_of id rows = unwrap_or (first_of id rows) []
 

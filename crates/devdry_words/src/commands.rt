@@ -1,7 +1,7 @@
-//! The command line of `devdry`, as `clap` is reported it.
+//! The command line of `devdry`, as `clap` is given it.
 //!
-//! An argument is a function of its own where several subcommands take it, so that it is the same
-//! in each. `clap` wraps no text here, so that the texts of the help are broken by hand.
+//! An argument that several subcommands take is a function of its own, so that it is the same in each. `clap` wraps
+//! no text here, so the texts of the help are broken by hand.
 ghost use Rattle.std.specs.Prelude.{◌≡◌, IfOk, codes, false};
 ghost use Rattle.clap.specs.Words.{app_of, rule_of};
 ghost use Rattle.devdry_words.specs.Commands.{IsCommand, accounts_rule, all_rule, code_rule, compare_shape, devdry, events_shape};
@@ -316,7 +316,7 @@ fn program<'a>(alloc: Global) -> Result<Command<'a>, AllocError>
         .bin_name("devdry")
 }
 
-/// The command line of `devdry`, with its subcommands. `Err` is out of memory.
+/// The command line of `devdry`, with its subcommands. There is an `Err` only if memory runs out.
 pub fn devdry_command<'a>(alloc: Global) -> Result<Command<'a>, AllocError>
     ensures { IfOk result (λ c. app_of c ≡ devdry) }
 {

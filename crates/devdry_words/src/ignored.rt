@@ -45,7 +45,7 @@ pub(crate) fn unknown_part<'a>(matches: &ArgMatches<'a>) -> Option<&'a str>
     }
 }
 
-/// The same, as a text that is empty where there is none.
+/// The same, as a text that is empty if there is none.
 pub(crate) fn unknown_text<'a>(matches: &ArgMatches<'a>) -> &'a str
     ensures { result.now ≡ unwrap_or (unknown_part (rows_of (found_of matches.now))) [] }
 {

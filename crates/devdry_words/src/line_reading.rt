@@ -1,4 +1,4 @@
-//! The line that the matches of a parse stand for.
+//! The line that the matches of a parse mean.
 ghost use Rattle.std.specs.Prelude.{◌≡◌, IfOk, option_map};
 ghost use Rattle.clap.specs.Words.{first_of, found_of, rows_of};
 ghost use Rattle.devdry_words.specs.Lines.{Reads, format_named, format_of, path_and_bytes, profile_of, unread};
@@ -9,7 +9,7 @@ use engine_ends::{AccountFile, Format, Line, Verb};
 use std::alloc::{AllocError, Global};
 use text_bytes::{Bytes, Profile};
 
-/// The format of a name.
+/// The format with a name, if there is one.
 fn format_named(name: &str) -> Option<Format>
     ensures { result ≡ format_named name.now }
 {
@@ -24,7 +24,7 @@ fn format_named(name: &str) -> Option<Format>
     }
 }
 
-/// The format that matches ask for, plain where they ask for none; an unknown name is none.
+/// The format that matches ask for, plain if they ask for none; `None` if the name is unknown.
 pub(crate) fn format_of(matches: &ArgMatches<'_>) -> Option<Format>
     ensures { result ≡ format_of (rows_of (found_of matches.now)) }
 {
@@ -34,7 +34,7 @@ pub(crate) fn format_of(matches: &ArgMatches<'_>) -> Option<Format>
     }
 }
 
-/// By whose word matches ask to read and evaluate rules.
+/// The profile by which matches ask to read and evaluate rules.
 fn profile_of(matches: &ArgMatches<'_>) -> Profile
     ensures { result ≡ profile_of (rows_of (found_of matches.now)) }
 {
@@ -45,7 +45,7 @@ fn profile_of(matches: &ArgMatches<'_>) -> Profile
     }
 }
 
-/// The file of users or groups that an option names, if it was given. None of its bytes is read yet.
+/// The file of users or groups that an option names, if it was given. None of its bytes has been read yet.
 fn account_file<'a>(alloc: Global, matches: &ArgMatches<'a>, id: &str) -> Option<AccountFile<'a>>
     ensures { option_map path_and_bytes result ≡ option_map unread (first_of id.now (rows_of (found_of matches.now))) }
 {
@@ -56,7 +56,7 @@ fn account_file<'a>(alloc: Global, matches: &ArgMatches<'a>, id: &str) -> Option
     })
 }
 
-/// The line of a verb below a root, with these matches. `Err` is out of memory.
+/// The line of a verb below a root, with these matches. There is an `Err` only if memory runs out.
 pub(crate) fn line_with<'a>(
     alloc: Global,
     verb: Verb,

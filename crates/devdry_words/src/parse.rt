@@ -1,7 +1,7 @@
 //! Reads the words of a command line.
 //!
-//! `clap` decides which words it takes and what it says of others; here its matches become a request,
-//! and its errors the faults that the program tells apart by their status.
+//! `clap` decides which words it takes and what it says about others; here its matches become a request, and its
+//! errors the faults that the program distinguishes by their status.
 ghost use Rattle.std.specs.Prelude.{◌≡◌, ◌↔◌, ◌⊎◌, IsTrue, IfErr, IfOk, MatchResult, None, Ok, Err, [], map, string_bytes, true};
 ghost use Rattle.clap.specs.Words.{fault_of, found_of, kind_of, rows_of, subcommand_of, subcommand_rows_of, takes};
 ghost use Rattle.devdry_words.specs.Answers.{AnswersMatches, AnswersSubcommand, AnswersWords, AsksForHelp, IsAnswer};
@@ -46,7 +46,7 @@ fn fault_from(alloc: Global, error: &Error) -> LineFault
     }
 }
 
-// A request, where out of memory is a fault.
+// A request, with out of memory as a fault.
 fn or_memory<'a>(request: Result<Request<'a>, AllocError>) -> Result<Request<'a>, LineFault>
     ensures { MatchResult request.entry (λ r. result ≡ Ok r) (λ _. result ≡ Err LineFault.Memory) }
 {
@@ -56,7 +56,7 @@ fn or_memory<'a>(request: Result<Request<'a>, AllocError>) -> Result<Request<'a>
     }
 }
 
-// What the matches of a subcommand ask for where they are not refused.
+// What the matches of a subcommand ask for if they are not refused.
 fn taken<'a>(alloc: Global, name: &str, matches: &ArgMatches<'a>) -> Result<Request<'a>, LineFault>
     requires name { IsSubcommandName name.now }
     requires free { refusal_of name.now (rows_of (found_of matches.now)) ≡ None }
@@ -72,7 +72,7 @@ fn taken<'a>(alloc: Global, name: &str, matches: &ArgMatches<'a>) -> Result<Requ
     }
 }
 
-// What the matches, which name a subcommand, come to.
+// What the matches, which name a subcommand, ask for, or why there is no request.
 fn request_of<'a>(alloc: Global, matches: &ArgMatches<'a>) -> Result<Request<'a>, LineFault>
     requires { NamesSubcommand (subcommand_rows_of matches.now) }
     ensures request { IfOk result (IsRequestOf (subcommand_rows_of matches.now)) }
@@ -91,32 +91,33 @@ fn request_of<'a>(alloc: Global, matches: &ArgMatches<'a>) -> Result<Request<'a>
 
 /// Reads the words after the program's name.
 ///
-/// The subcommands and their options are those of `systemd-hwdb(8)` and `udevadm(8)` as far as
-/// `devdry` has them, and its own:
+/// The subcommands and their options are those of `systemd-hwdb(8)` and `udevadm(8)` as far as `devdry` has them,
+/// and its own:
 /// `verify [-r DIR] [--all] [--format FORMAT] [--ignore CODES].. [--no-summary] [--no-style] [--lint]
 /// [--udev] [--users FILE] [--groups FILE] [FILE]..`,
 /// `query [-r DIR] [--sources] [--index FILE] MODALIAS [FILE]..`,
 /// `update [-r DIR] [-s] [--all] [--format FORMAT] [--ignore CODES].. [FILE]..`,
-/// `events [-r DIR] [--sources] [--why FILE[:LINE]].. [--index FILE] [FILE]..`,
-/// `files [-r DIR]`, `compare [--index FILE] OLD NEW` and `explain CODE`.
+/// `events [-r DIR] [--sources] [--why FILE[:LINE]].. [--index FILE] [--udev] [FILE]..`,
+/// `files [-r DIR]`, `compare [--index FILE] [--udev] OLD NEW` and `explain CODE`.
 ///
-/// `LineFault::Help` comes for `--help`, `-h`, `help`, `--version` and `-V`, also after a
-/// subcommand, and for `explain` with a code, whose text is then the section on its message.
-/// `LineFault::Usage` comes for all else that `clap` does not take, no words at all among it; for a
-/// `query` with both files and an index; for `--all`, `files` or `compare` with a root that is given
-/// and empty; for `--users` or `--groups` without `--udev`; for a format that there is not; for a part of `--ignore` that is neither a code nor the
-/// word `comments`; and for `explain` with a code that there is not. `LineFault::Memory` comes where
-/// an allocation was refused.
+/// `LineFault::Help` is for `--help`, `-h`, `help`, `--version` and `-V`, also after a subcommand, and for
+/// `explain` with a code, whose text is then the section on its message.
+/// `LineFault::Usage` is for anything else that `clap` does not take, also if there are no words at all; for a
+/// `query` with both files and an index; for `--all`, `files` or `compare` with a root that is given and empty; for
+/// `--users` or `--groups` without `--udev`; for an unknown format; for a part of `--ignore` that is neither a code
+/// nor the word `comments`; and for `explain` with an unknown code. `LineFault::Memory` is for an allocation that
+/// was refused.
 pub fn parse_line<'a>(alloc: Global, words: &'a [String]) -> Result<Request<'a>, LineFault>
-    // A request is that of the subcommand which the words name, with the values that they give, and
-    // nothing of them is refused.
+    // A request is that of the subcommand that the words name, with the values that they give, and nothing of them
+    // is refused.
     ensures request { IfOk result (IsRequestOf (subcommand_of devdry (map string_bytes words.now))) }
-    // No request comes from words that are at fault.
+    // There is no request for words that are at fault.
     ensures faultless { IfOk result (λ request. fault_of devdry (map string_bytes words.now) ≡ []) }
     // A fault answers what is wrong with the words, or what they ask for: help, or usage.
     ensures fault { IfErr result (AnswersWords (fault_of devdry (map string_bytes words.now))
         (subcommand_of devdry (map string_bytes words.now))) }
-    // Words that are taken give no request for out of memory, or where they are refused or explained.
+    // Words that `clap` takes give no request only if memory runs out, or if they are refused or ask for an
+    // explanation.
     ensures refusal { takes devdry (map string_bytes words.now) ≡ true
         → IfErr result (λ fault. (fault ≡ LineFault.Memory)
         ⊎ AnswersSubcommand (subcommand_of devdry (map string_bytes words.now)) fault) }

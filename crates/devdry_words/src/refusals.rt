@@ -1,7 +1,7 @@
-//! What is refused of the words that `clap` takes.
+//! Which of the words that `clap` takes are refused.
 //!
-//! A rule of one argument on another would cost what `clap` says of the words that it takes, and so
-//! would values cut at commas, so that these few cases are looked at here.
+//! A rule of one argument on another would cost what `clap` proves about the words that it takes, and so would
+//! values split at commas, so these few cases are looked at here.
 ghost use Rattle.std.specs.Prelude.{◌≡◌};
 ghost use Rattle.clap.specs.Words.{found_of, rows_of};
 ghost use Rattle.devdry_words.specs.Answers.{IsUsageOf};
@@ -57,12 +57,12 @@ For more information, try '--help'.
 pub(crate) enum Refusal {
     /// A query names two databases: files and an index.
     TwoDatabases,
-    /// All is asked for, or what becomes of files, below a root that is given and empty: so a variable
-    /// without a value, as in `-r "$image"`, does not stand for the system itself.
+    /// All is asked for, or which files count, below a root that is given and empty: so a variable without a value,
+    /// as in `-r "$image"`, does not mean the system itself.
     EmptyRoot,
     /// A root that is compared is empty.
     EmptySide,
-    /// Users or groups are named, which udev alone looks up, and rules are not read as it reads them.
+    /// Users or groups are named, which only udev looks up, and rules are not read as it reads them.
     NoUdev,
     /// There is no such format.
     UnknownFormat,
@@ -77,8 +77,7 @@ fn names_two(name: &str, matches: &ArgMatches<'_>) -> bool
     (name == "query") & value(matches, "index").is_some() & has_value(matches, "FILE")
 }
 
-/// Whether the matches of a subcommand ask for all, or what becomes of files, below a root that is given
-/// and empty.
+/// Whether the matches of a subcommand ask for all, or which files count, below a root that is given and empty.
 fn lacks_root(name: &str, matches: &ArgMatches<'_>) -> bool
     ensures { result ≡ lacks_root name.now (rows_of (found_of matches.now)) }
 {
@@ -100,7 +99,7 @@ fn lacks_udev(matches: &ArgMatches<'_>) -> bool
         & !is_given(matches, "udev")
 }
 
-/// Why a value of matches is refused that has to be one of a few, if it is.
+/// Why a value of matches that has to be one of a few is refused, if it is.
 fn unknown_value(matches: &ArgMatches<'_>) -> Option<Refusal>
     ensures { result ≡ unknown_value (rows_of (found_of matches.now)) }
 {
@@ -130,7 +129,7 @@ pub(crate) fn refusal_of(name: &str, matches: &ArgMatches<'_>) -> Option<Refusal
     }
 }
 
-/// What is said of matches that are refused.
+/// What is said about matches that are refused.
 pub(crate) fn usage_of(alloc: Global, refusal: Refusal, matches: &ArgMatches<'_>) -> LineFault
     ensures { IsUsageOf (said_of refusal (rows_of (found_of matches.now))) result }
 {

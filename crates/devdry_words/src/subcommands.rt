@@ -13,7 +13,7 @@ use std::alloc::{AllocError, Global};
 /// A subcommand.
 #[derive(Clone, Copy, Debug, PartialEq, Eq)]
 pub(crate) enum Subcommand {
-    /// One that is run over the files which it reads.
+    /// One that is run over the files that it reads.
     Run(Verb),
     /// `files`.
     Files,
@@ -23,7 +23,7 @@ pub(crate) enum Subcommand {
     Explain,
 }
 
-/// The subcommand of a name.
+/// The subcommand with a name.
 pub(crate) fn subcommand_of(name: &str) -> Subcommand
     requires { IsSubcommandName name.now }
     ensures { subcommand_name result ≡ name.now }
@@ -39,7 +39,7 @@ pub(crate) fn subcommand_of(name: &str) -> Subcommand
     }
 }
 
-/// What a subcommand that is run asks for with these matches. `Err` is out of memory.
+/// What a subcommand that is run asks for with these matches. There is an `Err` only if memory runs out.
 pub(crate) fn run_request<'a>(
     alloc: Global,
     verb: Verb,
@@ -51,7 +51,7 @@ pub(crate) fn run_request<'a>(
     Ok(Request::Run(line_with(alloc, verb, root, matches)?))
 }
 
-/// What `files` asks for with these matches. `Err` is out of memory.
+/// What `files` asks for with these matches. There is an `Err` only if memory runs out.
 pub(crate) fn files_request<'a>(
     alloc: Global,
     matches: &ArgMatches<'a>,
@@ -62,7 +62,7 @@ pub(crate) fn files_request<'a>(
     Ok(Request::Files(line_with(alloc, Verb::Events, root, matches)?))
 }
 
-/// What `compare` asks for with these matches. `Err` is out of memory.
+/// What `compare` asks for with these matches. There is an `Err` only if memory runs out.
 pub(crate) fn compare_request<'a>(
     alloc: Global,
     matches: &ArgMatches<'a>,

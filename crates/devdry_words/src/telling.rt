@@ -1,4 +1,4 @@
-//! The faults that `devdry` itself tells, each with its text.
+//! The faults that `devdry` itself reports, each with its text.
 ghost use Rattle.std.specs.Prelude.{◌≡◌, IfOk, string_bytes};
 ghost use Rattle.devdry_words.specs.Answers.{Explains, IsHelpWith, IsUsageOf};
 ghost use Rattle.devdry_words.specs.Refusals.{invalid_value};
@@ -53,7 +53,7 @@ pub(crate) fn usage_on_value(alloc: Global, value: &str, behind: &str) -> LineFa
     }
 }
 
-/// The section on the message of a code, as help is given, or usage that lists the codes.
+/// The section on the message of a code, as help, or usage that lists the codes.
 pub(crate) fn explained(alloc: Global, code: &str) -> LineFault
     ensures { Explains code.now result }
 {

@@ -1,7 +1,7 @@
 //! The values of a subcommand's arguments.
 //!
-//! An argument that a subcommand does not take has no value there, so that the same questions are
-//! asked of the matches of each.
+//! An argument that a subcommand does not take has no value there, so that the same questions can be asked of the
+//! matches of each.
 ghost use Rattle.std.specs.Prelude.{◌≡◌, IfOk, flat_map, map, option_map};
 ghost use Rattle.clap.specs.Words.{all_of, first_of, found_of, rows_of};
 ghost use Rattle.devdry_words.specs.Values.{cut_at_commas, has_value, is_empty_text, is_set, text_of, texts_of};
@@ -16,7 +16,7 @@ pub fn value<'a>(matches: &ArgMatches<'a>, id: &str) -> Option<&'a str>
     matches.get_str(id)
 }
 
-/// The value of an argument, empty where it was not given.
+/// The value of an argument, empty if it was not given.
 pub fn text<'a>(matches: &ArgMatches<'a>, id: &str) -> &'a str
     ensures { result.now ≡ text_of id.now (rows_of (found_of matches.now)) }
 {
@@ -54,7 +54,7 @@ pub fn every_value<'b, 'a>(matches: &'b ArgMatches<'a>, id: &str) -> Option<&'b 
     matches.get_strs(id)
 }
 
-/// The values of an argument in their order, none where it was not given.
+/// The values of an argument in their order, none if it was not given.
 pub fn texts<'a>(
     alloc: Global,
     matches: &ArgMatches<'a>,
@@ -98,7 +98,7 @@ fn cut_each_at_commas<'a>(alloc: Global, texts: &[&'a str]) -> Result<Vec<&'a st
     Ok(parts)
 }
 
-/// The values of an argument in their order, each cut at its commas; none where it was not given.
+/// The values of an argument in their order, each cut at its commas; none if it was not given.
 pub fn parts<'a>(
     alloc: Global,
     matches: &ArgMatches<'a>,

@@ -73,7 +73,7 @@ devices rows = map device (groups rows)
 unfoldable pub programs : List Row → List (Text × AnswerValue)
 programs rows = zip (texts Command rows) (answers rows)
 
--- the event that lines describe, none of which is faulty, whose devices are these; rules are evaluated by the manual
+-- the event with these devices that lines describe, none of which is faulty; rules are evaluated by the manual
 unfoldable pub event : List Row → DeviceValue → List DeviceValue → EventValue
 event rows device parents = record {
   action = unwrap_or (first (texts Action rows)) [];

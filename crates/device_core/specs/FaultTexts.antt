@@ -1,4 +1,4 @@
--- What is said of a block that is faulty, and of an input of which nothing more is taken.
+-- What is said about a faulty block, and about an input from which no more is taken.
 use Rattle.std.specs.Prelude.{ℕ, List, ◌++◌, codes, decimal}
 use Rattle.device_core.specs.declared.faults.BlockFault.{BlockFault}
 use Rattle.device_core.specs.declared.faults.BlockFaultKind.{BlockFaultKind}

@@ -38,7 +38,7 @@ is_command (Some row) = is_kind Command row
 unfoldable pub follows_command : List Row → Bool
 follows_command above = is_command (last above)
 
--- the first line is no `C:`, or its action is empty; an answer there is one without a command
+-- the first line is not a `C:`, or its action is empty; an answer there is rather one without a command
 abbrev pub lacks_action : List Row → LineKind → Text → Bool
 lacks_action above Action rest = is_empty above && is_empty rest
 lacks_action above Answer rest = false
@@ -54,12 +54,12 @@ abbrev pub is_too_deep : List Row → LineKind → Bool
 is_too_deep above Device = nat_le most_devices (length (devices above))
 is_too_deep above _ = false
 
--- whether a path may follow that of a device above: as its parent's, or as the event device's where none is above
+-- whether a path may follow that of a device above: as its parent's, or as the event device's if none is above
 abbrev pub is_path_below : Option DeviceValue → Text → Bool
 is_path_below None path = is_device_path path
 is_path_below (Some above) path = is_parent_path above.path path
 
--- the line begins a device whose path is no parent of the one above, or the first has a wrong path
+-- the line begins a device whose path is not that of a parent of the one above, or the first has a wrong path
 abbrev pub is_wrong_path : List Row → LineKind → Text → Bool
 is_wrong_path above Device rest = not (is_path_below (device_above above) rest)
 is_wrong_path above _ rest = false
@@ -86,12 +86,12 @@ is_half above Constant rest below = is_none (pair_of rest)
 is_half above Command rest below = is_empty rest || not (begins_answer below)
 is_half above Answer rest below = not (follows_command above)
 
--- whether the name of a pair stands among these
+-- whether the name of a pair is among these
 abbrev pub has_name : List NameAndValue → Option NameAndValue → Bool
 has_name known None = false
 has_name known (Some pair) = named known pair.0
 
--- whether a device has already what the line gives it
+-- whether a device already has what the line gives it
 abbrev pub has_field : DeviceValue → DeviceField → Text → Bool
 has_field device Subsystem rest = is_some device.subsystem
 has_field device Driver rest = is_some device.driver
@@ -102,7 +102,7 @@ has_field device Property rest = has_name device.env (pair_of rest)
 has_field device Tag rest = is_among device.tags rest
 has_field device Link rest = is_among device.links rest
 
--- whether there is a device and it was given the field, or in a field of several this name or member, before
+-- whether there is a device that was given the field before, or for a field of several values this name or member
 abbrev pub some_has_field : Option DeviceValue → DeviceField → Text → Bool
 some_has_field None field rest = false
 some_has_field (Some device) field rest = has_field device field rest
@@ -133,7 +133,7 @@ row_fault above kind rest below = first_of (
     ∷ (is_again above kind rest, Twice)
     ∷ [])
 
--- what is wrong with a line that may be of no known form
+-- what is wrong with a line that may not be of a known form
 abbrev pub fault_unless : List Row → Option Row → List Text → Option BlockFaultKind
 fault_unless above None below = Some Letter
 fault_unless above (Some row) below = row_fault above row.0 row.1 below
@@ -146,12 +146,13 @@ has_nul line = is_some (position (λ b. b == nul) line)
 unfoldable pub line_fault : List Row → Text → List Text → Option BlockFaultKind
 line_fault above line below = if has_nul line then Some Nul else fault_unless above (row_of line) below
 
--- what a whole gives, unless a line of it is faulty
+-- what a whole gives, unless one of its lines is faulty
 abbrev pub unless_faulty : ℕ → Option BlockFaultKind → Result EventValue BlockFault → Result EventValue BlockFault
 unless_faulty line None whole = whole
 unless_faulty line (Some kind) whole = Err (record { line = line; kind = kind })
 
--- what lines give that are not faulty and describe these devices: their event, or at the last line the fault that there is none
+-- what lines that are not faulty and describe these devices give: their event, or at the last line the fault that
+-- there is no device
 abbrev pub given_with : List Row → List DeviceValue → Result EventValue BlockFault
 given_with rows [] = Err (record { line = length rows; kind = NoDevice })
 given_with rows (device ∷ parents) = Ok (event rows device parents)
@@ -161,7 +162,7 @@ unfoldable pub given_below : List Row → List Text → Result EventValue BlockF
 given_below above [] = given_with above (devices above)
 given_below above (line ∷ below) = unless_faulty (length above + 1) (line_fault above line below) (given_below (above ++ option_to_list (row_of line)) below)
 
--- what lines give; where there is none, the first is missing
+-- what lines give; if there are none, the first is missing
 unfoldable pub given_by : List Text → Result EventValue BlockFault
 given_by [] = Err (record { line = 1; kind = NoAction })
 given_by (line ∷ below) = given_below [] (line ∷ below)

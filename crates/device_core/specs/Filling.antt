@@ -1,4 +1,4 @@
--- For proofs only, no reader has to believe it: what filling a room with a piece's bytes leaves.
+-- Serves inner proofs only: what filling a room with a piece's bytes leaves.
 use Rattle.std.specs.Prelude.{◌≡◌, ℕ, ◌==◌, ◌+◌, ◌<◌, Bool, List, [], ◌∷◌, ◌++◌, length, take, if◌then◌else◌}
 use Rattle.text_bytes.specs.Names.{newline}
 use Rattle.device_core.specs.Runs.{complete_runs, rest_of}
@@ -12,7 +12,7 @@ abbrev pub first_line : List ℕ → List ℕ
 first_line [] = []
 first_line (byte ∷ text) = if byte == newline then byte ∷ [] else byte ∷ first_line text
 
--- The whole piece was put after what stood before, and no run is complete.
+-- The whole piece was put after what was held before, and no run is complete.
 pub record UsesAll (before piece : List ℕ) (used : ℕ) (begins : Bool) (held : List ℕ) : Type 0 where
   pub all : used ≡ length piece
   pub none : complete_runs (before ++ take used piece) ≡ []
@@ -34,12 +34,12 @@ pub record Overflows (before piece : List ℕ) (used : ℕ) (held room : List �
   pub none : complete_runs (before ++ take (used + 1) piece) ≡ []
   pub rest : rest_of (before ++ take (used + 1) piece) ≡ held ++ byte ∷ []
 
--- what filling comes to, by why it stopped
+-- the outcome of filling, by why it stopped
 abbrev pub FillsBy : Stop → List ℕ → List ℕ → ℕ → Bool → List ℕ → List ℕ → Type 0
 FillsBy Used before piece used begins held room = UsesAll before piece used begins held
 FillsBy Whole before piece used begins held room = Completes before piece used held
 FillsBy Full before piece used begins held room = Overflows before piece used held room
 
--- what filling a room with a piece's bytes has come to
+-- the outcome of filling a room with a piece's bytes
 abbrev pub Fills : List ℕ → List ℕ → Filled → List ℕ → Type 0
 Fills before piece filled room = FillsBy filled.stop before piece filled.used filled.at_start (take filled.len room) room

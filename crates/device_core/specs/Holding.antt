@@ -1,4 +1,4 @@
--- For proofs only, no reader has to believe it: how a splitter's fields hang together.
+-- Serves inner proofs only: how a splitter's fields depend on one another.
 use Rattle.std.specs.Prelude.{◌≡◌, ℕ, ◌==◌, ◌<◌, ◌≤◌, Bool, true, false, List, [], ◌∷◌, length, take}
 use Rattle.text_bytes.specs.Names.{newline}
 use Rattle.device_core.specs.Runs.{complete_runs, rest_of}
@@ -16,13 +16,13 @@ pub record IsPending (held : List ℕ) (at_start : Bool) : Type 0 where
   pub rest : rest_of held ≡ held
   pub begins : at_start ≡ begins_after true held
 
--- the splitter whose room holds these bytes: a block that stands, or the bytes that are pending
+-- the splitter whose room holds these bytes: a complete block, or pending bytes
 abbrev pub split_of : Bool → List ℕ → Bool → Split
 split_of true held ended = record { pending = []; block = held; ended = ended }
 split_of false held ended = record { pending = held; block = []; ended = ended }
 
--- The room has its size. A block that stands has a byte, and where none stands, what is held is pending:
--- nothing once the input has ended.
+-- The room has its size. A complete block has at least one byte; without one, what is held is pending, or nothing
+-- once the input has ended.
 pub record IsSplitter (room : List ℕ) (len : ℕ) (at_start standing ended : Bool) : Type 0 where
   pub sized : length room ≡ most_bytes
   pub within : len ≤ most_bytes

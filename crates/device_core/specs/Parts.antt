@@ -13,7 +13,7 @@ use Rattle.device_core.specs.Values.{NumberValue, AnswerValue}
 abbrev pub with_name : Pair → Option Pair
 with_name p = if is_empty p.0 then None else Some p
 
--- a name and its value: what comes before the first `=` and is not empty, and what after it
+-- a name and its value: what comes before the first `=` and is not empty, and what comes after it
 unfoldable pub pair_of : Text → Option Pair
 pair_of rest = option_and_then with_name (split_once equals rest)
 
@@ -25,7 +25,7 @@ number_below most bound text = if nat_le (length text) most then decimal_below b
 abbrev pub is_part : Text → Bool
 is_part text = is_some (number_below 10 (2 ^ 32) text)
 
--- two texts as a device number, where both are parts of one
+-- two texts as a device number, if both are parts of one
 abbrev pub with_parts : Pair → Option NumberValue
 with_parts p = if is_part p.0 && is_part p.1 then Some (record { major = p.0; minor = p.1 }) else None
 
@@ -46,16 +46,17 @@ with_status p = option_map (λ status. record { status = status; text = p.1 }) (
 unfoldable pub answer_of : Text → Option AnswerValue
 answer_of rest = with_status (answer_parts rest (split_once space rest))
 
--- whether each slash is followed by a byte that is none; the first argument says that one comes right before the text
+-- whether each slash is followed by a byte that is not a slash; the first argument says that one comes right before
+-- the text
 abbrev pub names_follow : Bool → Text → Bool
 names_follow after_slash [] = not after_slash
 names_follow after_slash (b ∷ text) = if b == slash then not after_slash && names_follow true text else names_follow false text
 
--- the path of an event device: it begins with a slash, has no empty component and ends in no slash
+-- the path of an event device: it begins with a slash, has no empty component and does not end in a slash
 unfoldable pub is_device_path : Text → Bool
 is_device_path [] = false
 is_device_path (b ∷ text) = b == slash && names_follow true text
 
--- whether a path is that of a parent: not empty, and with a slash after it the beginning of the other
+-- whether a path is that of a parent: not empty, and the other path begins with it and a slash
 unfoldable pub is_parent_path : (child parent : Text) → Bool
 is_parent_path child parent = not (is_empty parent) && starts_with nat_eq child (parent ++ slash ∷ [])

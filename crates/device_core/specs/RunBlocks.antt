@@ -27,7 +27,7 @@ pub record FindsFaulty (is_faulty : List ℕ → Bool) (texts found : List (List
   pub is : is_faulty faulty ≡ true
   pub found_are : found ≡ before ++ faulty ∷ []
 
--- the most bytes that a block may have, its newlines counted
+-- the most bytes that a block may have, newlines included
 abbrev pub most_bytes : ℕ
 most_bytes = 65536
 
@@ -39,6 +39,6 @@ is_too_long run = nat_lt most_bytes (length run)
 abbrev pub newline_count : List ℕ → ℕ
 newline_count text = count_by (λ byte. byte == newline) text
 
--- the line in which a run's first byte too many stands, counted from 1
+-- the line that has the first excess byte of a run, counted from 1
 unfoldable pub line_of_excess : List ℕ → ℕ
 line_of_excess run = newline_count (take most_bytes run) + 1

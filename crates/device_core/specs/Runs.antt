@@ -1,8 +1,8 @@
 -- Runs of lines: the blocks of an input.
 --
--- A line ends with its newline, and the last may lack it. A run is as many lines in a row as can be
--- of which none is empty; its newlines are counted to it, and the empty line after it is not. The
--- law `a_text_is_cut_one_way` says the same of bytes (`Cuts`).
+-- A line ends with its newline, and the last may lack it. A run is as many lines in a row as possible none of which
+-- is empty; its newlines belong to it, and the empty line after it does not. The law `a_text_is_cut_one_way` says the
+-- same in terms of bytes (`Cuts`).
 use Rattle.std.specs.Prelude.{ℕ, ◌==◌, Bool, true, false, List, [], ◌∷◌, ◌++◌, if◌then◌else◌}
 use Rattle.std.specs.List.{onto_first}
 use Rattle.text_bytes.specs.Names.{newline}
@@ -48,7 +48,7 @@ not_empty ((byte ∷ text) ∷ texts) = (byte ∷ text) ∷ not_empty texts
 abbrev pub complete_runs : List ℕ → List (List ℕ)
 complete_runs text = not_empty (sections_of (lines_inclusive text)).followed
 
--- the last run where no empty line follows it, else nothing
+-- the last run if no empty line follows it, else nothing
 abbrev pub rest_of : List ℕ → List ℕ
 rest_of text = (sections_of (lines_inclusive text)).rest
 

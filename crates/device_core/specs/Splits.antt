@@ -6,7 +6,7 @@ use Rattle.device_core.specs.declared.splitter.Taken.{Taken}
 use Rattle.device_core.specs.declared.splitter.SplitFault.{SplitFault}
 use Rattle.device_core.specs.declared.splitter.SplitFault.TheVariants.{TooLong, Ended}
 
--- the bytes taken of a run that is not complete, the block that is lent, and whether no more is taken
+-- the bytes taken from a run that is not complete, the complete block, and whether no more is taken
 pub record Split : Type 0 where
   pub pending : List ℕ
   pub block : List ℕ
@@ -16,7 +16,7 @@ pub record Split : Type 0 where
 abbrev pub opened : Split
 opened = record { pending = []; block = []; ended = false }
 
--- nothing is held, nothing lent, and no more is taken
+-- nothing is held, there is no block, and no more is taken
 abbrev pub closed : Split
 closed = record { pending = []; block = []; ended = true }
 
@@ -39,7 +39,7 @@ pub record Takes (old : Split) (piece : List ℕ) (taken : Taken) (new : Split) 
   pub moves : 0 < length piece → 0 < taken.used
   pub goes_on : (old.ended ≡ false) × (new.ended ≡ false)
 
--- The first run of the text has more bytes than a block may have, the first of them too many in this line.
+-- The first run of the text has more bytes than a block may have, and its first excess byte is in this line.
 pub record BeginsTooLong (text : List ℕ) (line : ℕ) : Type 0 where
   pub run : List ℕ
   pub others : List (List ℕ)
@@ -47,7 +47,7 @@ pub record BeginsTooLong (text : List ℕ) (line : ℕ) : Type 0 where
   pub too_long : most_bytes < length run
   pub counted : line ≡ line_of_excess run
 
--- What `take` does where it fails. The run that begins with the pending bytes and goes on with the
+-- What `take` does if it fails. The run that begins with the pending bytes and goes on with the
 -- piece is too long, whatever comes after the piece; or the input had ended.
 abbrev pub FailsBy : SplitFault → Split → List ℕ → Split → Type 0
 FailsBy (TooLong line) old piece new = ((later : List ℕ) → BeginsTooLong (old.pending ++ piece ++ later) line) × (old.ended ≡ false) × (new ≡ closed)
@@ -60,7 +60,7 @@ pub record Ends (old : Split) (some : Bool) (new : Split) : Type 0 where
   pub fits : length old.pending ≤ most_bytes
   pub answers : IsTrue some ↔ (old.pending ≢ [])
 
--- What `end` does where it fails: the input had ended before.
+-- What `end` does if it fails: the input had ended before.
 pub record HadEnded (fault : SplitFault) (old new : Split) : Type 0 where
   pub is : fault ≡ Ended
   pub ended : old.ended ≡ true

@@ -1,5 +1,5 @@
--- For the proof alone: what the private parts of the reader do with the lines so far. The clause of
--- `read_block` names none of this; it only carries the proof from one function to the next.
+-- Serves inner proofs only: what the private parts of the reader do with the lines so far. The clause of `read_block`
+-- names none of this; it only carries the proof from one function to the next.
 use Rattle.std.specs.Prelude.{◌≡◌, ℕ, ◌+◌, Bool, not, ◌||◌, List, [], ◌∷◌, ◌++◌, length, nat_le, Option, Some, None, option_map, Result, Ok, Err, if◌then◌else◌, is_some}
 use Rattle.std.specs.Option.{option_to_list}
 use Rattle.text_bytes.specs.Texts.{is_empty}
@@ -19,7 +19,7 @@ use Rattle.device_core.specs.declared.faults.BlockFault.{BlockFault}
 use Rattle.device_core.specs.declared.faults.BlockFaultKind.{BlockFaultKind}
 use Rattle.device_core.specs.declared.faults.BlockFaultKind.TheVariants.{NoAction, NoDevice, Letter, Twice, Path, Number, Pair, Nul, TooLong, TooDeep, Memory}
 
--- a fault of this kind is the one that is wanted; memory may always be refused
+-- a fault of this kind is the one that is wanted; memory may always run out
 abbrev pub Fails : {Y : Type 0} → BlockFaultKind → Result Y BlockFaultKind → Type 0
 Fails NoAction wanted = wanted ≡ Err NoAction
 Fails NoDevice wanted = wanted ≡ Err NoDevice
@@ -38,7 +38,7 @@ abbrev pub Gives : {X Y : Type 0} → (X → Y) → Result X BlockFaultKind → 
 Gives view (Ok x) wanted = wanted ≡ Ok (view x)
 Gives view (Err kind) wanted = Fails kind wanted
 
--- a result with a function over what it is well with
+-- a result with a function applied to its value
 abbrev pub if_ok : {X Y : Type 0} → (X → Y) → Result X BlockFaultKind → Result Y BlockFaultKind
 if_ok f (Ok x) = Ok (f x)
 if_ok f (Err kind) = Err kind
@@ -56,16 +56,16 @@ number_once before (Some number) = if is_some before then Err Twice else Ok numb
 unfoldable pub number_step : Option NumberValue → Text → Result NumberValue BlockFaultKind
 number_step before rest = number_once before (number_of rest)
 
--- a name and its value after those known, where the name is new
+-- a name and its value after those known, if the name is new
 abbrev pub with_pair : List NameAndValue → Option NameAndValue → Result (List NameAndValue) BlockFaultKind
 with_pair known None = Err Pair
 with_pair known (Some pair) = if named known pair.0 then Err Twice else Ok (known ++ pair ∷ [])
 
--- the rest of a line as a name and its value, where the name is new
+-- the rest of a line as a name and its value, if the name is new
 unfoldable pub pair_step : List NameAndValue → Text → Result (List NameAndValue) BlockFaultKind
 pair_step known rest = with_pair known (pair_of rest)
 
--- the rest of a line as one more text, where it is new and not empty
+-- the rest of a line as one more text, if it is new and not empty
 unfoldable pub member_step : List Text → Text → Result (List Text) BlockFaultKind
 member_step known rest = if is_empty rest then Err Pair else (if is_among known rest then Err Twice else Ok (known ++ rest ∷ []))
 
@@ -109,16 +109,16 @@ path_step closed (Some d) path = if nat_le 63 closed then Err TooDeep else (if i
 unfoldable pub device_step : Sofar → Text → Result Sofar BlockFaultKind
 device_step s path = if_ok (λ _. begun s path) (path_step (length s.closed) s.last path)
 
--- a line about the device above, where there is one
+-- a line about the device above, if there is one
 unfoldable pub above_step : Option DeviceValue → DeviceField → Text → Result DeviceValue BlockFaultKind
 above_step None field rest = Err NoDevice
 above_step (Some d) field rest = field_step d field rest
 
--- a command, where it is new, not empty, and the next line answers it
+-- a command, if it is new and not empty, and the next line answers it
 unfoldable pub command_step : List (Text × AnswerValue) → Text → Bool → Result Text BlockFaultKind
 command_step programs rest answered = if is_empty rest || not answered then Err Pair else (if named programs rest then Err Twice else Ok rest)
 
--- a command with its answer after those known, where the command is new
+-- a command with its answer after those known, if the command is new
 abbrev pub with_answer : List (Text × AnswerValue) → Text → Option AnswerValue → Result (List (Text × AnswerValue)) BlockFaultKind
 with_answer programs command None = Err Number
 with_answer programs command (Some answer) = if named programs command then Err Twice else Ok (programs ++ (command, answer) ∷ [])
@@ -141,7 +141,7 @@ row_step s Constant rest answered = if_ok (λ ps. record s { constants = ps; ask
 row_step s Command rest answered = if_ok (λ c. record s { asked = Some c }) (command_step s.programs rest answered)
 row_step s Answer rest answered = if_ok (λ ps. record s { programs = ps; asked = None }) (answer_step s.programs s.asked rest)
 
--- a line by its kind, unless it has a NUL byte or is none
+-- a line by its kind, unless it is not of a known kind
 abbrev pub known_row : Option Row → Result Row BlockFaultKind
 known_row None = Err Letter
 known_row (Some row) = Ok row
@@ -174,7 +174,7 @@ action_in (Ok row) = action_by row.0 row.1
 unfoldable pub first_step : Text → Result Text BlockFaultKind
 first_step line = action_in (plain_row line)
 
--- nothing is read after the first line yet
+-- nothing has been read after the first line
 abbrev pub start : Sofar
 start = record { closed = []; last = None; programs = []; asked = None; constants = [] }
 
@@ -217,7 +217,7 @@ abbrev pub then_finished : Text → Result (Sofar × ℕ) BlockFault → Result 
 then_finished action (Err fault) = Err fault
 then_finished action (Ok p) = finished action p.0 p.1
 
--- the event of the lines after the first, or the fault of that
+-- the event of the lines after the first, or the fault of the first
 abbrev pub behind_first : List Text → Result Text BlockFaultKind → Result EventValue BlockFault
 behind_first lines (Err kind) = Err (record { line = 1; kind = kind })
 behind_first lines (Ok action) = then_finished action (steps start 1 lines)

@@ -1,10 +1,10 @@
--- An event, without where its texts lie in memory.
+-- An event, regardless of where its texts are in memory.
 use Rattle.std.specs.Prelude.{ℕ, List, [], ◌∷◌, Option, Some, None}
 use Rattle.text_tables.specs.Texts.{Text}
 use Rattle.text_tables.specs.Pairs.{Pair}
 use Rattle.text_bytes.specs.declared.profile.Profile.{Profile}
 
--- a device number, its two parts as written
+-- a device number, with its two parts as written
 pub record NumberValue : Type 0 where
   pub major : Text
   pub minor : Text
@@ -21,7 +21,7 @@ pub record DeviceValue : Type 0 where
   pub tags : List Text
   pub links : List Text
 
--- a device that is reported by its path, its subsystem and its attributes alone
+-- a device of which only the path, the subsystem and the attributes are known
 abbrev pub told : (path subsystem : Text) → List Pair → DeviceValue
 told path subsystem attrs = record {
   path = path;
@@ -40,8 +40,8 @@ pub record AnswerValue : Type 0 where
   pub status : ℕ
   pub text : Text
 
--- an event: its action, its device, the parents of that from the nearest on, the answers of programs under their commands, the constants, and by
--- whose word rules are evaluated over it
+-- an event: its action, its device, the parents of that from the nearest on, the answers of programs under their
+-- commands, the constants, and the profile by which rules are evaluated over it
 pub record EventValue : Type 0 where
   pub action : Text
   pub device : DeviceValue

@@ -1,4 +1,4 @@
-//! What is known of a device.
+//! What is known about a device.
 ghost use Rattle.std.specs.Prelude.{◌≡◌, option_copied, option_map};
 ghost use Rattle.device_core.specs.Values.{told};
 
@@ -6,7 +6,7 @@ use std::alloc::Global;
 use std::marker::Model;
 use text_tables::{Pairs, Texts};
 
-/// A device number, its two parts as written: 1 to 10 digits each, below 2^32.
+/// A device number, with its two parts as written: 1 to 10 digits each, below 2^32.
 #[derive(Drop)]
 pub struct DeviceNumber<'a> {
     pub(crate) major: &'a [u8],
@@ -61,7 +61,7 @@ impl<'a> Model for Device<'a> {
 }
 
 impl<'a> Device<'a> {
-    /// A device that is reported by its path, its subsystem and its attributes alone.
+    /// A device of which only the path, the subsystem and the attributes are known.
     pub fn told(alloc: Global, path: &'a [u8], subsystem: &'a [u8], attrs: Pairs<'a>) -> Device<'a>
         ensures { result ≡ told path.now subsystem.now attrs.entry }
     {

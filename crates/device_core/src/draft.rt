@@ -1,7 +1,7 @@
 //! The lines so far, and what one more line does to them.
 //!
-//! The device that lines are added to is kept apart from those above it, so that it changes in
-//! place. A command waits for its answer, which is the next line.
+//! The device that lines are added to is kept apart from those above it, so that it changes in place. A command
+//! waits for its answer, which is the next line.
 ghost use Rattle.std.specs.Prelude.{◌≡◌, ◌++◌, option_map, length, Some, Ok};
 ghost use Rattle.std.specs.Option.{option_to_list};
 ghost use Rattle.device_core.specs.Steps.{Gives, if_ok, above_step, path_step, device_step, command_step, answer_step, row_step, sofar, start};
@@ -103,7 +103,7 @@ fn begin_device<'a>(
     close_last(&mut draft.closed, last)
 }
 
-/// A command, with whether its answer follows.
+/// A command; `answered` says whether its answer follows.
 #[tactic(auto, unfolding(crate::specs::Steps::command_step))]
 fn check_command<'a>(
     programs: &Table<'a, ProgramAnswer<'a>>,

@@ -1,7 +1,7 @@
-//! What happened to a device, and all that is known of it and of its parents.
+//! What happened to a device, and all that is known about it and its parents.
 //!
-//! The event device stands apart from its parents, so that nothing has to say what an event without
-//! a device would be. `read_block` alone makes an event.
+//! The event device is kept apart from its parents, so that an event without a device need not be considered. Only
+//! `read_block` makes an event.
 ghost use Rattle.std.specs.Prelude.{◌≡◌, ◌<◌, ◌≤◌, length, option_copied, slice_get};
 ghost use Rattle.device_core.specs.Values.{by_profile, chain, most_devices};
 
@@ -65,7 +65,7 @@ impl<'a> Event<'a> {
         1 + self.parents.len()
     }
 
-    /// The device at a place of the chain, where there is one; the event device is at 0.
+    /// The device at a position of the chain, if there is one; the event device is at 0.
     pub fn device_at(&self, place: usize) -> Option<&Device<'a>>
         ensures { option_copied result ≡ slice_get (chain self.now) place }
     {
@@ -89,7 +89,7 @@ impl<'a> Event<'a> {
         &self.constants
     }
 
-    /// By whose word rules are evaluated over the event: the manual's, unless `with_profile` said otherwise.
+    /// The profile by which rules are evaluated over the event: the manual, unless `with_profile` said otherwise.
     pub fn profile(&self) -> Profile
         ensures { result ≡ self.now.profile }
     {

@@ -16,7 +16,7 @@ pub struct BlockFault {
 /// What is wrong with a line of an event block.
 #[derive(Clone, Copy, Debug, PartialEq, Eq)]
 pub enum BlockFaultKind {
-    /// 1: the first line is no `C:`, or its action is empty.
+    /// 1: the first line is not a `C:`, or its action is empty.
     NoAction,
     /// 2: a line about a device comes before the first `P:`, or the block has no `P:`.
     NoDevice,
@@ -24,9 +24,9 @@ pub enum BlockFaultKind {
     Letter,
     /// 4: what may be given once is given again.
     Twice,
-    /// 5: the path is not that of a device, or of no parent of the device before.
+    /// 5: the path is not that of a device, or not that of a parent of the device before.
     Path,
-    /// 6: a device number or an exit status is none.
+    /// 6: a device number or an exit status is invalid.
     Number,
     /// 7: a name, a text or the line that belongs to this one is missing.
     Pair,
@@ -36,7 +36,7 @@ pub enum BlockFaultKind {
     TooLong,
     /// 10: the line begins the 65th device.
     TooDeep,
-    /// 11: memory runs out.
+    /// 11: memory ran out.
     Memory,
 }
 
@@ -44,7 +44,7 @@ impl BlockFaultKind {
     ghost use Rattle.std.specs.Prelude.{◌≡◌};
     ghost use Rattle.device_core.specs.FaultTexts.{kind_text};
 
-    /// The kind in words, as the line on a faulty block tells it.
+    /// The kind in words, as the line on a faulty block gives it.
     pub fn text(self) -> &'static str
         ensures { result.now ≡ kind_text self }
     {

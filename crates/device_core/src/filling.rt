@@ -15,7 +15,7 @@ pub(crate) enum Stop {
     Used,
     /// A run is complete.
     Whole,
-    /// A run is longer than the room.
+    /// A run is longer than the room has bytes.
     Full,
 }
 
@@ -82,7 +82,7 @@ pub(crate) fn fill(room: &mut [u8], held: usize, begins: bool, piece: &[u8]) -> 
     }
 }
 
-/// How long the first line is, its newline counted to it if it has one.
+/// How long the first line is, including its newline if it has one.
 fn line_length(text: &[u8]) -> usize
     ensures value { result ≡ length (first_line text.now) }
     ensures within { result ≤ length text.now }

@@ -8,7 +8,7 @@ ghost use Rattle.device_core.specs.Steps.{Gives, plain_row};
 use crate::faults::BlockFaultKind;
 use text_bytes::find;
 
-/// What a line about the device above says of it, each by its letter.
+/// What a line about the device above gives, each with its letter.
 #[derive(Clone, Copy)]
 pub enum DeviceField {
     /// `U`: its subsystem.
@@ -29,7 +29,7 @@ pub enum DeviceField {
     Link,
 }
 
-/// What a line of an event block is about, each by its letter.
+/// What a line of an event block is about, each with its letter.
 #[derive(Clone, Copy)]
 pub enum LineKind {
     /// `C`: the action.
@@ -46,7 +46,7 @@ pub enum LineKind {
     Answer,
 }
 
-/// The letter of a line that has the form, and its rest.
+/// The letter and the rest of a line that has the form.
 #[tactic(auto, unfolding(crate::specs::Lines::form))]
 fn form(line: &[u8]) -> Option<(u8, &[u8])>
     ensures { option_map (λ p. (p.0, p.1.now)) result ≡ form line.now }

@@ -69,7 +69,7 @@ pub(crate) fn answer_of(rest: &[u8]) -> Option<ProgramAnswer<'_>>
     })
 }
 
-/// Whether each slash is followed by a name, a slash standing before the text.
+/// Whether each slash is followed by a name, with a slash before the text.
 fn names_follow(text: &[u8]) -> bool
     ensures { result ≡ names_follow true text.now }
 {

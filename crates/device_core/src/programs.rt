@@ -3,7 +3,7 @@ ghost use Rattle.std.specs.Prelude.{◌≡◌};
 
 use std::marker::Model;
 
-/// The answer of a program, as the block gives it in the place of a run.
+/// The answer of a program, as the block gives it instead of a run.
 #[derive(Drop)]
 pub struct ProgramAnswer<'a> {
     pub(crate) status: u8,

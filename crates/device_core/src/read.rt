@@ -165,16 +165,15 @@ fn read_lines<'a>(alloc: Global, block: &'a [u8]) -> Result<Event<'a>, BlockFaul
     finish(action, draft, count)
 }
 
-/// Reads an event block, as udev's properties of an event are in lines: the action, then each
-/// device of the chain with what is known of it.
+/// Reads an event block, which gives udev's properties of an event in lines: the action, then each device of the
+/// chain with what is known about it.
 ///
-/// A block has at most 65,536 bytes with its newlines and at most 64 devices. The fault is that
-/// of the first faulty line, and in it the first of: a NUL byte (`Nul`), no line of the form
-/// (`Letter`), no action (`NoAction`), no device (`NoDevice`), too many of them (`TooDeep`), a
-/// wrong path (`Path`), a wrong number (`Number`), a missing part (`Pair`), a repeated one
-/// (`Twice`). A block that is too long is `TooLong` before all else. Where no line is faulty and
-/// there is no device, the fault is `NoDevice` at the last line. `Memory` comes where room was
-/// refused. Nothing is copied: the event borrows the block.
+/// A block has at most 65,536 bytes with its newlines and at most 64 devices. The fault is that of the first faulty
+/// line, and in it the first of: a NUL byte (`Nul`), no line of the form (`Letter`), no action (`NoAction`), no
+/// device (`NoDevice`), too many of them (`TooDeep`), a wrong path (`Path`), a wrong number (`Number`), a missing
+/// part (`Pair`), a repeated one (`Twice`). A block that is too long is `TooLong` before all else. If no line is
+/// faulty and there is no device, the fault is `NoDevice` at the last line. `Memory` means that an allocation
+/// failed. Nothing is copied: the event borrows the block.
 pub fn read_block<'a>(alloc: Global, block: &'a [u8]) -> Result<Event<'a>, BlockFault>
     ensures event { IfOk result (λ e. block_gives block.now ≡ Ok e) }
     ensures fault { IfErr result (λ f. f.kind ≢ BlockFaultKind.Memory → block_gives block.now ≡ Err f) }

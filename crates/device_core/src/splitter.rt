@@ -1,6 +1,6 @@
-//! The splitter: blocks of an input that comes in pieces.
+//! The splitter: cuts an input that comes in pieces into blocks.
 //!
-//! Its room is a boxed slice, which can't grow: no call but `new` could take memory.
+//! Its room is a boxed slice, which can't grow: only `new` can take memory.
 ghost use Rattle.std.specs.Prelude.{◌≡◌, ◌≤◌, ◌+◌, [], length, IfOk, IfErr};
 ghost use Rattle.device_core.specs.RunBlocks.{most_bytes, newline_count};
 ghost use Rattle.device_core.specs.Splits.{opened, Takes, Ends, FailsBy, HadEnded};
@@ -15,7 +15,7 @@ use std::marker::Model;
 /// The most bytes of a block.
 const ROOM: usize = 65_536;
 
-/// What taking a piece came to.
+/// The outcome of taking a piece.
 #[derive(Clone, Copy, Debug, PartialEq, Eq)]
 pub struct Taken {
     /// How many of the piece's bytes were used.
@@ -27,8 +27,8 @@ pub struct Taken {
 /// Why nothing more is taken.
 #[derive(Clone, Copy, Debug, PartialEq, Eq)]
 pub enum SplitFault {
-    /// 1: a block has more than 65,536 bytes, its newlines counted: byte 65,537 is in this of its
-    /// lines, counted from 1.
+    /// 1: a block has more than 65,536 bytes, newlines included: byte 65,537 is in this of its lines, counted from
+    /// 1.
     TooLong {
         /// The line.
         line: usize,
@@ -53,8 +53,8 @@ impl fmt::Display for SplitFault {
 
 impl Error for SplitFault {}
 
-/// Cuts an input into its blocks, the longest runs of lines that are not empty: so does
-/// `udevadm info --export-db` of udevadm(8) part the devices that it lists.
+/// Cuts an input into its blocks, the longest runs of lines that are not empty, as `udevadm info --export-db` of
+/// udevadm(8) separates the devices that it lists.
 #[derive(Drop)]
 pub struct Splitter {
     room: BoxedSlice<u8>,
@@ -62,7 +62,7 @@ pub struct Splitter {
     len: usize,
     /// Whether a line begins after them.
     at_start: bool,
-    /// Whether they are a block that is lent.
+    /// Whether they are a complete block, which the caller can borrow.
     standing: bool,
     /// Whether no more is taken.
     ended: bool,
@@ -131,8 +131,8 @@ impl Splitter {
         }
     }
 
-    /// The block that the last call completed, without the empty line after it; nothing if that call
-    /// completed none or failed.
+    /// The block that the last call completed, without the empty line after it; empty if that call completed none
+    /// or failed.
     pub fn block(&self) -> &[u8]
         ensures { result.now ≡ self.now.block }
     {
@@ -158,7 +158,7 @@ impl Splitter {
         Ok(self.standing)
     }
 
-    /// Lets go of the block, if one is lent.
+    /// Drops the complete block, if there is one.
     fn let_go(&mut self)
         ensures { self.new ≡ record self.old { block = [] } }
     {
@@ -170,7 +170,7 @@ impl Splitter {
     }
 }
 
-/// In which line the byte after a text stands, counted from 1.
+/// The line of the byte after a text, counted from 1.
 fn line_after(text: &[u8]) -> usize
     requires { length text.now ≤ most_bytes }
     ensures { result ≡ newline_count text.now + 1 }

@@ -22,7 +22,7 @@ node_lines outcome =
 abbrev pub run_lines : List Command → Text
 run_lines runs = flat_map (λ command. run_line command.kind command.text) runs
 
--- the lines of the answer to an event that comes to this, one for each part that has something to say
+-- the lines of the answer to an event with this outcome, one for each part that has something to say
 unfoldable pub answer_lines : EventValue → Outcome → Text
 answer_lines event outcome =
     event_line event.action event.device.path
@@ -36,6 +36,6 @@ answer_lines event outcome =
     ++ run_lines outcome.runs
     ++ note_lines outcome.notes
 
--- the answer to an event that comes to this: its lines, and an empty line
+-- the answer to an event with this outcome: its lines, and an empty line
 abbrev pub answer : EventValue → Outcome → Text
 answer event outcome = answer_lines event outcome ++ newline ∷ []

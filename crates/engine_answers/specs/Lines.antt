@@ -19,7 +19,7 @@ line word said = word ++ space ∷ said ++ newline ∷ []
 unfoldable pub text_line : Text → Text → Text
 text_line word text = line word (escape_text text)
 
--- a line with a text that may not be there; without it there is no line
+-- a line with a text, if there is one
 abbrev pub given_line : Text → Option Text → Text
 given_line word None = []
 given_line word (Some text) = text_line word text
@@ -49,18 +49,18 @@ shown_line pair = cond (is_hidden pair.0) [] (pair_line (codes "env") pair)
 abbrev pub env_lines : List Pair → Text
 env_lines pairs = flat_map shown_line pairs
 
--- the line of a priority, where one was assigned
+-- the line of a priority, if one was assigned
 abbrev pub priority_line : Option ℤ → Text
 priority_line None = []
 priority_line (Some priority) = line (codes "priority") (signed_decimal priority)
 
--- the line on watching, where it was assigned
+-- the line for watching or not, if it was assigned
 abbrev pub watch_line : Option Bool → Text
 watch_line None = []
 watch_line (Some true) = codes "watch\n"
 watch_line (Some false) = codes "nowatch\n"
 
--- the line of what stays in the database
+-- the line that says that what is known stays in the database
 abbrev pub persist_line : Bool → Text
 persist_line true = codes "persist\n"
 persist_line false = []
@@ -69,7 +69,7 @@ persist_line false = []
 unfoldable pub run_line : RunType → Text → Text
 run_line kind text = line (codes "run") (run_name kind ++ space ∷ escape_text text)
 
--- the line of a note: where its rule stands, what it says, and its word
+-- the line of a note: the place of its rule, what it says, and its word
 unfoldable pub note_line : Note → Text
 note_line note = line (codes "note") (place_of note.file note.line ++ text_of note.kind ++ word_part note.word)
 

@@ -9,7 +9,7 @@ use eval_rules::{Commands, Outcome};
 use std::alloc::{AllocError, Global};
 use text_bytes::Bytes;
 
-/// The lines of the answer to an event: one for each part of what it comes to that has something to say.
+/// The lines of the answer to an event: one for each part of its outcome that has something to say.
 ///
 /// The lines are `event ACTION PATH`, `name`, `owner`, `group`, `mode`, `priority`, `watch` or
 /// `nowatch`, `persist`, `label MODULE=..`, `link`, `tag`, `env KEY=..`, `attr NAME=..`, `sysctl
@@ -46,7 +46,7 @@ pub fn answer(alloc: Global, event: &Event<'_>, outcome: &Outcome) -> Result<Byt
     Ok(Bytes::new(lines))
 }
 
-/// Puts the lines on the device's node after others.
+/// Adds the lines on the device's node.
 #[tactic(auto, unfolding(crate::specs::Answers::node_lines))]
 fn push_node(alloc: Global, lines: &mut Vec<u8>, outcome: &Outcome) -> Result<(), AllocError>
     ensures { OnOk result (lines.new.items ≡ lines.old.items ++ node_lines outcome.now) }
@@ -61,7 +61,7 @@ fn push_node(alloc: Global, lines: &mut Vec<u8>, outcome: &Outcome) -> Result<()
     Ok(())
 }
 
-/// Puts the lines of commands after others.
+/// Adds the lines of commands.
 fn push_runs(alloc: Global, lines: &mut Vec<u8>, runs: &Commands) -> Result<(), AllocError>
     ensures { OnOk result (lines.new.items ≡ lines.old.items ++ run_lines runs.now) }
 {

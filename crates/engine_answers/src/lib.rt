@@ -1,7 +1,7 @@
 //! Answers: the outcome of an event, as lines.
 //!
-//! Each line is a word and what it says, so that a reader can cut it at the first space. Every text is escaped, so that
-//! no text can be taken for a line.
+//! Each line is a word and what it says, so that a reader can cut it at its first space. Every text is escaped, so
+//! that no text can be taken for a line.
 //!
 //! Functions that allocate return `AllocError` when memory runs out.
 #![tactic(auto)]

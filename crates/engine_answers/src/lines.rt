@@ -9,7 +9,7 @@ use rule_types::RunType;
 use std::alloc::{AllocError, Global};
 use text_bytes::{Bytes, escape};
 
-/// Puts a line with a text after others.
+/// Adds a line with a text.
 #[tactic(auto, unfolding(crate::specs::Lines::text_line))]
 pub fn push_text(
     alloc: Global,
@@ -26,7 +26,7 @@ pub fn push_text(
     Ok(())
 }
 
-/// Puts a line with a text after others, if the text is there.
+/// Adds a line with a text, if there is one.
 pub(crate) fn push_given(
     alloc: Global,
     lines: &mut Vec<u8>,
@@ -41,7 +41,7 @@ pub(crate) fn push_given(
     }
 }
 
-/// Puts a line with a name and its value after others.
+/// Adds a line with a name and its value.
 #[tactic(auto, unfolding(crate::specs::Lines::pair_line))]
 pub fn push_pair(
     alloc: Global,
@@ -61,7 +61,7 @@ pub fn push_pair(
     Ok(())
 }
 
-/// Puts the line of a property after others, unless its name begins with a dot.
+/// Adds the line of a property, unless its name begins with a dot.
 pub(crate) fn push_shown(
     alloc: Global,
     lines: &mut Vec<u8>,
@@ -83,7 +83,7 @@ pub fn is_hidden(name: &[u8]) -> bool
     name.first() == Some(&b'.')
 }
 
-/// Puts the line of a priority after others, if one was assigned.
+/// Adds the line of a priority, if one was assigned.
 pub fn push_priority(lines: &mut Vec<u8>, priority: Option<i32>) -> Result<(), AllocError>
     ensures { OnOk result (lines.new.items ≡ lines.old.items ++ priority_line priority) }
 {
@@ -96,7 +96,7 @@ pub fn push_priority(lines: &mut Vec<u8>, priority: Option<i32>) -> Result<(), A
     Ok(())
 }
 
-/// Puts the line on watching after others, if it was assigned.
+/// Adds the line for watching or not, if it was assigned.
 pub fn push_watch(lines: &mut Vec<u8>, watch: Option<bool>) -> Result<(), AllocError>
     ensures { OnOk result (lines.new.items ≡ lines.old.items ++ watch_line watch) }
 {
@@ -108,7 +108,7 @@ pub fn push_watch(lines: &mut Vec<u8>, watch: Option<bool>) -> Result<(), AllocE
     Ok(())
 }
 
-/// Puts the line of what stays in the database after others.
+/// Adds the line that says that what is known stays in the database, if it does.
 pub fn push_persist(lines: &mut Vec<u8>, persist: bool) -> Result<(), AllocError>
     ensures { OnOk result (lines.new.items ≡ lines.old.items ++ persist_line persist) }
 {
@@ -118,7 +118,7 @@ pub fn push_persist(lines: &mut Vec<u8>, persist: bool) -> Result<(), AllocError
     Ok(())
 }
 
-/// Puts the line of a command after others.
+/// Adds the line of a command.
 #[tactic(auto, unfolding(crate::specs::Lines::run_line))]
 pub fn push_run(
     alloc: Global,
@@ -136,7 +136,7 @@ pub fn push_run(
     Ok(())
 }
 
-/// Puts the line of a note after others.
+/// Adds the line of a note.
 #[tactic(auto, unfolding(crate::specs::Lines::note_line))]
 pub(crate) fn push_note(alloc: Global, lines: &mut Vec<u8>, note: &Note) -> Result<(), AllocError>
     ensures { OnOk result (lines.new.items ≡ lines.old.items ++ note_line note.now) }
@@ -149,7 +149,7 @@ pub(crate) fn push_note(alloc: Global, lines: &mut Vec<u8>, note: &Note) -> Resu
     Ok(())
 }
 
-/// Puts the first line after others: what happened, and to which device.
+/// Adds the first line: what happened, and to which device.
 #[tactic(auto, unfolding(crate::specs::Lines::event_line))]
 pub fn push_event(
     alloc: Global,

@@ -7,7 +7,7 @@ use eval_state::Notes;
 use std::alloc::{AllocError, Global};
 use text_tables::{OwnedPairs, OwnedTexts};
 
-/// Puts a line for each text after others.
+/// Adds a line for each text.
 pub(crate) fn push_texts(
     alloc: Global,
     lines: &mut Vec<u8>,
@@ -22,7 +22,7 @@ pub(crate) fn push_texts(
     Ok(())
 }
 
-/// Puts a line for each name and its value after others.
+/// Adds a line for each name and its value.
 pub(crate) fn push_pairs(
     alloc: Global,
     lines: &mut Vec<u8>,
@@ -37,7 +37,7 @@ pub(crate) fn push_pairs(
     Ok(())
 }
 
-/// Puts the lines of properties after others.
+/// Adds the lines of properties.
 pub(crate) fn push_env(
     alloc: Global,
     lines: &mut Vec<u8>,
@@ -51,7 +51,7 @@ pub(crate) fn push_env(
     Ok(())
 }
 
-/// Puts the lines of notes after others.
+/// Adds the lines of notes.
 pub fn push_notes(alloc: Global, lines: &mut Vec<u8>, notes: &Notes) -> Result<(), AllocError>
     ensures { OnOk result (lines.new.items ≡ lines.old.items ++ note_lines notes.now) }
 {

@@ -6,7 +6,7 @@ use Rattle.engine_formats.specs.Codes.{remark_of}
 use Rattle.engine_formats.specs.declared.remark.Remark.{Remark}
 use Rattle.engine_formats.specs.declared.remark.Remark.TheVariants.{Message, Lint, IdleIgnore, UnknownCode}
 
--- whether a remark is on what is found in a file, a message or a lint, and not on a comment
+-- whether a remark is about what is found in a file, a message or a lint, and not about a comment
 abbrev pub is_found : Remark → Bool
 is_found (Message kind) = true
 is_found (Lint lint) = true

@@ -1,4 +1,4 @@
--- What is found in a file and told of it.
+-- What is found in a file, and what is reported for it.
 use Rattle.std.specs.Prelude.{Bool, ◌||◌, if◌then◌else◌, List, [], ◌∷◌, map, option_map}
 use Rattle.text_bytes.specs.Lines.{numbered_lines}
 use Rattle.text_bytes.specs.declared.message.Message.{Message}
@@ -81,15 +81,15 @@ accounts_by line = record {
   groups = option_map (λ file. accounts_of Group file.bytes) line.groups;
 }
 
--- what is reported for the rules of a file
+-- the findings about the rules of a file
 abbrev pub findings_of : Line → SourceFile → List PlacedFinding
 findings_of line file = findings_as line.profile (accounts_by line) file
 
--- the lints of a rules file, where they are asked for, or comments count, which may silence them
+-- the lints of a rules file, if they are asked for or comments count, which may silence them
 abbrev pub lints_counted : Profile → Bool → List Text → SourceFile → List PlacedLint
 lints_counted profile lint ignored file = if lint || has_comments ignored then placed_lints profile file else []
 
--- what is found in a rules file: its findings with these lints put among them, each after all that is reported for its rule
+-- what is found in a rules file: its findings with these lints merged in, each after all that is found about its rule
 abbrev pub found_with : FileText → List PlacedFinding → List PlacedLint → List DiagnosticValue
 found_with file findings lints = by_line (map (rule_diagnostic file) findings) (map (lint_diagnostic file) lints)
 
@@ -101,7 +101,7 @@ rules_found line file = found_with (file_text line file) (findings_of line file)
 abbrev pub database_found : Line → SourceFile → List DiagnosticValue
 database_found line file = map (database_diagnostic (file_text line file)) (messages_of (file ∷ []))
 
--- the codes in comments of a file, where comments count
+-- the codes in comments of a file, if comments count
 abbrev pub ignores_counted : Profile → List Text → SourceFile → List Ignore
 ignores_counted profile ignored file = if has_comments ignored then ignores_in profile file else []
 

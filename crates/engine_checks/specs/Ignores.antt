@@ -23,7 +23,7 @@ pub record Ignore : Type 0 where
   pub scope : Scope
   pub code : Text
 
--- what follows the front of a text, where it begins with that
+-- what follows the front of a text, if it begins with that
 abbrev pub behind : Text → Text → Option Text
 behind front text = if same_text (take (length front) text) front then Some (drop (length front) text) else None
 
@@ -61,13 +61,14 @@ ignore_at line scope column text = record {
   code = code_in text;
 }
 
--- texts of a comment in this line, one after another with a byte between them, of which the first begins in this column
+-- texts of a comment in this line, one after another with a byte between them, the first of which begins in this
+-- column
 abbrev pub ignores_at : ℕ → Scope → ℕ → List Text → List Ignore
 ignores_at line scope column [] = []
 ignores_at line scope column (text ∷ texts) =
     ignore_at line scope column text ∷ ignores_at line scope (column + length text + 1) texts
 
--- the same of what a comment asks for, which ends where its line ends
+-- the same for what a comment asks for, which ends where its line ends
 abbrev pub ignores_asked : NumberedLine → Scope × Text → List Ignore
 ignores_asked l asked = ignores_at (capped l.number) asked.0 (length l.text + 1 - length asked.1) (texts_of asked.0 asked.1)
 
@@ -89,12 +90,13 @@ ignores_of_line kind next l = ignores_behind l next (behind (codes "# devdry:") 
 abbrev pub next_behind : List ℕ → ℕ → Option ℕ
 next_behind starts line = find (nat_lt line) starts
 
--- the lines that rules have the numbers of, also the one that is open where the file ends; in a database the lines that are no comments
+-- the lines whose numbers rules have, also the one that is open at the end of the file; in a database the lines that
+-- are not comments
 abbrev pub starts_of : Profile → FileKind → List ℕ → List ℕ
 starts_of profile Rules bytes = map (λ l. l.number) (joined_lines profile bytes).lines ++ option_to_list (joined_lines profile bytes).open_at
 starts_of profile Hwdb bytes = map (λ l. capped l.number) (filter (λ l. not (is_comment l.text)) (numbered_lines bytes))
 
--- the codes in lines, each comment on the next rule being about the first of these starts after it
+-- the codes in lines, where each comment on the next rule is about the first of these starts after it
 abbrev pub ignores_among : FileKind → List ℕ → List NumberedLine → List Ignore
 ignores_among kind starts lines = flat_map (λ l. ignores_of_line kind (next_behind starts (capped l.number)) l) lines
 

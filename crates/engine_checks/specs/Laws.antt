@@ -1,4 +1,4 @@
--- What is left out, what is said of codes in comments, and where these stand.
+-- What is left out, what is said about codes in comments, and where these are.
 use Rattle.std.specs.Prelude.{◌≡◌, ◌⊎◌, ◌<◌, ◌≤◌, ◌-◌, ℕ, Bool, true, false, List, ◌∷◌, ◌++◌, filter, map, not, take, drop, All, Contains, Option, Some, None}
 use Rattle.text_bytes.specs.Lines.{numbered_lines}
 use Rattle.text_bytes.specs.Texts.{unindented}
@@ -49,7 +49,8 @@ messages_in line file = map (rule_diagnostic (file_text line file)) (findings_of
 abbrev pub lints_in : Line → SourceFile → List DiagnosticValue
 lints_in line file = map (lint_diagnostic (file_text line file)) (placed_lints line.profile file)
 
--- A code in a comment silences what was found: that has the code, and the comment is about the whole file, or about the line that it is reported.
+-- A code in a comment silences what was found: that has the code, and the comment is about the whole file, or about
+-- the line with which this is reported.
 pub record IsSilencing (ignore : Ignore) (d : DiagnosticValue) : Type 0 where
   pub code : code_of d.remark ≡ ignore.code
   pub about : (ignore.scope ≡ File) ⊎ (ignore.scope ≡ Next (Some d.begins))
@@ -69,7 +70,8 @@ IsInUse found ignore = (d : DiagnosticValue) × (Contains found d × IsSilencing
 abbrev pub IsUnknown : Ignore → Type 0
 IsUnknown ignore = (ignore.scope ≡ Unread) ⊎ ((remark : Remark) → is_found remark ≡ true → code_of remark ≡ ignore.code → ⊥)
 
--- What is to be said of a code in a comment: nothing where it is in use, that it is unknown where it is, and else that it silences nothing.
+-- What is to be said about a code in a comment: nothing if it is in use, that it is unknown if it is, and else that
+-- it silences nothing.
 abbrev pub IsSaidOf : List DiagnosticValue → Ignore → Option Remark → Type 0
 IsSaidOf found ignore None = IsInUse found ignore
 IsSaidOf found ignore (Some UnknownCode) = IsUnknown ignore
@@ -77,14 +79,15 @@ IsSaidOf found ignore (Some IdleIgnore) = (IsInUse found ignore → ⊥) × (IsU
 IsSaidOf found ignore (Some (Message kind)) = ⊥
 IsSaidOf found ignore (Some (Lint lint)) = ⊥
 
--- A code in a comment is in the line of its number at its columns, without the blanks before it and the whitespace after it.
+-- A code in a comment is in the line with its number at its columns, without the blanks before it and the whitespace
+-- after it.
 pub record StandsInLine (bytes : List ℕ) (ignore : Ignore) : Type 0 where
   pub text : take (ignore.end - ignore.column) (drop (ignore.column - 1) (line_numbered (numbered_lines bytes) ignore.line)) ≡ ignore.code
   pub begins : 0 < ignore.column
   pub front : unindented ignore.code ≡ ignore.code
   pub back : trimmed ignore.code ≡ ignore.code
 
--- A line is the first of these numbers after another one; it is none where no number is after that.
+-- A line is the first of these numbers after another one; it is none if no number is after that.
 abbrev pub IsFirstBehind : List ℕ → ℕ → Option ℕ → Type 0
 IsFirstBehind starts line None = All (λ start. start ≤ line) starts
 IsFirstBehind starts line (Some next) =

@@ -19,7 +19,7 @@ use Rattle.engine_formats.specs.Diagnostics.{DiagnosticValue}
 use Rattle.engine_formats.specs.Formats.{formatted}
 use Rattle.engine_checks.specs.Files.{database_told, rules_told}
 
--- whether one of the diagnostics bears a name
+-- whether one of the diagnostics has a name
 abbrev pub is_named_in : List DiagnosticValue → Text → Bool
 is_named_in told name = list_any (λ d. same_text name d.name) told
 
@@ -27,7 +27,7 @@ is_named_in told name = list_any (λ d. same_text name d.name) told
 abbrev pub bad_count : List SourceFile → List DiagnosticValue → ℕ
 bad_count files told = count_by (λ f. is_named_in told f.name) files
 
--- what is said of files and of what is reported for them
+-- what is said about files and what is reported for them
 abbrev pub checks_said : Line → List SourceFile → List DiagnosticValue → Outcome
 checks_said line files told = record {
   output = if line.summary then summary_line (length files) (bad_count files told) else [];
@@ -35,28 +35,29 @@ checks_said line files told = record {
   status = verify_status (bad_count files told);
 }
 
--- what `verify` says of rules files
+-- what `verify` says about rules files
 unfoldable pub rules_checks : Line → List SourceFile → Outcome
 rules_checks line files =
     if nat_le (tokens_in (set_of_as line.profile files).rules) (2 ^ 24) then checks_said line files (flat_map (rules_told line) files)
     else too_many_rules
 
--- what `verify` says of the files passed in, whose ends of lines are read as the profile has them
+-- what `verify` says about the files passed in, whose ends of lines are read as the profile has them
 abbrev pub checks_outcome : Line → List SourceFile → Outcome
 checks_outcome line files = rules_checks line (map (file_as_read line.profile) (files_read Rules line files))
 
--- what `update` says of the entries of the database and of the text of so many diagnostics: the entries as an index
+-- what `update` says about the entries of the database and the text of so many diagnostics: the entries as an index
 abbrev pub updated_by : Line → Text → ℕ → List Entry → Outcome
 updated_by line text count entries = record { output = image entries; messages = text; status = update_status line.strict count }
 
--- what `update` says of the entries and of what is reported for the files; the messages of the database are among what is reported
+-- what `update` says about the entries and what is reported for the files; the messages of the database are among
+-- what is reported
 abbrev pub entries_said : Line → List DiagnosticValue → List Entry → List Message → Outcome
 entries_said line told entries messages = updated_by line (formatted line.format told) (length told) entries
 
--- what `update` says of files of a database
+-- what `update` says about files of a database
 unfoldable pub database_checks : Line → List SourceFile → Outcome
 database_checks line files = database_outcome (entries_said line (flat_map (database_told line) files)) files
 
--- what `update` says of the files passed in
+-- what `update` says about the files passed in
 abbrev pub told_update_outcome : Line → List SourceFile → Outcome
 told_update_outcome line files = database_checks line (files_read Hwdb line files)

@@ -63,7 +63,7 @@ are_silencing in_file at_lines d = is_among in_file (code_of d.remark) || has_co
 abbrev pub is_met : List Text → List (ℕ × Text) → Scope → Text → Bool
 is_met found at_lines scope code = (is_file scope && is_among found code) || option_map_or (λ next. has_code_at at_lines next code) (next_line scope) false
 
--- what is to be said of a code in a comment, by such tables
+-- what is to be said about a code in a comment, by such tables
 abbrev pub remark_by : List Text → List (ℕ × Text) → Ignore → Option Remark
 remark_by found at_lines ignore =
     if is_unknown ignore.scope ignore.code then Some UnknownCode

@@ -15,14 +15,15 @@ use Rattle.engine_checks.specs.Ignores.{Ignore}
 use Rattle.engine_checks.specs.declared.ignores.Scope.{Scope}
 use Rattle.engine_checks.specs.declared.ignores.Scope.TheVariants.{File, Next, Unread}
 
--- whether what is reported for a line is among what a comment is about
+-- whether a comment is about what is reported for a line
 abbrev pub covers : Scope → ℕ → Bool
 covers File line = true
 covers (Next None) line = false
 covers (Next (Some next)) line = line == next
 covers Unread line = false
 
--- whether a code in a comment silences a diagnostic: it is the diagnostic's, which is reported for a line that the comment is about
+-- whether a code in a comment silences a diagnostic: it is the diagnostic's code, and the comment is about the line
+-- for which the diagnostic is reported
 abbrev pub silences : Ignore → DiagnosticValue → Bool
 silences ignore d = covers ignore.scope d.begins && same_text (code_of d.remark) ignore.code
 
@@ -52,13 +53,14 @@ is_asked lint style ignored remark = ((not (is_lint remark) || lint) && (style |
 abbrev pub is_told : Bool → Bool → List Text → List Ignore → DiagnosticValue → Bool
 is_told lint style ignored ignores d = is_asked lint style ignored d.remark && not (is_silenced ignores d)
 
--- whether a code in a comment is none, or the comment is not understood
+-- whether a code in a comment is unknown, or the comment is not understood
 abbrev pub is_unknown : Scope → Text → Bool
 is_unknown File code = not (is_code code)
 is_unknown (Next next) code = not (is_code code)
 is_unknown Unread code = true
 
--- what is to be said of a code in a comment, by all that was found in the file: that there is no such code, or that it silences nothing of this
+-- what is to be said about a code in a comment, by all that was found in the file: that there is no such code, or
+-- that it silences none of this
 abbrev pub remark_on : List DiagnosticValue → Ignore → Option Remark
 remark_on found ignore =
     if is_unknown ignore.scope ignore.code then Some UnknownCode
@@ -71,7 +73,7 @@ pub record FileText : Type 0 where
   pub path : Text
   pub lines : List NumberedLine
 
--- what is said of a code in a comment, as a diagnostic
+-- what is said about a code in a comment, as a diagnostic
 abbrev pub comment_diagnostic : FileText → Ignore → Remark → DiagnosticValue
 comment_diagnostic file ignore remark = record {
   name = file.name;
@@ -85,16 +87,18 @@ comment_diagnostic file ignore remark = record {
   word = ignore.code;
 }
 
--- what is to be said of the codes in comments of a file
+-- what is to be said about the codes in comments of a file
 abbrev pub comment_diagnostics : FileText → List DiagnosticValue → List Ignore → List DiagnosticValue
 comment_diagnostics file found ignores = filter_map (λ ignore. option_map (comment_diagnostic file ignore) (remark_on found ignore)) ignores
 
--- diagnostics with others put among them, each of these after all that are reported for its line or of one before it
+-- diagnostics with others merged in by line: each of the others comes after all diagnostics for its line or for one
+-- before it
 abbrev pub by_line : List DiagnosticValue → List DiagnosticValue → List DiagnosticValue
 by_line [] others = others
 by_line (d ∷ ds) others = take_while (λ o. nat_lt o.begins d.begins) others ++ d ∷ by_line ds (skip_while (λ o. nat_lt o.begins d.begins) others)
 
--- what is reported for a file, by what was found in it and the codes in its comments; what is said of these is asked for, too
+-- what is reported for a file, by what was found in it and the codes in its comments; what is said about these also
+-- has to be asked for
 unfoldable pub file_told : Bool → Bool → List Text → FileText → List Ignore → List DiagnosticValue → List DiagnosticValue
 file_told lint style ignored file ignores found =
     by_line (filter (is_told lint style ignored ignores) found) (filter (λ d. is_asked lint style ignored d.remark) (comment_diagnostics file found ignores))

@@ -57,7 +57,7 @@ fn accounts_by(alloc: Global, line: &Line<'_>) -> Result<Accounts, AllocError>
     })
 }
 
-/// What a line asks for of messages.
+/// Which messages a line asks for.
 pub(crate) fn asked_by<'a>(alloc: Global, line: &Line<'a>) -> Result<Asked<'a>, AllocError>
     ensures profile { IfOk result (λ asked. asked.profile ≡ line.now.profile) }
     ensures accounts { IfOk result (λ asked. asked.accounts ≡ accounts_by line.now) }

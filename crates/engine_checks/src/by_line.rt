@@ -1,4 +1,4 @@
-//! Diagnostics that are put among others.
+//! Diagnostics that are merged with others.
 ghost use Rattle.std.specs.Prelude.{◌≡◌, ◌≤◌, nat_lt, length, map, IfOk};
 ghost use Rattle.std.specs.List.{prefix_len, take_while};
 ghost use Rattle.text_bytes.specs.Texts.{skip_while};
@@ -36,7 +36,8 @@ fn behind<'s, 'r, 'w>(others: &'s [Lent<'r, 'w>], line: u32) -> &'s [Lent<'r, 'w
     behind
 }
 
-/// Diagnostics with others put among them, each after all that are reported for its line or of one before it.
+/// Diagnostics with others merged in by line: each of the others comes after all diagnostics for its line or for
+/// one before it.
 pub(crate) fn by_line<'r>(
     alloc: Global,
     found: Vec<Diagnostic<'r>>,

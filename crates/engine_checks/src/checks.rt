@@ -17,12 +17,12 @@ use rule_core::{files_as_read, read_rules_as};
 use std::alloc::{AllocError, Global};
 use text_bytes::{FileKind, SourceFile};
 
-/// What `verify` says of the files passed in, by the line's profile, with its format, with lints where the line asks
-/// for them, and without the
-/// messages and lints that it ignores: what is reported, and how many of the files are bad.
+/// What `verify` says about the files passed in, by the line's profile, with its format, with lints if the line
+/// asks for them, and without the messages and lints that it ignores: what is reported, and how many of the files
+/// are bad.
 ///
-/// A text of the line that is no code silences nothing. `TooManyRules` comes exactly where the rules have more than 2^24
-/// tokens, `Memory` where memory runs out.
+/// A text of the line that is not a code silences nothing. `TooManyRules` comes exactly if the rules have more than
+/// 2^24 tokens, `Memory` if memory runs out.
 pub fn report_on_checks(
     alloc: Global,
     line: &Line<'_>,
@@ -37,7 +37,7 @@ pub fn report_on_checks(
     report_on_these(alloc, line, &files)
 }
 
-/// The same of the files that are read.
+/// The same for the files that are read.
 fn report_on_these(alloc: Global, line: &Line<'_>, files: &[SourceFile]) -> Result<Report, Refusal>
     ensures said { IfOk result (λ r. said r ≡ rules_checks line.now files.now) }
     ensures status { IfOk result (λ r. r.status < 3) }
@@ -60,7 +60,7 @@ fn checked(alloc: Global, line: &Line<'_>, files: &[SourceFile]) -> Result<Repor
     report_on_told(alloc, line, files, &told)
 }
 
-/// What is said of files and of what is reported for them.
+/// What is said about files and what is reported for them.
 fn report_on_told(
     alloc: Global,
     line: &Line<'_>,
@@ -78,7 +78,7 @@ fn report_on_told(
     })
 }
 
-/// 0 where no file is bad, else 1.
+/// 0 if no file is bad, else 1.
 fn verify_status(bad: usize) -> u8
     ensures { result ≡ verify_status bad }
 {

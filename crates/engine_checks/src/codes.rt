@@ -4,8 +4,8 @@ ghost use Rattle.engine_checks.specs.Codes.{is_code, is_found};
 
 use engine_formats::{Remark, remark_of};
 
-/// Whether a text is the code of something that can be found in a file. Codes are told apart by case; those of remarks on
-/// comments are none.
+/// Whether a text is the code of something that can be found in a file; case counts, and the codes of remarks on
+/// comments are not among them.
 pub(crate) fn is_code(code: &[u8]) -> bool
     ensures { result ≡ is_code code.now }
 {
@@ -15,7 +15,7 @@ pub(crate) fn is_code(code: &[u8]) -> bool
     }
 }
 
-/// Whether a remark is on what is found in a file, and not on a comment.
+/// Whether a remark is about what is found in a file, and not about a comment.
 fn is_found(remark: Remark) -> bool
     ensures { result ≡ is_found remark }
 {

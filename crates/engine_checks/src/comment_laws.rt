@@ -1,6 +1,6 @@
-//! Why the definitions of what comments silence mean what they say.
+//! Laws that show the definitions of what comments silence to be right.
 //!
-//! Each function does nothing: its contract is a law of the definitions.
+//! Each function has an empty body, and its contract is a law of the definitions.
 ghost use Rattle.std.specs.Prelude.{◌≡◌, ◌<◌, ◌-◌, ◌^◌, not, Bool, true, false, All, List, filter, filter_map, length, option_map};
 ghost use Rattle.text_bytes.specs.Lines.{lines};
 ghost use Rattle.text_bytes.specs.declared.profile.Profile.{Profile};
@@ -16,9 +16,8 @@ ghost use Rattle.engine_checks.specs.Ignores.{ignores_in, starts_of};
 ghost use Rattle.engine_checks.specs.Laws.{IsAboutNext, IsLeftOut, IsSaidOf, StandsInLine, found_among, remarks_among};
 ghost use Rattle.engine_checks.specs.Told.{comment_diagnostic, is_told, remark_on};
 
-/// Where comments count, what was found is reported in its order, but for lints and style where these are left out,
-/// and for what the
-/// line or a comment silences; nothing else is left out.
+/// If comments count, what was found is reported in its order, except for lints and style if these are left out,
+/// and for what the line or a comment silences; nothing else is left out.
 pub fn found_is_told_or_silenced()
     ensures rules { (line : Line) (file : SourceFile) → has_comments (ignored_by line) ≡ true
         → found_among (rules_told line file) ≡ filter (is_told line.lint line.style (ignored_by line) (ignores_in line.profile file)) (rules_found line file) }
@@ -28,9 +27,8 @@ pub fn found_is_told_or_silenced()
     ensures told { (lint style : Bool) (ignored : List Text) (comments : List ignores.Ignore) (d : DiagnosticValue) → is_told lint style ignored comments d ≡ true → IsLeftOut lint style ignored comments d → ⊥ }
 {}
 
-/// Each code in a comment silences something that was found, or is reported as I1 or I2, and only then; but for these
-/// codes where the
-/// line ignores them.
+/// Each code in a comment silences something that was found, or is reported as I1 or I2, and only then; except for
+/// these codes if the line ignores them.
 pub fn comments_silence_or_are_told()
     ensures rules { (line : Line) (file : SourceFile) → has_comments (ignored_by line) ≡ true
         → remarks_among (rules_told line file) ≡ filter (λ d. not (is_among (ignored_by line) (code_of d.remark))) (filter_map (λ i. option_map (comment_diagnostic (file_text line file) i) (remark_on (rules_found line file) i)) (ignores_in line.profile file)) }
@@ -39,15 +37,14 @@ pub fn comments_silence_or_are_told()
     ensures said { (found : List DiagnosticValue) (ignore : ignores.Ignore) → IsSaidOf found ignore (remark_on found ignore) }
 {}
 
-/// The code of a comment is in its line at its columns, and has no blanks around it.
+/// The code of a comment is in its line at its columns, without blanks around it.
 pub fn codes_stand_in_their_comments()
     ensures { (profile : Profile) (file : SourceFile) → length (lines file.bytes) < 2 ^ 32 → All (λ line. length line < 2 ^ 32 - 1) (lines file.bytes)
         → All (StandsInLine file.bytes) (ignores_in profile file) }
 {}
 
-/// A comment on the next rule is about the first line after its own of which a rule has the number, in a database the
-/// first that is no
-/// comment; it is about none where none follows.
+/// A comment on the next rule is about the first line after its own whose number a rule has, or in a database about
+/// the first that is not a comment; it is about none if none follows.
 pub fn comments_are_about_what_follows()
     ensures { (profile : Profile) (file : SourceFile) → All (IsAboutNext (starts_of profile file.kind file.bytes)) (ignores_in profile file) }
 {}

@@ -1,4 +1,4 @@
-//! What is to be said of the codes in comments of a file.
+//! What is to be said about the codes in comments of a file.
 ghost use Rattle.std.specs.Prelude.{◌≡◌, ◌++◌, filter_map, option_map, option_to_list, IfOk, OnOk};
 ghost use Rattle.engine_checks.specs.Tables.{remark_by};
 ghost use Rattle.engine_checks.specs.Told.{comment_diagnostic};
@@ -10,7 +10,7 @@ use crate::met::Met;
 use engine_formats::Remark;
 use std::alloc::{AllocError, Global};
 
-/// What is said of a code in a comment, as a diagnostic.
+/// What is said about a code in a comment, as a diagnostic.
 fn comment_diagnostic<'r, 'a>(
     file: &'r FileText<'_>,
     ignore: &Ignore<'a>,
@@ -31,7 +31,7 @@ fn comment_diagnostic<'r, 'a>(
     }
 }
 
-/// Puts what is to be said of a code in a comment after other remarks, if something is.
+/// Adds what is to be said about a code in a comment, if anything is.
 fn push_remark<'r, 'a>(
     remarks: &mut Vec<Lent<'r, 'a>>,
     file: &'r FileText<'_>,
@@ -46,7 +46,7 @@ fn push_remark<'r, 'a>(
     Ok(())
 }
 
-/// What is to be said of codes in comments, by what was found in the file.
+/// What is to be said about codes in comments, by what was found in the file.
 pub(crate) fn comment_remarks<'r, 'a>(
     alloc: Global,
     file: &'r FileText<'_>,

@@ -10,7 +10,7 @@ use std::alloc::{AllocError, Global};
 use text_bytes::SourceFile;
 use text_tables::Texts;
 
-/// The names that diagnostics bear.
+/// The names in diagnostics.
 fn names_in<'a>(alloc: Global, told: &[Diagnostic<'a>]) -> Result<Texts<'a>, AllocError>
     ensures { IfOk result (λ names. (name : Text) → is_among names name ≡ is_named_in (map shown told.now) name) }
 {
@@ -21,7 +21,7 @@ fn names_in<'a>(alloc: Global, told: &[Diagnostic<'a>]) -> Result<Texts<'a>, All
     Ok(names)
 }
 
-/// How many of the files have a diagnostic that bears their name.
+/// How many of the files have a diagnostic with their name.
 pub(crate) fn bad_count(
     alloc: Global,
     files: &[SourceFile],

@@ -13,8 +13,8 @@ use std::alloc::{AllocError, Global};
 use std::slice::from_ref;
 use text_bytes::{Message, SourceFile};
 
-/// The messages about a file of files that hold no more than a database may. So the file holds no more either, and the error
-/// comes where memory runs out.
+/// The messages about a file, which is one of files that hold no more than a database may. So the file holds no
+/// more either, and the error means that memory ran out.
 fn messages_about(alloc: Global, file: &SourceFile) -> Result<Vec<Message>, AllocError>
     ensures { IfOk result (λ messages. messages.items ≡ messages_of (file.now ∷ [])) }
 {

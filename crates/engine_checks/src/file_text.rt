@@ -41,7 +41,7 @@ impl<'a> FileText<'a> {
         })
     }
 
-    /// The name, as messages tell it.
+    /// The name, as messages give it.
     pub(crate) fn name(&self) -> &'a [u8]
         ensures { result.now ≡ self.now.name }
     {
@@ -62,7 +62,7 @@ impl<'a> FileText<'a> {
         &self.lines
     }
 
-    /// A line by its number; empty where there is none.
+    /// A line by its number; empty if there is none.
     pub(crate) fn line(&self, number: u32) -> &'a [u8]
         ensures { result.now ≡ line_numbered self.now.lines number }
     {

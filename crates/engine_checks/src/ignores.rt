@@ -1,9 +1,9 @@
 //! The codes that comments in a file ask to ignore.
 //!
-//! `# devdry: ignore V6,S2` is about the next rule, `# devdry: ignore-file S1` about the whole file. Such a comment is a line
-//! of its own; in rules blanks may come before it. Codes are cut at commas, and blanks around a code are no part of
-//! it. A
-//! comment that begins with `# devdry:` and goes on in another way is kept too, so that it can be reported.
+//! `# devdry: ignore V6,S2` is about the next rule, `# devdry: ignore-file S1` about the whole file. Such a comment
+//! is a line of its own; in rules blanks may come before it. Codes are cut at commas, and blanks around a code are
+//! not part of it. A comment that begins with `# devdry:` and goes on in another way is also kept, so that it can
+//! be reported.
 ghost use Rattle.std.specs.Prelude.{◌≡◌, ◌++◌, ◌+◌, ◌-◌, ◌≤◌, ◌<◌, ◌^◌, ◌==◌, length, option_map, IfSome, IfOk, OnOk};
 ghost use Rattle.std.specs.List.{slice_split};
 ghost use Rattle.text_bytes.specs.Lines.{numbered_lines};
@@ -21,8 +21,8 @@ use text_bytes::{FileKind, Line, Lines, Profile, SourceFile, capped, split_once,
 pub enum Scope {
     /// The whole file.
     File,
-    /// The next rule, by the line in which it begins; none where no rule follows. In a database it is the next line that is
-    /// no comment.
+    /// The next rule, by the line in which it begins; none if no rule follows. In a database it is the next line
+    /// that is not a comment.
     Next(Option<u32>),
     /// Nothing: the comment is not understood.
     Unread,
@@ -31,7 +31,7 @@ pub enum Scope {
 /// A code in a comment.
 #[derive(Debug, Drop)]
 pub struct Ignore<'a> {
-    /// The number of the comment's line, counted from 1; one over 2^32 - 1 is given as that.
+    /// The number of the comment's line, counted from 1; at most 2^32 - 1.
     pub line: u32,
     /// The byte of the line at which the code begins, counted from 1, up to the same number.
     pub column: u32,
@@ -39,7 +39,7 @@ pub struct Ignore<'a> {
     pub end: u32,
     /// What it is about.
     pub scope: Scope,
-    /// The code, without the blanks around it, or what follows `# devdry:` where that is not understood.
+    /// The code, without the blanks around it, or what follows `# devdry:` if that is not understood.
     pub code: &'a [u8],
 }
 
@@ -70,7 +70,7 @@ impl<'a> Ignore<'a> {
     }
 }
 
-/// What follows the front of a text, where it begins with that.
+/// What follows the front of a text, if it begins with that.
 fn behind<'a>(front: &[u8], text: &'a [u8]) -> Option<&'a [u8]>
     ensures value { option_map (λ t. t.now) result ≡ behind front.now text.now }
     ensures within { IfSome result (λ t. length t.now ≤ length text.now) }
@@ -103,7 +103,7 @@ fn asked_by(next: Option<u32>, text: &[u8]) -> (Scope, &[u8])
     }
 }
 
-/// Puts the codes of a list, which ends before a column, after others.
+/// Adds the codes of a list, which ends before a column.
 fn push_list<'a>(
     ignores: &mut Vec<Ignore<'a>>,
     line: u32,
@@ -123,7 +123,7 @@ fn push_list<'a>(
     Ok(())
 }
 
-/// Puts what a comment asks for, which ends before a column, after others.
+/// Adds what a comment asks for, which ends before a column.
 fn push_asked<'a>(
     ignores: &mut Vec<Ignore<'a>>,
     line: u32,
@@ -143,7 +143,7 @@ fn push_asked<'a>(
     }
 }
 
-/// Puts the codes in a line after others.
+/// Adds the codes in a line.
 fn push_line<'a>(
     ignores: &mut Vec<Ignore<'a>>,
     kind: FileKind,
@@ -162,7 +162,8 @@ fn push_line<'a>(
     }
 }
 
-/// The codes in the lines of a file, each comment on the next rule being about the first of these starts after it.
+/// The codes in the lines of a file, where each comment on the next rule is about the first of these starts after
+/// it.
 fn ignores_among<'a>(
     alloc: Global,
     kind: FileKind,

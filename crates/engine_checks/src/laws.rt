@@ -1,6 +1,6 @@
-//! Why the definitions that the other contracts cite mean what they say.
+//! Laws that show the definitions cited by the other contracts to be right.
 //!
-//! Each function does nothing: its contract is a law of the definitions.
+//! Each function has an empty body, and its contract is a law of the definitions.
 ghost use Rattle.std.specs.Prelude.{◌≡◌, ◌<◌, ◌^◌, ◌&&◌, ◌||◌, not, true, false, All, List, [], filter, length};
 ghost use Rattle.text_bytes.specs.Lines.{lines};
 ghost use Rattle.text_bytes.specs.declared.profile.Profile.{Profile};
@@ -19,15 +19,16 @@ ghost use Rattle.engine_checks.specs.Told.{is_about_style};
 
 use engine_formats::{messages_are_plain_diagnostics, messages_stand_at_their_words};
 
-/// By the manual, with the default format, without lints and with nothing ignored `verify` says what it says without these options.
+/// By the manual, with the default format, without lints and with nothing ignored `verify` says what it says
+/// without these options.
 pub fn plain_checks_are_as_before()
     ensures { (line : Line) (files : List SourceFile) → line.profile ≡ Profile.Manual → line.format ≡ Format.Plain → line.lint ≡ false → ignored_by line ≡ [] → checks_outcome line files ≡ verify_outcome line files }
 {
     messages_are_plain_diagnostics();
 }
 
-/// With the default format and nothing ignored `update` says what it says without these options, where the lines of each file
-/// that is read can be reported by number.
+/// With the default format and nothing ignored `update` says what it says without these options, if the lines of
+/// each file that is read can be reported by number.
 pub fn plain_updates_are_as_before()
     ensures { (line : Line) (files : List SourceFile) → line.format ≡ Format.Plain → ignored_by line ≡ [] → All (λ file. length (lines file.bytes) < 2 ^ 32) (files_read kinds.FileKind.Hwdb line files)
         → told_update_outcome line files ≡ database_outcome (update_outcome line) (files_read kinds.FileKind.Hwdb line files) }
@@ -36,7 +37,8 @@ pub fn plain_updates_are_as_before()
     messages_stand_at_their_words();
 }
 
-/// Where comments don't count, told is what was found, but for the codes that are ignored, and for style where that is left out.
+/// If comments don't count, what was found is reported, except for the codes that are ignored, and for style if
+/// that is left out.
 pub fn ignored_codes_alone_are_left_out()
     ensures rules { (line : Line) (file : SourceFile) → has_comments (ignored_by line) ≡ false
         → rules_told line file ≡ filter (λ d. (line.style || not (is_about_style d.remark)) && not (is_among (ignored_by line) (code_of d.remark))) (rules_found line file) }

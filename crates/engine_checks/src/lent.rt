@@ -1,4 +1,4 @@
-//! Diagnostics with words that stand elsewhere.
+//! Diagnostics with borrowed words.
 ghost use Rattle.std.specs.Prelude.{◌≡◌, ◌++◌, map, IfOk, OnOk};
 ghost use Rattle.engine_formats.specs.Diagnostics.{shown};
 
@@ -7,7 +7,7 @@ use std::alloc::{AllocError, Global};
 use std::marker::Model;
 use text_bytes::Bytes;
 
-/// A diagnostic with a word that stands elsewhere, which may be put among others. Its fields are those of a diagnostic.
+/// A diagnostic with a borrowed word, which may be merged with others. Its fields are those of a diagnostic.
 #[derive(Drop)]
 pub(crate) struct Lent<'r, 'w> {
     pub(crate) name: &'r [u8],
@@ -40,14 +40,14 @@ impl<'r, 'w> Model for Lent<'r, 'w> {
 }
 
 impl<'r, 'w> Lent<'r, 'w> {
-    /// The line that it is reported.
+    /// The line with which it is reported.
     pub(crate) fn line(&self) -> u32
         ensures { result ≡ self.now.begins }
     {
         self.begins
     }
 
-    /// What is said of it.
+    /// What it is about.
     pub(crate) fn remark(&self) -> Remark
         ensures { result ≡ self.now.remark }
     {
@@ -72,7 +72,7 @@ impl<'r, 'w> Lent<'r, 'w> {
     }
 }
 
-/// Puts such diagnostics after others.
+/// Adds such diagnostics as diagnostics.
 pub(crate) fn push_lent<'r>(
     alloc: Global,
     told: &mut Vec<Diagnostic<'r>>,

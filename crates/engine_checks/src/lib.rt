@@ -2,7 +2,7 @@
 //!
 //! With `--lint`, the messages about each rule are followed by its lints. `--ignore` names codes, and messages and
 //! lints with these codes are neither printed nor counted. If the word `comments` is among them, comments in the files
-//! can name codes too. The report is put together as diagnostics, file by file, and written in the format that was
+//! can name codes too. The report is assembled as diagnostics, file by file, and written in the format that was
 //! asked for.
 //!
 //! Functions that allocate return `AllocError` when memory runs out.

@@ -1,4 +1,4 @@
-//! Codes at lines, each once, so that a long file is looked through once.
+//! Codes at lines, each once, so that a long file is searched only once.
 ghost use Rattle.std.specs.Prelude.{◌≡◌, ◌||◌, [], ℕ, OnOk};
 ghost use Rattle.text_tables.specs.Texts.{Text};
 ghost use Rattle.engine_checks.specs.Tables.{has_code_at, is_code_at};

@@ -1,6 +1,6 @@
 //! What lints change in what is reported.
 //!
-//! Each function does nothing: its contract is a law of the definitions.
+//! Each function has an empty body, and its contract is a law of the definitions.
 ghost use Rattle.std.specs.Prelude.{◌≡◌, ◌&&◌, ◌||◌, not, true, false, [], filter};
 ghost use Rattle.text_bytes.specs.declared.source_file.SourceFile.{SourceFile};
 ghost use Rattle.text_tables.specs.Texts.{is_among};
@@ -11,9 +11,8 @@ ghost use Rattle.engine_checks.specs.Files.{database_told, ignored_by, ignores_c
 ghost use Rattle.engine_checks.specs.Laws.{lints_among, lints_in, messages_among, messages_in};
 ghost use Rattle.engine_checks.specs.Told.{is_about_style, is_silenced, is_told};
 
-/// Lints are reported exactly where they are asked for, in their order, but for those that the line or a comment
-/// silences; never of
-/// a database.
+/// Lints are reported if and only if they are asked for, in their order, except for those that the line or a
+/// comment silences; never for a database.
 pub fn lints_are_told_where_asked()
     ensures asked { (line : Line) (file : SourceFile) → line.lint ≡ true
         → lints_among (rules_told line file) ≡ filter (λ d. not (is_among (ignored_by line) (code_of d.remark)) && not (is_silenced (ignores_counted line.profile (ignored_by line) file) d)) (lints_in line file) }
@@ -21,9 +20,8 @@ pub fn lints_are_told_where_asked()
     ensures database { (line : Line) (file : SourceFile) → lints_among (database_told line file) ≡ [] }
 {}
 
-/// Lints change nothing in which messages are reported. Where they are not asked for and comments don't count, all
-/// that is reported is
-/// messages.
+/// Lints change nothing in which messages are reported. If they are not asked for and comments don't count, all
+/// that is reported is messages.
 pub fn messages_are_told_as_without_lints()
     ensures messages { (line : Line) (file : SourceFile)
         → messages_among (rules_told line file) ≡ filter (is_told false line.style (ignored_by line) (ignores_counted line.profile (ignored_by line) file)) (messages_in line file) }
@@ -31,7 +29,7 @@ pub fn messages_are_told_as_without_lints()
         → rules_told line file ≡ filter (λ d. (line.style || not (is_about_style d.remark)) && not (is_among (ignored_by line) (code_of d.remark))) (messages_in line file) }
 {}
 
-/// Where comments count, lints are found whether they are reported or not, so that a code in a comment that silences
+/// If comments count, lints are found whether they are reported or not, so that a code in a comment that silences
 /// one is in use.
 pub fn comments_count_for_lints()
     ensures { (line : Line) (file : SourceFile) → has_comments (ignored_by line) ≡ true → lints_among (rules_found line file) ≡ lints_in line file }

@@ -11,7 +11,8 @@ use rule_lints::{PlacedLint, placed_lints};
 use std::alloc::{AllocError, Global};
 use text_bytes::SourceFile;
 
-/// The lints of a rules file; none is looked for where none is asked for and comments, which may silence lints, don't count.
+/// The lints of a rules file; none is looked for if none is asked for and comments, which may silence lints, don't
+/// count.
 pub(crate) fn lints_counted(
     alloc: Global,
     asked: &Asked<'_>,

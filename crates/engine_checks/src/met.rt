@@ -1,4 +1,4 @@
-//! Which codes in comments silence nothing of what was found in a file, or are none.
+//! Which codes in comments silence nothing that was found in a file, or are unknown.
 ghost use Rattle.std.specs.Prelude.{◌≡◌, ℕ, map, IfOk};
 ghost use Rattle.std.specs.List.{list_any};
 ghost use Rattle.text_tables.specs.Texts.{Text, is_among};
@@ -20,7 +20,7 @@ use text_tables::Texts;
 pub(crate) struct Met {
     /// Those in the whole file.
     pub(crate) in_file: Texts<'static>,
-    /// Those at each line of which something is reported.
+    /// Those at each line for which something is reported.
     pub(crate) at_lines: LineCodes<'static>,
 }
 
@@ -48,7 +48,7 @@ impl Met {
         }
     }
 
-    /// What is to be said of a code in a comment: that it is none, or that it silences nothing.
+    /// The remark on a code in a comment: it is unknown, or it silences nothing.
     pub(crate) fn remark_on(&self, ignore: &Ignore<'_>) -> Option<Remark>
         ensures { result ≡ remark_by self.now.in_file self.now.at_lines ignore.now }
     {
@@ -62,7 +62,7 @@ impl Met {
     }
 }
 
-/// Whether a code in a comment is none, or the comment is not understood.
+/// Whether a code in a comment is unknown, or the comment is not understood.
 fn is_unknown(scope: Scope, code: &[u8]) -> bool
     ensures { result ≡ is_unknown scope code.now }
 {
@@ -83,7 +83,7 @@ fn codes_in_file(alloc: Global, found: &[Diagnostic<'_>]) -> Result<Texts<'stati
     Ok(codes)
 }
 
-/// The codes of diagnostics at the lines of which they are reported.
+/// The codes of diagnostics at the lines for which they are reported.
 fn codes_at_lines(alloc: Global, found: &[Diagnostic<'_>]) -> Result<LineCodes<'static>, AllocError>
     ensures { IfOk result (λ codes. (line : ℕ) (code : Text) → has_code_at codes line code ≡ list_any (has_code_in line code) (map shown found.now)) }
 {

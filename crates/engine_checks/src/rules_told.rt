@@ -12,7 +12,7 @@ use engine_formats::Diagnostic;
 use rule_remarks::file_findings;
 use std::alloc::{AllocError, Global};
 
-/// All that is found in a rules file: what is reported for its rules, and after that of each rule its lints.
+/// All that is found in a rules file: the findings about its rules, and after those of each rule its lints.
 fn rules_found<'r>(
     alloc: Global,
     asked: &Asked<'_>,

@@ -1,6 +1,6 @@
 //! Which diagnostics the codes in comments silence.
 //!
-//! They are looked up in tables, so that a file with many comments and many faults is looked through once.
+//! They are looked up in tables, so that a file with many comments and many faults is searched only once.
 ghost use Rattle.std.specs.Prelude.{◌≡◌, ◌||◌, ℕ, IfOk, OnOk};
 ghost use Rattle.std.specs.List.{list_any};
 ghost use Rattle.text_tables.specs.Texts.{Text, is_among, same_text};
@@ -63,7 +63,7 @@ pub(crate) fn next_line(scope: Scope) -> Option<u32>
     }
 }
 
-/// Adds a text, which stays alone where it is there.
+/// Adds a text, unless it is there already.
 pub(crate) fn add_text<'a>(texts: &mut Texts<'a>, text: &'a [u8]) -> Result<(), AllocError>
     ensures { OnOk result ((other : Text) → is_among texts.new other ≡ (is_among texts.old other || same_text other text.now)) }
 {

@@ -8,8 +8,8 @@ use rule_core::{JoinedLine, joined_lines};
 use std::alloc::{AllocError, Global};
 use text_bytes::{FileKind, Lines, Profile, begins_with, capped};
 
-/// The lines of a file that a comment on the next rule can be about: those that rules have the numbers of, also the one that is
-/// still open where the file ends, and in a database those that are no comments.
+/// The lines of a file that a comment on the next rule can be about: those whose numbers rules have, also the one
+/// that is still open at the end of the file, and in a database those that are not comments.
 pub(crate) fn starts_of(
     alloc: Global,
     profile: Profile,
@@ -24,7 +24,7 @@ pub(crate) fn starts_of(
     }
 }
 
-/// The lines that rules have the numbers of.
+/// The lines whose numbers rules have.
 fn rule_starts(alloc: Global, profile: Profile, bytes: &[u8]) -> Result<Vec<u32>, AllocError>
     ensures { IfOk result (λ starts. starts.items ≡ starts_of profile FileKind.Rules bytes.now) }
 {
@@ -47,7 +47,7 @@ fn numbers_of(alloc: Global, lines: &[JoinedLine<'_>]) -> Result<Vec<u32>, Alloc
     Ok(numbers)
 }
 
-/// The lines that are no comments of a database.
+/// The lines of a database that are not comments.
 fn plain_starts(alloc: Global, bytes: &[u8]) -> Result<Vec<u32>, AllocError>
     ensures { IfOk result (λ starts. starts.items ≡ starts_of Profile.Manual FileKind.Hwdb bytes.now) }
 {

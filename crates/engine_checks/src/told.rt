@@ -21,7 +21,7 @@ use text_tables::Texts;
 /// Which remarks a command line asks for.
 #[derive(Drop)]
 pub(crate) struct Asked<'a> {
-    /// By whose word rules are read.
+    /// The profile by which rules are read.
     pub(crate) profile: Profile,
     /// The users and the groups that are known.
     pub(crate) accounts: Accounts,
@@ -89,7 +89,7 @@ fn keep_asked<'r, 'a>(asked: &Asked<'_>, mut remarks: Vec<Lent<'r, 'a>>) -> Vec<
     remarks
 }
 
-/// What is reported for a file, by what was found in it and the codes in its comments.
+/// The diagnostics to show for a file, from what was found in it and the codes in its comments.
 #[tactic(auto, unfolding(crate::specs::Told::file_told))]
 pub(crate) fn file_told<'r>(
     alloc: Global,

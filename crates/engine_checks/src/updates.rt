@@ -18,19 +18,18 @@ use text_bytes::{FileKind, SourceFile};
 use trie_build::{Trie, trie_of};
 use trie_core::write_index;
 
-/// What is reported for files, as text, and how much it is.
+/// What is reported for files, as text, and how many diagnostics it is.
 #[derive(Drop)]
 struct ToldText {
     text: Vec<u8>,
     count: usize,
 }
 
-/// What `update` says of the files passed in, with the line's format and without the messages that it ignores: what is
-/// reported,
-/// which makes a strict run fail, and the entries as an index.
+/// What `update` says about the files passed in, with the line's format and without the messages that it ignores:
+/// what is reported, which makes a strict run fail, and the entries as an index.
 ///
-/// A text of the line that is no code silences nothing. `TooManyEntries` comes exactly where the files hold more than a
-/// database may, `Memory` where memory runs out.
+/// A text of the line that is not a code silences nothing. `TooManyEntries` comes exactly if the files hold more
+/// than a database may, `Memory` if memory runs out.
 pub fn report_on_told_update(
     alloc: Global,
     line: &Line<'_>,
@@ -44,7 +43,7 @@ pub fn report_on_told_update(
     report_on_database(alloc, line, files)
 }
 
-/// The same of the files that are read, which are returned before the index is made.
+/// The same for the files that are read, which are returned before the index is made.
 fn report_on_database(
     alloc: Global,
     line: &Line<'_>,
@@ -97,7 +96,7 @@ fn updated(
     })
 }
 
-/// The status of `update`: 1 where it is strict and something is reported.
+/// The status of `update`: 1 if it is strict and something is reported.
 fn update_status(strict: bool, count: usize) -> u8
     ensures { result ≡ update_status strict count }
 {

@@ -1,4 +1,4 @@
--- What comes and goes between two answers to one event.
+-- What appears and disappears between two answers to the same event.
 use Rattle.std.specs.Prelude.{ℕ, Bool, not, ◌||◌, ◌&&◌, ◌==◌, if◌then◌else◌, nat_eq, List, [], ◌∷◌, ◌++◌, length, codes, filter, flat_map}
 use Rattle.std.specs.List.{starts_with}
 use Rattle.text_bytes.specs.Names.{newline, minus, plus}
@@ -8,7 +8,7 @@ use Rattle.device_core.specs.Values.{EventValue}
 use Rattle.engine_answers.specs.Lines.{event_line}
 use Rattle.engine_compare.specs.Surplus.{surplus}
 
--- whether a line of an answer is compared: it has a byte, and is no note
+-- whether a line of an answer is compared: it has a byte, and is not a note
 abbrev pub is_compared : Text → Bool
 is_compared line = not (length line == 0 || starts_with nat_eq line (codes "note "))
 
@@ -29,13 +29,13 @@ marked_line mark line = mark ∷ line ++ newline ∷ []
 abbrev pub marked_lines : ℕ → List Text → Text
 marked_lines mark lines = flat_map (marked_line mark) lines
 
--- what is reported for an event: its line, each line that goes after `-`, each that comes after `+`, and an empty line; nothing where no
--- line goes or comes
+-- what is reported for an event: its line, each line that disappears after `-`, each that appears after `+`, and an
+-- empty line; nothing if no line disappears or appears
 abbrev pub told_of : EventValue → List Text → List Text → Text
 told_of event gone come =
     if length gone == 0 && length come == 0 then []
     else event_line event.action event.device.path ++ marked_lines minus gone ++ marked_lines plus come ++ newline ∷ []
 
--- what comes and goes between an old and a new answer to an event
+-- what appears and disappears between an old and a new answer to an event
 abbrev pub differences : EventValue → Text → Text → Text
 differences event old new = told_of event (surplus (compared_lines old) (compared_lines new)) (surplus (compared_lines new) (compared_lines old))

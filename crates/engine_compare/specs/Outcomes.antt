@@ -1,5 +1,5 @@
--- What a comparison says: its outcome, as a function of the two command lines, of the files passed in for each, of what comes of an index
--- and of the input.
+-- What a comparison says: its outcome, as a function of the two command lines, the files passed in for each, the
+-- outcome of opening an index, and the input.
 use Rattle.std.specs.Prelude.{◌++◌, Result, Ok, Err}
 use Rattle.text_bytes.specs.declared.profile.Profile.{Profile}
 use Rattle.text_tables.specs.Texts.{Text}
@@ -13,13 +13,13 @@ use Rattle.engine_core.specs.Answering.{answer_by}
 use Rattle.engine_core.specs.Outcomes.{tables_of}
 use Rattle.engine_compare.specs.Differences.{differences}
 
--- what comes and goes between the answers to an event by two openings
+-- what appears and disappears between the answers to an event by two openings
 abbrev pub differences_by : OpeningValue → OpeningValue → EventValue → Text
 differences_by old new event = differences event (answer_by (tables_of old) event) (answer_by (tables_of new) event)
 
--- The outcome of a comparison over an input, by the profile by which rules are evaluated and what comes of both sides' files: the messages about the old and then about the new rules,
--- and for each block of the input what comes and goes, which is a finding. Where one side can't be opened, what is said of that, of the
--- old one first.
+-- The outcome of a comparison over an input, by the profile by which rules are evaluated and the opening of both
+-- sides: the messages about the old and then about the new rules, and for each block of the input what appears and
+-- disappears, which is a finding. If one side can't be opened, what is said about that, about the old one first.
 abbrev pub compare_outcome : Profile → Result OpeningValue Outcome → Result OpeningValue Outcome → Text → Outcome
 compare_outcome profile (Ok old) (Ok new) input = found (input_outcome (old.messages ++ new.messages) (answers_as profile (differences_by old new)) input)
 compare_outcome profile (Ok old) (Err said) input = said

@@ -15,14 +15,14 @@ use Rattle.engine_sessions.specs.Serves.{Reports, Serves}
 use Rattle.engine_sessions.specs.Sessions.{answers_as}
 use Rattle.engine_compare.specs.Outcomes.{compare_outcome, differences_by}
 
--- a comparison, by the profile by which rules are evaluated and what comes of both sides' files
+-- a comparison, by the profile by which rules are evaluated and the opening of both sides
 abbrev pub ComparesBy : Profile → Result OpeningValue Outcome → Result OpeningValue Outcome → ℕ → Streams → Streams → Type 0
 ComparesBy profile (Ok old) (Ok new) status before now = FindsAll (old.messages ++ new.messages) (answers_as profile (differences_by old new)) status before now
 ComparesBy profile (Ok old) (Err said) status before now = Reports said status before now
 ComparesBy profile (Err said) new status before now = Reports said status before now
 
--- A comparison over what comes of the index, by the old line's profile: what is written and answered is one function of the two lines, the files of each, the index
--- and the input; and the same step by step.
+-- A comparison with the outcome of opening the index, by the old line's profile: what is written and returned is one
+-- function of the two lines, the files of each, the index and the input; and the same step by step.
 pub record ComparesOver (old_line new_line : Line) (old_files new_files : List SourceFile) (index : Option Text) (status : ℕ) (before now : Streams) : Type 0 where
   pub opened : Option (Result Contents IndexFault)
   pub opens : Opens index opened

@@ -1,11 +1,11 @@
--- For proofs only, no reader has to believe it: how many of each line are left while lines are taken away.
+-- Serves inner proofs only: how many of each line are left while lines are removed.
 use Rattle.std.specs.Prelude.{◌≡◌, ℕ, List}
 use Rattle.std.specs.Option.{unwrap_or}
 use Rattle.text_tables.specs.Texts.{Text}
 use Rattle.text_tables.specs.Pairs.{value_of}
 use Rattle.engine_compare.specs.Surplus.{times}
 
--- how many of a line are left: none where nothing is noted
+-- how many of a line are left: none if nothing is recorded
 abbrev pub left_of : List (Text × ℕ) → Text → ℕ
 left_of tally line = unwrap_or (value_of tally line) 0
 

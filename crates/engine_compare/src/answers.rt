@@ -1,4 +1,4 @@
-//! What comes and goes between two answers to one event, as text.
+//! What appears and disappears between two answers to the same event, as text.
 ghost use Rattle.std.specs.Prelude.{◌≡◌, ◌++◌, ◌∷◌, [], filter, map, IfOk, OnOk};
 ghost use Rattle.text_bytes.specs.Lines.{lines};
 ghost use Rattle.engine_compare.specs.Differences.{behind_first, compared_lines, differences, is_compared, marked_line, marked_lines, told_of};
@@ -9,9 +9,9 @@ use engine_answers::push_event;
 use std::alloc::{AllocError, Global};
 use text_bytes::{Bytes, first_line};
 
-/// What comes and goes between an old and a new answer to an event: the event's line, the old lines
-/// that the new answer has less often, each after `-`, the new ones that the old answer has less
-/// often, each after `+`, and an empty line. Where there is neither, no byte.
+/// What appears and disappears between an old and a new answer to an event: the event's line, the old lines that
+/// the new answer has less often, each after `-`, the new ones that the old answer has less often, each after `+`,
+/// and an empty line. If there are neither, no byte.
 ///
 /// Notes are not compared.
 pub fn differences(
@@ -54,7 +54,7 @@ fn behind_first_line(text: &[u8]) -> &[u8]
     below
 }
 
-/// Puts a line after others, if it is compared.
+/// Adds a line, if it is compared.
 fn push_compared<'a>(compared: &mut Vec<&'a [u8]>, line: &'a [u8]) -> Result<(), AllocError>
     ensures { OnOk result (map (λ l. l.now) compared.new.items ≡ map (λ l. l.now) compared.old.items ++ filter is_compared (line.now ∷ [])) }
 {
@@ -71,7 +71,7 @@ fn is_compared(line: &[u8]) -> bool
     !(line.is_empty() || line.starts_with(b"note "))
 }
 
-/// What is reported for an event, by the lines that go and those that come.
+/// What is reported for an event, by the lines that disappear and those that appear.
 fn told_of(
     alloc: Global,
     event: &Event<'_>,
@@ -91,7 +91,7 @@ fn told_of(
     Ok(Bytes::new(text))
 }
 
-/// Puts lines after a text, each after a mark.
+/// Appends lines, each after a mark.
 fn push_marked_lines(text: &mut Vec<u8>, mark: u8, lines: &[&[u8]]) -> Result<(), AllocError>
     ensures { OnOk result (text.new.items ≡ text.old.items ++ marked_lines mark (map (λ l. l.now) lines.now)) }
 {
@@ -101,7 +101,7 @@ fn push_marked_lines(text: &mut Vec<u8>, mark: u8, lines: &[&[u8]]) -> Result<()
     Ok(())
 }
 
-/// Puts a line after a text, after a mark.
+/// Appends a line, after a mark.
 fn push_marked_line(text: &mut Vec<u8>, mark: u8, line: &[u8]) -> Result<(), AllocError>
     ensures { OnOk result (text.new.items ≡ text.old.items ++ marked_line mark line.now) }
 {

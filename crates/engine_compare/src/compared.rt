@@ -9,7 +9,7 @@ use std::alloc::{AllocError, Global};
 use std::marker::Model;
 use text_bytes::Bytes;
 
-/// An old and a new answering of events, which answers each event by what comes and goes between the two.
+/// An old and a new answering of events, which answers each event by what appears and disappears between the two.
 #[derive(Drop)]
 pub struct Compared<A: Answering, B: Answering> {
     old: A,
@@ -31,7 +31,7 @@ impl<A: Answering + Drop, B: Answering + Drop> Compared<A, B> {
     }
 }
 
-/// What comes and goes between two answers to an event.
+/// What appears and disappears between two answers to an event.
 fn answer_of<A: Answering, B: Answering>(
     alloc: Global,
     old: &A,

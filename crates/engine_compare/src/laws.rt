@@ -1,4 +1,4 @@
-//! What holds of the lines that come and go. Each law is the contract of a function that does nothing.
+//! Laws of the lines that appear and disappear. Each is the contract of a function with an empty body.
 ghost use Rattle.std.specs.Prelude.{◌≡◌, ◌↔◌, ◌+◌, ◌-◌, ◌≤◌, true, false, List, [], ◌∷◌, ◌++◌, codes};
 ghost use Rattle.text_tables.specs.Texts.{Text, is_among};
 ghost use Rattle.device_core.specs.Values.{EventValue};
@@ -11,19 +11,19 @@ pub fn lines_are_told_as_often_as_they_are_more()
     ensures { (texts others : List Text) (text : Text) → times text (surplus texts others) ≡ times text texts - times text others }
 {}
 
-/// Where the lines that go are taken out of the old ones and those that come are put in, the new ones
-/// are left, each as often as it is there.
+/// If the lines that disappear are removed from the old ones and those that appear are added, the new ones are
+/// left, each as often as it is there.
 pub fn differences_lead_from_old_to_new()
     ensures taken { (old new : List Text) (text : Text) → times text (surplus old new) ≤ times text old }
     ensures put { (old new : List Text) (text : Text) → (times text old - times text (surplus old new)) + times text (surplus new old) ≡ times text new }
 {}
 
-/// No line both goes and comes.
+/// No line both disappears and appears.
 pub fn no_line_goes_and_comes()
     ensures { (old new : List Text) (text : Text) → is_among (surplus old new) text ≡ true → is_among (surplus new old) text ≡ false }
 {}
 
-/// No line goes or comes exactly where both lists have each line equally often, in whatever order.
+/// No line disappears or appears if and only if both lists have each line equally often, in whatever order.
 pub fn nothing_differs_where_lines_are_the_same()
     ensures { (old new : List Text) → ((surplus old new ≡ []) × (surplus new old ≡ [])) ↔ ((text : Text) → times text old ≡ times text new) }
 {}
@@ -34,22 +34,21 @@ pub fn the_last_of_equal_lines_are_told()
     ensures { (texts others : List Text) (text : Text) → surplus (texts ++ text ∷ []) others ≡ surplus texts others ++ unless_fewer texts text others }
 {}
 
-/// Of an answer that is the same twice nothing is reported.
+/// Nothing is reported for two equal answers.
 pub fn the_same_answer_differs_in_nothing()
     ensures { (event : EventValue) (answer : Text) → differences event answer answer ≡ [] }
 {}
 
-/// Nothing is reported for an event exactly where its two answers have the same lines, notes aside: each as often, in
-/// whatever
-/// order.
+/// Nothing is reported for an event if and only if its two answers have the same lines apart from notes, each as
+/// often, in whatever order.
 pub fn nothing_is_told_where_lines_are_the_same()
     ensures { (event : EventValue) (old new : Text) → (differences event old new ≡ [])
         ↔ ((text : Text) → times text (compared_lines old) ≡ times text (compared_lines new)) }
 {}
 
-/// What is reported, by an example: after the event's line the lines that go, each after `-`, then those that come,
-/// each after
-/// `+`, both in the order of their answer, and an empty line. The first line of an answer is not compared, and notes are not.
+/// What is reported, by an example: after the event's line the lines that disappear, each after `-`, then those
+/// that appear, each after `+`, both in the order of their answer, and an empty line. The first line of an answer
+/// is not compared, and neither are notes.
 pub fn lines_that_go_stand_before_those_that_come()
     ensures { (event : EventValue) → differences event
         (codes "event add /old\nlink x\nnote 1 a\nenv A=1\nmode 0600\n\n")

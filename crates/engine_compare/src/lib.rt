@@ -1,7 +1,7 @@
 //! What appears and disappears between the answers of two sets of rules to one event, and the whole run of `compare`
 //! over files and an index in memory and an input.
 //!
-//! Like `engine_core`, beside whose `serve` it stands, this crate opens no file and knows no terminal.
+//! Like `engine_core` with its `serve`, this crate opens no file and knows no terminal.
 //!
 //! Functions that allocate return `AllocError` when memory runs out.
 #![tactic(auto)]

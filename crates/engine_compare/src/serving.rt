@@ -20,20 +20,18 @@ use index_reading::{Index, IndexFault};
 use std::alloc::{AllocError, Global};
 use text_bytes::{Profile, SourceFile};
 
-/// Compares the answers to the events of an input by two sets of rules, writes what comes and goes, and
-/// gives the status to exit with.
+/// Compares the answers to the events of an input by two sets of rules, writes what appears and disappears, and
+/// returns the status to exit with.
 ///
-/// The files of each side are those passed in for its line, taken and read as `events` does; rules are
-/// evaluated by the profile of the old line, which is that of the new one where a command line made both.
-/// Messages
-/// about the old and then about the new rules go to `error`; to `output`, for each block of `input`
-/// whose answers differ, what comes and goes, written and flushed before the next read. Where `index`
-/// is passed in, both sides ask it, and no file of a database is read.
+/// The files of each side are those passed in for its line, taken and read as `events` does; rules are evaluated by
+/// the profile of the old line, which is that of the new one if a command line made both. Messages about the old
+/// and then about the new rules go to `error`; to `output`, for each block of `input` whose answers differ, what
+/// appears and disappears, written and flushed before the next read. If `index` is passed in, both sides ask it,
+/// and no file of a database is read.
 ///
-/// The status is 0; 1 where anything comes or goes, where a block is faulty, where the files of a side
-/// hold more than they may, or where the index fails a check; 3 where the input or an output failed, or
-/// the input did not end within 2^48 reads, and only there; 4 where memory ran out. Under 3 all was
-/// written and flushed.
+/// The status is 0; 1 if anything appears or disappears, if a block is faulty, if the files of a side hold more
+/// than they may, or if the index fails a check; 3 if the input or an output failed, or the input did not end
+/// within 2^48 reads, and only then; 4 if memory ran out. Under 3 all was written and flushed.
 pub fn serve_compare<R: Source, W: Sink, E: Sink>(
     alloc: Global,
     old_line: &Line<'_>,
@@ -45,7 +43,8 @@ pub fn serve_compare<R: Source, W: Sink, E: Sink>(
     output: &mut W,
     error: &mut E,
 ) -> u8
-    // What is written and answered is one function of the lines, the files, the index and the input; and the same step by step.
+    // What is written and returned is one function of the lines, the files, the index and the input; and the same
+    // step by step.
     ensures { ComparesOver old_line.now new_line.now old_files.items new_files.items (option_map (λ bytes. bytes.now) index.entry) result
         (record { input = R.shown input.old; out = W.shown output.old; err = E.shown error.old })
         (record { input = R.shown input.new; out = W.shown output.new; err = E.shown error.new }) }
@@ -56,7 +55,7 @@ pub fn serve_compare<R: Source, W: Sink, E: Sink>(
     )
 }
 
-/// The same, by what came of the index.
+/// The same, by the outcome of opening the index.
 fn compare_opened<R: Source, W: Sink, E: Sink>(
     alloc: Global,
     old_line: &Line<'_>,
@@ -115,7 +114,7 @@ fn compare_read<L: Lookup + Drop, M: Lookup + Drop, R: Source, W: Sink, E: Sink>
     }
 }
 
-/// Writes the messages, and what comes and goes after them.
+/// Writes the messages, and after them what appears and disappears.
 fn compare_rules<L: Lookup + Drop, M: Lookup + Drop, R: Source, W: Sink, E: Sink>(
     alloc: Global,
     profile: Profile,
@@ -167,8 +166,8 @@ fn both_tables<L: Lookup + Drop, M: Lookup + Drop>(
     Ok((messages, Compared::new(old_tables, new_tables)))
 }
 
-/// The rules and the messages about the files passed in, beside an index that others ask, too. No file of
-/// a database is read.
+/// The rules and the messages about the files passed in, with an index that others also ask. No file of a database
+/// is read.
 fn open_beside<'b, 'a>(
     alloc: Global,
     line: &Line<'_>,

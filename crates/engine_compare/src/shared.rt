@@ -1,11 +1,11 @@
-//! One database that several programs ask.
+//! One database that several programs query.
 ghost use Rattle.std.specs.Prelude.{◌≡◌};
 
 use hwdb_lookup::{Lookup, Sourced};
 use std::alloc::{AllocError, Global};
 use std::marker::Model;
 
-/// A database that is lent, so that more than one program can ask it.
+/// A borrowed database, so that more than one program can query it.
 #[derive(Drop)]
 pub struct Shared<'b, L: Lookup> {
     lookup: &'b L,
@@ -18,7 +18,7 @@ impl<'b, L: Lookup> Model for Shared<'b, L> {
 }
 
 impl<'b, L: Lookup> Shared<'b, L> {
-    /// The database that is lent.
+    /// The borrowed database.
     pub fn new(lookup: &'b L) -> Shared<'b, L>
         ensures { result ≡ lookup.entry.now }
     {

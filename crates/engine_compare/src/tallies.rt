@@ -10,7 +10,7 @@ ghost use Rattle.engine_compare.specs.Tallies.{left_of, Tallies};
 use std::alloc::{AllocError, Global};
 use text_tables::Table;
 
-/// The lines that a list has more often than another has, in its order; of equal lines the last ones.
+/// The lines that a list has more often than another, in its order; of equal lines the last ones.
 pub fn surplus<'a>(
     alloc: Global,
     lines: &[&'a [u8]],
@@ -50,7 +50,7 @@ fn left_of(tally: &Table<'_, usize>, line: &[u8]) -> usize
     }
 }
 
-/// Takes one of a line away, if one is left, and says whether one was.
+/// Takes one of a line away, if one is left, and returns whether one was.
 fn take_one<'a>(tally: &mut Table<'a, usize>, line: &'a [u8]) -> Result<bool, AllocError>
     ensures there { IfOk result (λ there. there ≡ nat_lt 0 (left_of tally.old line.now)) }
     ensures left { OnOk result ((text : Text) → left_of tally.new text ≡ left_of tally.old text - (if same_text text line.now then 1 else 0)) }

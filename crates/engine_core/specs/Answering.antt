@@ -12,6 +12,6 @@ pub record TablesValue : Type 0 where
   pub rules : List Rule
   pub entries : List Entry
 
--- the answer to an event: what it comes to by these rules and entries, as lines
+-- the answer to an event: its outcome by these rules and entries, as lines
 abbrev pub answer_by : TablesValue → EventValue → Text
 answer_by tables event = answer event (outcome tables.rules tables.entries event)

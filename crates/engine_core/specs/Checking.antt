@@ -12,7 +12,7 @@ use Rattle.engine_ends.specs.Delivery.{Outcome}
 use Rattle.engine_reports.specs.FilesRead.{files_read}
 use Rattle.engine_reports.specs.Outcomes.{database_outcome, update_outcome, verify_outcome}
 
--- whether messages are written as ever
+-- whether messages are written in the plain format
 abbrev pub is_plain : Format → Bool
 is_plain Plain = true
 is_plain Gcc = false
@@ -31,11 +31,11 @@ is_udev Udev = true
 abbrev pub asks_checks : Line → Bool
 asks_checks line = ((is_udev line.profile || line.lint) || not (is_plain line.format)) || not (vec_len line.ignored == 0)
 
--- what `verify` says of the files passed in
+-- what `verify` says about the files passed in
 abbrev pub verify_said : Line → List SourceFile → Outcome
 verify_said line files = if asks_checks line then checks_outcome line files else verify_outcome line files
 
--- what `update` says of the files passed in
+-- what `update` says about the files passed in
 abbrev pub update_said : Line → List SourceFile → Outcome
 update_said line files =
     if asks_checks line then told_update_outcome line files

@@ -1,4 +1,5 @@
--- What a run says: its outcome, as a function of the command line, of the files passed in, of what comes of an index and of the input.
+-- What a run says: its outcome, as a function of the command line, of the files passed in, of the outcome of opening
+-- an index and of the input.
 use Rattle.std.specs.Prelude.{Bool, not, ◌||◌, ◌==◌, if◌then◌else◌, List, map, Option, Some, None, Result, Ok, Err, vec_len}
 use Rattle.text_tables.specs.Texts.{Text}
 use Rattle.text_bytes.specs.declared.source_file.SourceFile.{SourceFile}
@@ -34,37 +35,37 @@ told_of line opening = record { sources = line.sources; why = why_of line; messa
 abbrev pub asks_more : Line → Bool
 asks_more line = line.sources || not (vec_len line.why == 0)
 
--- the answer to an event by what an opening has, over which rules are evaluated by the line's profile: where the line asks for no more
--- the answer alone
+-- the answer to an event by what an opening has, over which rules are evaluated by the line's profile: only the
+-- answer if the line asks for no more
 abbrev pub answer_with : Line → OpeningValue → EventValue → Text
 answer_with line opening =
     if asks_more line then answers_as line.profile (told_by (told_of line opening))
     else answers_as line.profile (answer_by (tables_of opening))
 
--- an opening, or what is said in its place where the line asks for a rule that is not there
+-- an opening, or what is said instead if the line asks for a rule that is not there
 abbrev pub opening_unless : Option Text → OpeningValue → Result OpeningValue Outcome
 opening_unless None opening = Ok opening
 opening_unless (Some line) opening = Err (usage_error opening.messages line)
 
--- the same of what came of the files
+-- the same for the outcome of opening the files
 abbrev pub asked_of : List Text → Result OpeningValue Outcome → Result OpeningValue Outcome
 asked_of why (Ok opening) = opening_unless (unknown why opening.about_rules opening.rules) opening
 asked_of why (Err said) = Err said
 
--- What a command comes to before it looks at its input: `events` to what comes before its first answer, or to what is said in place
--- of that; any other command to what it says. At an index `query` and `events` alone look.
+-- A command before it looks at its input: for `events` what comes before its first answer, or what is said instead;
+-- for any other command what it says. Only `query` and `events` look at an index.
 abbrev pub before_input : Verb → Line → List SourceFile → Option (Result Contents IndexFault) → Result OpeningValue Outcome
 before_input Query line files opened = Err (query_over line files opened)
 before_input Update line files opened = Err (update_said line files)
 before_input Verify line files opened = Err (verify_said line files)
 before_input Events line files opened = asked_of (why_of line) (opening line files opened)
 
--- the outcome of a run over an input: the messages of its opening and the answers to the blocks of the input, or what is said without
--- a look at the input
+-- the outcome of a run over an input: the messages of its opening and the answers to the blocks of the input, or what
+-- is said without looking at the input
 abbrev pub outcome_by : Line → Result OpeningValue Outcome → Text → Outcome
 outcome_by line (Ok opening) input = input_outcome opening.messages (answer_with line opening) input
 outcome_by line (Err said) input = said
 
--- the outcome of a run over the files passed in, what comes of an index and an input
+-- the outcome of a run over the files passed in, the outcome of opening an index and an input
 abbrev pub outcome : Line → List SourceFile → Option (Result Contents IndexFault) → Text → Outcome
 outcome line files opened input = outcome_by line (before_input line.verb line files opened) input

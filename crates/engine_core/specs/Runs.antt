@@ -12,13 +12,13 @@ use Rattle.engine_reports.specs.Openings.{OpeningValue}
 use Rattle.engine_sessions.specs.Serves.{AnswersAll, Reports, Serves}
 use Rattle.engine_core.specs.Outcomes.{answer_with, before_input, outcome}
 
--- a run of a line, by what it comes to before it looks at its input
+-- a run of a line, by its outcome before it looks at its input
 abbrev pub RunsBy : Line → Result OpeningValue Outcome → ℕ → Streams → Streams → Type 0
 RunsBy line (Ok opening) status before now = AnswersAll opening.messages (answer_with line opening) status before now
 RunsBy line (Err said) status before now = Reports said status before now
 
--- A run over what comes of its index: what is written and answered is one function of the line, the files, the index and the input;
--- and the same step by step.
+-- A run over the outcome of opening its index: what is written and answered is one function of the line, the files,
+-- the index and the input, also step by step.
 pub record RunsOver (line : Line) (files : List SourceFile) (index : Option Text) (status : ℕ) (before now : Streams) : Type 0 where
   pub opened : Option (Result Contents IndexFault)
   pub opens : Opens index opened

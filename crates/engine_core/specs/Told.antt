@@ -1,4 +1,4 @@
--- The answer to an event by the rules as they were read, with what a line asks for beside it.
+-- The answer to an event by the rules as they were read, with what a line asks for in addition.
 use Rattle.std.specs.Prelude.{Bool, if◌then◌else◌, List, [], ◌∷◌, ◌++◌}
 use Rattle.text_bytes.specs.Names.{newline}
 use Rattle.text_bytes.specs.declared.message.Message.{Message}
@@ -11,8 +11,8 @@ use Rattle.engine_answers.specs.Answers.{answer_lines}
 use Rattle.engine_courses.specs.WhyLines.{why_lines}
 use Rattle.engine_sources.specs.Answers.{sourced_lines}
 
--- what is asked for, whether sources and of which rules what they met, and what events are answered by: the messages about the
--- rules, the rules, and the entries of the database
+-- what is asked for, whether sources and for which rules what they met, and what events are answered by: the messages
+-- about the rules, the rules, and the entries of the database
 pub record ToldValue : Type 0 where
   pub sources : Bool
   pub why : List Text
@@ -24,6 +24,6 @@ pub record ToldValue : Type 0 where
 abbrev pub lines_told : Bool → List Rule → List Entry → EventValue → Text
 lines_told sources rules entries event = if sources then sourced_lines rules entries event else answer_lines event (outcome rules entries event)
 
--- the answer to an event: its lines, then what the rules met that are asked for, and an empty line
+-- the answer to an event: its lines, then what the rules that are asked for met, and an empty line
 abbrev pub told_by : ToldValue → EventValue → Text
 told_by t event = lines_told t.sources t.rules t.entries event ++ why_lines t.why t.messages t.rules t.entries event ++ newline ∷ []

@@ -19,7 +19,7 @@ fn asks_checks(line: &Line<'_>) -> bool
         || !line.ignored.is_empty()
 }
 
-/// What `verify` says of the files that were passed in.
+/// What `verify` says about the files that were passed in.
 pub(crate) fn report_on_verify(
     alloc: Global,
     line: &Line<'_>,
@@ -36,7 +36,7 @@ pub(crate) fn report_on_verify(
     }
 }
 
-/// What `update` says of the files that were passed in.
+/// What `update` says about the files that were passed in.
 pub(crate) fn report_on_index(
     alloc: Global,
     line: &Line<'_>,

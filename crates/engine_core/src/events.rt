@@ -22,8 +22,8 @@ use std::alloc::Global;
 use text_bytes::SourceFile;
 use trie_build::{Trie, trie_of};
 
-/// Reads what events are answered by, writes the messages about it, answers the input, both by the line's
-/// profile, and gives the status to exit with. The database is the index that was opened, or else that of the files.
+/// Reads what events are answered by, writes the messages about it, answers the input, both by the line's profile,
+/// and returns the status to exit with. The database is the index that was opened, or otherwise that of the files.
 pub(crate) fn serve_events<R: Source, W: Sink, E: Sink>(
     alloc: Global,
     line: &Line<'_>,
@@ -50,8 +50,8 @@ pub(crate) fn serve_events<R: Source, W: Sink, E: Sink>(
     }
 }
 
-/// Writes the messages, answers the input by the rules and the database, and gives the status to exit
-/// with; or writes why there are none.
+/// Writes the messages, answers the input by the rules and the database, and returns the status to exit with; or
+/// writes why there are none.
 fn answer_over<L: Lookup + Drop, R: Source, W: Sink, E: Sink>(
     alloc: Global,
     line: &Line<'_>,
@@ -71,8 +71,7 @@ fn answer_over<L: Lookup + Drop, R: Source, W: Sink, E: Sink>(
     }
 }
 
-/// Writes the messages, and after them the answers, or else which rule the line asks for that is not
-/// there.
+/// Writes the messages, and then the answers, or otherwise which rule the line asks for that is not there.
 fn answer_asked<L: Lookup + Drop, R: Source, W: Sink, E: Sink>(
     alloc: Global,
     line: &Line<'_>,
@@ -95,8 +94,8 @@ fn answer_asked<L: Lookup + Drop, R: Source, W: Sink, E: Sink>(
     }
 }
 
-/// Writes the messages and answers the input: by the program of the rules, or by the rules as they were
-/// read where the line asks for more than the answers.
+/// Writes the messages and answers the input: by the program of the rules, or, if the line asks for more than the
+/// answers, by the rules as they were read.
 fn answer_by_rules<L: Lookup + Drop, R: Source, W: Sink, E: Sink>(
     alloc: Global,
     line: &Line<'_>,
@@ -124,8 +123,8 @@ fn answer_by_rules<L: Lookup + Drop, R: Source, W: Sink, E: Sink>(
 
 /// The rules and the messages about the files passed in, and the database that these hold.
 ///
-/// `TooManyEntries` comes exactly where the files of the database hold more than they may, else
-/// `TooManyRules` exactly where the rules have more than 2^24 tokens; `Memory` where memory runs out.
+/// There is `TooManyEntries` exactly if the files of the database hold more than they may, otherwise `TooManyRules`
+/// exactly if the rules have more than 2^24 tokens; `Memory` if memory runs out.
 pub fn open_with_database(
     alloc: Global,
     line: &Line<'_>,
@@ -143,7 +142,7 @@ pub fn open_with_database(
     Ok((RulesRead { messages, rules }, database))
 }
 
-/// The same where the database is an index: of the files rules alone are read.
+/// The same if the database is an index: of the files only rules are read.
 fn open_beside<'a>(
     alloc: Global,
     line: &Line<'_>,

@@ -11,25 +11,24 @@ use index_reading::{Index, IndexFault};
 use std::alloc::Global;
 use text_bytes::SourceFile;
 
-/// Runs a command over files that were read, writes what it says, and gives the status to exit with.
+/// Runs a command over files that were read, writes what it says, and returns the status to exit with.
 ///
-/// Messages about the files go to `error`, for `verify` and `update` in the format of `line` and without
-/// those that it ignores, for `verify` with lints where `line` asks for them; the answer to `output`: for `query` the lines of the
-/// properties as systemd-hwdb(8) gives them, for `update` the index of the database, messages or not,
-/// for `verify`, as in udevadm(8), how many files are bad, and for `events` the answer to each block of
-/// `input`, written and flushed before the next read, with the rule before each line that it comes from
-/// and after the lines what rules met, where `line` asks for that. Where `line` names files of the
-/// kind that the command reads, those passed in are read in their order, and else those whose names end
-/// in `.hwdb` or `.rules`, of each name the one of least rank, sorted by name. `verify` and `events` read
-/// rules, and `events` evaluates them, by the profile of `line`. Where `index` is passed in, `query` and `events`
-/// answer from it and read no file of the database. The input is looked at by
-/// `events` alone.
+/// Messages about the files go to `error`, for `verify` and `update` in the format of `line` and without those that
+/// it ignores, for `verify` with lints if `line` asks for them; the answer to `output`: for `query` the lines of
+/// the properties as systemd-hwdb(8) gives them, for `update` the index of the database, whether there are messages
+/// or not, for `verify`, as in udevadm(8), how many files are bad, and for `events` the answer to each block of
+/// `input`, written and flushed before the next read, with the rule before each line that it comes from and after
+/// the lines what rules met, if `line` asks for that. If `line` names files of the kind that the command reads,
+/// those passed in are read in their order, and otherwise those whose names end in `.hwdb` or `.rules`, of each
+/// name the one of least rank, sorted by name. `verify` and `events` read rules, and `events` evaluates them, by
+/// the profile of `line`. If `index` is passed in, `query` and `events` answer from it and read no file of the
+/// database. Only `events` looks at the input.
 ///
-/// The status is 0; 1 where `update` is strict and there is a message, where `verify` finds a bad file, where a block is faulty, where the
-/// files hold more than they may, or where `query` or `events` is passed an index that fails a check; 2 where a text
-/// of `ignored` is no
-/// code, and where a text of `why` asks for no rule and for no message's place, and then no input is read; 3 where the input or an output
-/// failed, or the input did not end within 2^48 reads, and only there; 4 where memory ran out. Under 3 all was written and flushed.
+/// The status is 0; 1 if `update` is strict and there is a message, if `verify` finds a bad file, if a block is
+/// faulty, if the files hold more than they may, or if `query` or `events` is passed an index that fails a check; 2
+/// if a text of `why` asks for neither a rule nor a message's place, and then no input is read; 3 if the input or
+/// an output failed, or the input did not end within 2^48 reads, and only then; 4 if memory ran out. Under 3 all
+/// was written and flushed.
 pub fn serve<R: Source, W: Sink, E: Sink>(
     alloc: Global,
     line: &Line<'_>,
@@ -39,7 +38,7 @@ pub fn serve<R: Source, W: Sink, E: Sink>(
     output: &mut W,
     error: &mut E,
 ) -> u8
-    // What is written and answered is one function of the line, the files, the index and the input; and the same step by step.
+    // What is written and answered is one function of the line, the files, the index and the input, also step by step.
     ensures runs { RunsOver line.now files.items (option_map (λ bytes. bytes.now) index.entry) result
         (record { input = R.shown input.old; out = W.shown output.old; err = E.shown error.old })
         (record { input = R.shown input.new; out = W.shown output.new; err = E.shown error.new }) }
@@ -48,7 +47,7 @@ pub fn serve<R: Source, W: Sink, E: Sink>(
     serve_opened(alloc, line, files, open_index(index), input, output, error)
 }
 
-/// The same, by what came of the index.
+/// The same, by the outcome of opening the index.
 fn serve_opened<R: Source, W: Sink, E: Sink>(
     alloc: Global,
     line: &Line<'_>,

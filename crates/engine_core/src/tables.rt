@@ -29,10 +29,9 @@ impl<L: Lookup> Model for Tables<L> {
 }
 
 impl<L: Lookup + Drop> Tables<L> {
-    /// The rules and the database that events are answered by; the rules are laid out once, as a
-    /// program.
+    /// The rules and the database that events are answered by; the rules are laid out once, as a program.
     ///
-    /// The error comes where memory runs out; what was passed in is dropped then.
+    /// There is an error only if memory runs out; what was passed in is then dropped.
     pub fn new(alloc: Global, rules: RuleSet, lookup: L) -> Result<Tables<L>, AllocError>
         ensures { IfOk result (λ tables. tables ≡ record { rules = rules.rules; entries = L.entries lookup }) }
     {

@@ -1,4 +1,5 @@
-//! Rules as they were read and a database, as one thing that answers events and says what a line asks for beside.
+//! Rules as they were read and a database, as one thing that answers events and reports what a line asks for in
+//! addition.
 ghost use Rattle.std.specs.Prelude.{◌≡◌, IfOk, map};
 ghost use Rattle.engine_core.specs.Told.{lines_told, told_by};
 
@@ -14,7 +15,7 @@ use std::alloc::{AllocError, Global};
 use std::marker::Model;
 use text_bytes::Bytes;
 
-/// Rules and a database, by which events are answered, and what is reported beside: the rule that each line
+/// Rules and a database, by which events are answered, and what is reported in addition: the rule that each line
 /// comes from, and what rules met.
 #[derive(Drop)]
 pub struct ToldTables<'b, 'a, L: Lookup> {
@@ -40,8 +41,8 @@ impl<'b, 'a, L: Lookup> Model for ToldTables<'b, 'a, L> {
 }
 
 impl<'b, 'a, L: Lookup + Drop> ToldTables<'b, 'a, L> {
-    /// The rules and the database that events are answered by, and what is reported beside: with `sources`
-    /// the rule that each line comes from, and what the rules met that `why` asks for.
+    /// The rules and the database that events are answered by, and what is reported in addition: with `sources` the
+    /// rule that each line comes from, and what the rules that `why` asks for met.
     pub fn new(
         sources: bool,
         why: &'b [&'a str],
@@ -84,7 +85,7 @@ fn lines_told<L: Lookup>(
     said
 }
 
-/// The answer to an event, with what is asked for beside it.
+/// The answer to an event, with what is asked for in addition.
 fn told_by<L: Lookup>(
     alloc: Global,
     sources: bool,

@@ -1,4 +1,4 @@
--- Which rules the texts of `--why` ask for, and what is said of a text that asks for none.
+-- Which rules the texts of `--why` ask for, and what is said about a text that asks for none.
 use Rattle.std.specs.Prelude.{ℕ, Bool, true, false, not, ◌==◌, ◌||◌, ◌&&◌, List, [], ◌∷◌, ◌++◌, map, filter, find, codes, decimal, Option, Some, None, option_map}
 use Rattle.std.specs.List.{list_any}
 use Rattle.text_bytes.specs.Escapes.{escape_text}
@@ -18,7 +18,7 @@ asks text place = same_text text place.0 || same_text text (place.0 ++ colon ∷
 abbrev pub is_asked : List Text → Text → ℕ → Bool
 is_asked why file line = list_any (λ text. asks text (file, line)) why
 
--- whether a kind of message says that a line of rules was not read: the V messages but V7 and V8, which leave the rule
+-- whether a kind of message says that a line of rules was not read: V1 to V6 and V9 to V12
 abbrev pub is_of_unread : MessageKind → Bool
 is_of_unread BadSyntax = true
 is_of_unread UnknownKey = true
@@ -32,7 +32,7 @@ is_of_unread SetNotSupported = true
 is_of_unread OpenAtEnd = true
 is_of_unread _ = false
 
--- whether one of these rules stands on a line of a file
+-- whether one of these rules is on a line of a file
 abbrev pub has_rule : List Rule → Text → ℕ → Bool
 has_rule rules file line = list_any (λ r. same_text r.file file && r.line == line) rules
 
@@ -48,11 +48,11 @@ places_of messages rules = map (λ r. (r.file, r.line)) rules ++ map (λ m. (m.f
 abbrev pub is_known : List Place → Text → Bool
 is_known places text = list_any (asks text) places
 
--- a place as it is reported, `FILE:LINE`, the file's name escaped
+-- a place as it is reported, `FILE:LINE`, with the file's name escaped
 abbrev pub place_text : Place → Text
 place_text place = escape_text place.0 ++ colon ∷ decimal place.1
 
--- what there is none of, with the nearest place where the text's file has one
+-- what is missing, with the nearest place if the text's file has one
 abbrev pub missing : Option Place → Text
 missing None = codes "rules file"
 missing (Some place) = codes "rule, the nearest is " ++ place_text place

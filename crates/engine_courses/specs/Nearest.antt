@@ -1,4 +1,4 @@
--- Which place stands nearest to the line that a text of `--why` asks for.
+-- Which place is nearest to the line that a text of `--why` asks for.
 use Rattle.std.specs.Prelude.{ℕ, Bool, not, ◌==◌, ◌||◌, ◌&&◌, nat_lt, if◌then◌else◌, List, [], ◌∷◌, length, take, drop, find, filter_map, Option, Some, None, option_map, option_and_then}
 use Rattle.std.specs.Int.{abs_diff}
 use Rattle.std.specs.List.{list_any}
@@ -11,11 +11,11 @@ use Rattle.text_tables.specs.Texts.{Text, same_text}
 abbrev pub Place : Type 0
 Place = Text × ℕ
 
--- what follows the front of a text, where it begins with that
+-- what follows the front of a text, if it begins with that
 abbrev pub behind : Text → Text → Option Text
 behind front text = if same_text (take (length front) text) front then Some (drop (length front) text) else None
 
--- the number of a line that decimal digits write; one over 2^32 - 1 counts as that, as it does where lines are reported
+-- the number of a line that decimal digits write; at most 2^32 - 1, as in reports
 abbrev pub line_number : Text → Option ℕ
 line_number digits = if is_decimal digits then Some (capped (decimal digits)) else None
 
@@ -23,11 +23,11 @@ line_number digits = if is_decimal digits then Some (capped (decimal digits)) el
 abbrev pub line_in : Text → Text → Option ℕ
 line_in file text = option_and_then line_number (option_and_then (behind (colon ∷ [])) (behind file text))
 
--- a place after how far its line is from another one
+-- how far the line of a place is from another one, and the place
 abbrev pub Candidate : Type 0
 Candidate = ℕ × Place
 
--- a place after how far it is from the line of its file that a text asks for
+-- how far a place is from the line of its file that a text asks for, and the place
 abbrev pub candidate_of : Text → Place → Option Candidate
 candidate_of text place = option_map (λ line. (abs_diff line place.1, place)) (line_in place.0 text)
 
@@ -35,10 +35,10 @@ candidate_of text place = option_map (λ line. (abs_diff line place.1, place)) (
 abbrev pub is_nearer : Candidate → Candidate → Bool
 is_nearer a b = nat_lt a.0 b.0 || (a.0 == b.0 && nat_lt a.1.1 b.1.1)
 
--- the first of places that none of them is nearer than
+-- the first of some places to which none of them is nearer
 unfoldable pub least : List Candidate → Option Candidate
 least all = find (λ a. not (list_any (λ b. is_nearer b a) all)) all
 
--- of the places in the file of a text `FILE:N` the one that is nearest to that line
+-- of the places in the file of a text `FILE:N`, the one nearest to that line
 abbrev pub nearest : Text → List Place → Option Place
 nearest text places = option_map (λ found. found.1) (least (filter_map (candidate_of text) places))

@@ -1,4 +1,5 @@
--- The lines of `--why`: what each asked rule did, or why it was passed over, and why an asked line is no rule.
+-- The lines of `--why`: what each rule that was asked for did, or why it was skipped, and why a line that was asked
+-- for is not a rule.
 use Rattle.std.specs.Prelude.{ℕ, Bool, if◌then◌else◌, is_some, List, [], ◌∷◌, ◌++◌, flat_map, codes, Option, Some, None, option_and_then}
 use Rattle.text_bytes.specs.Names.{newline}
 use Rattle.text_bytes.specs.declared.message.Message.{Message}
@@ -17,7 +18,7 @@ use Rattle.engine_ends.specs.Places.{place_of, word_part}
 use Rattle.engine_reports.specs.Messages.{heading_of}
 use Rattle.engine_courses.specs.Asked.{is_asked, unread}
 
--- a line that tells why, `why FILE:LINE: TEXT`
+-- a line of `--why`: `why FILE:LINE: TEXT`
 unfoldable pub why_line : Text → ℕ → Text → Text
 why_line file line text = codes "why " ++ place_of file line ++ text ++ newline ∷ []
 
@@ -29,25 +30,25 @@ unread_text message = codes "not read: " ++ heading_of message.kind ++ word_part
 abbrev pub unread_lines : List Message → Text
 unread_lines messages = flat_map (λ m. why_line m.file m.line (unread_text m)) messages
 
--- what is reported for a rule that is passed over, by the rule that jumps
+-- what is reported for a rule that is skipped, by the rule that jumps
 abbrev pub passed_texts : Option Rule → List Text
 passed_texts None = []
 passed_texts (Some jumping) = (codes "passed over by GOTO of " ++ rule_place jumping) ∷ []
 
--- a rule with what is reported it, where it is asked for
+-- a rule with what is reported for it, if it is asked for
 abbrev pub told_if_asked : List Text → Rule → List Text → List (Rule × List Text)
 told_if_asked why r texts = if is_asked why r.file r.line then (r, texts) ∷ [] else []
 
--- the label that is sought while a rule jumps, or none does
+-- the label that is looked for, if a rule jumps
 abbrev pub sought_by : Option Rule → Option Text
 sought_by jumping = option_and_then (λ r. r.goto) jumping
 
--- the rule that jumps after a rule that was come to: this one, where its GOTO is then sought
+-- the rule that jumps, after a rule was reached: this one, if its GOTO is then looked for
 abbrev pub jumping_after : Bool → Rule → Option Rule
 jumping_after reached r = if is_some (sought_after reached r) then Some r else None
 
--- of rules one after another those that are asked for, each with what is reported it: by which rule it is passed over, or its
--- course; what is known of final keys is known from all rules
+-- of rules one after another, those that are asked for, each with what is reported for it: which rule's jump skips
+-- it, or its course; since when keys are final is known from all rules
 unfoldable pub told_from : List Text → List Entry → Since → Option Rule → List Rule → Scene → List (Rule × List Text)
 told_from why entries since jumping [] s = []
 told_from why entries since jumping (r ∷ rs) s =
@@ -56,7 +57,7 @@ told_from why entries since jumping (r ∷ rs) s =
     told_if_asked why r (course entries since r s)
     ++ told_from why entries (since_behind since r (apply entries r s).0.finals) (jumping_after (apply entries r s).1 r) rs (apply entries r s).0
 
--- the rules of an event that are asked for, each with what is reported it
+-- the rules of an event that are asked for, each with what is reported for it
 abbrev pub told_of : List Text → List Rule → List Entry → EventValue → List (Rule × List Text)
 told_of why rules entries event = told_from why entries no_since None rules (start event)
 

@@ -13,7 +13,7 @@ use rule_types::Rule;
 use std::alloc::{AllocError, Global};
 use text_bytes::Message;
 
-/// Puts the lines on messages after others, of those on lines that are asked for and were not read.
+/// Adds the lines on the messages about lines that are asked for and were not read.
 #[tactic(auto, unfolding(crate::specs::Asked::unread))]
 fn push_unread_lines(
     alloc: Global,
@@ -32,13 +32,13 @@ fn push_unread_lines(
     Ok(())
 }
 
-/// Puts the lines of `--why` after the lines of an answer: on each line that is asked for and was not read, what the
-/// message
-/// on it says; then on each rule that is asked for, in the order of evaluation, by which rule's GOTO it is passed over, or
-/// what each of its keys met and how the rule ended, as `eval_courses` tells it. Rules that are not asked for have no line.
+/// Adds the lines of `--why` after the lines of an answer: on each line that is asked for and was not read, what
+/// the message about it says; then on each rule that is asked for, in the order of evaluation, which rule's GOTO
+/// skips it, or what each of its keys found and how the rule ended, as `eval_courses` reports it. Rules that are
+/// not asked for have no line.
 ///
-/// The rules are evaluated once more for this, as for the answer. The error comes where memory runs out; what was put
-/// after the lines until then stays.
+/// The rules are evaluated once more for this, as for the answer. Fails if memory runs out; the lines added until
+/// then stay.
 #[tactic(auto, unfolding(crate::specs::WhyLines::why_lines))]
 pub fn push_why_lines<L: Lookup>(
     alloc: Global,

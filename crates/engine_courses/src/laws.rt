@@ -1,4 +1,4 @@
-//! Laws of what is asked for: the contracts of functions with empty bodies.
+//! Laws of what is asked for, each the contract of a function with an empty body.
 ghost use Rattle.std.specs.Prelude.{◌≡◌, ◌||◌, true, is_none, if◌then◌else◌, List, [], ◌∷◌};
 ghost use Rattle.std.specs.List.{list_all, list_any};
 ghost use Rattle.text_bytes.specs.declared.message.Message as messages;
@@ -9,13 +9,13 @@ ghost use Rattle.device_core.specs.Values.{EventValue};
 ghost use Rattle.engine_courses.specs.Asked.{is_asked, unknown};
 ghost use Rattle.engine_courses.specs.WhyLines.{told_of, why_lines};
 
-/// A text is unknown just where it asks for no rule and for no message's place.
+/// A text is unknown if and only if it asks for no rule and for no message's place.
 #[tactic(auto, using(crate::proofs::Known::known_is))]
 pub fn unknown_asks_for_nothing()
     ensures { (text : Text) (told : List messages.Message) (read : List rules.Rule) → is_none (unknown (text ∷ []) told read) ≡ (list_any (λ r. is_asked (text ∷ []) r.file r.line) read || list_any (λ m. is_asked (text ∷ []) m.file m.line) told) }
 {}
 
-/// Of several texts the first that is unknown is reported.
+/// Of several texts the first unknown one is reported.
 #[tactic(auto, using(crate::proofs::Known::first_is))]
 pub fn first_unknown_is_told()
     ensures { (text : Text) (why : List Text) (told : List messages.Message) (read : List rules.Rule) → unknown (text ∷ why) told read ≡ (if is_none (unknown (text ∷ []) told read) then unknown why told read else unknown (text ∷ []) told read) }
@@ -27,7 +27,7 @@ pub fn rules_are_told_where_asked()
     ensures { (why : List Text) (read : List rules.Rule) (entries : List entries.Entry) (event : EventValue) → list_all (λ told. is_asked why told.0.file told.0.line) (told_of why read entries event) ≡ true }
 {}
 
-/// Where nothing is asked for, nothing is reported.
+/// If nothing is asked for, nothing is reported.
 #[tactic(auto, using(crate::proofs::Told::nothing_told))]
 pub fn nothing_is_told_unasked()
     ensures { (told : List messages.Message) (read : List rules.Rule) (entries : List entries.Entry) (event : EventValue) → why_lines [] told read entries event ≡ [] }

@@ -1,4 +1,4 @@
-//! One line that tells why, and the lines on a rule.
+//! One line of `--why`, and the lines on a rule.
 ghost use Rattle.std.specs.Prelude.{◌≡◌, ◌++◌, Some, IfOk, OnOk, option_map};
 ghost use Rattle.engine_courses.specs.WhyLines.{passed_texts, rule_lines, unread_text, why_line};
 
@@ -9,7 +9,7 @@ use rule_types::Rule;
 use std::alloc::{AllocError, Global};
 use text_bytes::{Bytes, Message};
 
-/// Puts a line that tells why after others.
+/// Adds a line of `--why`.
 #[tactic(auto, unfolding(crate::specs::WhyLines::why_line))]
 fn push_line(
     alloc: Global,
@@ -27,7 +27,7 @@ fn push_line(
     Ok(())
 }
 
-/// What is reported for a line of rules that was not read.
+/// The `why` text about a line of rules that was not read.
 #[tactic(auto, unfolding(crate::specs::WhyLines::unread_text))]
 fn unread_text(alloc: Global, message: &Message) -> Result<Vec<u8>, AllocError>
     ensures { IfOk result (λ text. text.items ≡ unread_text message.now) }
@@ -38,7 +38,7 @@ fn unread_text(alloc: Global, message: &Message) -> Result<Vec<u8>, AllocError>
     Ok(text)
 }
 
-/// Puts the line on a message whose line was not read after others.
+/// Adds the line on a message whose line was not read.
 pub(crate) fn push_unread(
     alloc: Global,
     lines: &mut Vec<u8>,
@@ -50,7 +50,7 @@ pub(crate) fn push_unread(
     push_line(alloc, lines, message.file.as_slice(), message.line, &text)
 }
 
-/// Puts the line on a rule that another one passes over after others.
+/// Adds the line on a rule that the jump of another one skips.
 fn push_passed_by(
     alloc: Global,
     lines: &mut Vec<u8>,
@@ -64,7 +64,7 @@ fn push_passed_by(
     push_line(alloc, lines, rule.file(), rule.line(), &text)
 }
 
-/// Puts the line on a rule that is passed over after others.
+/// Adds the line on a rule that is skipped, if a rule jumps.
 pub(crate) fn push_passed(
     alloc: Global,
     lines: &mut Vec<u8>,
@@ -79,7 +79,7 @@ pub(crate) fn push_passed(
     }
 }
 
-/// Puts a line on a rule for each text after others.
+/// Adds a line on a rule for each text.
 pub(crate) fn push_course(
     alloc: Global,
     lines: &mut Vec<u8>,

@@ -32,7 +32,7 @@ impl<'a> Candidate<'a> {
     }
 }
 
-/// What follows the front of a text, where it begins with that.
+/// What follows the front of a text, if it begins with that.
 pub(crate) fn behind<'a>(front: &[u8], text: &'a [u8]) -> Option<&'a [u8]>
     ensures { option_map (λ t. t.now) result ≡ behind front.now text.now }
 {
@@ -84,7 +84,7 @@ fn is_nearer(a: &Candidate<'_>, b: &Candidate<'_>) -> bool
     a.distance < b.distance || (a.distance == b.distance && a.place.line() < b.place.line())
 }
 
-/// The nearer of the nearest so far and one more; the nearest so far where none is nearer.
+/// The nearer of the nearest so far and one more; the nearest so far if that one is not nearer.
 fn nearer<'a>(best: Option<Candidate<'a>>, found: Candidate<'a>) -> Candidate<'a>
     ensures { Some result ≡ nearer best.entry found.entry }
 {
@@ -94,7 +94,7 @@ fn nearer<'a>(best: Option<Candidate<'a>>, found: Candidate<'a>) -> Candidate<'a
     }
 }
 
-/// Of the places in the file of a text `FILE:N` the one that is nearest to that line.
+/// Of the places in the file of a text `FILE:N`, the one nearest to that line.
 pub(crate) fn nearest<'a>(text: &[u8], places: &'a [Place<'a>]) -> Option<&'a Place<'a>>
     ensures { option_map (λ place. place.now) result ≡ nearest text.now places.now }
 {

@@ -1,4 +1,4 @@
-//! Where rules and messages stand.
+//! The places of rules and messages.
 ghost use Rattle.std.specs.Prelude.{◌≡◌, ◌++◌, IfOk, OnOk, map};
 ghost use Rattle.engine_courses.specs.Asked.{places_of};
 
@@ -38,7 +38,7 @@ impl<'a> Place<'a> {
     }
 }
 
-/// Puts the places of rules after others.
+/// Adds the places of rules.
 fn push_rules<'a>(places: &mut Vec<Place<'a>>, rules: &'a [Rule]) -> Result<(), AllocError>
     ensures { OnOk result (places.new.items ≡ places.old.items ++ map (λ r. (r.file, r.line)) rules.now) }
 {
@@ -51,7 +51,7 @@ fn push_rules<'a>(places: &mut Vec<Place<'a>>, rules: &'a [Rule]) -> Result<(), 
     Ok(())
 }
 
-/// Puts the places of messages after others.
+/// Adds the places of messages.
 fn push_messages<'a>(places: &mut Vec<Place<'a>>, messages: &'a [Message]) -> Result<(), AllocError>
     ensures { OnOk result (places.new.items ≡ places.old.items ++ map (λ m. (m.file, m.line)) messages.now) }
 {

@@ -16,14 +16,14 @@ use hwdb_lookup::Lookup;
 use rule_types::Rule;
 use std::alloc::{AllocError, Global};
 
-/// The label that is sought while a rule jumps, or none does.
+/// The label that is looked for, if a rule jumps.
 fn sought_by<'a>(jumping: Option<&'a Rule>) -> Option<&'a [u8]>
     ensures { option_map (λ t. t.now) result ≡ sought_by (option_map (λ r. r.now) jumping.entry) }
 {
     jumping?.goto()
 }
 
-/// The rule that jumps after a rule that was come to: this one, if its GOTO is then sought.
+/// The rule that jumps, after a rule was reached: this one, if its GOTO is then looked for.
 fn jumping_after(reached: bool, rule: &Rule) -> Option<&Rule>
     ensures { option_map (λ r. r.now) result ≡ jumping_after reached rule.now }
 {
@@ -34,7 +34,7 @@ fn jumping_after(reached: bool, rule: &Rule) -> Option<&Rule>
     }
 }
 
-/// Puts what is reported for a rule that is passed over after other lines, if it is asked for.
+/// Adds what is reported for a rule that is skipped, if it is asked for.
 fn tell_passed(
     alloc: Global,
     lines: &mut Vec<u8>,
@@ -50,8 +50,7 @@ fn tell_passed(
     Ok(())
 }
 
-/// Evaluates a rule, and puts its course after other lines, if it is asked for. Answers whether the rule's end was
-/// reached.
+/// Evaluates a rule, and adds its course, if it is asked for. Returns whether the rule's end was reached.
 fn tell_rule<'a, L: Lookup>(
     alloc: Global,
     lines: &mut Vec<u8>,
@@ -72,7 +71,7 @@ fn tell_rule<'a, L: Lookup>(
     Ok(course.reached)
 }
 
-/// Evaluates rules, one after another, and puts what is reported for those that are asked for after other lines.
+/// Evaluates rules, one after another, and adds what is reported for those that are asked for.
 fn tell_rules<'a, L: Lookup>(
     alloc: Global,
     lines: &mut Vec<u8>,
@@ -97,7 +96,7 @@ fn tell_rules<'a, L: Lookup>(
     Ok(())
 }
 
-/// Evaluates the rules of an event, and puts what is reported for those that are asked for after other lines.
+/// Evaluates the rules of an event, and adds what is reported for those that are asked for.
 pub(crate) fn tell_event<'a, L: Lookup>(
     alloc: Global,
     lines: &mut Vec<u8>,

@@ -1,4 +1,4 @@
-//! What is said of a text of `--why` that asks for nothing.
+//! What is said about a text of `--why` that asks for nothing.
 ghost use Rattle.std.specs.Prelude.{◌≡◌, ◌++◌, Some, not, IfOk, OnOk, find, map, option_map};
 ghost use Rattle.engine_courses.specs.Asked.{is_known, missing, place_text, unknown, unknown_line};
 
@@ -10,7 +10,7 @@ use rule_types::Rule;
 use std::alloc::{AllocError, Global};
 use text_bytes::{Bytes, Message, escape};
 
-/// Puts a place after a text, `FILE:LINE`, the file's name escaped.
+/// Appends a place, `FILE:LINE`, with the file's name escaped.
 fn push_place_alone(alloc: Global, line: &mut Vec<u8>, place: &Place<'_>) -> Result<(), AllocError>
     ensures { OnOk result (line.new.items ≡ line.old.items ++ place_text place.now) }
 {
@@ -19,7 +19,7 @@ fn push_place_alone(alloc: Global, line: &mut Vec<u8>, place: &Place<'_>) -> Res
     line.extend_from_slice(Buffer::new().format(place.line()).as_bytes())
 }
 
-/// Puts that there is no such rule after a text, with the nearest place.
+/// Appends that there is no such rule, with the nearest place.
 fn push_nearest(alloc: Global, line: &mut Vec<u8>, place: &Place<'_>) -> Result<(), AllocError>
     ensures { OnOk result (line.new.items ≡ line.old.items ++ missing (Some place.now)) }
 {
@@ -27,7 +27,7 @@ fn push_nearest(alloc: Global, line: &mut Vec<u8>, place: &Place<'_>) -> Result<
     push_place_alone(alloc, line, place)
 }
 
-/// Puts what there is none of after a text, with the nearest place where there is one.
+/// Appends what is missing, with the nearest place if there is one.
 fn push_missing(
     alloc: Global,
     line: &mut Vec<u8>,
@@ -63,9 +63,9 @@ fn unknown_line(alloc: Global, places: &[Place<'_>], text: &[u8]) -> Result<Byte
     Ok(Bytes::new(line))
 }
 
-/// The line on the first text of `--why` that asks for no rule and for no message's place, with its newline: that there is
-/// no such rule, and the place of that file which is nearest to it, or that there is no such rules file. None is said where
-/// each text asks for something.
+/// The line, with its newline, on the first text of `--why` that asks for no rule and for no message's place: that
+/// there is no such rule, with the place of that file that is nearest to it, or that there is no such rules file.
+/// There is none if each text asks for something.
 #[tactic(auto, unfolding(crate::specs::Asked::unknown))]
 pub fn first_unknown(
     alloc: Global,

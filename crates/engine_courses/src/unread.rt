@@ -26,14 +26,14 @@ fn is_of_unread(kind: MessageKind) -> bool
     }
 }
 
-/// Whether a rule stands on a line of a file.
+/// Whether a rule is on a line of a file.
 fn stands_at(rule: &Rule, file: &[u8], line: u32) -> bool
     ensures { result ≡ (same_text rule.now.file file.now && rule.now.line == line) }
 {
     rule.file() == file && rule.line() == line
 }
 
-/// Whether one of these rules stands on a line of a file.
+/// Whether one of these rules is on a line of a file.
 fn has_rule(rules: &[Rule], file: &[u8], line: u32) -> bool
     ensures { result ≡ has_rule rules.now file.now line }
 {

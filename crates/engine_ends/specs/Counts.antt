@@ -1,4 +1,4 @@
--- Counts of 64 bits, which stay at their greatest value.
+-- Counts of 64 bits, which stay at the greatest value.
 use Rattle.std.specs.Prelude.{◌≡◌, ℕ, ◌+◌, ◌-◌, ◌^◌, min}
 
 -- So many more were counted, up to the greatest value.

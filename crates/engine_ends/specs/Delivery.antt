@@ -1,10 +1,10 @@
--- What two sinks hold after a run, by the status that it answers.
+-- What two sinks hold after a run, by its status.
 use Rattle.std.specs.Prelude.{◌≡◌, ℕ, ◌<◌, ◌≤◌, ◌⊎◌, List, codes}
 use Rattle.engine_ends.specs.Counts.{Counts}
 use Rattle.engine_ends.specs.Sinks.{BreaksOff, HandsOn, SinkState}
 use Rattle.engine_ends.specs.Streams.{Outputs}
 
--- what a run writes to the output and to the error output, and the status that it answers, where nothing fails
+-- what a run writes to the output and to the error output, and its status, if nothing fails
 pub record Outcome : Type 0 where
   pub output : List ℕ
   pub messages : List ℕ
@@ -14,15 +14,15 @@ pub record Outcome : Type 0 where
 abbrev pub write_failed : List ℕ
 write_failed = codes "devdry: write failed\n"
 
--- the line on memory that was refused
+-- the line on memory that ran out
 abbrev pub out_of_memory : List ℕ
 out_of_memory = codes "devdry: out of memory\n"
 
--- A line on a failure is passed on and its status answered, or the sink breaks off and the status is 3.
+-- A line on a failure is passed on and its status returned, or the sink breaks off and the status is 3.
 abbrev pub Tells : List ℕ → ℕ → ℕ → SinkState → SinkState → Type 0
 Tells line wanted status before now = ((status ≡ wanted) × HandsOn before line now) ⊎ ((status ≡ 3) × BreaksOff before line now)
 
--- Nothing failed: all of the outcome is written, flushed and answered.
+-- Nothing failed: all of the outcome is written and flushed, and its status returned.
 pub record IsWhole (outcome : Outcome) (status : ℕ) (before now : Outputs) : Type 0 where
   pub messages : HandsOn before.err outcome.messages now.err
   pub output : HandsOn before.out outcome.output now.out
@@ -40,7 +40,8 @@ pub record FailsAtOutput (outcome : Outcome) (status : ℕ) (before now : Output
   pub output : BreaksOff before.out outcome.output now.out
   pub line : Tells write_failed 3 status told now.err
 
--- Memory was refused: no part of the outcome is written, and the line that says so is, as far as the error output takes it.
+-- Memory ran out: no part of the outcome is written, and the line that says so is, as far as the error output takes
+-- it.
 pub record IsRefused (status : ℕ) (before now : Outputs) : Type 0 where
   pub line : Tells out_of_memory 4 status before.err now.err
   pub untouched : now.out ≡ before.out
@@ -52,7 +53,7 @@ pub record Delivers (outcome : Outcome) (status : ℕ) (before now : Outputs) : 
   pub refused : status ≡ 4 → IsRefused status before now
   pub statuses : status ≤ 4
 
--- Status 3 is answered where one call of one of the sinks failed, and only there.
+-- Status 3 is returned if one call of one of the sinks failed, and only then.
 pub record TellsFaults (status : ℕ) (before now : Outputs) : Type 0 where
   pub failed : status ≡ 3 → Counts 1 before.out.faults now.out.faults ⊎ Counts 1 before.err.faults now.err.faults
   pub well : (status ≡ 3 → ⊥) → (now.out.faults ≡ before.out.faults) × (now.err.faults ≡ before.err.faults)

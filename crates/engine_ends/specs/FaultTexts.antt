@@ -1,9 +1,9 @@
--- What is said of words that are no line, and of a device that failed.
+-- What is said about words that are not a line, and about a device that failed.
 use Rattle.std.specs.Prelude.{ℕ, List, codes, string_bytes}
 use Rattle.engine_ends.specs.declared.line.LineFault.{LineFault}
 use Rattle.engine_ends.specs.declared.line.LineFault.TheVariants.{Help, Usage, Memory}
 
--- why words are no line: the text for the user
+-- why words are not a line: the text for the user
 abbrev pub line_text : LineFault → List ℕ
 line_text (Help text) = string_bytes text
 line_text (Usage text) = string_bytes text

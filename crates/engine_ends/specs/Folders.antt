@@ -1,9 +1,9 @@
--- The folders of the system that are read where a line names no files.
+-- The folders of the system that are read if a line names no files.
 use Rattle.std.specs.Prelude.{ℕ, ◌==◌, if◌then◌else◌, List, [], codes}
 use Rattle.text_bytes.specs.declared.source_file.FileKind.{FileKind}
 use Rattle.text_bytes.specs.declared.source_file.FileKind.TheVariants.{Hwdb, Rules}
 
--- the folder of a kind at a rank, and nothing where the kind has none of that rank
+-- the folder of a kind at a rank, and nothing if the kind has none of that rank
 abbrev pub folder_path : FileKind → ℕ → List ℕ
 folder_path Hwdb rank =
     if rank == 0 then codes "/etc/udev/hwdb.d"

@@ -1,4 +1,4 @@
--- The kinds of files that a line speaks of.
+-- The kinds of files that a line is about.
 use Rattle.std.specs.Prelude.{Bool, true, false, ◌&&◌, ◌==◌, is_some, not, List, [], ◌∷◌, vec_len}
 use Rattle.engine_ends.specs.declared.line.Line.{Line}
 use Rattle.engine_ends.specs.declared.line.Verb.{Verb}
@@ -31,7 +31,7 @@ same_kind Rules Rules = true
 abbrev pub names_files_of : Line → FileKind → Bool
 names_files_of line kind = same_kind kind (kind_named line.verb) && not (vec_len line.files == 0)
 
--- whether files of the kind are read from the folders: the line names none of them, and no index in place of those of the
--- database
+-- whether files of the kind are read from the folders: the line names none of them, and no index instead of those of
+-- the database
 abbrev pub reads_folders_of : Line → FileKind → Bool
 reads_folders_of line kind = not (names_files_of line kind) && not (same_kind kind Hwdb && is_some line.index)

@@ -1,9 +1,9 @@
--- Where something stands, and a word about it, as lines tell them.
+-- Where something is, and a word about it, as lines report them.
 use Rattle.std.specs.Prelude.{ℕ, ◌==◌, if◌then◌else◌, List, [], ◌∷◌, ◌++◌, length, codes, decimal}
 use Rattle.text_bytes.specs.Names.{colon}
 use Rattle.text_bytes.specs.Escapes.{escape_text}
 
--- where something stands, `FILE:LINE: `, the file's name escaped and the line's number in decimal
+-- where something is, `FILE:LINE: `, the file's name escaped and the line's number in decimal
 abbrev pub place_of : List ℕ → ℕ → List ℕ
 place_of file line = escape_text file ++ colon ∷ decimal line ++ codes ": "
 

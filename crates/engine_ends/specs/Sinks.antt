@@ -1,15 +1,15 @@
--- What a sink shows, and what its calls change of it.
+-- What a sink shows, and what its calls change.
 use Rattle.std.specs.Prelude.{◌≡◌, ℕ, ◌≤◌, Option, None, List, length, take}
 use Rattle.engine_ends.specs.Told.{followed_by}
 use Rattle.engine_ends.specs.Counts.{Counts}
 
--- the bytes that a sink took and those that it flushed, where it tells them, and how many of its calls failed
+-- the bytes that a sink took and those that it flushed, if it reports them, and how many of its calls failed
 pub record SinkState : Type 0 where
   pub taken : Option (List ℕ)
   pub flushed : Option (List ℕ)
   pub faults : ℕ
 
--- what a sink shows that tells nothing of its bytes
+-- what a sink that does not report its bytes shows
 abbrev pub untold_sink : ℕ → SinkState
 untold_sink faults = record { taken = None; flushed = None; faults = faults }
 

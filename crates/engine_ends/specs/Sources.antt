@@ -1,16 +1,17 @@
--- What a source shows, and what a read changes of it.
+-- What a source shows, and what a read changes.
 use Rattle.std.specs.Prelude.{◌≡◌, ℕ, Option, None, List, [], ◌∷◌}
 use Rattle.engine_ends.specs.Told.{followed_by, led_by}
 use Rattle.engine_ends.specs.Counts.{Counts}
 
--- the pieces read and the bytes still to come, where a source tells them, how many reads were made of it, and how many of these failed
+-- the pieces read and the bytes still to come, if a source reports them, how many reads were made of it, and how many
+-- of these failed
 pub record SourceState : Type 0 where
   pub pieces : Option (List (List ℕ))
   pub left : Option (List ℕ)
   pub reads : ℕ
   pub faults : ℕ
 
--- what a source shows that tells nothing of its bytes
+-- what a source that does not report its bytes shows
 abbrev pub untold_source : ℕ → ℕ → SourceState
 untold_source reads faults = record { pieces = None; left = None; reads = reads; faults = faults }
 
@@ -21,7 +22,7 @@ pub record Gives (before : SourceState) (piece : List ℕ) (now : SourceState) :
   pub reads : Counts 1 before.reads now.reads
   pub well : now.faults ≡ before.faults
 
--- One read was made, and it failed: it gave no piece and took no byte away.
+-- One read was made, and it failed: it gave no piece and removed no byte.
 pub record SourceFails (before now : SourceState) : Type 0 where
   pub pieces : now.pieces ≡ before.pieces
   pub left : now.left ≡ before.left

@@ -1,8 +1,8 @@
-//! Writing what a run says, and the status that comes of it.
+//! Writing what a run says, and the resulting status.
 //!
-//! The messages go out before the answer, each as one text. A status under 3 says that all of both
-//! was written and flushed; 3 says that a device failed; 4 that memory runs out. A line on a
-//! failure is made of texts that are there already, so that telling of it needs no memory.
+//! The messages go out before the answer, each as one text. A status under 3 says that all of both was written and
+//! flushed; 3 that a device failed; 4 that memory ran out. A line on a failure is made of texts that are there
+//! already, so that reporting it needs no memory.
 ghost use Rattle.std.specs.Prelude.{◌≡◌, ◌<◌, ◌++◌, ◌∷◌, [], flat_map};
 ghost use Rattle.text_bytes.specs.Escapes.{escape_text};
 ghost use Rattle.text_bytes.specs.Names.{newline};
@@ -15,11 +15,10 @@ const WRITE_FAILED: &[u8] = b"devdry: write failed\n";
 
 const OUT_OF_MEMORY: &[u8] = b"devdry: out of memory\n";
 
-/// Writes the messages and the answer, and gives the status that was asked for, or 3 where a device
-/// failed.
+/// Writes the messages and the answer, and returns the status that was asked for, or 3 if a device failed.
 ///
-/// Messages go to `error`, and the answer then to `output`. Where `output` fails, `error` is reported
-/// `devdry: write failed`. The status asked for is under 3.
+/// Messages go to `error`, and then the answer to `output`. If `output` fails, `devdry: write failed` goes to
+/// `error`. The status asked for is under 3.
 pub fn deliver<W: Sink, E: Sink>(
     messages: &[u8],
     answer: &[u8],
@@ -65,14 +64,14 @@ pub fn deliver_in_pieces<W: Sink, E: Sink>(
     }
 }
 
-/// Says that memory runs out, and gives the status for it, 4, or 3 where the error output failed.
+/// Reports that memory ran out, and returns the status for it, 4, or 3 if the error output failed.
 pub fn tell_out_of_memory<E: Sink>(error: &mut E) -> u8
     ensures { Tells out_of_memory 4 result (E.shown error.old) (E.shown error.new) }
 {
     tell(error, OUT_OF_MEMORY, 4)
 }
 
-/// Writes a line on a failure, and gives its status, or 3 where the error output failed.
+/// Writes a line on a failure, and returns its status, or 3 if the error output failed.
 pub fn tell<E: Sink>(error: &mut E, line: &[u8], status: u8) -> u8
     ensures { Tells line.now status result (E.shown error.old) (E.shown error.new) }
 {
@@ -82,8 +81,8 @@ pub fn tell<E: Sink>(error: &mut E, line: &[u8], status: u8) -> u8
     }
 }
 
-/// Writes a line on a failure that is made of several texts, and gives its status, or 3 where the
-/// error output failed.
+/// Writes a line on a failure that is made of several texts, and returns its status, or 3 if the error output
+/// failed.
 pub fn tell_in_pieces<E: Sink>(error: &mut E, line: &[&[u8]], status: u8) -> u8
     ensures { Tells (flat_map (λ t. t.now) line.now) status result (E.shown error.old) (E.shown error.new) }
 {
@@ -93,8 +92,8 @@ pub fn tell_in_pieces<E: Sink>(error: &mut E, line: &[&[u8]], status: u8) -> u8
     }
 }
 
-/// Writes a line on a failure that is a text and a word, the word escaped, so that it can't end the
-/// line, and gives its status, or 3 where the error output failed.
+/// Writes a line on a failure that is a text and a word, the word escaped, so that it can't end the line, and
+/// returns its status, or 3 if the error output failed.
 pub fn tell_word<E: Sink>(error: &mut E, text: &[u8], word: &[u8], status: u8) -> u8
     ensures { Tells (text.now ++ escape_text word.now ++ newline ∷ []) status result
         (E.shown error.old) (E.shown error.new) }

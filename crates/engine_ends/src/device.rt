@@ -1,7 +1,7 @@
-//! The two traits that stand for what a run reads and writes.
+//! The two traits for what a run reads and writes.
 //!
-//! Each shows contracts one record. What it says about the bytes is an `Option`, so that one contract
-//! serves both kinds of devices: a clause on the bytes says nothing of a device that tells none.
+//! Each shows contracts one record. What it reports about the bytes is an `Option`, so that one contract serves
+//! both kinds of devices: a clause on the bytes says nothing about a device that does not report them.
 ghost use Rattle.std.specs.Prelude.{◌≡◌, ◌<◌, ◌≤◌, length, take, IfOk, OnOk, OnErr};
 ghost use Rattle.engine_ends.specs.Told.{NoneLeft};
 ghost use Rattle.engine_ends.specs.Sinks.{SinkState, Flushes, SinkFails, Takes};
@@ -29,14 +29,14 @@ impl Error for DeviceFault {}
 
 /// Where input comes from.
 pub trait Source {
-    // the pieces read and the bytes still to come, where they are reported, how many calls were made, and how many of
+    // the pieces read and the bytes still to come, if they are reported, how many calls were made, and how many of
     // them failed
     ghost shown: { Self → SourceState };
 
-    /// Reads some bytes into the front of a slice that is not empty, and says how many.
+    /// Reads some bytes into the front of a slice that is not empty, and returns how many.
     ///
-    /// It answers 0 at the input's end alone, which is an empty piece. A `DeviceFault` says that the
-    /// device failed; what is in the slice is then left open, and no piece was read.
+    /// It returns 0 only at the input's end, which is an empty piece. A `DeviceFault` says that the device failed;
+    /// what is in the slice is then left open, and no piece was read.
     fn read(&mut self, into: &mut [u8]) -> Result<usize, DeviceFault>
         requires { 0 < length into.old }
         ensures within { IfOk result (λ n. n ≤ length into.old) }
@@ -47,13 +47,13 @@ pub trait Source {
 
 /// Where output goes.
 pub trait Sink {
-    // the bytes taken and those flushed, where they are reported, and how many calls failed
+    // the bytes taken and those flushed, if they are reported, and how many calls failed
     ghost shown: { Self → SinkState };
 
-    /// Takes the first bytes of a text, perhaps not all of them, and says how many.
+    /// Takes the first bytes of a text, perhaps not all of them, and returns how many.
     ///
-    /// A `DeviceFault` says that the device failed and took nothing. An answer of 0 to a text that
-    /// is not empty counts as a failed call, too.
+    /// A `DeviceFault` says that the device failed and took nothing. A result of 0 for a text that is not empty
+    /// counts as a failed call, too.
     fn write(&mut self, text: &[u8]) -> Result<usize, DeviceFault>
         ensures within { IfOk result (λ n. n ≤ length text.now) }
         ensures takes { IfOk result (λ n. 0 < n → Takes (shown self.old) (take n text.now) (shown self.new)) }
@@ -61,7 +61,7 @@ pub trait Sink {
         ensures refuses { IfOk result (λ n. n ≡ 0 → 0 < length text.now → SinkFails (shown self.old) (shown self.new)) }
         ensures fails { OnErr result (SinkFails (shown self.old) (shown self.new)) };
 
-    /// Hands on all that was taken. A `DeviceFault` says that the device failed.
+    /// Passes on all that was taken. A `DeviceFault` says that the device failed.
     fn flush(&mut self) -> Result<(), DeviceFault>
         ensures flushes { OnOk result (Flushes (shown self.old) (shown self.new)) }
         ensures fails { OnErr result (SinkFails (shown self.old) (shown self.new)) };

@@ -1,11 +1,11 @@
-//! The folders of the system that are read where a line names no files.
+//! The folders of the system that are read if a line names no files.
 ghost use Rattle.std.specs.Prelude.{◌≡◌};
 ghost use Rattle.engine_ends.specs.Folders.{folder_path};
 
 use text_bytes::FileKind;
 
 /// The folder of a kind at a rank, without what a line puts before it, as udev(7) and hwdb(7) name
-/// it. It is empty where a kind has no folder of that rank: rules have four, the database two.
+/// it. It is empty if a kind has no folder of that rank: rules have four, the database two.
 pub fn folder_path(kind: FileKind, rank: u8) -> &'static str
     ensures { result.now ≡ folder_path kind rank }
 {

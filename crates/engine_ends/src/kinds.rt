@@ -1,8 +1,7 @@
-//! The kinds of files that a line speaks of.
+//! The kinds of files that a line is about.
 //!
-//! A subcommand may read files of several kinds. The files that its line names are of one of them,
-//! and they are in place of the folders of that kind alone. An index is in place of those of
-//! the database.
+//! A subcommand may read files of several kinds. The files that its line names are of one of them, and they replace
+//! the folders of that kind only. An index replaces those of the database.
 ghost use Rattle.std.specs.Prelude.{◌≡◌};
 ghost use Rattle.engine_ends.specs.Kinds.{kind_named, kinds_read, names_files_of, reads_folders_of, same_kind};
 
@@ -41,8 +40,8 @@ impl Line<'_> {
         is_named & !self.files.is_empty()
     }
 
-    /// Whether a subcommand that reads files of a kind has them from the folders: the line names none
-    /// of them, and no index in place of those of the database.
+    /// Whether a subcommand that reads files of a kind has them from the folders: the line names none of them, and
+    /// no index instead of those of the database.
     pub fn reads_folders_of(&self, kind: FileKind) -> bool
         ensures { result ≡ reads_folders_of self.now kind }
     {

@@ -1,8 +1,8 @@
-//! What a command line of `devdry` asks for, whoever read it.
+//! What a command line of `devdry` asks for, whatever read it.
 //!
-//! These types are below the crate that reads the words and below those that do the work, so that
-//! none of them needs another. Which files a line speaks of is said here too, so that the crate that
-//! reads files and the one that answers from them can't differ.
+//! These types are below the crate that reads the words and below those that do the work, so that none of them
+//! needs another. Which files a line is about is defined here too, so that the crate that reads files and the one
+//! that answers from them can't differ.
 
 use std::error::Error;
 use std::fmt;
@@ -45,7 +45,7 @@ pub enum Format {
 pub struct AccountFile<'a> {
     /// Its path, as it is named.
     pub path: &'a str,
-    /// Its bytes; none before it is read.
+    /// Its bytes; empty before it is read.
     pub bytes: Bytes,
 }
 
@@ -54,18 +54,17 @@ pub struct AccountFile<'a> {
 pub struct Line<'a> {
     /// The subcommand.
     pub verb: Verb,
-    /// What comes before each folder; empty where nothing was said.
+    /// What comes before each folder; empty if nothing was given.
     pub root: &'a str,
     /// The files that are named, in the order given.
     pub files: Vec<&'a str>,
-    /// The index that is named, if any: it is in place of the database's folders. `update` and
-    /// `verify` name none.
+    /// The index that is named, if any: it replaces the database's folders. `update` and `verify` name none.
     pub index: Option<&'a str>,
     /// Whether a message makes `update` fail.
     pub strict: bool,
     /// Whether `query` says where each property comes from, and `events` where each line does.
     pub sources: bool,
-    /// The rules of which `events` says what they met, each as `FILE` or `FILE:LINE`, in the order given.
+    /// The rules for which `events` reports what they met, each as `FILE` or `FILE:LINE`, in the order given.
     pub why: Vec<&'a str>,
     /// The modalias to look up; empty for the other subcommands.
     pub modalias: &'a str,
@@ -73,20 +72,19 @@ pub struct Line<'a> {
     pub summary: bool,
     /// Whether `verify` gives messages about style; true for the other subcommands.
     pub style: bool,
-    /// Whether `verify` also says about rules that are most likely not the ones that were meant.
+    /// Whether `verify` also reports rules that are most likely not what was meant.
     pub lint: bool,
     /// How `verify` and `update` write messages; plain for the other subcommands.
     pub format: Format,
     /// Whether `verify` and `update` go on after what can't be read.
     pub all: bool,
-    /// The codes of the messages that `verify` and `update` leave out, in the order given; `comments`
-    /// among them says that comments in the files are asked, too.
+    /// The codes of the messages that `verify` and `update` leave out, in the order given; `comments` among them
+    /// says that comments in the files count, too.
     pub ignored: Vec<&'a str>,
-    /// By whose word `verify` reads rules, and `events` and `compare` read and evaluate them; the manual's
+    /// The profile by which `verify` reads rules, and `events` and `compare` read and evaluate them; the manual's
     /// for the other subcommands.
     pub profile: Profile,
-    /// The users that `verify` knows where it reads rules as udev does; without a list it says about no
-    /// name of a user.
+    /// The users that `verify` knows if it reads rules as udev does; without a list it reports no name of a user.
     pub users: Option<AccountFile<'a>>,
     /// The groups, likewise.
     pub groups: Option<AccountFile<'a>>,
@@ -104,14 +102,14 @@ pub enum Request<'a> {
     Compare(Line<'a>, Line<'a>),
 }
 
-/// Why words are no line.
+/// Why words are not a line.
 #[derive(Debug, Drop)]
 pub enum LineFault {
-    /// 1: help or the version was asked for: its text, for the standard output.
+    /// Help or the version was asked for: its text, for the standard output.
     Help(String),
-    /// 2: the words are not understood: what to tell the user.
+    /// The words are not understood: the text for the user.
     Usage(String),
-    /// 3: memory runs out.
+    /// Memory runs out.
     Memory,
 }
 

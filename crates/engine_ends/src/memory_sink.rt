@@ -1,4 +1,4 @@
-//! A sink over memory, which tells its bytes.
+//! A sink over memory, which reports its bytes.
 //!
 //! Its room is taken once, by its constructor, so that its calls need no memory. It can be made to
 //! fail at a chosen byte, to take little in a call, or to refuse to flush.
@@ -23,10 +23,10 @@ pub struct MemorySink {
 }
 
 impl MemorySink {
-    /// A sink that takes at most `each` bytes in a call, and fails at every write once it holds
-    /// `room` bytes. Where `each` is 0, a write takes nothing and answers 0.
+    /// A sink that takes at most `each` bytes in a call, and fails at every write once it holds `room` bytes. If
+    /// `each` is 0, a write takes nothing and returns 0.
     ///
-    /// `AllocError` comes where the room could not be had.
+    /// There is an `AllocError` if the room could not be allocated.
     pub fn new(alloc: Global, room: usize, each: usize) -> Result<MemorySink, AllocError>
         ensures shown { IfOk result (λ s. ⟦<MemorySink as Sink>⟧.shown s
             ≡ record { taken = Some []; flushed = Some []; faults = 0 }) }
@@ -45,7 +45,7 @@ impl MemorySink {
         })
     }
 
-    /// Makes every later flush fail, or well again.
+    /// Makes every later flush fail, or succeed again.
     pub fn set_flushes_fail(&mut self, fail: bool)
         ensures { self.new ≡ record self.old { flushes_fail = fail } }
     {

@@ -1,4 +1,4 @@
-//! A source over memory, which tells the pieces read and the bytes still to come.
+//! A source over memory, which reports the pieces read and the bytes still to come.
 //!
 //! Its room is taken once, by its constructor, so that its calls need no memory. It can be made to
 //! fail at a chosen byte, or to give little in a call.
@@ -28,9 +28,9 @@ pub struct MemorySource {
 impl MemorySource {
     /// A source that gives at most `each` bytes in a read, makes room for `reads` reads and fails
     /// at every read past that room, and at every read from the byte `fails_at` on, unless all
-    /// bytes were given. Where `each` is 0, every read fails until all bytes were given.
+    /// bytes were given. If `each` is 0, every read fails until all bytes were given.
     ///
-    /// `AllocError` comes where the room could not be had.
+    /// There is an `AllocError` if the room could not be allocated.
     pub fn new(
         alloc: Global,
         bytes: Vec<u8>,

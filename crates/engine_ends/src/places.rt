@@ -1,6 +1,6 @@
-//! Where something stands, and a word about it: the parts of lines that messages and notes share.
+//! Where something is, and a word about it: the parts of lines that messages and notes share.
 //!
-//! A file's name and a word may hold any byte, so both are escaped here, and no line is made without.
+//! A file's name and a word may hold any byte, so both are escaped here, and no line is made without that.
 
 ghost use Rattle.std.specs.Prelude.{◌≡◌, ◌++◌, OnOk, OnErr};
 ghost use Rattle.engine_ends.specs.Places.{place_of, word_part};
@@ -9,9 +9,9 @@ use itoa::Buffer;
 use std::alloc::{AllocError, Global};
 use text_bytes::escape;
 
-/// Puts `FILE:LINE: ` after a text, the file's name escaped.
+/// Appends `FILE:LINE: ` to a text, the file's name escaped.
 ///
-/// Where memory runs out, the text stays as it is.
+/// If memory runs out, the text stays as it is.
 pub fn push_place(
     alloc: Global,
     text: &mut Vec<u8>,
@@ -28,9 +28,9 @@ pub fn push_place(
     text.extend_from_slice(&place)
 }
 
-/// Puts `: ` and a word after a text, the word escaped, and nothing where the word is empty.
+/// Appends `: ` and a word to a text, the word escaped, and nothing if the word is empty.
 ///
-/// Where memory runs out, the text stays as it is.
+/// If memory runs out, the text stays as it is.
 pub fn push_word(alloc: Global, text: &mut Vec<u8>, word: &[u8]) -> Result<(), AllocError>
     ensures word { OnOk result (text.new.items ≡ text.old.items ++ word_part word.now) }
     ensures refused { OnErr result (text.new.items ≡ text.old.items) }

@@ -1,9 +1,9 @@
 //! Devices over std's readers and writers.
 //!
-//! No contract can say which bytes a file, a pipe or a terminal holds, so these tell none. What
-//! they keep is how many calls failed, and of a source how many reads were made: by these a status
-//! can be shown to rest on a failure or on the bound of reads. Where a reader or writer of std does
-//! say what a call gave or took, so does the call here.
+//! No contract can say which bytes a file, a pipe or a terminal holds, so these report none. What they keep is how
+//! many calls failed, and for a source how many reads were made: by these a status can be shown to rest on a
+//! failure or on the bound of reads. If a reader or writer of std does say what a call gave or took, so does the
+//! call here.
 ghost use Rattle.std.specs.Prelude.{◌≡◌, ◌<◌, ◌≤◌, length, take, IfOk, OnOk, OnErr};
 ghost use Rattle.std.specs.Io.KnownBytes.{Keeps, ReadConsumes, WriteAppends};
 ghost use Rattle.engine_ends.specs.Told.{NoneLeft};

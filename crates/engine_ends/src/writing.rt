@@ -60,9 +60,9 @@ pub fn hand_on_each<W: Sink>(sink: &mut W, texts: &[&[u8]]) -> Result<(), Device
 
 /// Writes a whole text escaped, as `escape` makes it, and flushes nothing.
 ///
-/// It takes no memory: each run of bytes that stand for themselves is written as it is, and every
-/// other byte by its four. A `DeviceFault` says that a write failed or took nothing; a first part of
-/// what was to be written may then have been taken.
+/// It takes no memory: each run of bytes that need no escape is written as it is, and every other byte as its four
+/// bytes. A `DeviceFault` says that a write failed or took nothing; a first part of what was to be written may then
+/// have been taken.
 fn write_escaped<W: Sink>(sink: &mut W, text: &[u8]) -> Result<(), DeviceFault>
     ensures whole { OnOk result (Takes (W.shown sink.old) (escape_text text.now) (W.shown sink.new)) }
     ensures part { OnErr result (BreaksOff (W.shown sink.old) (escape_text text.now) (W.shown sink.new)) }

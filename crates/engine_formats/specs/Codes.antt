@@ -26,6 +26,6 @@ lints = ModeNotOctal ∷ SignOfShell ∷ RelativeProgram ∷ LetterCase ∷ NoSu
 abbrev pub remarks : List Remark
 remarks = map (λ kind. Message kind) kinds ++ map (λ lint. about.Lint lint) lints ++ IdleIgnore ∷ UnknownCode ∷ []
 
--- the remark of a code, if it is one
+-- the remark with a code, if there is one
 unfoldable pub remark_of : List ℕ → Option Remark
 remark_of code = find (λ remark. pointwise nat_eq (code_of remark) code) remarks

@@ -3,7 +3,7 @@ use Rattle.std.specs.Prelude.{ℕ, List}
 use Rattle.engine_formats.specs.declared.diagnostic.Diagnostic.{Diagnostic}
 use Rattle.engine_formats.specs.declared.remark.Remark.{Remark}
 
--- what is said of a place in a file
+-- what is said about a place in a file
 pub record DiagnosticValue : Type 0 where
   pub name : List ℕ
   pub path : List ℕ

@@ -14,7 +14,7 @@ github_byte b =
     else if b == newline then codes "%0A"
     else b ∷ []
 
--- a byte of a command's property, where a colon and a comma are written so too
+-- a byte of a command's property, in which a colon and a comma are also written so
 abbrev pub property_byte : ℕ → List ℕ
 property_byte b =
     if b == colon then codes "%3A"

@@ -11,20 +11,22 @@ use Rattle.engine_formats.specs.Remarks.{text_of}
 use Rattle.engine_formats.specs.declared.paint.Paint.{Paint}
 use Rattle.engine_formats.specs.declared.remark.Remark.{Remark}
 
--- where a diagnostic stands and what it says, `PATH:LINE:COLUMN: error: bad substitution [V6]`; up to what it says in a color
+-- the place of a diagnostic and what it says, `PATH:LINE:COLUMN: error: bad substitution [V6]`; in a color up to what
+-- it says
 unfoldable pub title_line : Paint → DiagnosticValue → List ℕ
 title_line paint d = paint_start paint ++ spot_of d ++ paint_stop paint ++ text_of d.remark ++ code_part d.remark
 
--- whether a byte goes on a character of UTF-8, and so takes no column of its own
+-- whether a byte continues a UTF-8 character, and so takes no column of its own
 abbrev pub continues : ℕ → Bool
 continues b = nat_le 128 b && nat_lt b 192
 
--- Where the part of a line begins that is shown, wherever characters begin: no more than 40 bytes before the column, and no nearer to
--- the line's end than 160.
+-- The start of the part of a line that is shown, regardless of where characters begin: at most 40 bytes before the
+-- column, and no nearer to the line's end than 160.
 abbrev pub first_start : List ℕ → ℕ → ℕ
 first_start source column = min (column - 1 - 40) (length source - 160)
 
--- Where the part of a line begins that is shown: after the at most three bytes that go on a character which begins before it.
+-- The start of the part of a line that is shown: after the at most three bytes that continue a character which begins
+-- before it.
 unfoldable pub window_start : List ℕ → ℕ → ℕ
 window_start source column =
     let start = first_start source column in
@@ -63,7 +65,7 @@ source_lines paint source column end =
     let before = column - 1 - start in
     source_line part ++ mark_line paint (take before part) (take (end - column) (drop before part))
 
--- how a remark is mended, `  = Put a space after the comma.`
+-- how to fix what a remark is about, `  = Put a space after the comma.`
 unfoldable pub advice_line : Remark → List ℕ
 advice_line remark = codes "  = " ++ advice_of remark ++ newline ∷ []
 

@@ -12,7 +12,7 @@ use Rattle.engine_formats.specs.Remarks.{code_of, remark_heading, severity_of, s
 use Rattle.engine_formats.specs.declared.remark.Severity.{Severity}
 use Rattle.engine_formats.specs.declared.remark.Severity.TheVariants.{Error, Warning}
 
--- a text of a file, where what is no UTF-8 becomes U+FFFD
+-- a text of a file, in which what is not UTF-8 becomes U+FFFD
 abbrev pub text_value : List ℕ → Json
 text_value text = string (utf8_lossy text)
 
@@ -58,7 +58,7 @@ abbrev pub gitlab_severity : Severity → List ℕ
 gitlab_severity Error = codes "major"
 gitlab_severity Warning = codes "minor"
 
--- what tells a diagnostic from the others about its file: `LINE:COLUMN:V6:PATH`
+-- what distinguishes a diagnostic from the others about its file: `LINE:COLUMN:V6:PATH`
 abbrev pub fingerprint : DiagnosticValue → List ℕ
 fingerprint d = decimal d.line ++ colon ∷ decimal d.column ++ colon ∷ code_of d.remark ++ colon ∷ d.path
 

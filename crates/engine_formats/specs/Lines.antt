@@ -13,7 +13,7 @@ use Rattle.engine_formats.specs.declared.remark.Remark.{Remark}
 unfoldable pub plain_line : DiagnosticValue → List ℕ
 plain_line d = place_of d.name d.begins ++ remark_heading d.remark ++ word_part (word_of d.word) ++ newline ∷ []
 
--- where a diagnostic stands and how severe it is, `PATH:LINE:COLUMN: error: `
+-- the place of a diagnostic and how severe it is, `PATH:LINE:COLUMN: error: `
 unfoldable pub spot_of : DiagnosticValue → List ℕ
 spot_of d =
     escape_text d.path ++ colon ∷ decimal d.line ++ colon ∷ decimal d.column ++ codes ": " ++ severity_word (severity_of d.remark)

@@ -1,4 +1,4 @@
--- Diagnostics that are made of messages.
+-- Diagnostics that are made from messages.
 use Rattle.std.specs.Prelude.{◌≡◌, List}
 use Rattle.std.specs.List.{AllZip}
 use Rattle.text_bytes.specs.Messages.{word_of}
@@ -6,13 +6,14 @@ use Rattle.text_bytes.specs.declared.message.Message.{Message}
 use Rattle.engine_formats.specs.Diagnostics.{DiagnosticValue}
 use Rattle.engine_formats.specs.declared.remark.Remark.TheVariants as about
 
--- A diagnostic is made of a message: it has its file, its line and its kind, and a word of which the message keeps the first bytes.
+-- A diagnostic is made from a message: it has its file, its line and its kind, and a word whose first bytes the
+-- message keeps.
 pub record IsMadeOf (message : Message) (d : DiagnosticValue) : Type 0 where
   pub name : d.name ≡ message.file
   pub begins : d.begins ≡ message.line
   pub remark : d.remark ≡ about.Message message.kind
   pub word : word_of d.word ≡ message.word
 
--- Diagnostics are made of messages, each of the one at its place.
+-- Diagnostics are made from messages, each from the one at its place.
 abbrev pub AreMadeOf : List Message → List DiagnosticValue → Type 0
 AreMadeOf messages diagnostics = AllZip IsMadeOf messages diagnostics

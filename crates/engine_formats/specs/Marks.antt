@@ -1,4 +1,4 @@
--- Where the mark of a place stands, as a reader sees it.
+-- Where the mark of a place is, as a reader sees it.
 use Rattle.std.specs.Prelude.{◌≡◌, ℕ, suc, ◌-◌, ◌<◌, Bool, true, false, not, ◌==◌, if◌then◌else◌, List, [], ◌∷◌, ◌++◌, drop, map, slice_index_or, take, take_while}
 use Rattle.text_bytes.specs.Lines.{lines}
 use Rattle.text_bytes.specs.Names.{caret}
@@ -9,8 +9,9 @@ use Rattle.engine_formats.specs.Paints.{escape_code}
 abbrev pub letter_m : ℕ
 letter_m = 109
 
--- How many columns of a terminal a text takes, of which the first bytes may still belong to the start or the end of a color. Such a
--- sequence goes from an escape byte up to a letter `m` and takes none, and neither does a byte that goes on a character.
+-- How many columns of a terminal a text takes, the first bytes of which may still belong to the start or the end of a
+-- color. Such a sequence goes from an escape byte up to a letter `m` and takes none, and neither does a byte that
+-- continues a character.
 abbrev pub columns_from : Bool → List ℕ → ℕ
 columns_from true [] = 0
 columns_from false [] = 0
@@ -32,8 +33,8 @@ before_caret line = take_while (λ b. not (b == caret)) line
 abbrev pub line_behind : ℕ → List ℕ → List ℕ
 line_behind others text = slice_index_or (lines text) others []
 
--- `^` is below the first byte of the place at a column: the line that is shown goes on from the place as its source does, for one
--- byte at least where there is one, and before the mark stand as many columns as before the place
+-- `^` is below the first byte of the place at a column: the line that is shown goes on from the place as its source
+-- does, for at least one byte if there is one, and as many columns come before the mark as before the place
 pub record PointsAt (source : List ℕ) (column : ℕ) (shown marks : List ℕ) : Type 0 where
   pub before : List ℕ
   pub room : ℕ

@@ -12,7 +12,7 @@ abbrev pub color_of : Severity → Paint
 color_of Error = Red
 color_of Warning = Yellow
 
--- the color of a remark, where it is shown in colors
+-- the color of a remark, if it is shown in colors
 abbrev pub paint_of : Bool → Remark → Paint
 paint_of true remark = color_of (severity_of remark)
 paint_of false remark = Unpainted

@@ -10,6 +10,6 @@ use Rattle.engine_ends.specs.declared.line.Line.{Line}
 abbrev pub path_in_folder : List ℕ → SourceFile → List ℕ
 path_in_folder root file = root ++ folder_path file.kind file.rank ++ slash ∷ file.name
 
--- the path of a file: its name where the line names files of its kind, and else that in its folder
+-- the path of a file: its name if the line names files of its kind, and else that in its folder
 abbrev pub path_of : Line → SourceFile → List ℕ
 path_of line file = if names_files_of line file.kind then file.name else path_in_folder line.root.now file

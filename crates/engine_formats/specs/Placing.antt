@@ -21,7 +21,7 @@ pub record Place : Type 0 where
 abbrev pub shown_place : TextPlace → Place
 shown_place p = record { source = p.source.now; column = p.column; end = p.end; word = p.word.now }
 
--- the text of the line of a number, counted from 1, and nothing where there is none
+-- the text of the line with a number, counted from 1, and nothing if there is none
 abbrev pub line_numbered : List NumberedLine → ℕ → List ℕ
 line_numbered lines number = (slice_index_or lines (number - 1) (record { number = 0; text = [] })).text
 
@@ -32,11 +32,12 @@ is_about_property NoEquals = true
 is_about_property EmptyKey = true
 is_about_property _ = false
 
--- the text of a clean line that a message of a kind says about: a property without its leading blanks, and else the line
+-- the text of a clean line that a message of a kind is about: a property without its leading blanks, and else the
+-- line
 abbrev pub told_text : List ℕ → MessageKind → List ℕ
 told_text clean kind = if is_about_property kind then unindented clean else clean
 
--- where a message of a kind is in a line: at the text that it says about, which ends where the clean line does
+-- where a message of a kind is in a line: at the text that it is about, which ends where the clean line does
 abbrev pub place_in : List ℕ → MessageKind → Place
 place_in source kind =
     let clean = trimmed (before_comment source) in
@@ -47,8 +48,8 @@ place_in source kind =
 abbrev pub placed : List NumberedLine → Message → Place
 placed lines message = place_in (line_numbered lines message.line) message.kind
 
--- A place stands among lines: it has the text of the line of this number, in which its word begins at its column and ends before its
--- end.
+-- A place is among lines: it has the text of the line with this number, in which its word begins at its column and
+-- ends before its end.
 pub record StandsIn (lines : List NumberedLine) (number : ℕ) (p : Place) : Type 0 where
   pub line : Contains lines (record { number = number; text = p.source })
   pub first : 0 < p.column

@@ -1,8 +1,8 @@
--- What programs read of the formats that are made for them.
+-- What programs read in the formats that are made for them.
 use Rattle.std.specs.Prelude.{◌^◌, ◌<◌}
 use Rattle.engine_formats.specs.Diagnostics.{DiagnosticValue}
 
--- The numbers of a diagnostic are such as lines and columns have here.
+-- The numbers of a diagnostic are in the range of lines and columns.
 pub record HasPlace (d : DiagnosticValue) : Type 0 where
   pub begins : d.begins < 2 ^ 32
   pub line : d.line < 2 ^ 32

@@ -34,7 +34,7 @@ remark_heading (about.Lint lint) = lint_heading lint
 remark_heading IdleIgnore = codes "I1 nothing to ignore"
 remark_heading UnknownCode = codes "I2 unknown code"
 
--- what comes before the first space of a remark's heading, and what after it
+-- what comes before the first space of a remark's heading, and what comes after it
 unfoldable pub heading_parts : Remark → List ℕ × List ℕ
 heading_parts remark = unwrap_or (split_once space (remark_heading remark)) (remark_heading remark, [])
 

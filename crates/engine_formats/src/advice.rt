@@ -1,4 +1,4 @@
-//! How what a diagnostic is about is mended, in one sentence each.
+//! How to fix what diagnostics are about, in one sentence each.
 ghost use Rattle.std.specs.Prelude.{◌≡◌};
 ghost use Rattle.engine_formats.specs.Advice.{advice_of, advice_on, advice_on_lint};
 
@@ -132,7 +132,7 @@ const UNKNOWN_CODE: &[u8] =
     b"Write \"ignore\" or \"ignore-file\", a space, and codes such as V6,S2.";
 
 impl Remark {
-    /// How what a remark is about is mended, in one sentence.
+    /// How to fix what a remark is about, in one sentence.
     pub fn advice(self) -> &'static [u8]
         ensures { result.now ≡ advice_of self }
     {

@@ -1,4 +1,4 @@
-//! The codes of remarks, as `V6`.
+//! The codes of remarks, such as `V6`.
 ghost use Rattle.std.specs.Prelude.{◌≡◌, Some, IfSome};
 ghost use Rattle.engine_formats.specs.Codes.{remark_of, remarks};
 ghost use Rattle.engine_formats.specs.Remarks.{code_of};
@@ -71,7 +71,7 @@ pub fn remarks() -> &'static [Remark]
     &REMARKS
 }
 
-/// The remark of a code. Codes are told apart by case, and any other text is none.
+/// The remark with a code, if there is one; case counts.
 #[tactic(auto, unfolding(crate::specs::Codes::remark_of))]
 pub fn remark_of(code: &[u8]) -> Option<Remark>
     ensures value { result ≡ remark_of code.now }

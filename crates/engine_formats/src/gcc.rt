@@ -24,7 +24,7 @@ pub(crate) fn gcc_lines(
     Ok(text)
 }
 
-/// Puts `PATH:LINE:COLUMN: error: bad substitution: WORD [V6]` and a newline after a text.
+/// Appends `PATH:LINE:COLUMN: error: bad substitution: WORD [V6]` and a newline.
 #[tactic(auto, unfolding(crate::specs::Lines::gcc_line))]
 fn push_gcc_line(
     alloc: Global,
@@ -39,7 +39,7 @@ fn push_gcc_line(
     push_code(text, diagnostic.remark)
 }
 
-/// Puts `PATH:LINE:COLUMN: error: ` after a text, the path escaped.
+/// Appends `PATH:LINE:COLUMN: error: `, with the path escaped.
 #[tactic(auto, unfolding(crate::specs::Lines::spot_of))]
 pub(crate) fn push_spot(
     alloc: Global,
@@ -56,7 +56,7 @@ pub(crate) fn push_spot(
     text.extend_from_slice(b": ")
 }
 
-/// Puts ` [V6]` and a newline after a text.
+/// Appends ` [V6]` and a newline.
 pub(crate) fn push_code(text: &mut Vec<u8>, remark: Remark) -> Result<(), AllocError>
     ensures { OnOk result (text.new.items ≡ text.old.items ++ code_part remark) }
 {

@@ -27,8 +27,7 @@ pub(crate) fn github_lines(
     Ok(text)
 }
 
-/// Puts `::error file=PATH,line=LINE,col=COLUMN,endColumn=END,title=V6::bad substitution: WORD` and a
-/// newline after a text.
+/// Appends `::error file=PATH,line=LINE,col=COLUMN,endColumn=END,title=V6::bad substitution: WORD` and a newline.
 #[tactic(auto, unfolding(crate::specs::Github::github_line))]
 fn push_github_line(
     alloc: Global,
@@ -45,8 +44,8 @@ fn push_github_line(
     push_said(alloc, text, diagnostic.remark, diagnostic.word.as_slice())
 }
 
-/// Puts ` file=PATH,line=LINE,col=COLUMN,endColumn=END` after a text, the path as it was opened but for
-/// what GitHub asks to be written otherwise.
+/// Appends ` file=PATH,line=LINE,col=COLUMN,endColumn=END`, with the path as it was opened except for what GitHub
+/// asks to be written otherwise.
 #[tactic(auto, unfolding(crate::specs::Github::github_place))]
 fn push_github_place(text: &mut Vec<u8>, diagnostic: &Diagnostic<'_>) -> Result<(), AllocError>
     ensures { OnOk result (text.new.items ≡ text.old.items ++ github_place (shown diagnostic.now)) }
@@ -58,14 +57,14 @@ fn push_github_place(text: &mut Vec<u8>, diagnostic: &Diagnostic<'_>) -> Result<
     push_number(text, b",endColumn=", diagnostic.end)
 }
 
-/// Puts a property's name and its number after a text.
+/// Appends a property's name and its number.
 fn push_number(text: &mut Vec<u8>, name: &[u8], number: u32) -> Result<(), AllocError>
     ensures { OnOk result (text.new.items ≡ text.old.items ++ (name.now ++ decimal number)) }
 {
     push_value(text, name, Buffer::new().format(number).as_bytes())
 }
 
-/// Puts a property's name and its value after a text, neither of them escaped.
+/// Appends a property's name and its value, neither of them escaped.
 fn push_value(text: &mut Vec<u8>, name: &[u8], value: &[u8]) -> Result<(), AllocError>
     ensures { OnOk result (text.new.items ≡ text.old.items ++ (name.now ++ value.now)) }
 {
@@ -73,7 +72,7 @@ fn push_value(text: &mut Vec<u8>, name: &[u8], value: &[u8]) -> Result<(), Alloc
     text.extend_from_slice(value)
 }
 
-/// Puts what a remark says of a word after a text, as GitHub asks, and a newline.
+/// Appends what a remark says about a word, as GitHub asks, and a newline.
 fn push_said(
     alloc: Global,
     text: &mut Vec<u8>,

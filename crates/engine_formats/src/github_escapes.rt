@@ -1,4 +1,4 @@
-//! How GitHub asks that texts be written in a workflow command.
+//! How GitHub asks for texts to be written in a workflow command.
 //!
 //! A command is one line, whose properties end at a comma and at a colon.
 ghost use Rattle.std.specs.Prelude.{◌≡◌, ◌++◌, OnOk};
@@ -6,8 +6,7 @@ ghost use Rattle.engine_formats.specs.Github.{github_byte, github_property, gith
 
 use std::alloc::AllocError;
 
-/// Puts what a command says after a text: `%` and the two ends of a line each as `%` and two
-/// hexadecimal digits.
+/// Appends what a command says: `%` and the two ends of a line each as `%` and two hexadecimal digits.
 pub(crate) fn push_github_text(text: &mut Vec<u8>, said: &[u8]) -> Result<(), AllocError>
     ensures { OnOk result (text.new.items ≡ text.old.items ++ github_text said.now) }
 {
@@ -17,7 +16,7 @@ pub(crate) fn push_github_text(text: &mut Vec<u8>, said: &[u8]) -> Result<(), Al
     Ok(())
 }
 
-/// Puts a property of a command after a text: as what it says, with `:` and `,` written so too.
+/// Appends a property of a command: as what it says, but with `:` and `,` also written so.
 pub(crate) fn push_github_property(text: &mut Vec<u8>, value: &[u8]) -> Result<(), AllocError>
     ensures { OnOk result (text.new.items ≡ text.old.items ++ github_property value.now) }
 {
@@ -27,7 +26,7 @@ pub(crate) fn push_github_property(text: &mut Vec<u8>, value: &[u8]) -> Result<(
     Ok(())
 }
 
-/// Puts a byte of what a command says after a text.
+/// Appends a byte of what a command says.
 fn push_text_byte(text: &mut Vec<u8>, byte: u8) -> Result<(), AllocError>
     ensures { OnOk result (text.new.items ≡ text.old.items ++ github_byte byte) }
 {
@@ -39,7 +38,7 @@ fn push_text_byte(text: &mut Vec<u8>, byte: u8) -> Result<(), AllocError>
     }
 }
 
-/// Puts a byte of a property after a text.
+/// Appends a byte of a property.
 fn push_property_byte(text: &mut Vec<u8>, byte: u8) -> Result<(), AllocError>
     ensures { OnOk result (text.new.items ≡ text.old.items ++ property_byte byte) }
 {

@@ -32,7 +32,7 @@ pub(crate) fn gitlab_report(
     Ok(text)
 }
 
-/// Puts the issues of diagnostics after what is written.
+/// Writes the issues of diagnostics.
 fn write_issues(
     alloc: Global,
     writer: &mut Writer,
@@ -47,7 +47,7 @@ fn write_issues(
     Ok(())
 }
 
-/// Puts the issue of a diagnostic after what is written.
+/// Writes the issue of a diagnostic.
 #[tactic(auto, unfolding(crate::specs::Json::issue_tokens))]
 fn write_issue(
     alloc: Global,
@@ -71,7 +71,7 @@ fn write_issue(
     Ok(())
 }
 
-/// Puts the file and the line of a diagnostic after what is written.
+/// Writes the file and the line of a diagnostic.
 fn write_location(
     alloc: Global,
     writer: &mut Writer,
@@ -90,7 +90,7 @@ fn write_location(
     Ok(())
 }
 
-/// What a remark says of a word, with its code: `V6 bad substitution: WORD`.
+/// What a remark says about a word, with its code: `V6 bad substitution: WORD`.
 fn description(alloc: Global, remark: Remark, word: &[u8]) -> Result<Vec<u8>, AllocError>
     ensures { IfOk result (λ text. text.items ≡ remark_heading remark ++ word_part word.now) }
 {
@@ -99,7 +99,7 @@ fn description(alloc: Global, remark: Remark, word: &[u8]) -> Result<Vec<u8>, Al
     Ok(text)
 }
 
-/// What tells a diagnostic from the others about its file: `LINE:COLUMN:V6:PATH`.
+/// What distinguishes a diagnostic from the others about its file: `LINE:COLUMN:V6:PATH`.
 fn fingerprint(alloc: Global, diagnostic: &Diagnostic<'_>) -> Result<Vec<u8>, AllocError>
     ensures { IfOk result (λ text. text.items ≡ fingerprint (shown diagnostic.now)) }
 {

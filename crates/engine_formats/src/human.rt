@@ -1,4 +1,4 @@
-//! Diagnostics for people: each with its line, a mark below the place, and how it is mended.
+//! Diagnostics for people: each with its line, a mark below the place, and how to fix it.
 ghost use Rattle.std.specs.Prelude.{◌≡◌, ◌++◌, map, flat_map, IfOk, OnOk};
 ghost use Rattle.engine_formats.specs.Diagnostics.{shown};
 ghost use Rattle.engine_formats.specs.Human.{advice_line, human_lines, title_line};
@@ -25,7 +25,7 @@ pub(crate) fn human_lines(
     Ok(text)
 }
 
-/// Puts the four lines of a diagnostic after a text, in colors or without.
+/// Appends the four lines of a diagnostic, in colors or without.
 #[tactic(auto, unfolding(crate::specs::Human::human_lines))]
 fn push_human_lines(
     alloc: Global,
@@ -47,8 +47,7 @@ fn push_human_lines(
     push_advice(text, diagnostic.remark)
 }
 
-/// Puts `PATH:LINE:COLUMN: error: bad substitution [V6]` and a newline after a text, up to what is said
-/// in a color.
+/// Appends `PATH:LINE:COLUMN: error: bad substitution [V6]` and a newline, in a color up to what is said.
 #[tactic(auto, unfolding(crate::specs::Human::title_line))]
 fn push_title(
     alloc: Global,
@@ -65,7 +64,7 @@ fn push_title(
     push_code(text, diagnostic.remark)
 }
 
-/// Puts `  = ` and how a remark is mended after a text, and a newline.
+/// Appends `  = `, how to fix what a remark is about, and a newline.
 #[tactic(auto, unfolding(crate::specs::Human::advice_line))]
 fn push_advice(text: &mut Vec<u8>, remark: Remark) -> Result<(), AllocError>
     ensures { OnOk result (text.new.items ≡ text.old.items ++ advice_line remark) }

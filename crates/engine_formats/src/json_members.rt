@@ -1,4 +1,4 @@
-//! Members of JSON objects, put after what a writer has written.
+//! Members of JSON objects, added to what a writer has written.
 ghost use Rattle.std.specs.Prelude.{◌≡◌, ◌∷◌, [], ◌++◌, decimal, OnOk};
 ghost use Rattle.std.specs.Str.Lossy.{utf8_lossy};
 ghost use Rattle.json.specs.Token as token;
@@ -6,7 +6,7 @@ ghost use Rattle.json.specs.Token as token;
 use json::Writer;
 use std::alloc::{AllocError, Global};
 
-/// A member of a text of a file. What of it is no UTF-8 becomes U+FFFD, as JSON has to be UTF-8.
+/// A member with a text of a file. What is not UTF-8 in it becomes U+FFFD, as JSON has to be UTF-8.
 pub(crate) fn write_text(
     alloc: Global,
     writer: &mut Writer,
@@ -20,7 +20,7 @@ pub(crate) fn write_text(
     write_word(writer, key, &text)
 }
 
-/// A member of a text of the program's own.
+/// A member with a text of the program's own.
 pub(crate) fn write_word(writer: &mut Writer, key: &str, word: &str) -> Result<(), AllocError>
     ensures tokens { OnOk result (writer.new.tokens ≡ writer.old.tokens ++ token.key key.now ∷ token.string word.now ∷ []) }
     ensures before { OnOk result (writer.new.before ≡ writer.old.before) }
@@ -29,7 +29,7 @@ pub(crate) fn write_word(writer: &mut Writer, key: &str, word: &str) -> Result<(
     writer.string(word)
 }
 
-/// A member of a number.
+/// A member with a number.
 pub(crate) fn write_number(writer: &mut Writer, key: &str, number: u32) -> Result<(), AllocError>
     ensures tokens { OnOk result (writer.new.tokens ≡ writer.old.tokens ++ token.key key.now ∷ token.number (decimal number) ∷ []) }
     ensures before { OnOk result (writer.new.before ≡ writer.old.before) }

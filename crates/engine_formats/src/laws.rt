@@ -1,6 +1,6 @@
-//! Why the definitions that the other contracts cite mean what they say.
+//! Laws that show the definitions cited by the other contracts to be right.
 //!
-//! Each function does nothing: its contract is a law of the definitions.
+//! Each function has an empty body, and its contract is a law of the definitions.
 ghost use Rattle.std.specs.Prelude.{◌≡◌, ℕ, ◌+◌, ◌-◌, ◌*◌, ◌^◌, ◌<◌, ◌≤◌, Bool, ◌==◌, false, if◌then◌else◌, List, [], ◌∷◌, ◌++◌, All, codes, length, map};
 ghost use Rattle.std.specs.List.{list_any};
 ghost use Rattle.text_bytes.specs.Lines.{lines, numbered_lines};
@@ -27,7 +27,7 @@ ghost use Rattle.engine_formats.specs.declared.remark.Remark.{Remark};
 ghost use Rattle.engine_formats.specs.declared.remark.Remark.TheVariants as about;
 ghost use Rattle.engine_formats.specs.declared.remark.Severity.TheVariants.{Error, Warning};
 
-/// The heading of a remark is its code, a space and what it says, and no space is in its code.
+/// The heading of a remark is its code, a space and its text; the code has no space.
 pub fn a_heading_is_its_code_and_text()
     ensures whole { (remark : Remark) → remark_heading remark ≡ code_of remark ++ space ∷ text_of remark }
     ensures code { (remark : Remark) → list_any (λ b. b == space) (code_of remark) ≡ false }
@@ -42,7 +42,7 @@ pub fn style_is_a_warning()
     ensures unknown { severity_of about.UnknownCode ≡ Warning }
 {}
 
-/// Diagnostics that are made of messages read by default as these messages do.
+/// Diagnostics that are made from messages are by default written as these messages are.
 pub fn messages_are_plain_diagnostics()
     ensures { (messages : List Message) (diagnostics : List DiagnosticValue) → AreMadeOf messages diagnostics
         → formatted Format.Plain diagnostics ≡ message_lines messages }
@@ -54,17 +54,17 @@ pub fn commands_end_nowhere_within()
     ensures property { (value : List ℕ) → list_any ends_property (github_property value) ≡ false }
 {}
 
-/// What a workflow command says is read back as it was, and so is a property; the path is the one by
-/// which the file was opened.
+/// What a workflow command says is read back as it was, and so is a property; the path is the one by which the file
+/// was opened.
 pub fn commands_are_read_back()
     ensures text { (said : List ℕ) → github_read (github_text said) ≡ said }
     ensures property { (value : List ℕ) → github_read (github_property value) ≡ value }
     ensures path { (d : DiagnosticValue) → github_read (property_at (codes " file=") (github_place d)) ≡ d.path }
 {}
 
-/// The text at the place of a message about a database is what the message keeps the first bytes of,
-/// where a file's lines are few enough to be reported by number.
-/// In lines that are short enough it is at the columns that are reported, in the line that is reported.
+/// The text at the place of a message about a database is the one whose first bytes the message keeps, if the
+/// file's lines are few enough to be reported by number. If the lines are short enough, it is at the columns that
+/// are reported, in the line that is reported.
 pub fn messages_stand_at_their_words()
     ensures word { (file : SourceFile) → length (lines file.bytes) < 2 ^ 32
         → All (λ m. word_of (placed (numbered_lines file.bytes) m).word ≡ m.word) (messages_of (file ∷ [])) }
@@ -81,8 +81,8 @@ pub fn marks_stand_below_their_places()
         → line_behind 1 (human_lines in_color d) ≡ codes "  " ++ map shown_byte d.source }
 {}
 
-/// The formats for people and for GitHub have a line for each diagnostic, or four where its line is
-/// shown, whatever bytes the file's name, its path, its line and the word have.
+/// The formats for people and for GitHub have a line for each diagnostic, or four if its line is shown, whatever
+/// bytes the file's name, its path, its line and the word have.
 pub fn diagnostics_have_their_lines()
     ensures plain { (diagnostics : List DiagnosticValue) → All HasPlace diagnostics → length (lines (formatted Format.Plain diagnostics)) ≡ length diagnostics }
     ensures gcc { (diagnostics : List DiagnosticValue) → All HasPlace diagnostics → length (lines (formatted Format.Gcc diagnostics)) ≡ length diagnostics }

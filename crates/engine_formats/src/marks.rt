@@ -6,18 +6,17 @@ ghost use Rattle.engine_formats.specs.Human.{continues, first_start, mark_line, 
 use crate::paint::Paint;
 use std::alloc::AllocError;
 
-/// How many bytes of a line are shown at most.
+/// At most how many bytes of a line are shown.
 const WIDTH: usize = 160;
 
 /// How many bytes of a longer line are shown before the place.
 const MARGIN: usize = 40;
 
-/// How many bytes of a character of UTF-8 there are at most after its first one.
+/// The most bytes of a UTF-8 character after its first one.
 const LONGEST_REST: usize = 3;
 
-/// Puts the line that a place is in after a text, and a line that marks the place in a color: `^`
-/// below its first byte and `~` below the others. Of a line of more than 160 bytes, 160 around the
-/// place are shown.
+/// Appends the line that a place is in, and a line that marks the place in a color: `^` below its first byte and
+/// `~` below the others. Of a line of more than 160 bytes, 160 around the place are shown.
 #[tactic(auto, unfolding(crate::specs::Human::source_lines))]
 pub(crate) fn push_source(
     text: &mut Vec<u8>,
@@ -40,8 +39,8 @@ pub(crate) fn push_source(
     )
 }
 
-/// Where the part of a line begins that is shown. Where that would be inside a character of UTF-8, the
-/// part begins after the bytes that go on the character.
+/// The start of the part of a line that is shown. If that would be inside a UTF-8 character, the part begins after
+/// the bytes that continue the character.
 #[tactic(auto, unfolding(crate::specs::Human::window_start))]
 fn window_start(source: &[u8], column: usize) -> usize
     ensures { result ≡ window_start source.now column }
@@ -54,7 +53,7 @@ fn window_start(source: &[u8], column: usize) -> usize
     }
 }
 
-/// Where the part of a line begins that is shown, wherever characters begin.
+/// The start of the part of a line that is shown, regardless of where characters begin.
 fn first_start(source: &[u8], column: usize) -> usize
     ensures start { result ≡ first_start source.now column }
     ensures within { result ≤ length source.now }
@@ -65,7 +64,7 @@ fn first_start(source: &[u8], column: usize) -> usize
         .min(source.len().saturating_sub(WIDTH))
 }
 
-/// How many bytes at the start of a text go on a character.
+/// How many bytes at the start of a text continue a character.
 fn continuing(bytes: &[u8]) -> usize
     ensures count { result ≡ prefix_len continues bytes.now }
     ensures within { result ≤ length bytes.now }
@@ -80,7 +79,7 @@ fn window(source: &[u8], start: usize) -> &[u8]
     front(behind(source, start), WIDTH)
 }
 
-/// The first bytes of a text, all of them where there are fewer.
+/// The first bytes of a text, all of them if there are fewer.
 #[tactic(auto, using(std::proofs::lemmas::List::take_min))]
 fn front(text: &[u8], len: usize) -> &[u8]
     ensures { result.now ≡ take len text.now }
@@ -88,14 +87,14 @@ fn front(text: &[u8], len: usize) -> &[u8]
     &text[..len.min(text.len())]
 }
 
-/// What follows the first bytes of a text, nothing where there are fewer.
+/// What follows the first bytes of a text, nothing if there are fewer.
 fn behind(text: &[u8], len: usize) -> &[u8]
     ensures { result.now ≡ drop len text.now }
 {
     if len < text.len() { &text[len..] } else { &[] }
 }
 
-/// Puts a part of a line after a text, indented, and a newline.
+/// Appends a part of a line, indented, and a newline.
 #[tactic(auto, unfolding(crate::specs::Human::source_line))]
 fn push_line(text: &mut Vec<u8>, shown: &[u8]) -> Result<(), AllocError>
     ensures { OnOk result (text.new.items ≡ text.old.items ++ source_line shown.now) }
@@ -106,7 +105,7 @@ fn push_line(text: &mut Vec<u8>, shown: &[u8]) -> Result<(), AllocError>
     Ok(())
 }
 
-/// Puts the bytes of a line after a text as they are shown.
+/// Appends the bytes of a line as they are shown.
 fn push_shown(text: &mut Vec<u8>, bytes: &[u8]) -> Result<(), AllocError>
     ensures { OnOk result (text.new.items ≡ text.old.items ++ map shown_byte bytes.now) }
 {
@@ -128,8 +127,7 @@ fn shown_byte(byte: u8) -> u8
     }
 }
 
-/// Puts the marks of a place after a text, in a color and by what is shown before it and in it, and a
-/// newline.
+/// Appends the marks of a place, in a color and by what is shown before it and in it, and a newline.
 #[tactic(auto, unfolding(crate::specs::Human::mark_line))]
 fn push_marks(
     text: &mut Vec<u8>,
@@ -149,7 +147,7 @@ fn push_marks(
     Ok(())
 }
 
-/// Puts a mark after a text for each of the bytes that takes a column.
+/// Appends a mark for each of the bytes that takes a column.
 fn push_under(text: &mut Vec<u8>, mark: u8, bytes: &[u8]) -> Result<(), AllocError>
     ensures { OnOk result (text.new.items ≡ text.old.items ++ flat_map (under mark) bytes.now) }
 {
@@ -161,7 +159,7 @@ fn push_under(text: &mut Vec<u8>, mark: u8, bytes: &[u8]) -> Result<(), AllocErr
     Ok(())
 }
 
-/// Whether a byte goes on a character of UTF-8, and so takes no column of its own.
+/// Whether a byte continues a UTF-8 character, and so takes no column of its own.
 fn continues(byte: u8) -> bool
     ensures { result ≡ continues byte }
 {

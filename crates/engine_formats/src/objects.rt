@@ -39,7 +39,7 @@ fn with_json_line(
     Ok(longer)
 }
 
-/// Puts the object of a diagnostic after what is written.
+/// Writes the object of a diagnostic.
 fn write_object(
     alloc: Global,
     writer: &mut Writer,

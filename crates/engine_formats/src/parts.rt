@@ -5,14 +5,14 @@ ghost use Rattle.text_bytes.specs.Names.{colon};
 use itoa::Buffer;
 use std::alloc::AllocError;
 
-/// Puts a colon and a number after a text.
+/// Appends a colon and a number.
 pub(crate) fn push_number(text: &mut Vec<u8>, number: u32) -> Result<(), AllocError>
     ensures { OnOk result (text.new.items ≡ text.old.items ++ colon ∷ decimal number) }
 {
     push_part(text, Buffer::new().format(number).as_bytes())
 }
 
-/// Puts a colon and a text after a text.
+/// Appends a colon and a text.
 pub(crate) fn push_part(text: &mut Vec<u8>, part: &[u8]) -> Result<(), AllocError>
     ensures { OnOk result (text.new.items ≡ text.old.items ++ colon ∷ part.now) }
 {

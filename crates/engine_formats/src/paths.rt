@@ -6,8 +6,8 @@ use engine_ends::{Line, folder_path};
 use std::alloc::{AllocError, Global};
 use text_bytes::SourceFile;
 
-/// The path by which a file was opened: its name where the line names files of its kind, and else
-/// that of its folder after the line's root, a `/` and its name.
+/// The path by which a file was opened: its name if the line names files of its kind, and else that of its folder
+/// after the line's root, a `/` and its name.
 pub fn path_of(alloc: Global, line: &Line<'_>, file: &SourceFile) -> Result<Vec<u8>, AllocError>
     ensures { IfOk result (λ path. path.items ≡ path_of line.now file.now) }
 {

@@ -18,7 +18,7 @@ pub struct TextPlace<'a> {
     pub column: u32,
     /// The column after its last byte.
     pub end: u32,
-    /// The text that the message says about, whole.
+    /// The whole text that the message is about.
     pub word: &'a [u8],
 }
 
@@ -29,7 +29,7 @@ pub fn file_lines(alloc: Global, bytes: &[u8]) -> Result<Vec<Line<'_>>, AllocErr
     Lines::new(bytes).collect(alloc)
 }
 
-/// The text of a line by its number, counted from 1; empty where there is no such line.
+/// The text of a line by its number, counted from 1; empty if there is no such line.
 pub fn line_numbered<'a>(lines: &[Line<'a>], number: u32) -> &'a [u8]
     ensures { result.now ≡ line_numbered lines.now number }
 {
@@ -41,8 +41,8 @@ pub fn line_numbered<'a>(lines: &[Line<'a>], number: u32) -> &'a [u8]
 
 /// Where a message about a database is in its file, whose lines are given.
 ///
-/// The line is read as the database is: its comment, and the whitespace before that, are no part of
-/// the place. Of a property the place begins after the leading blanks.
+/// The line is read as the database is: its comment, and the whitespace before that, are not part of the place. For
+/// a property the place begins after the leading blanks.
 pub fn placed_message<'a>(lines: &[Line<'a>], message: &Message) -> TextPlace<'a>
     ensures { shown_place result ≡ placed lines.now message.now }
 {
@@ -63,7 +63,7 @@ fn place_in(source: &[u8], kind: MessageKind) -> TextPlace<'_>
     }
 }
 
-/// The text of a clean line that a message of a kind says about.
+/// The text of a clean line that a message of a kind is about.
 fn told_text(clean: &[u8], kind: MessageKind) -> &[u8]
     ensures text { result.now ≡ told_text clean.now kind }
     ensures within { length result.now ≤ length clean.now }

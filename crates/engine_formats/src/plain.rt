@@ -22,8 +22,8 @@ pub(crate) fn plain_lines(
     Ok(text)
 }
 
-/// Puts `NAME:LINE: V6 bad substitution: WORD` and a newline after a text, with the first line of the
-/// rule and the first 32 bytes of the word.
+/// Appends `NAME:LINE: V6 bad substitution: WORD` and a newline, with the first line of the rule and the first 32
+/// bytes of the word.
 #[tactic(auto, unfolding(crate::specs::Lines::plain_line))]
 fn push_plain_line(
     alloc: Global,

@@ -13,9 +13,9 @@ pub enum Remark {
     Message(MessageKind),
     /// W1 to W13: a rule is most likely not the one that was meant.
     Lint(Lint),
-    /// I1: a comment ignores messages of a code, and there is none.
+    /// I1: a comment ignores messages with a code, and there are none.
     IdleIgnore,
-    /// I2: a comment names a code that there is not, or is not understood.
+    /// I2: a comment names an unknown code, or is not understood.
     UnknownCode,
 }
 
@@ -24,7 +24,7 @@ pub enum Remark {
 pub enum Severity {
     /// A part of the file is not read as it was meant.
     Error,
-    /// The file is read as it stands, and could be written better.
+    /// The file is read as it is, and could be written better.
     Warning,
 }
 
@@ -57,7 +57,7 @@ impl Remark {
         text
     }
 
-    /// What comes before the first space of the heading, and what after it.
+    /// What comes before the first space of the heading, and what comes after it.
     #[tactic(auto, unfolding(crate::specs::Remarks::heading_parts))]
     fn heading_parts(self) -> (&'static [u8], &'static [u8])
         ensures { (result.0.now, result.1.now) ≡ heading_parts self }

@@ -1,4 +1,4 @@
-//! What holds of the lines of an answer and of the rules that they come from.
+//! What is true of the lines of an answer and of the rules that they come from.
 //!
 //! Each function here is empty: its contract is the law.
 ghost use Rattle.std.specs.Prelude.{◌≡◌, ◌&&◌, ◌++◌, [], ◌∷◌, false, is_some, List, None, not, true};
@@ -22,13 +22,13 @@ pub fn without_their_sources_the_lines_are_the_answer()
     ensures { (rules : List Rule) (entries : List Entry) (event : EventValue) → lines_by (λ source. []) rules entries event ≡ answer_lines event (outcome rules entries event) }
 {}
 
-/// An item comes from a rule exactly where it is in the end and did not stand so from the start,
-/// through all stages.
+/// An item comes from a rule if and only if it is there at the end and was not there like this at all stages from
+/// the start on.
 pub fn what_stood_from_the_start_comes_from_no_rule()
     ensures { (rules : List Rule) (entries : List Entry) (event : EventValue) (item : Pair) → is_some (source_of (stages rules entries event) item) ≡ (stands item (items (run entries None rules (start event))) && not (stands_throughout item (stages rules entries event))) }
 {}
 
-/// An item comes from a stage where it is there and at all later ones, and did not come before.
+/// An item comes from a stage if it is there at this stage and all later ones, and not at the stage before.
 pub fn an_item_comes_from_where_it_stands_from_then_on()
     ensures { (before later : List Stage) (last stage : Stage) (item : Pair) → stands item last.1 ≡ false → stands_throughout item (stage ∷ later) ≡ true → source_of (before ++ last ∷ stage ∷ later) item ≡ stage.0 }
 {}

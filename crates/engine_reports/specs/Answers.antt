@@ -13,7 +13,7 @@ property_line key value = key ++ equals ∷ value ++ newline ∷ []
 abbrev pub pair_line : List ℕ × List ℕ → List ℕ
 pair_line pair = property_line pair.0 pair.1
 
--- where a property comes from, `FILE:LINE: `, or `-: ` where that is not known
+-- where a property comes from, `FILE:LINE: `, or `-: ` if that is not known
 abbrev pub origin_of : List ℕ → ℕ → List ℕ
 origin_of file line = if length file == 0 then codes "-: " else place_of file line
 

@@ -1,4 +1,4 @@
--- What `verify` says of rules files.
+-- What `verify` says about rules files.
 use Rattle.std.specs.Prelude.{ℕ, ◌-◌, Bool, true, false, ◌==◌, not, if◌then◌else◌, List, [], ◌++◌, length, codes, decimal, filter}
 use Rattle.std.specs.List.{count_by, list_any}
 use Rattle.text_bytes.specs.declared.source_file.SourceFile.{SourceFile}
@@ -23,11 +23,11 @@ is_style _ = false
 unfoldable pub told : Bool → List Message → List Message
 told style messages = if style then messages else filter (λ m. not (is_style m.kind)) messages
 
--- whether one of the messages bears a name
+-- whether one of the messages has a name
 abbrev pub is_named_in : List Message → List ℕ → Bool
 is_named_in messages name = list_any (λ m. same_text name m.file) messages
 
--- how many of the files are bad, that is, how many have a message that bears their name
+-- how many of the files are bad, that is, how many have a message with their name
 abbrev pub bad_count : List SourceFile → List Message → ℕ
 bad_count files messages = count_by (λ f. is_named_in messages f.name) files
 
@@ -35,11 +35,11 @@ bad_count files messages = count_by (λ f. is_named_in messages f.name) files
 unfoldable pub summary_line : ℕ → ℕ → List ℕ
 summary_line all bad = decimal all ++ codes " files checked, " ++ decimal (all - bad) ++ codes " good, " ++ decimal bad ++ codes " bad\n"
 
--- 0 where no file is bad, else 1
+-- 0 if no file is bad, else 1
 abbrev pub verify_status : ℕ → ℕ
 verify_status bad = if bad == 0 then 0 else 1
 
--- what is said of files and of the messages about them that are given
+-- what is said about files and the messages about them that are given
 abbrev pub said_of : Bool → List SourceFile → List Message → Outcome
 said_of summary files messages = record {
   output = if summary then summary_line (length files) (bad_count files messages) else [];

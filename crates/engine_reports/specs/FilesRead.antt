@@ -13,8 +13,9 @@ use Rattle.engine_ends.specs.declared.line.Line.{Line}
 abbrev pub of_kind : FileKind → List SourceFile → List SourceFile
 of_kind kind files = filter (λ file. same_kind file.kind kind) files
 
--- of files of a kind those that a run reads: all of them, in their order, where the line names files of that kind, and else
--- those of the folders whose names end in the kind's suffix, of each name the first of least rank, sorted by name
+-- of files of a kind those that a run reads: all of them, in their order, if the line names files of that kind, and
+-- else those of the folders whose names end in the kind's suffix, of each name the first of least rank, sorted by
+-- name
 abbrev pub chosen : FileKind → Line → List SourceFile → List SourceFile
 chosen kind line files = if names_files_of line kind then files else ordered (suffix_of kind) files
 

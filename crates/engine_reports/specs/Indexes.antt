@@ -1,4 +1,4 @@
--- What comes of an index file that is passed in, and what is said of one that is refused.
+-- The outcome of opening an index file that is passed in, and what is said about one that is refused.
 use Rattle.std.specs.Prelude.{◌≡◌, ◌⊎◌, List, [], ◌∷◌, ◌++◌, Option, Some, None, Result, Ok, Err, codes}
 use Rattle.text_bytes.specs.Names.{newline}
 use Rattle.text_tables.specs.Texts.{Text}
@@ -10,8 +10,8 @@ use Rattle.index_reading.specs.FaultTexts.{fault_text}
 use Rattle.index_reading.specs.Contents.{Contents, contents}
 use Rattle.engine_ends.specs.Delivery.{Outcome}
 
--- What comes of an index: nothing where none is passed in; what its bytes hold where they are accepted, and else the first check
--- that they fail.
+-- The outcome of opening an index: nothing if none is passed in; what its bytes hold if they are accepted, and else
+-- the first check that they fail.
 abbrev pub Opens : Option Text → Option (Result Contents IndexFault) → Type 0
 Opens None opened = opened ≡ None
 Opens (Some bytes) opened = (Accepted bytes × (opened ≡ Some (Ok (contents bytes)))) ⊎ ((fault : IndexFault) × FailsFirst bytes fault × (opened ≡ Some (Err fault)))
@@ -24,6 +24,6 @@ entries_in contents = listed contents.nodes contents.values
 abbrev pub index_line : IndexFault → Text
 index_line fault = codes "devdry: index: " ++ fault_text fault ++ newline ∷ []
 
--- what is said of an index that fails a check
+-- what is said about an index that fails a check
 abbrev pub refused_index : IndexFault → Outcome
 refused_index fault = record { output = []; messages = index_line fault; status = 1 }

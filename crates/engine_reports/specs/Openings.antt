@@ -30,18 +30,20 @@ pub record OpeningValue : Type 0 where
 abbrev pub opening_messages : List Message → List Message → Text
 opening_messages rules database = message_lines (told false rules) ++ message_lines database
 
--- what comes of rules files read by a profile, of messages about a database and of its entries, where the rules hold no more than
--- they may, and else what is said of that
+-- what comes before the first answer, by rules files read by a profile, messages about a database and its entries, if
+-- the rules hold no more than they may, and else what is said about that
 unfoldable pub opening_by : Profile → List SourceFile → List Message → List Entry → Result OpeningValue Outcome
 opening_by profile rules messages entries =
     if nat_le (tokens_in (set_of_as profile rules).rules) (2 ^ 24) then Ok (record { messages = opening_messages (set_of_as profile rules).messages messages; about_rules = (set_of_as profile rules).messages; rules = (set_of_as profile rules).rules; entries = entries })
     else Err too_many_rules
 
--- the same of rules files and of files of a database, where these too hold no more than they may: what is said is said of the database first
+-- the same by rules files and files of a database, if these also hold no more than they may; if both hold more, that
+-- is said about the database
 unfoldable pub opening_within : Profile → List SourceFile → List SourceFile → Result OpeningValue Outcome
 opening_within profile rules database = if are_few database then opening_by profile rules (messages_of database) (entries_of database) else Err too_many_entries
 
--- what comes of the files passed in, of rules by the line's profile, or in place of those of a database of what comes of an index
+-- the same by the files passed in, rules by the line's profile, or with the outcome of opening an index instead of
+-- the files of a database
 abbrev pub opening : Line → List SourceFile → Option (Result Contents IndexFault) → Result OpeningValue Outcome
 opening line files None = opening_within line.profile (rules_read line files) (files_read Hwdb line files)
 opening line files (Some (Ok contents)) = opening_by line.profile (rules_read line files) [] (entries_in contents)

@@ -28,11 +28,11 @@ are_few files =
     && nat_le (sum_by text_len (properties_of files)) max_text_bytes
     && nat_le (sum_by (λ f. length f.name) files) max_name_bytes
 
--- the status of `update`: 1 where it is strict and there is a message
+-- the status of `update`: 1 if it is strict and there is a message
 abbrev pub update_status : Bool → ℕ → ℕ
 update_status strict count = if strict && not (count == 0) then 1 else 0
 
--- what `query` says of the entries of the database and of the messages about its files
+-- what `query` says about the entries of the database and the messages about its files
 abbrev pub query_outcome : Line → List Entry → List Message → Outcome
 query_outcome line entries messages = record {
   output = answer_lines line.sources entries line.modalias.now;
@@ -40,7 +40,7 @@ query_outcome line entries messages = record {
   status = 0;
 }
 
--- what `update` says of the entries of the database and of the messages about its files: the entries as an index
+-- what `update` says about the entries of the database and the messages about its files: the entries as an index
 abbrev pub update_outcome : Line → List Entry → List Message → Outcome
 update_outcome line entries messages = record {
   output = image entries;
@@ -48,34 +48,34 @@ update_outcome line entries messages = record {
   status = update_status line.strict (length messages);
 }
 
--- what is said of files that hold more than a database may
+-- what is said about files that hold more than a database may
 abbrev pub too_many_entries : Outcome
 too_many_entries = record { output = []; messages = codes "devdry: hwdb: too many\n"; status = 1 }
 
--- what is said where a command line asks for what is not there: the messages, and the line that says so
+-- what is said if a command line asks for something that is not there: the messages, and the line that says so
 abbrev pub usage_error : Text → Text → Outcome
 usage_error messages line = record { output = []; messages = messages ++ line; status = 2 }
 
--- what is said of rules with too many tokens
+-- what is said about rules with too many tokens
 abbrev pub too_many_rules : Outcome
 too_many_rules = record { output = []; messages = codes "devdry: rules: too many\n"; status = 1 }
 
--- what is said of the files of a database, where it is said so of its entries and messages
+-- what is said about the files of a database, given what to say about its entries and messages
 unfoldable pub database_outcome : (List Entry → List Message → Outcome) → List SourceFile → Outcome
 database_outcome say files = if are_few files then say (entries_of files) (messages_of files) else too_many_entries
 
--- what `query` says of the files passed in, or in their place of what comes of an index
+-- what `query` says about the files passed in, or instead about the outcome of opening an index
 abbrev pub query_over : Line → List SourceFile → Option (Result Contents IndexFault) → Outcome
 query_over line files None = database_outcome (query_outcome line) (files_read Hwdb line files)
 query_over line files (Some (Ok contents)) = query_outcome line (entries_in contents) []
 query_over line files (Some (Err fault)) = refused_index fault
 
--- what `verify` says of rules files
+-- what `verify` says about rules files
 unfoldable pub rules_outcome : Line → List SourceFile → Outcome
 rules_outcome line files =
     if nat_le (tokens_in (set_of files).rules) (2 ^ 24) then said_of line.summary files (told line.style (set_of files).messages)
     else too_many_rules
 
--- what `verify` says of the files passed in
+-- what `verify` says about the files passed in
 abbrev pub verify_outcome : Line → List SourceFile → Outcome
 verify_outcome line files = rules_outcome line (files_read Rules line files)

@@ -1,5 +1,5 @@
 -- Serves the contracts of the calls between this crate and `engine_core`; no reader of `serve` has to believe it.
--- What a report holds, as an outcome, and what is said where there is none.
+-- What a report holds, as an outcome, and what is said if there is none.
 use Rattle.std.specs.Prelude.{◌≡◌, IfOk, IfErr, List, Result, Err}
 use Rattle.hwdb_lookup.specs.declared.entry.Entry.{Entry}
 use Rattle.hwdb_core.specs.declared.fault.HwdbFault as hwdb
@@ -30,7 +30,7 @@ abbrev pub refused_rules : RulesFault → Refusal
 refused_rules rules.TooMany = TooManyRules
 refused_rules rules.Memory = Memory
 
--- A refusal is what is to be said; of out of memory nothing is reported here.
+-- A refusal is what is to be said; about out of memory nothing is said here.
 abbrev pub IsSaid : Refusal → Outcome → Type 0
 IsSaid TooManyEntries outcome = outcome ≡ too_many_entries
 IsSaid TooManyRules outcome = outcome ≡ too_many_rules
@@ -50,7 +50,7 @@ shown_opening opening = record { messages = opening.messages.items; about_rules 
 abbrev pub shown_rules : RulesRead → List Entry → OpeningValue
 shown_rules read entries = record { messages = read.messages.items; about_rules = read.rules.messages; rules = read.rules.rules; entries = entries }
 
--- A refusal is what is to be said in place of an opening; of out of memory nothing is reported here.
+-- A refusal is what is to be said instead of an opening; about out of memory nothing is said here.
 abbrev pub IsRefused : Refusal → Result OpeningValue Outcome → Type 0
 IsRefused Memory opening = Unit {0}
 IsRefused TooManyEntries opening = opening ≡ Err too_many_entries

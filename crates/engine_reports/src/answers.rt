@@ -49,7 +49,7 @@ fn origin_lines(alloc: Global, found: &[Sourced<'_>]) -> Result<Vec<u8>, AllocEr
     Ok(text)
 }
 
-/// Puts a property's line after a text, with where it comes from before it.
+/// Appends a property's line, with where it comes from before it.
 #[tactic(auto, unfolding(crate::specs::Answers::origin_line))]
 fn push_sourced(alloc: Global, text: &mut Vec<u8>, property: &Sourced<'_>) -> Result<(), AllocError>
     ensures { OnOk result (text.new.items ≡ text.old.items ++ origin_line (shown_origin property.now)) }
@@ -58,7 +58,7 @@ fn push_sourced(alloc: Global, text: &mut Vec<u8>, property: &Sourced<'_>) -> Re
     push_property(text, property.key, property.value)
 }
 
-/// Puts `FILE:LINE: ` after a text, or `-: ` where no file is known.
+/// Appends `FILE:LINE: `, or `-: ` if no file is known.
 fn push_origin(alloc: Global, text: &mut Vec<u8>, file: &[u8], line: u32) -> Result<(), AllocError>
     ensures { OnOk result (text.new.items ≡ text.old.items ++ origin_of file.now line) }
 {
@@ -69,7 +69,7 @@ fn push_origin(alloc: Global, text: &mut Vec<u8>, file: &[u8], line: u32) -> Res
     }
 }
 
-/// Puts `KEY=VALUE` and a newline after a text, neither of the two escaped.
+/// Appends `KEY=VALUE` and a newline, neither of the two escaped.
 #[tactic(auto, unfolding(crate::specs::Answers::property_line))]
 fn push_property(text: &mut Vec<u8>, key: &[u8], value: &[u8]) -> Result<(), AllocError>
     ensures { OnOk result (text.new.items ≡ text.old.items ++ property_line key.now value.now) }

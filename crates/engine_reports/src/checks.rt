@@ -1,4 +1,4 @@
-//! What `verify` says of rules files.
+//! What `verify` says about rules files.
 ghost use Rattle.std.specs.Prelude.{◌≡◌, [], if◌then◌else◌, ◌<◌, ◌≤◌, ◌++◌, List, ℕ, length, not, nat_eq, IfOk, IfErr, OnOk, decimal};
 ghost use Rattle.std.specs.List.{count_by};
 ghost use Rattle.engine_reports.specs.Checks.{bad_count, is_named_in, is_style, said_of, summary_line, told, verify_status};
@@ -19,8 +19,7 @@ use text_tables::Texts;
 
 /// The messages about rules files, and how many of the files are bad.
 ///
-/// `TooManyRules` comes exactly where the rules have more than 2^24 tokens, `Memory` where memory
-/// runs out.
+/// `TooManyRules` comes exactly if the rules have more than 2^24 tokens, `Memory` if memory runs out.
 pub fn report_on_rules(
     alloc: Global,
     line: &Line<'_>,
@@ -34,7 +33,7 @@ pub fn report_on_rules(
     report_on_these(alloc, line, &files)
 }
 
-/// The same of the files that are read.
+/// The same for the files that are read.
 fn report_on_these(alloc: Global, line: &Line<'_>, files: &[SourceFile]) -> Result<Report, Refusal>
     ensures said { IfOk result (λ r. said r ≡ rules_outcome line.now files.now) }
     ensures status { IfOk result (λ r. r.status < 3) }
@@ -64,7 +63,7 @@ fn checked(
     })
 }
 
-/// The line that counts files, where it is asked for: all of them, and how many are bad.
+/// The line that counts files, if it is asked for: all of them, and how many are bad.
 pub fn counted(alloc: Global, summary: bool, all: usize, bad: usize) -> Result<Vec<u8>, AllocError>
     requires { bad ≤ all }
     ensures { IfOk result (λ text. text.items ≡ (if summary then summary_line all bad else [])) }
@@ -102,7 +101,7 @@ pub fn is_style(kind: MessageKind) -> bool
     }
 }
 
-/// How many of the files have a message that bears their name.
+/// How many of the files have a message with their name.
 fn bad_count(alloc: Global, files: &[SourceFile], messages: &[Message]) -> Result<usize, AllocError>
     ensures count { IfOk result (λ n. n ≡ bad_count files.now messages.now) }
     ensures within { IfOk result (λ n. n ≤ length files.now) }
@@ -116,7 +115,7 @@ fn bad_count(alloc: Global, files: &[SourceFile], messages: &[Message]) -> Resul
     )
 }
 
-/// The names that messages bear.
+/// The names in messages.
 fn names_in<'a>(alloc: Global, messages: &'a [Message]) -> Result<Texts<'a>, AllocError>
     ensures { IfOk result (λ names. (name : List ℕ) → is_among names name ≡ is_named_in messages.now name) }
 {
@@ -140,7 +139,7 @@ fn summary_line(alloc: Global, all: usize, bad: usize) -> Result<Vec<u8>, AllocE
     Ok(text)
 }
 
-/// Puts a number and a text after another text.
+/// Appends a number and a text.
 fn push_count(text: &mut Vec<u8>, count: usize, behind: &[u8]) -> Result<(), AllocError>
     ensures { OnOk result (text.new.items ≡ text.old.items ++ (decimal count ++ behind.now)) }
 {
@@ -149,7 +148,7 @@ fn push_count(text: &mut Vec<u8>, count: usize, behind: &[u8]) -> Result<(), All
     Ok(())
 }
 
-/// 0 where no file is bad, else 1.
+/// 0 if no file is bad, else 1.
 fn verify_status(bad: usize) -> u8
     ensures { result ≡ verify_status bad }
 {

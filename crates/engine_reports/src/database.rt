@@ -1,8 +1,7 @@
-//! What `query` and `update` say of the database.
+//! What `query` and `update` say about the database.
 //!
-//! `query` asks an index where one is passed in; of files it keeps just the entries that the modalias fits. `update`
-//! makes
-//! the trie of all entries, as events do, of which the index is written.
+//! `query` asks an index if one is passed in; of files it keeps only the entries that the modalias fits. `update`
+//! makes the trie of all entries, as events do, and writes the index from it.
 ghost use Rattle.std.specs.Prelude.{◌≡◌, ◌<◌, List, length, IfOk, IfErr};
 ghost use Rattle.text_bytes.specs.declared.message.Message.{Message};
 ghost use Rattle.hwdb_lookup.specs.declared.entry.Entry.{Entry};
@@ -25,10 +24,10 @@ use text_bytes::{FileKind, Message, SourceFile};
 use trie_build::{Trie, trie_of};
 use trie_core::write_index;
 
-/// What `query` says of the files of the database, or of the index that was opened in their place.
+/// What `query` says about the files of the database, or about the index that was opened instead.
 ///
-/// `Index` comes exactly where the index was refused. Without one, `TooManyEntries` comes exactly where
-/// the files hold more than a database may. `Memory` comes where memory runs out.
+/// `Index` comes exactly if the index was refused. Without one, `TooManyEntries` comes exactly if the files hold
+/// more than a database may. `Memory` comes if memory runs out.
 pub fn report_on_query(
     alloc: Global,
     line: &Line<'_>,
@@ -49,7 +48,7 @@ pub fn report_on_query(
     }
 }
 
-/// The entries of the files that are read which the line's modalias fits, and the messages about these files.
+/// The entries that the line's modalias fits, of the files that are read, and the messages about these files.
 fn read_answer(
     alloc: Global,
     line: &Line<'_>,
@@ -101,10 +100,9 @@ fn answered<L: Lookup>(
     })
 }
 
-/// What `update` says of the files of the database: their entries as an index, messages or not.
+/// What `update` says about the files of the database: their entries as an index, messages or not.
 ///
-/// `TooManyEntries` comes exactly where the files hold more than a database may, `Memory` where memory
-/// runs out.
+/// `TooManyEntries` comes exactly if the files hold more than a database may, `Memory` if memory runs out.
 pub fn report_on_update(
     alloc: Global,
     line: &Line<'_>,
@@ -135,7 +133,7 @@ fn updated(
     })
 }
 
-/// The status of `update`: 1 where it is strict and there is a message.
+/// The status of `update`: 1 if it is strict and there is a message.
 fn update_status(strict: bool, messages: &[Message]) -> u8
     ensures { result ≡ update_status strict (length messages.now) }
 {

@@ -15,8 +15,8 @@ const TOO_MANY_ENTRIES: &[u8] = b"devdry: hwdb: too many\n";
 /// The line on rules that have too many tokens.
 const TOO_MANY_RULES: &[u8] = b"devdry: rules: too many\n";
 
-/// Writes a report, or what there is to say where there is none, and gives the status, or 3 where a
-/// device failed. The status of a report is under 3.
+/// Writes a report, or what there is to say if there is none, and returns the status, or 3 if a device failed. The
+/// status of a report is under 3.
 pub fn deliver_report<W: Sink, E: Sink>(
     report: Result<Report, Refusal>,
     output: &mut W,
@@ -43,8 +43,8 @@ pub fn deliver_report<W: Sink, E: Sink>(
     }
 }
 
-/// Writes why there is nothing to say of the files, and gives the status: 1 where they hold more than
-/// they may or where the index is none, 4 where memory ran out, or 3 where the error output failed.
+/// Writes why there is nothing to say about the files, and returns the status: 1 if they hold more than they may or
+/// the index is not one, 4 if memory ran out, or 3 if the error output failed.
 pub fn deliver_refusal<W: Sink, E: Sink>(refusal: Refusal, output: &mut W, error: &mut E) -> u8
     ensures delivers { (outcome : Outcome) → IsSaid refusal outcome
         → Delivers outcome result
@@ -64,8 +64,8 @@ pub fn deliver_refusal<W: Sink, E: Sink>(refusal: Refusal, output: &mut W, error
     }
 }
 
-/// Writes the messages and, after them, a line on what a command line asks for that is not there, and
-/// gives the status for it: 2, or 3 where an output failed.
+/// Writes the messages and, after them, a line on something that a command line asks for and that is not there, and
+/// returns the status for it: 2, or 3 if an output failed.
 pub fn deliver_usage_error<W: Sink, E: Sink>(
     messages: &[u8],
     line: &[u8],

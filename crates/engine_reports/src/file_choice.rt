@@ -6,8 +6,8 @@ use engine_ends::{Line, same_kind};
 use std::alloc::{AllocError, Global};
 use text_bytes::{FileKind, SourceFile, order_files};
 
-/// The files of a kind that a run reads: those passed in where the line names files of that kind,
-/// and else those of the folders, by suffix, rank and name.
+/// The files of a kind that a run reads: those passed in if the line names files of that kind, and else those of
+/// the folders, by suffix, rank and name.
 pub fn files_read(
     alloc: Global,
     kind: FileKind,

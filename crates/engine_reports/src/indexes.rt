@@ -1,7 +1,7 @@
-//! The index that is passed in, in place of the files of the database.
+//! The index that is passed in instead of the files of the database.
 //!
-//! It is checked whole before anything is said by it, so that a damaged one is refused by name and
-//! never gives a wrong answer.
+//! It is checked as a whole before anything is read from it, so that a damaged one is refused by name and never
+//! gives a wrong answer.
 ghost use Rattle.std.specs.Prelude.{option_map};
 ghost use Rattle.engine_ends.specs.Delivery.{Delivers};
 ghost use Rattle.engine_reports.specs.Indexes.{Opens, refused_index};
@@ -9,7 +9,7 @@ ghost use Rattle.engine_reports.specs.Indexes.{Opens, refused_index};
 use engine_ends::{Sink, deliver_in_pieces};
 use index_reading::{Index, IndexFault};
 
-/// What comes of an index file, if one is passed in: the index, or the first check that it fails.
+/// The outcome of opening an index file, if one is passed in: the index, or the first check that it fails.
 ///
 /// It takes no memory.
 pub fn open_index(index: Option<&[u8]>) -> Option<Result<Index<'_>, IndexFault>>
@@ -18,8 +18,7 @@ pub fn open_index(index: Option<&[u8]>) -> Option<Result<Index<'_>, IndexFault>>
     Some(Index::open(index?))
 }
 
-/// Writes the line on an index that fails a check, and gives the status for it, 1, or 3 where a device
-/// failed.
+/// Writes the line on an index that fails a check, and returns the status for it, 1, or 3 if a device failed.
 pub(crate) fn deliver_index_fault<W: Sink, E: Sink>(
     fault: IndexFault,
     output: &mut W,

@@ -5,9 +5,9 @@ ghost use Rattle.index_reading.specs.declared.fault.IndexFault.{IndexFault};
 ghost use Rattle.index_reading.specs.Contents.{Contents};
 ghost use Rattle.engine_reports.specs.Indexes.{Opens};
 
-/// The law of what comes of an index; it does nothing when it is called.
+/// The law of opening an index.
 ///
-/// No two different things come of the same bytes, so that what is said of them is a function of them.
+/// The same bytes never open to two different things, so that what is said about them is a function of them.
 pub fn an_index_opens_to_one_thing()
     ensures { (index : Option Text) (one other : Option (Result Contents IndexFault)) → Opens index one → Opens index other → one ≡ other }
 {}

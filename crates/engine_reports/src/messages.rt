@@ -1,7 +1,6 @@
 //! Messages as lines.
 //!
-//! The texts are here and not beside the kinds of messages, since they are needed only where the
-//! lines are written.
+//! The texts are here and not with the kinds of messages, since they are needed only where the lines are written.
 ghost use Rattle.std.specs.Prelude.{◌≡◌, ◌++◌, false, IfOk, OnOk};
 ghost use Rattle.engine_reports.specs.Messages.{heading_of, message_line, message_lines};
 ghost use Rattle.engine_reports.specs.Checks.{told};
@@ -39,7 +38,7 @@ pub(crate) fn plain_message_lines(
     Ok(text)
 }
 
-/// Puts a message's line after a text.
+/// Appends a message's line.
 #[tactic(auto, unfolding(crate::specs::Messages::message_line))]
 fn push_message(alloc: Global, text: &mut Vec<u8>, message: &Message) -> Result<(), AllocError>
     ensures { OnOk result (text.new.items ≡ text.old.items ++ message_line message.now) }

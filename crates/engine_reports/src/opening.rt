@@ -28,7 +28,7 @@ pub struct Opening {
     pub entries: Vec<Entry>,
 }
 
-/// What rules files come to.
+/// The rules and messages of rules files.
 #[derive(Drop)]
 pub struct RulesRead {
     /// The messages about them, without those about style.
@@ -37,10 +37,10 @@ pub struct RulesRead {
     pub rules: RuleSet,
 }
 
-/// Reads what events are answered by from the files passed in, rules by the line's profile.
+/// Reads what is needed to answer events from the files passed in, rules by the line's profile.
 ///
-/// `TooManyEntries` comes exactly where the files of the database hold more than they may, else
-/// `TooManyRules` exactly where the rules have more than 2^24 tokens; `Memory` where memory runs out.
+/// `TooManyEntries` comes exactly if the files of the database hold more than they may, else `TooManyRules` exactly
+/// if the rules have more than 2^24 tokens; `Memory` if memory runs out.
 pub fn open_files(
     alloc: Global,
     line: &Line<'_>,
@@ -56,7 +56,7 @@ pub fn open_files(
     open_these(alloc, line.profile, &rules, &database)
 }
 
-/// The same of the files that are read, rules with their ends of lines as the profile has them.
+/// The same for the files that are read, rules with their ends of lines as the profile has them.
 fn open_these(
     alloc: Global,
     profile: Profile,
@@ -77,11 +77,10 @@ fn open_these(
     })
 }
 
-/// Reads the rules that events are answered by beside an index, from the files passed in and by the
-/// line's profile. No file of a database is read, and so there are no messages about one.
+/// Reads the rules by which events are answered with an index, from the files passed in and by the line's profile.
+/// No file of a database is read, and so there are no messages about one.
 ///
-/// `TooManyRules` comes exactly where the rules have more than 2^24 tokens; `Memory` where memory
-/// runs out.
+/// `TooManyRules` comes exactly if the rules have more than 2^24 tokens; `Memory` if memory runs out.
 pub fn open_rules(
     alloc: Global,
     line: &Line<'_>,
@@ -110,8 +109,7 @@ fn open_these_rules(
     Ok(RulesRead { messages, rules })
 }
 
-/// The lines of the messages about rules that are not about style, and then of those about a
-/// database.
+/// The lines of the messages about rules that are not about style, and then of those about a database.
 fn all_message_lines(
     alloc: Global,
     rules: &[Message],

@@ -1,4 +1,4 @@
-//! Why a run has nothing to say of its files, or of its index.
+//! Why a run has nothing to say about its files, or about its index.
 ghost use Rattle.std.specs.Prelude.{◌≡◌};
 
 use hwdb_core::HwdbFault;
@@ -6,16 +6,16 @@ use index_reading::IndexFault;
 use rule_core::RulesFault;
 use std::alloc::{AllocError, AllocFailed};
 
-/// Why a run has nothing to say of its files, or of its index.
+/// Why a run has nothing to say about its files, or about its index.
 #[derive(Clone, Copy, Debug, PartialEq, Eq, Drop)]
 pub enum Refusal {
     /// They hold more than a database may.
     TooManyEntries,
     /// Their rules have too many tokens.
     TooManyRules,
-    /// The index passed in is none: the first check that it fails.
+    /// The bytes passed in are not an index: the first check that they fail.
     Index(IndexFault),
-    /// Want of memory.
+    /// Memory ran out.
     Memory,
 }
 

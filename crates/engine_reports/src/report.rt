@@ -1,6 +1,6 @@
 //! What a run says, before any of it is written.
 
-/// What a run writes to its two outputs, and the status that it answers.
+/// What a run writes to its two outputs, and the status that it returns.
 #[derive(Debug, Drop)]
 pub struct Report {
     /// The answer, for the output.

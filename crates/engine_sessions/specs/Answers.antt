@@ -11,11 +11,12 @@ pub record Answers : Type 0 where
   pub texts : List Text
   pub fault : Option BlockFault
 
--- answers to blocks of which none is faulty
+-- answers to blocks, none of which is faulty
 abbrev pub well : List Text → Answers
 well texts = record { texts = texts; fault = None }
 
--- the answers after a block: its own in front of them where it gives an event, and none where it is faulty
+-- the answers to a block and those after it: its own in front of theirs if it gives an event, and none if it is
+-- faulty
 abbrev pub with_block : (EventValue → Text) → Result EventValue BlockFault → Answers → Answers
 with_block answer (Ok event) behind = record { texts = answer event ∷ behind.texts; fault = behind.fault }
 with_block answer (Err fault) behind = record { texts = []; fault = Some fault }
@@ -29,7 +30,7 @@ answers_to answer (block ∷ blocks) = with_block answer (block_gives block) (an
 abbrev pub answers_of : (EventValue → Text) → Text → Answers
 answers_of answer input = answers_to answer (runs input)
 
--- a count of blocks, which stays at the greatest u64
+-- a count of blocks, at most the greatest u64
 abbrev pub counted : ℕ → ℕ
 counted blocks = min blocks (2 ^ 64 - 1)
 

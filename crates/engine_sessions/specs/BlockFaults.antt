@@ -1,4 +1,5 @@
--- The line on a faulty block: `block N, line L: TEXT`. Memory that was refused is reported by a line of its own, not by this one.
+-- The line on a faulty block: `block N, line L: TEXT`. Out of memory is reported by a line of its own, not by this
+-- one.
 use Rattle.std.specs.Prelude.{ℕ, [], ◌∷◌, ◌++◌, codes, decimal}
 use Rattle.text_bytes.specs.Names.{newline}
 use Rattle.text_tables.specs.Texts.{Text}

@@ -9,7 +9,7 @@ use Rattle.engine_sessions.specs.Answers.{answers_to, answers_of, well, counted,
 use Rattle.engine_sessions.specs.Sessions.{Held, Takes}
 use Rattle.engine_sessions.specs.declared.session.Step.{Step}
 
--- a call: the piece, what came of it, and the session after it
+-- a call: the piece, its outcome, and the session after it
 pub record Call (A : Type 0) : Type 0 where
   pub piece : Text
   pub step : Step
@@ -36,7 +36,7 @@ pub record GiveAnswers {A : Type 0} (answer : EventValue → Text) (calls : List
   pub pending : now.pending ≡ rest_of (used_by calls)
   pub answered : now.answered ≡ counted (length (given_by calls))
 
--- The answers given, with that of the end, are those to the input that was used, and no block of it is faulty.
+-- The answers given, with that at the end, are those to the input that was used, and no block of it is faulty.
 abbrev pub GiveAll : {A : Type 0} → (EventValue → Text) → List (Call A) → Option Text → Type 0
 GiveAll answer calls last = answers_of answer (used_by calls) ≡ well (given_by calls ++ option_to_list last)
 

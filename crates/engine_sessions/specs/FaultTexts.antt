@@ -1,4 +1,4 @@
--- What is said of a session and of a turn that failed.
+-- What is said about a session and a turn that failed.
 use Rattle.std.specs.Prelude.{ℕ, List, ◌++◌, codes, decimal}
 use Rattle.device_core.specs.FaultTexts.{fault_text}
 use Rattle.engine_sessions.specs.declared.session.SessionFault.{SessionFault}
@@ -6,7 +6,7 @@ use Rattle.engine_sessions.specs.declared.session.SessionFault.TheVariants.{Bloc
 use Rattle.engine_sessions.specs.declared.turning.TurnFault.{TurnFault}
 use Rattle.engine_sessions.specs.declared.turning.TurnFault.TheVariants.{Read, Write, Session}
 
--- why nothing more is answered, in words: of a faulty block `block N, line L: TEXT`
+-- why nothing more is answered, in words: for a faulty block `block N, line L: TEXT`
 abbrev pub session_text : SessionFault → List ℕ
 session_text (Block number fault) = codes "block " ++ decimal number ++ codes ", " ++ fault_text fault
 session_text Memory = codes "out of memory"

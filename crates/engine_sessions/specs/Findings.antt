@@ -1,4 +1,5 @@
--- What comes of an input whose answers are findings: whether any answer that was sent has a byte, and the status that tells it.
+-- The outcome of an input whose answers are findings: whether any answer that was sent has a byte, and the status for
+-- that.
 use Rattle.std.specs.Prelude.{◌≡◌, ℕ, ◌⊎◌, ◌==◌, Bool, if◌then◌else◌, List, Result, Ok, Err, IfOk, length}
 use Rattle.text_tables.specs.Texts.{Text}
 use Rattle.device_core.specs.Values.{EventValue}
@@ -22,17 +23,17 @@ abbrev pub ended_by : Result Bool TurnFault → Result (Unit {0}) TurnFault
 ended_by (Ok finds) = Ok tt
 ended_by (Err fault) = Err fault
 
--- An input is answered, and where all of it is, whether any answer has a byte.
+-- An input is answered, and if all of it is, whether any answer has a byte.
 pub record AnswersFinding (answer : EventValue → Text) (end : Result Bool TurnFault) (input input_now : SourceState) (output output_now : SinkState) : Type 0 where
   pub answers : AnswersInput answer (ended_by end) input input_now output output_now
   pub finds_is : IfOk end (λ finds. finds ≡ say_something answers.sent)
 
--- an outcome whose output is a finding: its status is 1 where there is any output
+-- an outcome whose output is a finding: its status is 1 if there is any output
 abbrev pub found : Outcome → Outcome
 found outcome = record { output = outcome.output; messages = outcome.messages; status = if length outcome.output == 0 then outcome.status else 1 }
 
--- How the answering of an input is reported where these answers are findings: as it is without that, but where all is answered the status
--- is 1 if any of them has a byte.
+-- How the answering of an input is reported if these answers are findings: as it is otherwise, except that if all is
+-- answered the status is 1 if any of them has a byte.
 abbrev pub ConcludesFinding : Result (Unit {0}) TurnFault → List Text → ℕ → SinkState → SinkState → Type 0
 ConcludesFinding (Ok done) sent status err err_now = (status ≡ (if say_something sent then 1 else 0)) × (err_now ≡ err)
 ConcludesFinding (Err fault) sent status err err_now = Concludes (Err fault) status err err_now

@@ -1,4 +1,4 @@
--- For proofs only, no reader has to believe it: how a session's fields hang together, and what its helpers answer.
+-- Serves inner proofs only: how a session's fields depend on one another, and what its helpers return.
 use Rattle.std.specs.Prelude.{◌≡◌, ℕ, ◌≤◌, Bool, true, false, [], ◌∷◌, Err, Option, Some, None, length}
 use Rattle.text_tables.specs.Texts.{Text}
 use Rattle.device_core.specs.Runs.{complete_runs, rest_of}
@@ -30,7 +30,7 @@ pub record IsRest (pending : Text) : Type 0 where
   pub rest : rest_of pending ≡ pending
   pub fits : length pending ≤ most_bytes
 
--- what a session's splitter and its count are while it has not ended
+-- what a session's splitter and its count are as long as it has not ended
 pub record IsOpen (split : Split) (answered : ℕ) : Type 0 where
   pub goes_on : split.ended ≡ false
   pub pending : IsRest split.pending
@@ -51,7 +51,7 @@ abbrev pub IsSplitRefused : SplitFault → ℕ → SessionFault → Type 0
 IsSplitRefused (TooLong line) number fault = fault ≡ Block number (record { line = line; kind = BlockTooLong })
 IsSplitRefused SplitEnded number fault = fault ≡ Ended
 
--- what a session is while it has not ended
+-- what a session is as long as it has not ended
 pub record IsGoing {A : Type 0} (session : Held A) : Type 0 where
   pub goes_on : session.ended ≡ false
   pub pending : IsRest session.pending

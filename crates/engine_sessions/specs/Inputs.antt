@@ -1,4 +1,4 @@
--- What is read of an input, what is sent of its answers, and how that ends.
+-- What is read from an input, which of its answers are sent, and how that ends.
 use Rattle.std.specs.Prelude.{◌≡◌, ℕ, ◌+◌, ◌-◌, ◌^◌, ◌<◌, ◌≤◌, ◌⊎◌, List, ◌∷◌, ◌++◌, Option, Some, Result, Ok, Err, length, take}
 use Rattle.text_tables.specs.Texts.{Text}
 use Rattle.device_core.specs.Runs.{complete_runs, rest_of}
@@ -23,7 +23,7 @@ most_turns = 2 ^ 48
 abbrev pub all_but_last : List Text → List Text
 all_but_last pieces = take (length pieces - 1) pieces
 
--- The answers to the complete runs of all pieces read but the last are sent, in front of any others.
+-- The answers to the complete runs of all pieces read except the last are sent, in front of any others.
 abbrev pub HasSentDue : (EventValue → Text) → List Text → List Text → Type 0
 HasSentDue answer read sent = (behind : List Text) × (sent ≡ (answers_to answer (complete_runs (joined (all_but_last read)))).texts ++ behind)
 
@@ -56,8 +56,9 @@ pub record IsAnswered (answer : EventValue → Text) (text : Text) (left : Optio
   pub none_left : NoneLeft left
   pub untouched : now ≡ told
 
--- How it ends, by the bytes read, those left, the answers sent, and the sink after these and at the end: all is answered; or what
--- was read until then is, and no more could be read; or it stops in an answer, at a faulty block, or where memory runs out.
+-- How it ends, by the bytes read, those left, the answers sent, and the sink after these and at the end: all is
+-- answered; or what was read until then is, and no more could be read; or it stops in an answer, at a faulty block,
+-- or when memory runs out.
 abbrev pub EndsBy : (EventValue → Text) → Result (Unit {0}) TurnFault → Text → Option Text → List Text → SinkState → SinkState → Type 0
 EndsBy answer (Ok done) text left sent told now = IsAnswered answer text left sent told now
 EndsBy answer (Err Read) text left sent told now = (answers_to answer (complete_runs text) ≡ well sent) × (now ≡ told)
@@ -66,12 +67,12 @@ EndsBy answer (Err (Session (Block number fault))) text left sent told now = Sto
 EndsBy answer (Err (Session Memory)) text left sent told now = StopsBetween answer text sent told now
 EndsBy answer (Err (Session Ended)) text left sent told now = ⊥
 
--- So many reads were made of the input, and none failed.
+-- So many reads were made from the input, and none failed.
 pub record ReadsWell (turns : ℕ) (before now : SourceState) : Type 0 where
   pub reads : Counts turns before.reads now.reads
   pub well : now.faults ≡ before.faults
 
--- So many reads were made of the input, and then one more, which failed.
+-- So many reads were made from the input, and then one more, which failed.
 pub record ReadsToFault (turns : ℕ) (before now : SourceState) : Type 0 where
   pub reads : Counts (turns + 1) before.reads now.reads
   pub failed : Counts 1 before.faults now.faults
@@ -81,14 +82,14 @@ pub record UsesUp (turns : ℕ) (before now : SourceState) : Type 0 where
   pub all : turns ≡ most_turns
   pub reads : Counts most_turns before.reads now.reads
 
--- How many reads were made of the input, and how many failed: each piece is one read; where no more could be read, one more was made
--- and failed, or all turns were used up.
+-- How many reads were made from the input, and how many failed: each piece is one read; if no more could be read, one
+-- more was made and failed, or all turns were used up.
 abbrev pub CountsBy : Result (Unit {0}) TurnFault → ℕ → SourceState → SourceState → Type 0
 CountsBy (Err Read) turns before now = ReadsToFault turns before now ⊎ (UsesUp turns before now × (now.faults ≡ before.faults))
 CountsBy _ turns before now = ReadsWell turns before now
 
--- What is read of an input in pieces, which of its answers are sent (written and flushed, none of their calls having failed), and
--- how it ends.
+-- What is read from an input in pieces, which of its answers are sent (written and flushed, and none of those calls
+-- failed), and how it ends.
 pub record AnswersInput (answer : EventValue → Text) (end : Result (Unit {0}) TurnFault) (input input_now : SourceState) (output output_now : SinkState) : Type 0 where
   pub read : List Text
   pub pieces : input_now.pieces ≡ followed_by input.pieces read

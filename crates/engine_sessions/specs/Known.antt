@@ -8,8 +8,8 @@ use Rattle.device_core.specs.RunBlocks.{is_too_long}
 abbrev pub overlong : Text → List Text
 overlong rest = if is_too_long rest then rest ∷ [] else []
 
--- The blocks known of a text. Where the input goes on after it, they are those that an empty line follows, and the rest if
--- that is too long; where it ends, they are all.
+-- The blocks known of a text. If the input goes on after it, they are those that an empty line follows, and the rest
+-- if that is too long; if it ends there, they are all.
 abbrev pub known_blocks : Bool → Text → List Text
 known_blocks true text = complete_runs text ++ overlong (rest_of text)
 known_blocks false text = runs text

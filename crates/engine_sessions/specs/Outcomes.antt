@@ -1,4 +1,4 @@
--- What answers to an input come to, after messages.
+-- The outcome of answers to an input, after messages.
 use Rattle.std.specs.Prelude.{ℕ, ◌++◌, Option, Some, None, length}
 use Rattle.text_tables.specs.Texts.{Text}
 use Rattle.device_core.specs.Values.{EventValue}
@@ -8,16 +8,16 @@ use Rattle.engine_sessions.specs.Answers.{Answers, answers_of, number_behind}
 use Rattle.engine_sessions.specs.Turns.{joined}
 use Rattle.engine_sessions.specs.BlockFaults.{block_line}
 
--- answers after messages: the status is 0, or 1 where the block after so many answers is faulty, which a line after the messages
--- then tells
+-- answers after messages: the status is 0, or 1 if the block after so many answers is faulty, which a line after the
+-- messages then reports
 abbrev pub answered_until : Text → Text → ℕ → Option BlockFault → Outcome
 answered_until messages output count None = record { output = output; messages = messages; status = 0 }
 answered_until messages output count (Some fault) = record { output = output; messages = messages ++ block_line (number_behind count) fault; status = 1 }
 
--- what these answers come to after messages
+-- the outcome of these answers after messages
 abbrev pub answered : Text → Answers → Outcome
 answered messages answers = answered_until messages (joined answers.texts) (length answers.texts) answers.fault
 
--- what the answers to an input come to after messages
+-- the outcome of the answers to an input after messages
 abbrev pub input_outcome : Text → (EventValue → Text) → Text → Outcome
 input_outcome messages answer input = answered messages (answers_of answer input)

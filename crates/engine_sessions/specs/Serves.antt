@@ -1,4 +1,4 @@
--- What a run reads, writes and answers, by its status and step by step.
+-- What a run reads, writes and returns, by its status and step by step.
 use Rattle.std.specs.Prelude.{◌≡◌, ℕ, ◌<◌, ◌≤◌, ◌⊎◌, List, [], Some, Result, Ok, Err, codes, length, take}
 use Rattle.text_tables.specs.Texts.{Text}
 use Rattle.device_core.specs.Values.{EventValue}
@@ -28,7 +28,7 @@ pub record WritesOut (before : SinkState) (text : Text) (now : SinkState) : Type
 abbrev pub HasBegun : SinkState → Text → SinkState → Type 0
 HasBegun before text now = (n : ℕ) × (n ≤ length text) × (now.taken ≡ followed_by before.taken (take n text))
 
--- All of the outcome is written and answered.
+-- All of the outcome is written, and its status returned.
 pub record IsWhole (outcome : Outcome) (status : ℕ) (before now : Streams) : Type 0 where
   pub output : WritesOut before.out outcome.output now.out
   pub messages : HandsOn before.err outcome.messages now.err
@@ -54,8 +54,8 @@ pub record TellsFailures (status turns : ℕ) (before now : Streams) : Type 0 wh
   pub failed : status ≡ 3 → Counts 1 before.input.faults now.input.faults ⊎ Counts 1 before.out.faults now.out.faults ⊎ Counts 1 before.err.faults now.err.faults ⊎ UsesUp turns before.input now.input
   pub well : (status ≡ 3 → ⊥) → (now.input.faults ≡ before.input.faults) × (now.out.faults ≡ before.out.faults) × (now.err.faults ≡ before.err.faults)
 
--- Some pieces of the input were read. Under 3 all of the outcome of their bytes is written, flushed and answered, and it is the
--- outcome of the whole input; else a first part of it is written.
+-- Some pieces of the input were read. Under 3 all of the outcome of their bytes is written, flushed and returned, and
+-- it is the outcome of the whole input; else a first part of it is written.
 pub record Serves (outcome : Text → Outcome) (status : ℕ) (before now : Streams) : Type 0 where
   pub read : List Text
   pub pieces : now.input.pieces ≡ followed_by before.input.pieces read
@@ -82,7 +82,8 @@ pub record AnswersBehind (messages : Text) (answer : EventValue → Text) (statu
   pub answers : AnswersInput answer end before.input now.input before.out now.out
   pub concludes : Concludes end status told now.err
 
--- Nothing is read or answered: the error output failed at the messages, or memory runs out before them, which its line tells.
+-- Nothing is read or answered: the error output failed at the messages, or memory runs out before them, which its
+-- line says.
 pub record StopsBefore (messages : Text) (status : ℕ) (before now : Streams) : Type 0 where
   pub unread : now.input ≡ before.input
   pub unanswered : now.out ≡ before.out
@@ -93,7 +94,7 @@ abbrev pub AnswersAll : Text → (EventValue → Text) → ℕ → Streams → S
 AnswersAll messages answer status before now =
     StopsBefore messages status before now ⊎ AnswersBehind messages answer status before now
 
--- What is said of files is delivered, and no input is read.
+-- What is said about files is delivered, and no input is read.
 pub record Reports (outcome : Outcome) (status : ℕ) (before now : Streams) : Type 0 where
   pub delivers : Delivers outcome status (outputs before) (outputs now)
   pub faults : TellsFaults status (outputs before) (outputs now)

@@ -17,21 +17,21 @@ use Rattle.engine_sessions.specs.declared.session.SessionFault.TheVariants.{Bloc
 abbrev pub answers_as : Profile → (EventValue → Text) → EventValue → Text
 answers_as profile answer event = answer (by_profile profile event)
 
--- what answers the events, and by whose word rules are evaluated over them
+-- what answers the events, and the profile by which rules are evaluated over them
 pub record Asked (A : Type 0) : Type 0 where
   pub answering : A
   pub profile : Profile
 
--- this, asked by a profile
+-- something that is asked by a profile
 abbrev pub asked_by : {A : Type 0} → Profile → A → Asked A
 asked_by profile answering = record { answering = answering; profile = profile }
 
--- the answers of what is asked, by its profile
+-- the answers of something that is asked, by its profile
 abbrev pub answer_of : {A : Type 0} → (A → EventValue → Text) → Asked A → EventValue → Text
 answer_of answers asked = answers_as asked.profile (answers asked.answering)
 
--- what answers the events, the bytes taken of a block that is not complete, how many blocks were answered, and whether no more is
--- taken
+-- what answers the events, the bytes taken from a block that is not complete, how many blocks were answered, and
+-- whether no more is taken
 pub record Held (A : Type 0) : Type 0 where
   pub answering : A
   pub pending : Text
@@ -71,8 +71,8 @@ pub record BeginsFaulty {A : Type 0} (old : Held A) (blocks : List Text) (number
   pub gives : block_gives block ≡ Err fault
   pub numbered : number ≡ number_behind old.answered
 
--- What a call does where it fails, by the blocks known then: the first of them is faulty, memory runs out, or the session had
--- ended. No more is taken from then on.
+-- What a call does if it fails, by the blocks known then: the first of them is faulty, memory runs out, or the
+-- session had ended. No more is taken from then on.
 abbrev pub FailsBy : {A : Type 0} → SessionFault → Held A → List Text → Held A → Type 0
 FailsBy (Block number fault) old blocks new = BeginsFaulty old blocks number fault × (old.ended ≡ false) × (new ≡ closed old)
 FailsBy Memory old blocks new = (old.ended ≡ false) × (new ≡ closed old)

@@ -22,7 +22,8 @@ joined texts = flat_map (λ text. text) texts
 abbrev pub say_something : List Text → Bool
 say_something texts = not (length (joined texts) == 0)
 
--- what a sink has flushed that took these answers: all that it took, or what it had flushed before where there is no answer
+-- what a sink that took these answers has flushed: all that it took, or what it had flushed before if there is no
+-- answer
 abbrev pub flushed_behind : SinkState → List Text → SinkState → Option Text
 flushed_behind before [] now = before.flushed
 flushed_behind before (text ∷ texts) now = now.taken
@@ -33,7 +34,7 @@ pub record Sends (before : SinkState) (texts : List Text) (now : SinkState) : Ty
   pub flushed : now.flushed ≡ flushed_behind before texts now
   pub well : now.faults ≡ before.faults
 
--- The sink took and flushed some of these answers, the first of them, and then broke off in the next one.
+-- The sink took and flushed the first of these answers, some number of them, and then broke off in the next one.
 pub record BreaksOffIn (before : SinkState) (texts : List Text) (now : SinkState) : Type 0 where
   pub sent : List Text
   pub next : Text
@@ -43,7 +44,7 @@ pub record BreaksOffIn (before : SinkState) (texts : List Text) (now : SinkState
   pub sends : Sends before sent told
   pub breaks : BreaksOff told next now
 
--- The sink took and flushed some of these answers, the first of them, and none of the others.
+-- The sink took and flushed the first of these answers, some number of them, and none of the others.
 pub record SendsSome (before : SinkState) (texts : List Text) (now : SinkState) : Type 0 where
   pub sent : List Text
   pub unsent : List Text
@@ -60,7 +61,7 @@ pub record Refuses (answers : Answers) (answered number : ℕ) (fault : BlockFau
 abbrev pub most_read : ℕ
 most_read = 4096
 
--- One piece was read; it is empty where the input goes on no more, and only there.
+-- One piece was read; it is empty if and only if the input goes on no more.
 pub record Reads (more : Bool) (before : SourceState) (piece : Text) (now : SourceState) : Type 0 where
   pub gives : Gives before piece now
   pub most : length piece ≤ most_read
@@ -71,7 +72,7 @@ pub record Reads (more : Bool) (before : SourceState) (piece : Text) (now : Sour
 abbrev pub due : (EventValue → Text) → Bool → Text → Text → Answers
 due answer more pending piece = answers_to answer (known_blocks more (pending ++ piece))
 
--- the session after a piece, with so many answers more
+-- the session after a piece, with so many more answers
 abbrev pub behind : {A : Type 0} → Bool → Held A → Text → ℕ → Held A
 behind more old piece answers = record {
   answering = old.answering;
@@ -98,8 +99,8 @@ pub record Turns {A : Type 0} (answer : EventValue → Text) (more : Bool) (old 
   pub reads : Reads more input piece input_now
   pub sends : SendsDue answer more old piece new output output_now
 
--- Which of the answers due are sent where a turn fails after its read: up to that in which the output failed, all before a faulty
--- block, or some where memory runs out.
+-- Which of the answers due are sent if a turn fails after its read: up to the one in which the output failed, all
+-- before a faulty block, or some if memory runs out.
 abbrev pub SendsUntil : TurnFault → Answers → ℕ → SinkState → SinkState → Type 0
 SendsUntil Read answers answered before now = ⊥
 SendsUntil Write answers answered before now = BreaksOffIn before answers.texts now
@@ -115,8 +116,8 @@ pub record FailsBehindRead {A : Type 0} (answer : EventValue → Text) (fault : 
   pub reads : Reads more input piece input_now
   pub sends : SendsUntil fault (due answer more old.pending piece) old.answered output output_now
 
--- What a turn does where it fails: its read failed and nothing is sent, or the session had ended and nothing is read or sent, or it
--- failed after the read.
+-- What a turn does if it fails: its read failed and nothing is sent, or the session had ended and nothing is read or
+-- sent, or it failed after the read.
 abbrev pub FailsBy : {A : Type 0} → (EventValue → Text) → TurnFault → Held A → SourceState → SourceState → SinkState → SinkState → Type 0
 FailsBy answer Read old input input_now output output_now = (old.ended ≡ false) × SourceFails input input_now × (output_now ≡ output)
 FailsBy answer (Session Ended) old input input_now output output_now = (old.ended ≡ true) × (input_now ≡ input) × (output_now ≡ output)

@@ -18,12 +18,11 @@ const READ_FAILED: &[u8] = b"devdry: read failed\n";
 
 const WRITE_FAILED: &[u8] = b"devdry: write failed\n";
 
-/// Writes messages to `error`, and then answers the blocks of the input on `output`, over whose
-/// events rules are evaluated by a profile; gives the status to exit with.
+/// Writes messages to `error`, and then answers the blocks of the input on `output`, over whose events rules are
+/// evaluated by a profile; returns the status to exit with.
 ///
-/// The status is 0; 1 where a block is faulty, which is reported on `error` after the answers to those
-/// before it; 3 where the input or an output failed, or the input did not end within 2^48 reads; 4
-/// where memory ran out.
+/// The status is 0; 1 if a block is faulty, which is reported on `error` after the answers to those before it; 3 if
+/// the input or an output failed, or the input did not end within 2^48 reads; 4 if memory ran out.
 pub fn answer_behind<A: Answering, R: Source, W: Sink, E: Sink>(
     alloc: Global,
     profile: Profile,
@@ -66,11 +65,11 @@ fn answer_in_steps<A: Answering, R: Source, W: Sink, E: Sink>(
     }
 }
 
-/// Writes messages to `error`, and then answers the blocks of the input on `output`, as `answer_behind`
-/// does; what is answered is a finding, so that the status is 1 where any answer has a byte.
+/// Writes messages to `error`, and then answers the blocks of the input on `output`, as `answer_behind` does; the
+/// answers are findings, so that the status is 1 if any answer has a byte.
 ///
-/// The status is 0; 1 where an answer has a byte, and where a block is faulty; 3 and 4 as with
-/// `answer_behind`, whatever was answered.
+/// The status is 0; 1 if an answer has a byte or a block is faulty; 3 and 4 as with `answer_behind`, whatever was
+/// answered.
 pub fn find_behind<A: Answering, R: Source, W: Sink, E: Sink>(
     alloc: Global,
     profile: Profile,
@@ -114,8 +113,7 @@ fn find_in_steps<A: Answering, R: Source, W: Sink, E: Sink>(
     }
 }
 
-/// Tells why the answering of an input stopped, and gives the status for it, or 3 where the error output
-/// failed.
+/// Reports why the answering of an input stopped, and returns the status for it, or 3 if the error output failed.
 fn conclude<E: Sink>(fault: TurnFault, error: &mut E) -> u8
     requires { fault ≡ TurnFault.Session SessionFault.Ended → ⊥ }
     ensures { Concludes (Err fault) result (E.shown error.old) (E.shown error.new) }

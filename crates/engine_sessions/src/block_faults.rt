@@ -6,8 +6,7 @@ use device_core::BlockFault;
 use engine_ends::{Sink, tell_in_pieces};
 use itoa::Buffer;
 
-/// Tells of the faulty block of this number, and gives the status for it, 1, or 3 where the error
-/// output failed.
+/// Reports the faulty block of this number, and returns the status for it, 1, or 3 if the error output failed.
 #[tactic(auto, unfolding(crate::specs::BlockFaults::block_line))]
 pub(crate) fn tell_block_fault<E: Sink>(error: &mut E, number: u64, fault: BlockFault) -> u8
     ensures { Tells (block_line number fault) 1 result (E.shown error.old) (E.shown error.new) }

@@ -1,4 +1,4 @@
-//! What is said of a session and of a turn that failed.
+//! What is said about a session and a turn that failed.
 
 use crate::session::SessionFault;
 use crate::turning::TurnFault;

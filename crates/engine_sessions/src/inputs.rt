@@ -13,12 +13,12 @@ use text_bytes::Profile;
 /// The most turns over one input.
 const MAX_TURNS: u64 = 1 << 48;
 
-/// Answers the blocks of an input, over whose events rules are evaluated by a profile: each answer is written and flushed before the next read. Says whether
-/// any answer has a byte.
+/// Answers the blocks of an input, over whose events rules are evaluated by a profile: each answer is written and
+/// flushed before the next read. Returns whether any answer has a byte.
 ///
-/// `Session(Block(..))` comes where a block is faulty, with the answers to all blocks before it sent;
-/// `Session(Memory)` where memory runs out; `Write` where the output failed; `Read` where the input
-/// failed, or did not end within 2^48 reads.
+/// `Session(Block(..))` means that a block is faulty, with the answers to all blocks before it sent;
+/// `Session(Memory)` that memory ran out; `Write` that the output failed; `Read` that the input failed, or did not
+/// end within 2^48 reads.
 pub fn answer_input<A: Answering, R: Source, W: Sink>(
     alloc: Global,
     profile: Profile,
@@ -35,7 +35,7 @@ pub fn answer_input<A: Answering, R: Source, W: Sink>(
     }
 }
 
-/// Makes turns until the input ends or a turn fails. Says whether any answer has a byte.
+/// Makes turns until the input ends or a turn fails. Returns whether any answer has a byte.
 fn make_turns<A: Answering, R: Source, W: Sink>(
     alloc: Global,
     session: &mut Session<'_, A>,

@@ -1,5 +1,5 @@
-//! What holds of the answers to blocks, whatever is answered, and of a session's calls however an
-//! input is cut. Each law is the contract of a function that does nothing.
+//! What is true of the answers to blocks, whatever answers them, and of a session's calls however an input is cut.
+//! Each law is the contract of a function with an empty body.
 ghost use Rattle.std.specs.Prelude.{◌≡◌, List, ℕ, true, false, [], ◌∷◌, ◌++◌, map, Ok, Err, Option, Some, None};
 ghost use Rattle.text_bytes.specs.declared.profile.Profile.TheVariants.{Manual};
 ghost use Rattle.text_tables.specs.Texts.{Text};
@@ -15,8 +15,8 @@ ghost use Rattle.engine_sessions.specs.declared.session.SessionFault.TheVariants
 
 use crate::answering::Answering;
 
-/// Where no block is faulty, the answers are those to the events of all blocks. Else they are those
-/// to the events of the blocks before the first faulty one, and its fault, whatever follows it.
+/// If no block is faulty, the answers are those to the events of all blocks. Otherwise they are those to the events
+/// of the blocks before the first faulty one, and its fault, whatever follows it.
 pub fn answers_end_at_the_first_fault()
     ensures well { (answer : EventValue → Text) (blocks : List Text) (events : List EventValue)
         → map block_gives blocks ≡ map Ok events
@@ -26,9 +26,9 @@ pub fn answers_end_at_the_first_fault()
         → answers_to answer (before ++ block ∷ behind) ≡ record { texts = map answer events; fault = Some fault } }
 {}
 
-/// What is known of an input from its first bytes stays, however it goes on: a fault that is known is
-/// that of the whole input, with the answers before it; and where none is known, the answers begin
-/// with those that are, and go on with those to the rest and what follows it.
+/// What is known about an input from its first bytes stays, however it goes on: a fault that is known is that of
+/// the whole input, with the answers before it; and if none is known, the answers begin with those that are, and go
+/// on with those to the rest and what follows it.
 pub fn known_answers_stay()
     ensures faulty { (answer : EventValue → Text) (text later : Text) (texts : List Text) (fault : BlockFault)
         → answers_to answer (known_blocks true text) ≡ record { texts = texts; fault = Some fault }
@@ -41,15 +41,15 @@ pub fn known_answers_stay()
         } }
 {}
 
-/// By the manual events are answered as their blocks are read: the event of a block is one of the manual's.
+/// By the manual events are answered as their blocks are read: the event of a block has the manual's profile.
 pub fn the_manual_changes_no_event()
     ensures events { (block : Text) (event : EventValue) → block_gives block ≡ Ok event → event.profile ≡ Manual }
     ensures answers { (answer : EventValue → Text) (input : Text) → answers_of (answers_as Manual answer) input ≡ answers_of answer input }
 {}
 
-/// However an input is cut into pieces, a new session gives the answers to the complete runs of the
-/// bytes that it used and keeps their rest, and with its end those to the whole input. Where it names
-/// a faulty block, that ends the answers to the input, whatever comes later.
+/// However an input is cut into pieces, a new session gives the answers to the complete runs of the bytes that it
+/// used and keeps their rest, and with its end those to the whole input. If it reports a faulty block, that ends
+/// the answers to the input, whatever comes later.
 pub fn answers_do_not_depend_on_the_pieces<A: Answering>()
     ensures takes { (answering : Asked A) (calls : List (Call (Asked A))) (now : Held (Asked A))
         → TakesAll (answer_of A.answers answering) (opened answering) calls now

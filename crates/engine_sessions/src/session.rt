@@ -1,7 +1,7 @@
 //! The session: the blocks of an input that comes in pieces, answered one by one.
 //!
-//! The splitter keeps the only bytes that wait, in room that it took once; a block is read and
-//! answered where it is lent, and only the answer is passed out.
+//! The splitter keeps the only bytes that wait, in memory that it allocated once; a block is read and answered
+//! where it is, and only the answer is passed out.
 ghost use Rattle.std.specs.Prelude.{◌≡◌, ◌≤◌, ◌+◌, true, false, [], IfOk, IfErr, length, Ok, Err, ◌++◌};
 ghost use Rattle.device_core.specs.RunBlocks.{most_bytes};
 ghost use Rattle.device_core.specs.Faults.{block_gives};
@@ -15,7 +15,7 @@ use std::alloc::{AllocError, Global};
 use std::marker::Model;
 use text_bytes::{Bytes, Profile};
 
-/// What taking a piece came to.
+/// The outcome of taking a piece.
 #[derive(Drop)]
 pub struct Step {
     /// How many of the piece's bytes were used.
@@ -27,9 +27,9 @@ pub struct Step {
 /// Why nothing more is answered.
 #[derive(Clone, Copy, Debug, PartialEq, Eq)]
 pub enum SessionFault {
-    /// 1: the block of this number, counted from 1, is faulty. The number stays at 2^64 - 1.
+    /// 1: the block of this number, counted from 1, is faulty. The number is at most 2^64 - 1.
     Block(u64, BlockFault),
-    /// 2: memory runs out.
+    /// 2: memory ran out.
     Memory,
     /// 3: the session had ended, by `end` or by a fault.
     Ended,
@@ -59,8 +59,8 @@ impl<'a, A: Answering> Model for Session<'a, A> {
 }
 
 impl<'a, A: Answering> Session<'a, A> {
-    /// A session at the input's start, with all the room that its pending bytes will need: 65,536
-    /// bytes. Rules are evaluated over its events as the manual pages say.
+    /// A session at the input's start, with all the room that its pending bytes will need: 65,536 bytes. Rules are
+    /// evaluated over its events as the manual pages say.
     pub fn new(alloc: Global, answering: &'a A) -> Result<Session<'a, A>, AllocError>
         ensures { IfOk result (λ s. s ≡ opened (asked_by Profile.Manual answering.now)) }
     {
@@ -88,8 +88,8 @@ impl<'a, A: Answering> Session<'a, A> {
     /// Takes the bytes of a piece up to the empty line that ends a block, or all of them, and answers
     /// that block.
     ///
-    /// `Block` comes where the block is faulty, also at byte 65,537 of one that is too long; `Memory`
-    /// where memory runs out; `Ended` after these, after `end`, and nowhere else.
+    /// `Block` means that the block is faulty, also at byte 65,537 of one that is too long; `Memory` that memory
+    /// ran out; `Ended` comes after these, after `end`, and nowhere else.
     pub fn take(&mut self, alloc: Global, piece: &[u8]) -> Result<Step, SessionFault>
         ensures ok { IfOk result (λ step. Takes (answer_of A.answers self.old.answering) self.old piece.now step self.new) }
         ensures err { IfErr result (λ fault. FailsBy fault self.old (known_blocks true (self.old.pending ++ piece.now)) self.new) }
@@ -128,11 +128,10 @@ impl<'a, A: Answering> Session<'a, A> {
         }
     }
 
-    /// Ends the input, and answers the block that is there without an empty line after it, if
-    /// there is one.
+    /// Ends the input, and answers the block that is there without an empty line after it, if there is one.
     ///
-    /// `Block` comes where that block is faulty, `Memory` where memory runs out, `Ended` after
-    /// these, after `end` and after a fault of `take`, and nowhere else.
+    /// `Block` means that this block is faulty, `Memory` that memory ran out; `Ended` comes after these, after
+    /// `end` and after a fault of `take`, and nowhere else.
     pub fn end(&mut self, alloc: Global) -> Result<Option<Bytes>, SessionFault>
         ensures ok { IfOk result (λ last. Ends (answer_of A.answers self.old.answering) self.old last self.new) }
         ensures err { IfErr result (λ fault. FailsBy fault self.old (known_blocks false self.old.pending) self.new) }

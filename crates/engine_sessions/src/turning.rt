@@ -1,7 +1,7 @@
 //! Turns: one read, and the answers then due.
 //!
-//! Each answer is written and flushed as it comes, before the next block is looked at, so that
-//! whoever feeds one event and waits gets its answer, and a fault takes none of those before it away.
+//! Each answer is written and flushed as it comes, before the next block is looked at, so that whoever feeds one
+//! event and waits gets its answer, and a fault removes none of those before it.
 ghost use Rattle.std.specs.Prelude.{◌≡◌, ◌≤◌, true, false, [], length, IfOk, IfErr, OnOk, OnErr};
 ghost use Rattle.std.specs.Option.{option_to_list};
 ghost use Rattle.device_core.specs.RunBlocks.{most_bytes};
@@ -31,7 +31,7 @@ pub enum TurnFault {
     Session(SessionFault),
 }
 
-/// What a turn came to.
+/// The outcome of a turn.
 #[derive(Clone, Copy, Debug, PartialEq, Eq)]
 pub(crate) struct Turned {
     /// Whether the input goes on.
@@ -40,14 +40,14 @@ pub(crate) struct Turned {
     pub(crate) finds: bool,
 }
 
-/// Makes one read of at most 4,096 bytes, then writes and flushes every answer that is due, each as
-/// it comes. Says whether the input goes on: false comes where the read found the input's end, with
-/// the answer to the last block written.
+/// Makes one read of at most 4,096 bytes, then writes and flushes every answer that is due, each as it comes.
+/// Returns whether the input goes on: false means that the read found the input's end, with the answer to the last
+/// block written.
 ///
-/// `Read` and `Write` come only where that device failed. `Session` has the session's fault: the
-/// answers before a faulty block are written and flushed. After any fault and after false the session
-/// has ended, and `turn` then answers `Session(Ended)`, reads nothing and writes nothing. What the
-/// session holds after a turn is at most 65,536 bytes, and nothing once it has ended.
+/// `Read` and `Write` mean that this device failed. `Session` has the session's fault: the answers before a faulty
+/// block are written and flushed. After any fault and after false the session has ended, and `turn` then returns
+/// `Session(Ended)`, reads nothing and writes nothing. What the session holds after a turn is at most 65,536 bytes,
+/// and nothing once it has ended.
 pub fn turn<A: Answering, R: Source, W: Sink>(
     alloc: Global,
     session: &mut Session<'_, A>,
@@ -68,7 +68,7 @@ pub fn turn<A: Answering, R: Source, W: Sink>(
     }
 }
 
-/// Does what `turn` does, and says besides whether any of the answers has a byte.
+/// Does what `turn` does, and also returns whether any of the answers has a byte.
 pub(crate) fn turn_finding<A: Answering, R: Source, W: Sink>(
     alloc: Global,
     session: &mut Session<'_, A>,
@@ -103,7 +103,7 @@ pub(crate) fn turn_finding<A: Answering, R: Source, W: Sink>(
     }
 }
 
-/// Takes a piece, and sends each answer as it comes. Says whether any of them has a byte.
+/// Takes a piece, and sends each answer as it comes. Returns whether any of them has a byte.
 fn answer_piece<A: Answering, W: Sink>(
     alloc: Global,
     session: &mut Session<'_, A>,
@@ -138,7 +138,7 @@ fn answer_piece<A: Answering, W: Sink>(
     Ok(finds)
 }
 
-/// Ends the input, and sends the last answer. Says whether it has a byte.
+/// Ends the input, and sends the last answer. Returns whether it has a byte.
 fn answer_last<A: Answering, W: Sink>(
     alloc: Global,
     session: &mut Session<'_, A>,

@@ -24,8 +24,8 @@ sourced_node part source outcome =
     ++ sourced_watch part source outcome.watch
     ++ sourced_persist part source outcome.persist
 
--- the lines of the answer to an event that comes to this, each but the first and those of notes after the part on where it comes
--- from
+-- the lines of the answer to an event with this outcome, each except the first and those of notes after the part on
+-- where it comes from
 unfoldable pub lines_behind : (Source → Text) → (Pair → Source) → EventValue → Outcome → List (Command × Rule) → Text
 lines_behind part source event outcome commands =
     event_line event.action event.device.path

@@ -10,7 +10,7 @@ use Rattle.eval_sources.specs.Sources.{Source}
 use Rattle.engine_ends.specs.Places.{place_of}
 use Rattle.engine_answers.specs.Lines.{is_hidden, pair_line, persist_line, priority_line, run_line, text_line, watch_line}
 
--- where a line comes from, `FILE:LINE: `, or `-: ` where it comes from no rule
+-- where a line comes from, `FILE:LINE: `, or `-: ` if it comes from no rule
 abbrev pub source_part : Source → Text
 source_part None = codes "-: "
 source_part (Some r) = place_of r.file r.line
@@ -24,11 +24,11 @@ abbrev pub command_lines : (Source → Text) → List (Command × Rule) → Text
 command_lines part commands = flat_map (command_line part) commands
 
 module _ (part : Source → Text) (source : Pair → Source) where
-  -- a line with a text that is an item of its word
+  -- a line with a text that is the only item of its word
   unfoldable pub word_line : Text → Text → Text
   word_line word text = part (source (word, text)) ++ text_line word text
 
-  -- the same of a text that may not be there
+  -- the same for a text that may be absent
   abbrev pub given_line : Text → Option Text → Text
   given_line word None = []
   given_line word (Some text) = word_line word text
@@ -57,17 +57,17 @@ module _ (part : Source → Text) (source : Pair → Source) where
   abbrev pub env_value_lines : List Pair → Text
   env_value_lines pairs = flat_map shown_value_line pairs
 
-  -- the line of a priority, where one was assigned
+  -- the line of a priority, if one was assigned
   abbrev pub sourced_priority : Option ℤ → Text
   sourced_priority None = []
   sourced_priority (Some priority) = part (source (codes "priority", signed_decimal priority)) ++ priority_line (Some priority)
 
-  -- the line on watching, where it was assigned
+  -- the line for watching or not, if it was assigned
   abbrev pub sourced_watch : Option Bool → Text
   sourced_watch None = []
   sourced_watch (Some watched) = part (source (watch_word watched, [])) ++ watch_line (Some watched)
 
-  -- the line of what stays in the database
+  -- the line that says that what is known stays in the database
   abbrev pub sourced_persist : Bool → Text
   sourced_persist true = part (source (codes "persist", [])) ++ persist_line true
   sourced_persist false = []

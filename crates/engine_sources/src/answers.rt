@@ -14,7 +14,7 @@ use hwdb_lookup::Lookup;
 use rule_core::RuleSet;
 use std::alloc::{AllocError, Global};
 
-/// Puts the lines on the device's node after others.
+/// Adds the lines on the device's node.
 #[tactic(auto, unfolding(crate::specs::Answers::sourced_node))]
 fn push_node(
     alloc: Global,
@@ -33,7 +33,7 @@ fn push_node(
     push_sourced_persist(alloc, lines, sources, outcome.persist)
 }
 
-/// The lines of what an event comes to, each after where it comes from.
+/// The lines of the outcome of an event, each after where it comes from.
 #[tactic(auto, unfolding(crate::specs::Answers::lines_behind))]
 fn lines_of(alloc: Global, event: &Event<'_>, found: &Sourced<'_>) -> Result<Vec<u8>, AllocError>
     ensures { IfOk result (λ lines. lines.items ≡ lines_behind source_part (source_in found.now.sources None) event.now found.now.outcome found.now.commands.items) }
@@ -54,7 +54,7 @@ fn lines_of(alloc: Global, event: &Event<'_>, found: &Sourced<'_>) -> Result<Vec
     Ok(lines)
 }
 
-/// The same, where rules and event are lent for one time.
+/// The same; rules and event are borrowed for the same lifetime.
 fn lines_for<'a, L: Lookup>(
     alloc: Global,
     rules: &'a RuleSet,

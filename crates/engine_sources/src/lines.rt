@@ -15,7 +15,7 @@ use rule_types::Rule;
 use std::alloc::{AllocError, Global};
 use text_bytes::Bytes;
 
-/// Puts where a line comes from behind a text.
+/// Appends where a line comes from.
 fn push_rule(alloc: Global, lines: &mut Vec<u8>, rule: Option<&Rule>) -> Result<(), AllocError>
     ensures { OnOk result (lines.new.items ≡ lines.old.items ++ source_part (option_map (λ r. r.now) rule.entry)) }
 {
@@ -25,7 +25,7 @@ fn push_rule(alloc: Global, lines: &mut Vec<u8>, rule: Option<&Rule>) -> Result<
     }
 }
 
-/// Puts where an item comes from behind a text.
+/// Appends where an item comes from.
 fn push_source(
     alloc: Global,
     lines: &mut Vec<u8>,
@@ -38,7 +38,7 @@ fn push_source(
     push_rule(alloc, lines, sources.rule_of(name, value))
 }
 
-/// Puts a line with a text that is an item of its word after others.
+/// Adds a line with a text that is the only item of its word.
 #[tactic(auto, unfolding(crate::specs::Lines::word_line))]
 fn push_word(
     alloc: Global,
@@ -53,7 +53,7 @@ fn push_word(
     push_text(alloc, lines, word, text)
 }
 
-/// Puts a line with a text after others, if the text is there.
+/// Adds a line with a text, if there is one.
 pub(crate) fn push_given(
     alloc: Global,
     lines: &mut Vec<u8>,
@@ -69,7 +69,7 @@ pub(crate) fn push_given(
     }
 }
 
-/// Puts a line with a text that is one of several after others.
+/// Adds a line with a text that is one of several.
 #[tactic(auto, unfolding(crate::specs::Lines::member_line))]
 pub(crate) fn push_member(
     alloc: Global,
@@ -85,7 +85,7 @@ pub(crate) fn push_member(
     push_text(alloc, lines, word, text)
 }
 
-/// Puts a line with a name and its value after others.
+/// Adds a line with a name and its value.
 #[tactic(auto, unfolding(crate::specs::Lines::value_line))]
 pub(crate) fn push_value(
     alloc: Global,
@@ -102,7 +102,7 @@ pub(crate) fn push_value(
     push_pair(alloc, lines, word, name, value)
 }
 
-/// Puts the line of a property after others, unless its name begins with a dot.
+/// Adds the line of a property, unless its name begins with a dot.
 pub(crate) fn push_shown(
     alloc: Global,
     lines: &mut Vec<u8>,
@@ -118,7 +118,7 @@ pub(crate) fn push_shown(
     push_value(alloc, lines, sources, b"env", name, value)
 }
 
-/// Puts the line of a priority after others, if one was assigned.
+/// Adds the line of a priority, if one was assigned.
 pub(crate) fn push_sourced_priority(
     alloc: Global,
     lines: &mut Vec<u8>,
@@ -136,14 +136,14 @@ pub(crate) fn push_sourced_priority(
     push_priority(lines, Some(number))
 }
 
-/// The word on watching.
+/// The word for watching or not.
 fn watch_word(watched: bool) -> &'static [u8]
     ensures { result.now ≡ watch_word watched }
 {
     if watched { b"watch" } else { b"nowatch" }
 }
 
-/// Puts the line on watching after others, if it was assigned.
+/// Adds the line for watching or not, if it was assigned.
 pub(crate) fn push_sourced_watch(
     alloc: Global,
     lines: &mut Vec<u8>,
@@ -159,7 +159,7 @@ pub(crate) fn push_sourced_watch(
     push_watch(lines, Some(watched))
 }
 
-/// Puts the line of what stays in the database after others.
+/// Adds the line that says that what is known stays in the database, if it does.
 pub(crate) fn push_sourced_persist(
     alloc: Global,
     lines: &mut Vec<u8>,
@@ -175,7 +175,7 @@ pub(crate) fn push_sourced_persist(
     push_persist(lines, true)
 }
 
-/// Puts the line of a command after others.
+/// Adds the line of a command.
 #[tactic(auto, unfolding(crate::specs::Lines::command_line))]
 pub(crate) fn push_command(
     alloc: Global,

@@ -8,7 +8,7 @@ use eval_sources::{SourcedCommand, Sources};
 use std::alloc::{AllocError, Global};
 use text_tables::{OwnedPairs, OwnedTexts};
 
-/// Puts a line for each text after others.
+/// Adds a line for each text.
 pub(crate) fn push_members(
     alloc: Global,
     lines: &mut Vec<u8>,
@@ -24,7 +24,7 @@ pub(crate) fn push_members(
     Ok(())
 }
 
-/// Puts a line for each name and its value after others.
+/// Adds a line for each name and its value.
 pub(crate) fn push_values(
     alloc: Global,
     lines: &mut Vec<u8>,
@@ -40,7 +40,7 @@ pub(crate) fn push_values(
     Ok(())
 }
 
-/// Puts the lines of properties after others.
+/// Adds the lines of properties.
 pub(crate) fn push_env(
     alloc: Global,
     lines: &mut Vec<u8>,
@@ -55,7 +55,7 @@ pub(crate) fn push_env(
     Ok(())
 }
 
-/// Puts the lines of commands after others.
+/// Adds the lines of commands.
 pub(crate) fn push_commands(
     alloc: Global,
     lines: &mut Vec<u8>,

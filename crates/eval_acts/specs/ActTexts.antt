@@ -1,4 +1,5 @@
--- The texts of acts, rendered: by the manual each may have as many bytes as any text, and for udev as many as it gives room to.
+-- The texts of acts, rendered: by the manual each may have as many bytes as any text, and for udev as many as it has
+-- room for.
 use Rattle.std.specs.Prelude.{ℕ, Bool, ◌||◌, nat_le, if◌then◌else◌, [], ◌∷◌, ◌++◌, length, codes}
 use Rattle.text_bytes.specs.Names.{slash}
 use Rattle.text_bytes.specs.Texts.{begins_with}
@@ -14,15 +15,15 @@ use Rattle.eval_rendering.specs.declared.rendered.Mode.TheVariants.{Plain}
 use Rattle.eval_rendering.specs.declared.rendered.Rendered.{Rendered}
 use Rattle.eval_rendering.specs.declared.rendered.Rendered.TheVariants as rendered
 
--- the most bytes that udev gives room to in a path, and in the value of IMPORT{parent}
+-- the most bytes that udev has room for in a path, and in the value of IMPORT{parent}
 abbrev pub most_path_bytes : ℕ
 most_path_bytes = 1023
 
--- the most bytes that it gives room to in a command
+-- the most bytes that it has room for in a command
 abbrev pub most_command_bytes : ℕ
 most_command_bytes = 16383
 
--- a rendered text, which udev takes up to so many bytes
+-- a rendered text, of which udev takes at most so many bytes
 abbrev pub within_by : Profile → ℕ → Rendered → Rendered
 within_by Manual most text = text
 within_by Udev most text = within most text
@@ -35,7 +36,7 @@ sysfs_path device path = codes "/sys" ++ device.path ++ slash ∷ path
 abbrev pub has_room : DeviceValue → Text → Bool
 has_room device path = begins_with slash path || nat_le (length (sysfs_path device path)) most_path_bytes
 
--- a path of TEST, for which there has to be room with the device's folder before it, too
+-- a path of TEST, for which there has to be room with the device's folder before it as well
 abbrev pub with_room : DeviceValue → Rendered → Rendered
 with_room device (rendered.Text path) = if has_room device path then rendered.Text path else rendered.TooLong
 with_room device rendered.TooLong = rendered.TooLong
@@ -58,7 +59,7 @@ program_text_by Udev template state = within most_command_bytes (render template
 abbrev pub program_text : Template → State → Rendered
 program_text template state = program_text_by state.event.profile template state
 
--- the value of an IMPORT, for udev of so many bytes at most
+-- the value of an IMPORT, which for udev has at most so many bytes
 abbrev pub import_text : ℕ → Template → State → Rendered
 import_text most template state = within_by state.event.profile most (render template state Plain)
 

@@ -34,12 +34,12 @@ use Rattle.eval_acts.specs.declared.came.Came.TheVariants.{Tried, Stopped}
 abbrev pub tried : Scene × Bool → Scene × Came
 tried after = (after.0, Tried after.1)
 
--- what comes of a text that is too long: by the manual its act is not done, and udev stops the rule
+-- the outcome of a text that is too long: by the manual its act is not done, and udev stops the rule
 abbrev pub came_too_long : Profile → Came
 came_too_long Manual = Tried false
 came_too_long Udev = Stopped
 
--- an act whose text is too long is a note, and not done
+-- an act whose text is too long leaves a note, and is not done
 abbrev pub too_long : Rule → Deed → Scene → Scene × Came
 too_long r d s = (noted r TextTooLong (word_of_key (key_of_deed d) (attribute_of_deed d)) s, came_too_long s.state.event.profile)
 
@@ -48,7 +48,7 @@ abbrev pub on_text : Rule → Deed → (Text → Scene → Scene × Bool) → Re
 on_text r d act (rendered.Text text) s = tried (act text s)
 on_text r d act rendered.TooLong s = too_long r d s
 
--- the properties of the second device whose names fit a text of udev's, which is one pattern
+-- the properties of the second device whose names fit a text, which for udev is one pattern
 abbrev pub from_parent_by : Text → Scene → Scene × Bool
 from_parent_by text s = from_parent (fnmatch_items Exact text 0 ∷ []) (device_at s.state.event 1) s
 
@@ -57,12 +57,12 @@ abbrev pub parent_imported : Profile → Rule → Deed → List (List Item) → 
 parent_imported Manual r d names text s = tried (from_parent names (device_at s.state.event 1) s)
 parent_imported Udev r d names text s = on_text r d from_parent_by (names_text text s.state) s
 
--- an IMPORT that is never run; udev renders its value all the same, which may have so many bytes
+-- an IMPORT that is never run; udev nevertheless renders its value, which may have so many bytes
 abbrev pub unrun : Profile → Rule → Deed → Import → ℕ → Template → Scene → Scene × Came
 unrun Manual r d import most template s = tried (not_run r import s)
 unrun Udev r d import most template s = on_text r d (λ text. not_run r import) (import_text most template s.state) s
 
--- IMPORT, by from where it takes properties
+-- IMPORT, by where it takes properties from
 abbrev pub imported : List Entry → Rule → Deed → Import → Scene → Scene × Came
 imported entries r d (import.Builtin template) s = on_text r d (run_builtin entries r) (import_text most_command_bytes template s.state) s
 imported entries r d (import.Parent names text) s = parent_imported s.state.event.profile r d names text s
@@ -71,21 +71,21 @@ imported entries r d (import.File template) s = unrun s.state.event.profile r d 
 imported entries r d (import.Cmdline name) s = tried (not_run r (import.Cmdline name) s)
 imported entries r d (import.Db name) s = tried (not_run r (import.Db name) s)
 
--- what an act comes to, and whether it was done; PROGRAM empties the result before its command is looked at
+-- the scene after an act, and what became of the act; PROGRAM empties the result before its command is looked at
 abbrev pub performed : List Entry → Rule → Deed → Scene → Scene × Came
 performed entries r (deed.Test mask template) s = on_text r (deed.Test mask template) (tested r mask) (test_text template s.state) s
 performed entries r (deed.Program template) s = on_text r (deed.Program template) (asked r) (program_text template s.state) (with_result [] s)
 performed entries r (deed.Import from) s = imported entries r (deed.Import from) from s
 
--- whether a rule goes on: with `==` where its act was done, with `!=` where it was not
+-- whether a rule goes on: with `==` if its act was done, with `!=` if it was not
 abbrev pub goes_on : MatchOperator → Came → Bool
 goes_on operator (Tried done) = agrees operator done
 goes_on operator Stopped = false
 
--- what an act comes to, and whether its rule goes on
+-- the scene after an act, and whether its rule goes on
 abbrev pub going_on : Act → Scene × Came → Scene × Bool
 going_on act after = (after.0, goes_on act.operator after.1)
 
--- an act of a rule, and whether the rule goes on; what was changed stays either way
+-- the scene after an act of a rule, and whether the rule goes on; what was changed stays either way
 unfoldable pub act_step : List Entry → Rule → Act → Scene → Scene × Bool
 act_step entries r act s = going_on act (performed entries r act.deed s)

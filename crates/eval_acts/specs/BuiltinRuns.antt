@@ -1,4 +1,5 @@
--- What the builtins of udev that look at the devices of an event come to. Each comes to the scene after it, and whether it was done.
+-- What the builtins of udev do that look at the devices of an event. Each returns the scene after it, and whether it
+-- was done.
 use Rattle.std.specs.Prelude.{ℕ, ◌+◌, nat_le, Bool, false, List, [], ◌∷◌, ◌++◌, length, Option, Some, None, is_some, codes, if◌then◌else◌}
 use Rattle.std.specs.List.{sum_by}
 use Rattle.text_tables.specs.Texts.{Text}
@@ -34,13 +35,13 @@ property_size property = (length property.0 + 1) + (length property.1 + 1)
 abbrev pub properties_size : List Pair → ℕ
 properties_size properties = sum_by property_size properties
 
--- a note on the first thing that the block would have to tell
+-- a note on the first thing that is needed from the block
 abbrev pub need_noted : Rule → (name : Text) → List Text → Scene → Scene
 need_noted r name [] s = s
 need_noted r name (need ∷ needs) s = noted r BuiltinNeeds (need_word name need) s
 
--- Of what a builtin comes to the properties are set, and the first thing that it needs is noted; it was done where it succeeds. Where it would set more
--- than a builtin may, it sets nothing, which is noted, and it was not done.
+-- The properties of a builtin's outcome are set, and the first thing that it needs is noted; it was done if it
+-- succeeds. If it would set more than a builtin may, it sets nothing, which is noted, and it was not done.
 abbrev pub outcome_taken : Rule → (name : Text) → OutcomeValue → Scene → Scene × Bool
 outcome_taken r name outcome s =
     if nat_le (properties_size outcome.properties) most_set then (need_noted r name outcome.needs (with_env (properties_set s.state.env outcome.properties) s), outcome.is_done)
@@ -54,7 +55,7 @@ usb_id_ran after = (record after.0 { ran = record after.0.ran { usb_id = Some af
 abbrev pub path_id_ran : Scene × Bool → Scene × Bool
 path_id_ran after = (record after.0 { ran = record after.0.ran { path_id = Some after.1 } }, after.1)
 
--- usb_id, by whether it has run before: then it does nothing, and was done where it was the first time
+-- usb_id, by whether it has run before: then it does nothing, and was done if it was the first time
 abbrev pub usb_id_run : (ran : Option Bool) → Rule → Scene → Scene × Bool
 usb_id_run (Some done) r s = (s, done)
 usb_id_run None r s = usb_id_ran (outcome_taken r (builtin_name UsbId) (usb_id s.state.event (is_some (value_of s.state.env (codes "ID_BUS")))) s)
@@ -68,11 +69,11 @@ path_id_run None r s = path_id_ran (outcome_taken r (builtin_name PathId) (path_
 abbrev pub input_id_run : Rule → Scene → Scene × Bool
 input_id_run r s = outcome_taken r (builtin_name InputId) (input_id s.state.event) s
 
--- a scene with what the hardware database says of a text, if there is one
+-- a scene with what the hardware database says about a text, if there is one
 abbrev pub looked_up : List Entry → Option Text → Scene → Scene
 looked_up entries None s = s
 looked_up entries (Some text) s = with_env (properties_set s.state.env (query entries text)) s
 
--- net_id; what the hardware database says of the device's address is set first
+-- net_id; what the hardware database says about the device's address is set first
 abbrev pub net_id_run : List Entry → Rule → Scene → Scene × Bool
 net_id_run entries r s = outcome_taken r (builtin_name NetId) (net_id s.state.event s.state.env) (looked_up entries (lookup s.state.event s.state.env) s)

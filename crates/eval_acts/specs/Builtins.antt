@@ -12,28 +12,28 @@ use Rattle.eval_acts.specs.declared.hwdb.Hwdb.{Hwdb}
 use Rattle.eval_acts.specs.Words.{command_words}
 use Rattle.eval_acts.specs.Hwdb.{hwdb_of}
 
--- the options of `hwdb`, or that they are none
+-- the options of `hwdb`, or that they are not valid
 abbrev pub hwdb_asked : Option Hwdb → Builtin
 hwdb_asked None = asked.BadArguments
 hwdb_asked (Some hwdb) = asked.Hwdb hwdb
 
--- what words ask for: the first is the builtin's name, empty where there is none
+-- what words ask for: the first is the builtin's name, empty if there is none
 abbrev pub builtin_of_words : List Text → Builtin
 builtin_of_words [] = asked.Other []
 builtin_of_words (name ∷ words) = if same_text name (codes "hwdb") then hwdb_asked (hwdb_of words) else asked.Other name
 
--- what a command asks for; that a quote stays open is seen before all else
+-- what a command asks for; an open quote is seen before anything else
 abbrev pub builtin_of : Option (List Text) → Builtin
 builtin_of None = asked.BadArguments
 builtin_of (Some words) = builtin_of_words words
 
--- the words of `hwdb`, of which the first is its name
+-- what the words of `hwdb` ask for, the first of which is its name
 abbrev pub hwdb_of_words : Option (List Text) → Builtin
 hwdb_of_words None = asked.BadArguments
 hwdb_of_words (Some []) = hwdb_asked (hwdb_of [])
 hwdb_of_words (Some (name ∷ words)) = hwdb_asked (hwdb_of words)
 
--- what a command asks for, by the builtin of udev's that it means; one that means none is reported as it is
+-- what a command asks for, by the builtin of udev that it means; one that means none is kept as it is
 abbrev pub builtin_meant : Option known.Builtin → Text → Builtin
 builtin_meant None text = asked.Other text
 builtin_meant (Some known_as.Hwdb) text = hwdb_of_words (command_words text)

@@ -11,7 +11,7 @@ use Rattle.text_core.specs.declared.item.Item.{Item}
 use Rattle.eval_state.specs.Texts.{or_empty}
 use Rattle.eval_acts.specs.declared.hwdb.Hwdb.{Hwdb}
 
--- what follows the `=` of an option, where it is the one with this name
+-- what follows the `=` of an option, if it is the one with this name
 abbrev pub value_beside : Text → Option (Text × Text) → Option Text
 value_beside name None = None
 value_beside name (Some cut) = if same_text cut.0 name then Some cut.1 else None
@@ -45,11 +45,11 @@ is_option word = begins_with minus word
 abbrev pub is_known : Text → Bool
 is_known word = is_some (value_in subsystem_option word) || is_some (value_in prefix_option word) || is_some (value_in filter_option word)
 
--- whether a word is an option that there is not
+-- whether a word is an unknown option
 abbrev pub is_unknown : Text → Bool
 is_unknown word = is_option word && not (is_known word)
 
--- the words that are no options
+-- the words that are not options
 abbrev pub modaliases : List Text → List Text
 modaliases words = filter (λ word. not (is_option word)) words
 
@@ -64,7 +64,7 @@ abbrev pub as_pattern : Result (List Item) GlobFault → Option (Option (List It
 as_pattern (Ok pattern) = Some (Some pattern)
 as_pattern (Err fault) = None
 
--- the pattern for keys, where the option has one
+-- the pattern for keys, if the option is there
 abbrev pub filter_of : Option Text → Option (Option (List Item))
 filter_of None = Some None
 filter_of (Some text) = as_pattern (spell text)
@@ -79,7 +79,8 @@ with_parts words (Some modalias) (Some keys) = Some (record {
 })
 with_parts words modalias keys = None
 
--- the options of the words after `hwdb`: none where one of them is unknown, where there are two modaliases, or where the last filter is no pattern
+-- the options of the words after `hwdb`: none if one of them is unknown, if there are two modaliases, or if the last
+-- filter is not a pattern
 unfoldable pub hwdb_of : List Text → Option Hwdb
 hwdb_of words =
     if list_any is_unknown words then None

@@ -1,4 +1,4 @@
--- IMPORT, by from where it takes properties. Each comes to the scene after it, and whether it was done.
+-- IMPORT, by where it takes properties from. Each returns the scene after it, and whether it was done.
 use Rattle.std.specs.Prelude.{Bool, true, false, not, ◌==◌, List, length, filter, Option, Some, None}
 use Rattle.text_bytes.specs.declared.profile.Profile.{Profile}
 use Rattle.text_bytes.specs.declared.profile.Profile.TheVariants.{Manual, Udev}
@@ -22,16 +22,17 @@ use Rattle.eval_state.specs.Scenes.{noted, with_env}
 use Rattle.eval_state.specs.declared.note_kind.NoteKind.TheVariants.{BadHwdbArguments, BuiltinNotRun, ImportNotRun}
 use Rattle.eval_state.specs.declared.scene.Scene.{Scene}
 
--- properties with others set one after another; for udev an empty value takes its property away
+-- properties with others set one after another; for udev an empty value removes its property
 abbrev pub with_found : Profile → List Pair → List Pair → List Pair
 with_found Manual env properties = with_values env properties
 with_found Udev env properties = properties_set env properties
 
--- properties are set one after another; it was done where there are any
+-- properties are set one after another; it was done if there are any
 abbrev pub taken : List Pair → Scene → Scene × Bool
 taken properties s = (with_env (with_found s.state.event.profile s.state.env properties) s, not (length properties == 0))
 
--- what a command asks for: `hwdb` takes what it finds, four builtins of udev look at the devices, and others are not run
+-- the builtin of a command: `hwdb` takes what it finds, four builtins of udev look at the devices, and others are not
+-- run
 abbrev pub builtin_run : List Entry → Rule → Text → Builtin → Scene → Scene × Bool
 builtin_run entries r command (asked.Hwdb hwdb) s = taken (found entries hwdb s.state) s
 builtin_run entries r command asked.InputId s = input_id_run r s
@@ -49,7 +50,7 @@ run_builtin entries r command s = builtin_run entries r command (builtin s.state
 abbrev pub names_fitting : List (List Item) → List Pair → List Pair
 names_fitting names properties = filter (λ property. choice_fits names property.0) properties
 
--- IMPORT{parent} takes the properties of the second device whose names fit; it was done where there is one
+-- IMPORT{parent} takes the properties of the second device whose names fit; it was done if there is such a device
 abbrev pub from_parent : List (List Item) → Option DeviceValue → Scene → Scene × Bool
 from_parent names None s = (s, false)
 from_parent names (Some parent) s = (with_env (with_values s.state.env (names_fitting names parent.env)) s, true)

@@ -44,7 +44,7 @@ abbrev pub is_wanted : Option Text → Candidate → Bool
 is_wanted None device = is_some device.subsystem
 is_wanted (Some name) device = is_text name device.subsystem
 
--- whether a device is one of USB, and no interface of it
+-- whether a device is a USB device, and not an interface of one
 abbrev pub is_usb_device : Candidate → Bool
 is_usb_device device = is_text (codes "usb") device.subsystem && is_text (codes "usb_device") device.devtype
 
@@ -62,7 +62,7 @@ abbrev pub modaliases_of : Option Text → List Candidate → List Text
 modaliases_of subsystem devices =
     filter_map (λ device. device.modalias) (filter (is_wanted subsystem) (through (is_last subsystem) devices))
 
--- the modaliases to look up: the one that is given, else those of devices
+-- the modaliases to look up: the given one, or else those of devices
 abbrev pub modaliases : Hwdb → Option Text → State → List Text
 modaliases hwdb None state = modaliases_of hwdb.subsystem (candidates state)
 modaliases hwdb (Some modalias) state = modalias ∷ []
@@ -71,7 +71,7 @@ modaliases hwdb (Some modalias) state = modalias ∷ []
 abbrev pub texts : Hwdb → State → List Text
 texts hwdb state = map (λ modalias. hwdb.prefix ++ modalias) (modaliases hwdb hwdb.modalias state)
 
--- whether a key counts: one that fits the pattern, and without one each
+-- whether a key counts: one that fits the pattern, and without a pattern each
 abbrev pub counts : Option (List Item) → Text → Bool
 counts None key = true
 counts (Some pattern) key = fits pattern key
@@ -80,7 +80,7 @@ counts (Some pattern) key = fits pattern key
 abbrev pub answer : List Entry → Hwdb → Text → List Pair
 answer entries hwdb text = filter (λ property. counts hwdb.filter property.0) (query entries text)
 
--- the first list that is not empty; empty where none is
+-- the first list that is not empty; empty if there is none
 abbrev pub first_found : List (List Pair) → List Pair
 first_found answers = unwrap_or (find (λ properties. not (is_empty properties)) answers) []
 

@@ -1,4 +1,4 @@
--- TEST and PROGRAM: what the event answers. Each comes to the scene after it, and whether it was done.
+-- TEST and PROGRAM: what the event answers. Each returns the scene after it, and whether it was done.
 use Rattle.std.specs.Prelude.{ℕ, Bool, true, false, ◌==◌, ◌||◌, if◌then◌else◌, Option, Some, None, is_some}
 use Rattle.text_bytes.specs.Names.{slash}
 use Rattle.text_bytes.specs.Texts.{begins_with}
@@ -25,7 +25,8 @@ abbrev pub is_found : Text → Option DeviceValue → Bool
 is_found name None = false
 is_found name (Some device) = has_file device name
 
--- TEST of a file of the device at a place of the chain; it is not made where the device that is asked for is at none
+-- TEST of a file of the device at a place of the chain; it is not made if the device that is asked for is not in the
+-- chain
 abbrev pub tested_at : Option ℕ → Rule → Text → Text → Scene → Scene × Bool
 tested_at None r name path s = (noted r TestNotMade path s, false)
 tested_at (Some place) r name path s = (s, is_found name (device_at s.state.event place))
@@ -40,7 +41,7 @@ abbrev pub tested_by : Profile → Rule → Text → Scene → Scene × Bool
 tested_by Manual r path s = (s, is_some (value_of s.state.event.device.attrs path))
 tested_by Udev r path s = tested_by_udev (named path) r path s
 
--- TEST by whether it has a mask: it is not made with one, nor of an absolute path
+-- TEST by whether it has a mask: it is not made with one, nor with an absolute path
 abbrev pub tested_unless : Rule → Bool → Text → Scene → Scene × Bool
 tested_unless r has_mask path s =
     if has_mask || begins_with slash path then (noted r TestNotMade path s, false)
@@ -50,12 +51,12 @@ tested_unless r has_mask path s =
 abbrev pub tested : Rule → Option Text → Text → Scene → Scene × Bool
 tested r mask path s = tested_unless r (is_some mask) path s
 
--- the result that a program's text makes; udev replaces its bytes as those of an attribute in a text
+-- the result that a program's text makes; udev replaces bytes in it as in an attribute in a text
 abbrev pub result_of : Profile → Text → Text
 result_of Manual text = text
 result_of Udev text = safe attribute_marks text
 
--- a program that answered: where its status is 0, its text is the result
+-- a program that answered: if its status is 0, its text is the result
 abbrev pub answered : AnswerValue → Scene → Scene × Bool
 answered answer s = if answer.status == 0 then (with_result (result_of s.state.event.profile answer.text) s, true) else (s, false)
 

@@ -1,4 +1,4 @@
--- What a match leaves that is only reached.
+-- What a match leaves by being reached.
 use Rattle.std.specs.Prelude.{if◌then◌else◌}
 use Rattle.text_tables.specs.Texts.{Text}
 use Rattle.rule_types.specs.declared.roles.PlainKey.{PlainKey}
@@ -9,7 +9,7 @@ use Rattle.eval_state.specs.Scenes.{noted}
 use Rattle.eval_state.specs.declared.note_kind.NoteKind.TheVariants.{AttributeNotRead, SysctlNotRead}
 use Rattle.eval_state.specs.declared.scene.Scene.{Scene}
 
--- a match of an attribute that is reached: one that udev would read, and a dry run does not, leaves a note
+-- a match of an attribute that is reached: an attribute that udev would read and a dry run does not leaves a note
 abbrev pub attribute_reached : Rule → Text → Scene → Scene
 attribute_reached r name s = if is_not_read name s.state.event then noted r AttributeNotRead name s else s
 

@@ -5,11 +5,11 @@ use Rattle.text_tables.specs.Texts.{Text}
 use Rattle.eval_acts.specs.declared.words.Place.{Place}
 use Rattle.eval_acts.specs.declared.words.Place.TheVariants.{Between, InWord, Quoted}
 
--- a byte that groups what stands up to the next such byte
+-- a byte that groups everything up to the next such byte
 abbrev pub is_quote : ℕ → Bool
 is_quote b = b == single_quote || b == double_quote
 
--- a command of which a part was read: where the next byte stands, the word so far, and the words before it
+-- a command of which a part was read: where the next byte is, the word so far, and the words before it
 pub record Cut : Type 0 where
   pub place : Place
   pub word : Text
@@ -41,7 +41,7 @@ quoted quote b cut =
     if b == quote then record { place = InWord; word = cut.word; words = cut.words }
     else record { place = cut.place; word = cut.word ++ b ∷ []; words = cut.words }
 
--- a byte, by where it stands
+-- a byte, by where it is
 abbrev pub took_at : Place → Cut → ℕ → Cut
 took_at Between cut b = if b == space then cut else begun b (emptied cut)
 took_at InWord cut b = if b == space then ended cut else begun b cut

@@ -12,13 +12,13 @@ use std::alloc::{AllocError, Global};
 use std::mem::replace;
 use text_bytes::{Bytes, Profile, begins_with};
 
-/// The most bytes that udev gives room to in a path, and in the value of IMPORT{parent}.
+/// The most bytes that udev has room for in a path, and in the value of IMPORT{parent}.
 pub const MAX_PATH_BYTES: usize = 1023;
 
-/// The most bytes that udev gives room to in a command.
+/// The most bytes that udev has room for in a command.
 pub const MAX_COMMAND_BYTES: usize = 16383;
 
-/// A rendered text, which udev takes up to so many bytes.
+/// A rendered text, of which udev takes at most so many bytes.
 fn within_by(profile: Profile, most: usize, text: Rendered) -> Rendered
     ensures { result ≡ within_by profile most text }
 {
@@ -28,7 +28,8 @@ fn within_by(profile: Profile, most: usize, text: Rendered) -> Rendered
     }
 }
 
-/// Whether udev has room for a path with `/sys`, the path of a device and a slash before it; an absolute one is looked at as it is.
+/// Whether udev has room for a path with `/sys`, the path of a device and a slash before it; an absolute one is
+/// looked at as it is.
 fn has_room(device: &Device<'_>, path: &[u8]) -> bool
     ensures { result ≡ has_room device.now path.now }
 {
@@ -36,7 +37,7 @@ fn has_room(device: &Device<'_>, path: &[u8]) -> bool
     begins_with(b'/', path) || (path.len() <= room && device.path().len() <= room - path.len())
 }
 
-/// A path of TEST, for which there has to be room with the device's folder before it, too.
+/// A path of TEST, for which there has to be room with the device's folder before it as well.
 fn with_room(device: &Device<'_>, text: Rendered) -> Rendered
     ensures { result ≡ with_room device.now text }
 {
@@ -62,8 +63,8 @@ fn path_by(profile: Profile, device: &Device<'_>, text: Rendered) -> Rendered
     }
 }
 
-/// The path of TEST. In an event of udev's it may have 1,023 bytes, and so may a relative one with `/sys`, the path of
-/// the event device and a slash before it.
+/// The path of TEST. For udev it may have 1,023 bytes, and so may a relative one with `/sys`, the path of the event
+/// device and a slash before it.
 pub fn test_text(
     alloc: Global,
     template: &Template,
@@ -91,8 +92,8 @@ fn render_without_result(
     text
 }
 
-/// The command of PROGRAM. In an event of udev's it may have 16,383 bytes, and the earlier result is empty in it. The state
-/// is the same before and after; the error comes where memory runs out.
+/// The command of PROGRAM. For udev it may have 16,383 bytes, and the earlier result is empty in it. The state is
+/// the same before and after; there is an error only if memory runs out.
 pub fn program_text(
     alloc: Global,
     template: &Template,
@@ -110,7 +111,7 @@ pub fn program_text(
     }
 }
 
-/// The value of an IMPORT, rendered, which in an event of udev's may have so many bytes.
+/// The value of an IMPORT, rendered, which for udev may have so many bytes.
 pub fn import_text(
     alloc: Global,
     most: usize,

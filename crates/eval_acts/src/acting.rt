@@ -96,7 +96,7 @@ fn builtin<L: Lookup>(
     }
 }
 
-/// IMPORT{parent} of udev's.
+/// IMPORT{parent} for udev.
 fn parent_named(
     alloc: Global,
     rule: &Rule,
@@ -131,7 +131,7 @@ fn parent(
     }
 }
 
-/// An IMPORT of udev's that is never run, by its value.
+/// An IMPORT that is never run, by its value, for udev.
 fn unrun_value(
     alloc: Global,
     rule: &Rule,
@@ -149,7 +149,7 @@ fn unrun_value(
     }
 }
 
-/// An IMPORT that is never run; udev renders its value all the same, which may have so many bytes.
+/// An IMPORT that is never run; udev nevertheless renders its value, which may have so many bytes.
 fn unrun(
     alloc: Global,
     rule: &Rule,
@@ -171,7 +171,7 @@ fn unrun(
     }
 }
 
-/// IMPORT, by from where it takes properties.
+/// IMPORT, by where it takes properties from.
 fn import<L: Lookup>(
     alloc: Global,
     rule: &Rule,
@@ -197,7 +197,7 @@ fn import<L: Lookup>(
     }
 }
 
-/// Does what an act asks for, and answers what became of it.
+/// Does what an act asks for, and returns what became of it.
 fn perform<L: Lookup>(
     alloc: Global,
     rule: &Rule,
@@ -215,30 +215,29 @@ fn perform<L: Lookup>(
     }
 }
 
-/// Does what an act of a rule asks for, as udev(7) has it, and answers whether the rule goes on: with
-/// `==` where the act was done, with `!=` where it was not. What was changed stays either way.
+/// Does what an act of a rule asks for, as udev(7) has it, and returns whether the rule goes on: with `==` if the
+/// act was done, with `!=` if it was not. What was changed stays either way.
 ///
-/// TEST is done where the event device has an attribute of the rendered path; of an absolute path or
-/// with a mask it leaves the note `test not made` and is not. PROGRAM is done where the event's block
-/// answers the rendered command with status 0; the answer is then the result, and else the result is
-/// empty; without an answer it leaves the note `no answer for program`. IMPORT{parent} takes the
-/// properties of the second device of the chain whose names fit, and is done where there is one.
-/// IMPORT{builtin} looks up what `hwdb` is asked for and takes what is found; it is done where something
-/// is, and leaves the notes `builtin not run` and `bad hwdb arguments`. Other types of IMPORT leave the
-/// note `import not run` and are not done. A text over 16,384 bytes is the note `text too long`, and its
-/// act is not done.
+/// TEST is done if the event device has an attribute of the rendered path; with an absolute path or with a mask it
+/// leaves the note `test not made` and is not done. PROGRAM is done if the event's block answers the rendered
+/// command with status 0; the answer is then the result, and otherwise the result is empty; without an answer it
+/// leaves the note `no answer for program`. IMPORT{parent} takes the properties of the second device of the chain
+/// whose names fit, and is done if there is such a device. IMPORT{builtin} looks up what `hwdb` is asked for and
+/// takes what is found; it is done if something is, and leaves the notes `builtin not run` and `bad hwdb
+/// arguments`. Other types of IMPORT leave the note `import not run` and are not done. A text over 16,384 bytes is
+/// the note `text too long`, and its act is not done.
 ///
-/// In an event of udev's (systemd 257) TEST is done where the name of an attribute is the path or begins
-/// with it and a slash, and of the empty path; the first `*/` in it stands for a folder, and
-/// `[SUBSYSTEM/KERNEL]` in front for a device of the chain, without which it is not made. PROGRAM empties
-/// the result before its command is rendered, and the result has `_` for bytes that do not belong in an
-/// attribute. The value of IMPORT{parent} is rendered, and is one pattern of fnmatch(3). `hwdb` may be
-/// written as its beginning; an empty value that it finds takes the property away. A text over 1,023 bytes
-/// of TEST, IMPORT{parent} and IMPORT{file}, or over 16,383 bytes of PROGRAM and other types of IMPORT, is
-/// the note `text too long`, and stops the rule with either operator; so does a TEST whose path has over
-/// 1,023 bytes with `/sys`, the path of the event device and a slash before it.
+/// For udev (systemd 257) TEST is done if the name of an attribute is the path or begins with it and a slash, and
+/// if the path is empty; the first `*/` in it means any folder, and `[SUBSYSTEM/KERNEL]` in front a device of the
+/// chain, without which it is not made. PROGRAM empties the result before its command is rendered, and the result
+/// has `_` for bytes that do not belong in an attribute. The value of IMPORT{parent} is rendered, and is one
+/// pattern of fnmatch(3). `hwdb` may be written as its beginning, and `input_id`, `net_id`, `path_id` and `usb_id`
+/// are run, too; an empty value that `hwdb` finds removes the property. A text over 1,023 bytes of TEST,
+/// IMPORT{parent} and IMPORT{file}, or over 16,383 bytes of PROGRAM and other types of IMPORT, is the note `text
+/// too long`, and stops the rule with either operator; so does a TEST whose path has over 1,023 bytes with `/sys`,
+/// the path of the event device and a slash before it.
 ///
-/// Where memory runs out, nothing is left of the scene but its event.
+/// If memory runs out, nothing is left of the scene but its event.
 #[tactic(auto, unfolding(crate::specs::Acts::act_step))]
 pub fn act_step<L: Lookup>(
     alloc: Global,

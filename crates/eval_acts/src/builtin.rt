@@ -16,16 +16,16 @@ use text_bytes::{Bytes, Profile};
 pub enum Builtin {
     /// The hardware database is looked up.
     Hwdb(Hwdb),
-    /// Of udev alone: `input_id`.
+    /// For udev only: `input_id`.
     InputId,
-    /// Of udev alone: `net_id`.
+    /// For udev only: `net_id`.
     NetId,
-    /// Of udev alone: `path_id`.
+    /// For udev only: `path_id`.
     PathId,
-    /// Of udev alone: `usb_id`.
+    /// For udev only: `usb_id`.
     UsbId,
-    /// Another builtin, which is not run: the first word of the command, empty where it has none; for udev
-    /// the whole name of the builtin, and where the command means none the command.
+    /// Another builtin, which is not run: the first word of the command, empty if it has none; for udev the whole
+    /// name of the builtin, or the command if it means none.
     Other(Bytes),
     /// A quote stays open, whatever the builtin; or the words after `hwdb` are not its arguments.
     BadArguments,
@@ -64,7 +64,7 @@ fn read_as_manual(alloc: Global, command: &[u8]) -> Result<Builtin, AllocError>
     }
 }
 
-/// What a command of `hwdb` asks for, of which the first word is the name.
+/// What a command of `hwdb` asks for, whose first word is the name.
 fn read_hwdb(alloc: Global, command: &[u8]) -> Result<Builtin, AllocError>
     ensures { IfOk result (λ b. b ≡ hwdb_of_words (command_words command.now)) }
 {
@@ -93,14 +93,14 @@ fn read_as_udev(alloc: Global, command: &[u8]) -> Result<Builtin, AllocError>
 }
 
 impl Builtin {
-    /// Reads a command as udev(7) cuts it into words: at spaces, where `'` or `"` at any place of a word
-    /// groups what stands up to the same quote, both quotes dropped, so that `''` is an empty word.
+    /// Reads a command as udev(7) splits it into words: at spaces, where `'` or `"` at any place of a word groups
+    /// everything up to the same quote, both quotes dropped, so that `''` is an empty word.
     ///
     /// The first word is the builtin's name. `hwdb` takes `--subsystem=NAME`, `--lookup-prefix=TEXT` and
-    /// `--filter=PATTERN`, of each the last, and at most one modalias; a word that begins with `-` and is
-    /// no such option, a second modalias and a last filter that is no pattern are bad arguments. For udev
-    /// (systemd 257) the first word is the beginning of a name, that of the first builtin which has it,
-    /// and another builtin has its whole name.
+    /// `--filter=PATTERN`, of each the last, and at most one modalias; a word that begins with `-` and is not such
+    /// an option, a second modalias and a last filter that is not a pattern are bad arguments. For udev (systemd
+    /// 257) the first word is the beginning of a name, that of the first builtin with this beginning, and another
+    /// builtin has its whole name.
     pub fn read(alloc: Global, profile: Profile, command: &[u8]) -> Result<Builtin, AllocError>
         ensures { IfOk result (λ b. b ≡ builtin profile command.now) }
     {

@@ -31,7 +31,7 @@ fn need_word(alloc: Global, name: &[u8], need: &[u8]) -> Result<Vec<u8>, AllocEr
     Ok(word)
 }
 
-/// Notes the first thing that the block would have to tell a builtin, if there is one.
+/// Notes the first thing that a builtin needs from the block, if there is one.
 fn note_need(
     alloc: Global,
     rule: &Rule,
@@ -88,7 +88,7 @@ fn set_properties(
     Ok(())
 }
 
-/// Takes what a builtin comes to, and answers whether it was done.
+/// Takes the outcome of a builtin, and returns whether it was done.
 fn take_outcome(
     alloc: Global,
     rule: &Rule,
@@ -164,7 +164,7 @@ pub(crate) fn run_input_id(
     take_outcome(alloc, rule, Builtin::InputId, &outcome, scene)
 }
 
-/// Takes what the hardware database says of a text, if there is one.
+/// Takes what the hardware database says about a text, if there is one.
 fn take_found<L: Lookup>(
     alloc: Global,
     database: &L,
@@ -183,7 +183,7 @@ fn take_found<L: Lookup>(
     }
 }
 
-/// Runs `net_id`; what the hardware database says of the device's address is set first.
+/// Runs `net_id`; what the hardware database says about the device's address is set first.
 pub(crate) fn run_net_id<L: Lookup>(
     alloc: Global,
     rule: &Rule,

@@ -16,7 +16,7 @@ pub enum Came {
 }
 
 impl Came {
-    /// What comes of a text that is too long: by the manual its act is not done, and udev stops the rule.
+    /// The outcome of a text that is too long: by the manual its act is not done, and udev stops the rule.
     pub(crate) fn too_long(profile: Profile) -> Came
         ensures { result ≡ came_too_long profile }
     {
@@ -26,7 +26,7 @@ impl Came {
         }
     }
 
-    /// Whether the rule goes on: with `==` where its act was done, with `!=` where it was not.
+    /// Whether the rule goes on: with `==` if its act was done, with `!=` if it was not.
     pub(crate) fn goes_on(self, operator: MatchOperator) -> bool
         ensures { result ≡ goes_on operator self }
     {

@@ -80,7 +80,7 @@ impl<'a> Candidate<'a> {
         }
     }
 
-    /// Whether it is a device of USB, and no interface of one.
+    /// Whether it is a USB device, and not an interface of one.
     fn is_usb_device(&self) -> bool
         ensures { result ≡ is_usb_device self.now }
     {
@@ -88,8 +88,8 @@ impl<'a> Candidate<'a> {
     }
 }
 
-/// The modaliases of devices, nearest first, each of which has a subsystem: the one that is named, if
-/// any. Such a device of USB is the last one, with or without a modalias.
+/// The modaliases of devices, nearest first, each of which has a subsystem: the one that is named, if any. Such a
+/// USB device is the last one, with or without a modalias.
 fn modaliases_of<'a>(
     alloc: Global,
     subsystem: Option<&[u8]>,

@@ -17,7 +17,7 @@ pub struct Hwdb {
     pub prefix: Bytes,
     /// `--filter=PATTERN`: which keys count; all of them without the option.
     pub filter: Option<Pattern>,
-    /// The modalias that is looked up in place of those of devices.
+    /// The modalias that is looked up instead of those of devices.
     pub modalias: Option<Bytes>,
 }
 
@@ -67,14 +67,14 @@ fn is_known(word: &[u8]) -> bool
         || value_in(FILTER, word).is_some()
 }
 
-/// Whether a word is an option that there is not.
+/// Whether a word is an unknown option.
 fn is_unknown(word: &[u8]) -> bool
     ensures { result ≡ is_unknown word.now }
 {
     is_option(word) && !is_known(word)
 }
 
-/// Whether one of the words is an option that there is not.
+/// Whether one of the words is an unknown option.
 fn has_unknown(words: &[Bytes]) -> bool
     ensures { result ≡ list_any is_unknown words.now }
 {
@@ -86,7 +86,7 @@ fn has_unknown(words: &[Bytes]) -> bool
     false
 }
 
-/// The words that are no options.
+/// The words that are not options.
 fn modaliases<'a>(alloc: Global, words: &'a [Bytes]) -> Result<Vec<&'a [u8]>, AllocError>
     ensures { IfOk result (λ found. map (λ m. m.now) found.items ≡ modaliases words.now) }
 {
@@ -99,7 +99,7 @@ fn modaliases<'a>(alloc: Global, words: &'a [Bytes]) -> Result<Vec<&'a [u8]>, Al
     Ok(found)
 }
 
-/// The one modalias of the words, if there is any; none at all where there are two.
+/// The one modalias of the words, if there is any; `None` if there are several.
 fn modalias(alloc: Global, words: &[Bytes]) -> Result<Option<Option<Bytes>>, AllocError>
     ensures { IfOk result (λ found. found ≡ at_most_one (modaliases words.now)) }
 {
@@ -111,7 +111,7 @@ fn modalias(alloc: Global, words: &[Bytes]) -> Result<Option<Option<Bytes>>, All
     }
 }
 
-/// The pattern that a text is, if it is one.
+/// The pattern that a text is, if there is a text; `None` if it is not a pattern.
 fn pattern_of(alloc: Global, text: Option<&[u8]>) -> Result<Option<Option<Pattern>>, AllocError>
     ensures { IfOk result (λ found. found ≡ filter_of (option_map (λ t. t.now) text.entry)) }
 {
@@ -125,7 +125,7 @@ fn pattern_of(alloc: Global, text: Option<&[u8]>) -> Result<Option<Option<Patter
     }
 }
 
-/// A copy of a text, where there is one.
+/// A copy of a text, if there is one.
 fn copy_of(alloc: Global, text: Option<&[u8]>) -> Result<Option<Bytes>, AllocError>
     ensures { IfOk result (λ copy. copy ≡ option_map (λ t. t.now) text.entry) }
 {
@@ -135,7 +135,7 @@ fn copy_of(alloc: Global, text: Option<&[u8]>) -> Result<Option<Bytes>, AllocErr
     }
 }
 
-/// The options that the words after `hwdb` are, if they are good ones.
+/// The options that the words after `hwdb` mean, if they are valid.
 #[tactic(auto, unfolding(crate::specs::Hwdb::hwdb_of))]
 pub(crate) fn hwdb_of(alloc: Global, words: &[Bytes]) -> Result<Option<Hwdb>, AllocError>
     ensures { IfOk result (λ hwdb. hwdb ≡ hwdb_of words.now) }

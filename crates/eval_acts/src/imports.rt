@@ -29,7 +29,7 @@ fn set_each(alloc: Global, env: &mut OwnedPairs, found: &[(&[u8], &[u8])]) -> Re
     Ok(())
 }
 
-/// Sets each of these properties as udev does: an empty value takes its property away.
+/// Sets each of these properties as udev does: an empty value removes its property.
 pub(crate) fn set_as_udev(
     alloc: Global,
     env: &mut OwnedPairs,
@@ -58,7 +58,7 @@ fn set_found(
     }
 }
 
-/// Takes the properties that were found, and answers whether there are any.
+/// Takes the properties that were found, and returns whether there are any.
 fn take(alloc: Global, found: &[(&[u8], &[u8])], scene: &mut Scene<'_>) -> Result<bool, AllocError>
     ensures scene { IfOk result (λ done. (scene.new, done) ≡ taken (shown found.now) scene.old) }
     ensures refused { OnErr result (scene.new.state.event ≡ scene.old.state.event) }
@@ -153,7 +153,7 @@ pub(crate) fn import_parent(
     import_fitting(alloc, names.parts(), scene)
 }
 
-/// IMPORT{parent} of udev's, whose rendered value is one pattern of fnmatch(3).
+/// IMPORT{parent} for udev, whose rendered value is one pattern of fnmatch(3).
 pub(crate) fn import_named(
     alloc: Global,
     text: &[u8],

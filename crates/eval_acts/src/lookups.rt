@@ -10,7 +10,7 @@ use hwdb_lookup::Lookup;
 use std::alloc::{AllocError, Global};
 use text_bytes::Bytes;
 
-/// The modaliases to look up: the one that is given, else those of the devices.
+/// The modaliases to look up: the given one, or else those of the devices.
 fn modaliases<'a>(
     alloc: Global,
     hwdb: &'a Hwdb,
@@ -67,12 +67,12 @@ fn answer<'l, L: Lookup>(
     Ok(kept)
 }
 
-/// What `hwdb` finds in a database for an event, as udev(7) has it: the answer to the first of these
-/// texts that has one. With a modalias it is the one text, after the prefix; else it is the property
-/// MODALIAS of each device, nearest first, that has a subsystem (the one named, if any) and this
-/// property, after the prefix. The event device is taken by its properties as they are now. A device
-/// of the subsystem `usb` whose property DEVTYPE is `usb_device` and that has the subsystem named, if
-/// any, is the last one looked at, with or without a modalias. Only keys that fit the filter count.
+/// What `hwdb` finds in a database for an event, as udev(7) has it: the answer to the first of these texts that has
+/// one. With a modalias it is the one text, after the prefix; otherwise it is the property MODALIAS of each device,
+/// nearest first, that has a subsystem (the one named, if any) and this property, after the prefix. The event
+/// device is taken by its properties as they are now. A device of the subsystem `usb` whose property DEVTYPE is
+/// `usb_device` and that has the subsystem named, if any, is the last one looked at, with or without a modalias.
+/// Only keys that fit the filter count.
 #[tactic(auto, unfolding(crate::specs::LookUps::found))]
 pub fn look_up<'l, L: Lookup>(
     alloc: Global,

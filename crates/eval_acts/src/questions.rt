@@ -20,7 +20,7 @@ fn is_found(alloc: Global, device: Option<&Device<'_>>, name: &[u8]) -> Result<b
     }
 }
 
-/// TEST of a file of the device at a place of the chain, which is not made where the device is at none.
+/// TEST of a file of the device at a place of the chain, which is not made if the device is not in the chain.
 fn look_at(
     alloc: Global,
     rule: &Rule,
@@ -76,7 +76,7 @@ fn look_by(
     }
 }
 
-/// TEST of a path, which is not made of an absolute one and not with a mask.
+/// TEST of a path, which is not made with an absolute path or with a mask.
 pub(crate) fn look_for(
     alloc: Global,
     rule: &Rule,
@@ -111,7 +111,7 @@ fn result_of(alloc: Global, profile: Profile, text: &[u8]) -> Result<Bytes, Allo
     }
 }
 
-/// Takes what a program answered: where its status is 0, its text is the result.
+/// Takes what a program answered: if its status is 0, its text is the result.
 fn take_answer(
     alloc: Global,
     answer: &ProgramAnswer<'_>,

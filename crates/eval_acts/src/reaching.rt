@@ -1,4 +1,4 @@
-//! What a match leaves that is only reached.
+//! What a match leaves by being reached.
 ghost use Rattle.std.specs.Prelude.{◌≡◌, OnOk, OnErr};
 ghost use Rattle.eval_acts.specs.Reaching.{attribute_reached, reached};
 
@@ -7,7 +7,7 @@ use eval_state::{NoteKind, Scene};
 use rule_types::{PlainKey, PlainMatch, Rule};
 use std::alloc::{AllocError, Global};
 
-/// Leaves what a match of an attribute leaves when it is reached: a note where the attribute is not read.
+/// Leaves what a match of an attribute leaves when it is reached: a note if the attribute is not read.
 fn attribute_reached(
     alloc: Global,
     rule: &Rule,
@@ -24,10 +24,10 @@ fn attribute_reached(
     }
 }
 
-/// Leaves what a match of the event leaves when it is reached, whether it holds or not: that of SYSCTL,
-/// which a dry run does not read, the note `sysctl not read` with the parameter's name; that of an
-/// attribute which udev would read and a dry run does not the note `attribute not read` with its name,
-/// in an event of udev's alone; any other nothing. Where memory runs out, the scene stays as it is.
+/// Leaves what a match of the event leaves when it is reached, whether it holds or not: for SYSCTL, which a dry run
+/// does not read, the note `sysctl not read` with the parameter's name; for an attribute that udev would read and a
+/// dry run does not, the note `attribute not read` with its name, for udev only; for any other, nothing. If memory
+/// runs out, the scene stays as it is.
 pub fn reached(
     alloc: Global,
     rule: &Rule,

@@ -1,6 +1,6 @@
 //! The words of a builtin's command.
 //!
-//! A command is gone through byte by byte, since a quote may open and close inside of a word.
+//! A command is read byte by byte, since a quote may open and close inside a word.
 ghost use Rattle.std.specs.Prelude.{◌≡◌, IfOk, OnOk, option_map};
 ghost use Rattle.eval_acts.specs.Words.{added, begun, command_words, ended, finished, is_quote, quoted, start, took};
 
@@ -8,7 +8,7 @@ use std::alloc::{AllocError, Global};
 use std::marker::Model;
 use text_bytes::Bytes;
 
-/// Where in a command the next byte stands.
+/// Where in a command the next byte is.
 #[derive(Clone, Copy, Debug, PartialEq, Eq)]
 pub enum Place {
     /// Between words.
@@ -35,7 +35,7 @@ impl Model for Cutter {
     ghost view = { λ c. record { place = c.place; word = c.word.items; words = c.words.items } };
 }
 
-/// Whether a byte groups what stands up to the next such byte.
+/// Whether a byte groups everything up to the next such byte.
 fn is_quote(byte: u8) -> bool
     ensures { result ≡ is_quote byte }
 {
@@ -63,7 +63,7 @@ impl Cutter {
         Ok(())
     }
 
-    /// Takes a byte of a word outside of quotes that is no space.
+    /// Takes a byte of a word outside of quotes that is not a space.
     fn begin(&mut self, byte: u8) -> Result<(), AllocError>
         ensures { OnOk result (self.new ≡ begun byte self.old) }
     {
@@ -126,8 +126,8 @@ impl Cutter {
     }
 }
 
-/// The words of a command: it is cut at spaces, and `'` or `"` at any place of a word groups what
-/// stands up to the same quote, both quotes dropped. There are none where a quote stays open.
+/// The words of a command: it is split at spaces, and `'` or `"` at any place of a word groups everything up to the
+/// same quote, both quotes dropped. `None` if a quote stays open.
 #[tactic(auto, unfolding(crate::specs::Words::command_words))]
 pub(crate) fn command_words(alloc: Global, text: &[u8]) -> Result<Option<Vec<Bytes>>, AllocError>
     ensures { IfOk result (λ found. option_map (λ words. words.items) found ≡ command_words text.now) }

@@ -1,4 +1,4 @@
--- What each key makes of what is assigned to it: a row for each key.
+-- What each key makes of the text that is assigned to it: a row for each key.
 use Rattle.std.specs.Prelude.{true, false, List, [], ◌∷◌, Option, Some, None}
 use Rattle.text_bytes.specs.declared.profile.Profile.{Profile}
 use Rattle.text_bytes.specs.declared.profile.Profile.TheVariants.{Manual, Udev}
@@ -27,17 +27,17 @@ use Rattle.eval_assignments.specs.Tags.{tag_changed}
 use Rattle.eval_assignments.specs.declared.escapes.Escape.{Escape}
 use Rattle.eval_assignments.specs.declared.escapes.Escape.TheVariants.{Replace}
 
--- a text that is assigned; an empty one is none
+-- a text that is assigned; none if it is empty
 abbrev pub given : Text → Option Text
 given [] = None
 given (b ∷ t) = Some (b ∷ t)
 
--- the names of links: their spaces are turned to `_` where the rule replaces them too
+-- the names of links: their spaces become `_` if the rule replaces them, too
 abbrev pub link_text : Escape → Text → Text
 link_text Replace t = turned t
 link_text e t = t
 
--- the labels that stay before one is set: all where it is added, else none
+-- the labels that stay before one is set: all if it is added, otherwise none
 abbrev pub labels_before : AssignOperator → List Pair → List Pair
 labels_before Add labels = labels
 labels_before _ labels = []
@@ -47,12 +47,12 @@ abbrev pub owner_set : Rule → Text → Scene → Scene
 owner_set r [] s = noted_key r NoValue key.Owner None s
 owner_set r (b ∷ t) s = record s { owner = Some (b ∷ t) }
 
--- a group is set as udev takes it, so too
+-- a group is set as udev takes it, in the same way
 abbrev pub group_set : Rule → Text → Scene → Scene
 group_set r [] s = noted_key r NoValue key.Group None s
 group_set r (b ∷ t) s = record s { group = Some (b ∷ t) }
 
--- a text, or as it was written where it is empty
+-- a text, or as it was written if it is empty
 abbrev pub or_written : Text → Text → Text
 or_written written [] = written
 or_written written (b ∷ t) = b ∷ t
@@ -80,7 +80,7 @@ assigned Udev r e o target.Symlink written t s = links_changed r o (link_text e 
 assigned Udev r e o (target.Attr name) written t s = attribute_set r name t s
 assigned Udev r e o (target.Sysctl name) written t s = parameter_set r name t s
 
--- what each option changes; `string_escape` holds for its whole rule and changes nothing by itself
+-- what each option changes; `string_escape` is for its whole rule and changes nothing by itself
 abbrev pub with_option : RuleOption → Scene → Scene
 with_option (option.LinkPriority n) s = record s { priority = Some n }
 with_option option.Watch s = record s { watch = Some true }

@@ -1,4 +1,4 @@
--- The attribute that an assignment of udev's writes, by its name.
+-- The attribute that an assignment writes for udev, by its name.
 use Rattle.std.specs.Prelude.{ℕ, zero, suc, nat_lt, if◌then◌else◌, ◌∷◌, ◌++◌, length, codes, Option, Some, None}
 use Rattle.text_bytes.specs.Names.{slash}
 use Rattle.text_tables.specs.Texts.{Text}
@@ -17,7 +17,7 @@ use Rattle.eval_assignments.specs.Bounds.{most_name_bytes}
 abbrev pub attribute_path : EventValue → Text → Text
 attribute_path event name = codes "/sys" ++ event.device.path ++ slash ∷ name
 
--- a value is assigned to an attribute that was found by its name, which else leaves a note
+-- a value is assigned to an attribute that was found by its name; one that was not found leaves a note
 abbrev pub attribute_put : Rule → Text → Option Text → Text → Scene → Scene
 attribute_put r name None t s = noted r AttributeNotFound name s
 attribute_put r name (Some found) t s = record s { attrs = with_value s.attrs found t }
@@ -28,8 +28,8 @@ own_attribute_set r name t s =
     if nat_lt most_name_bytes (length (attribute_path s.state.event name)) then noted_key r TextTooLong key.Attr (Some name) s
     else attribute_put r name (starred s.state.event.device name) t s
 
--- a value is assigned to an attribute of the device at a place of the chain, if there is one: of one above the event device it is reported with
--- its whole name
+-- a value is assigned to an attribute of the device at a place of the chain, if there is one: an attribute of a
+-- device above the event device is reported with its whole name
 abbrev pub attribute_set_at : Option ℕ → NamedValue → Rule → Text → Text → Scene → Scene
 attribute_set_at None n r name t s = own_attribute_set r name t s
 attribute_set_at (Some zero) n r name t s = attribute_put r name (starred s.state.event.device n.attribute) t s

@@ -1,4 +1,4 @@
--- How many bytes udev gives room to in a text that is assigned; a text of one byte more is left out whole.
+-- How many bytes udev has room for in a text that is assigned; a longer text is left out as a whole.
 use Rattle.std.specs.Prelude.{ℕ}
 use Rattle.rule_types.specs.declared.roles.Target.{Target}
 use Rattle.rule_types.specs.declared.roles.Target.TheVariants as target

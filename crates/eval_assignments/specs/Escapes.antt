@@ -15,13 +15,13 @@ use Rattle.eval_rendering.specs.declared.rendered.Mode.TheVariants.{Plain, Link}
 use Rattle.eval_assignments.specs.declared.escapes.Escape.{Escape}
 use Rattle.eval_assignments.specs.declared.escapes.Escape.TheVariants.{Usual, Keep, Replace}
 
--- how a rule treats the bytes of links and names after one assignment more: `string_escape` says so anew
+-- how a rule treats the bytes of links and names after one more assignment: `string_escape` sets it anew
 abbrev pub escape_after : Escape → Change → Escape
 escape_after e (change.Option KeepEscapes) = Keep
 escape_after e (change.Option ReplaceEscapes) = Replace
 escape_after e c = e
 
--- how a rule with these assignments treats bytes: by its last `string_escape`, wherever it stands
+-- how a rule with these assignments treats bytes: by its last `string_escape`, wherever it is
 unfoldable pub escape_of : List Assignment → Escape
 escape_of sets = fold (λ e a. escape_after e a.change) Usual sets
 
@@ -30,21 +30,21 @@ abbrev pub mode_of_name : Profile → Mode
 mode_of_name Manual = Link
 mode_of_name Udev = Plain
 
--- what a text is rendered for where bytes are replaced: the names of links and devices are made safe
+-- what a text is rendered for if bytes are replaced: the names of links and devices are made safe
 abbrev pub mode_in : Profile → Target → Mode
 mode_in profile target.Name = mode_of_name profile
 mode_in profile target.Symlink = Link
 mode_in profile t = Plain
 
--- what a text is rendered for: nothing is made safe where the rule keeps the bytes
+-- what a text is rendered for: nothing is made safe if the rule keeps the bytes
 abbrev pub mode_of : Profile → Target → Escape → Mode
 mode_of profile t Keep = Plain
 mode_of profile t e = mode_in profile t
 
--- a byte with a space turned to `_`
+-- a byte, with `_` for a space
 abbrev pub turned_byte : ℕ → ℕ
 turned_byte b = if b == space then underscore else b
 
--- a text with its spaces turned to `_`
+-- a text with `_` for its spaces
 abbrev pub turned : Text → Text
 turned t = map turned_byte t

@@ -16,7 +16,7 @@ use Rattle.eval_assignments.specs.Lists.{changed, not_empty}
 abbrev pub is_between : ℕ → Bool
 is_between b = b == space || (b == tab || (b == newline || b == carriage_return))
 
--- the words of a text as udev parts it
+-- the words of a text as udev splits it
 abbrev pub words : Text → List Text
 words t = not_empty (slice_split is_between t)
 
@@ -32,11 +32,11 @@ components path = filter is_step (slice_split (λ b. b == slash) path)
 abbrev pub most_component_bytes : ℕ
 most_component_bytes = 255
 
--- whether a component may not stand in a link: `..`, and one that is too long
+-- whether a component may not be in a link: `..`, and one that is too long
 abbrev pub is_barred : Text → Bool
 is_barred component = same_text component (codes "..") || nat_lt most_component_bytes (length component)
 
--- the components after `dev`, where that is the first one
+-- the components after `dev`, if that is the first one
 abbrev pub behind_dev : List Text → List Text
 behind_dev [] = []
 behind_dev (component ∷ others) = if same_text component (codes "dev") then others else []
@@ -50,11 +50,11 @@ abbrev pub path_of : List Text → Option Text
 path_of [] = None
 path_of (component ∷ others) = Some (join_with_byte slash (component ∷ others))
 
--- a link as udev keeps it, below `/dev`; none where the path leads out of it, or has a component that may not stand there
+-- a link as udev keeps it, below `/dev`; none if the path leads out of it, or has a component that may not be there
 abbrev pub plain_link : Text → Option Text
 plain_link path = if list_any is_barred (components path) then None else path_of (below_dev path)
 
--- a text, where it is there
+-- a text, if there is one
 abbrev pub listed : Option Text → List Text
 listed None = []
 listed (Some text) = text ∷ []
@@ -63,21 +63,21 @@ listed (Some text) = text ∷ []
 abbrev pub plain_links : List Text → List Text
 plain_links paths = flat_map (λ path. listed (plain_link path)) paths
 
--- a word, where it is no link
+-- a word, if it is not a link
 abbrev pub refused : Text → Option Text
 refused path = if is_none (plain_link path) then Some path else None
 
--- the first of these words that is no link
+-- the first of these words that is not a link
 abbrev pub first_refused : List Text → Option Text
 first_refused [] = None
 first_refused (path ∷ others) = option_or (refused path) (first_refused others)
 
--- a note about a link that is refused, if one is
+-- a note about a refused link, if there is one
 abbrev pub link_noted : Rule → Option Text → Scene → Scene
 link_noted r None s = s
 link_noted r (Some path) s = noted r LinkIgnored path s
 
--- links as an operator of udev's changes them, and a note about the first word that is no link
+-- links as an operator changes them for udev, and a note about the first word that is not a link
 abbrev pub links_changed : Rule → AssignOperator → Text → Scene → Scene
 links_changed r o t s =
     link_noted r (first_refused (words t)) (record s { state = record s.state { links = changed o (plain_links (words t)) s.state.links } })

@@ -7,18 +7,18 @@ use Rattle.text_tables.specs.Texts.{Text, with_texts, without_text}
 use Rattle.rule_types.specs.declared.roles.AssignOperator.{AssignOperator}
 use Rattle.rule_types.specs.declared.roles.AssignOperator.TheVariants.{Assign, Add, Remove, AssignFinal}
 
--- each of these texts is taken away
+-- each of these texts is removed
 abbrev pub without_texts : List Text → List Text → List Text
 without_texts texts gone = fold without_text texts gone
 
--- texts as an operator changes them: made anew, added after where they are not there, taken away
+-- texts as an operator changes them: made anew, added at the end if they are not there, removed
 abbrev pub changed : AssignOperator → List Text → List Text → List Text
 changed Assign given texts = with_texts [] given
 changed AssignFinal given texts = with_texts [] given
 changed Add given texts = with_texts texts given
 changed Remove given texts = without_texts texts given
 
--- a text as one tag; an empty one is none
+-- a text as one tag; an empty text is no tag
 abbrev pub one_tag : Text → List Text
 one_tag [] = []
 one_tag (b ∷ t) = (b ∷ t) ∷ []

@@ -35,7 +35,8 @@ abbrev pub has_name : Profile → DeviceValue → Bool
 has_name Manual device = is_net device.subsystem
 has_name Udev device = is_interface device
 
--- whether udev puts `_` for a byte of a name: for spaces and control characters, all that is not ASCII, `:`, `/` and `%`
+-- whether udev puts `_` instead of a byte of a name: instead of spaces and control characters, all that is not ASCII,
+-- `:`, `/` and `%`
 abbrev pub is_foreign : ℕ → Bool
 is_foreign b = nat_le b space || (nat_le delete b || (b == colon || (b == slash || b == percent)))
 
@@ -43,7 +44,8 @@ is_foreign b = nat_le b space || (nat_le delete b || (b == colon || (b == slash 
 abbrev pub name_byte : ℕ → ℕ
 name_byte b = if is_foreign b then underscore else b
 
--- a name that is assigned, unless its rule keeps its bytes: the manual has its spaces as `_`, udev each byte that does not belong there
+-- a name that is assigned, unless its rule keeps its bytes: the manual has `_` for its spaces, udev for each byte
+-- that does not belong there
 abbrev pub name_text : Profile → Escape → Text → Text
 name_text profile Keep t = t
 name_text Manual e t = turned t

@@ -25,15 +25,16 @@ is_separator b = b == dot || b == slash
 abbrev pub exchanged : ℕ → ℕ
 exchanged b = if b == dot then slash else if b == slash then dot else b
 
--- the name of a parameter with slashes: where a dot is its first separator, dots and slashes change places
+-- the name of a parameter with slashes: if a dot is its first separator, dots and slashes are exchanged
 abbrev pub with_slashes : Text → Text
 with_slashes name = if begins_with dot (skip_while (λ b. not (is_separator b)) name) then map exchanged name else name
 
--- the name of a parameter as udev tells it: its path below `/proc/sys`
+-- the name of a parameter as udev reports it: its path below `/proc/sys`
 abbrev pub parameter_name : Text → Text
 parameter_name name = join_with_byte slash (components (with_slashes name))
 
--- a value is assigned to a parameter by its name once that is rendered; one that is too long leaves a note with the name as it is written
+-- a value is assigned to a parameter by its name once this is rendered; one that is too long leaves a note with the
+-- name as it is written
 abbrev pub parameter_put : Rule → Text → Rendered → Text → Scene → Scene
 parameter_put r written rendered.TooLong t s = noted_key r TextTooLong key.Sysctl (Some written) s
 parameter_put r written (rendered.Text name) t s = record s { sysctls = with_value s.sysctls (parameter_name name) t }

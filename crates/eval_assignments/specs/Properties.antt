@@ -20,7 +20,7 @@ use Rattle.eval_assignments.specs.Escapes.{turned}
 use Rattle.eval_assignments.specs.declared.escapes.Escape.{Escape}
 use Rattle.eval_assignments.specs.declared.escapes.Escape.TheVariants.{Replace}
 
--- a text after a value, with a space between them, unless that is too long; a value without a byte gives its place to the text
+-- a text after a value, with a space between them, unless that is too long; the text alone if the value is empty
 abbrev pub appended : Text → Text → Option Text
 appended [] t = Some t
 appended (b ∷ value) t = bounded ((b ∷ value) ++ space ∷ t)
@@ -30,7 +30,7 @@ abbrev pub property_joined : Rule → Text → Option Text → Scene → Scene
 property_joined r name None s = noted r TextTooLong (word_of_key key.Env (Some name)) s
 property_joined r name (Some value) s = with_env (with_value s.state.env name value) s
 
--- a text is put after the value of a property; the empty one changes nothing
+-- a text is appended to the value of a property; an empty text changes nothing
 abbrev pub property_added : Rule → Text → Text → Scene → Scene
 property_added r name [] s = s
 property_added r name (b ∷ t) s = property_joined r name (appended (or_empty (value_of s.state.env name)) (b ∷ t)) s
@@ -40,11 +40,12 @@ abbrev pub property_changed : Rule → AssignOperator → Text → Text → Scen
 property_changed r Add name t s = property_added r name t s
 property_changed r _ name t s = with_env (property_set name t s.state.env) s
 
--- a byte with a slash as `_`
+-- a byte, with `_` for a slash
 abbrev pub unslashed_byte : ℕ → ℕ
 unslashed_byte b = if b == slash then underscore else b
 
--- the value of a property as udev takes it: where the rule replaces bytes, those that do not belong in a link, spaces and slashes are `_`
+-- the value of a property as udev takes it: if the rule replaces bytes, those that do not belong in a link, spaces
+-- and slashes become `_`
 abbrev pub env_text : Escape → Text → Text
 env_text Replace t = map unslashed_byte (turned (safe link_marks t))
 env_text e t = t
@@ -63,12 +64,12 @@ abbrev pub property_put : Rule → Text → Option Text → Scene → Scene
 property_put r name None s = noted r TextTooLong (word_of_key key.Env (Some name)) s
 property_put r name (Some value) s = with_env (property_set name value s.state.env) s
 
--- a text is put after the value of a property of udev's; one that is written empty changes nothing
+-- a text is appended to the value of a property for udev; a text that is written empty changes nothing
 abbrev pub property_extended : Rule → Text → Text → Text → Scene → Scene
 property_extended r name [] t s = s
 property_extended r name (b ∷ written) t s = property_put r name (extended (value_of s.state.env name) t) s
 
--- a property as an operator of udev's changes it, with a text as it is written and once it is rendered
+-- a property as an operator changes it for udev, with a text as it is written and once it is rendered
 abbrev pub udev_property_changed : Rule → Escape → AssignOperator → Text → Text → Text → Scene → Scene
 udev_property_changed r e Add name written t s = property_extended r name written (env_text e t) s
 udev_property_changed r e _ name written t s = with_env (property_set name (env_text e t) s.state.env) s

@@ -27,26 +27,26 @@ use Rattle.eval_assignments.specs.Links.{words}
 abbrev pub run_of : Rule → Option RunType → Template → Scene → RunValue
 run_of r braces template s = record { rule = r; braces = braces; template = template; selected = s.state.selected }
 
--- a RUN is taken in as it is written
+-- a RUN is added as it is written
 abbrev pub run_kept : Rule → AssignOperator → Option RunType → Template → Scene → Scene
 run_kept r o braces template s = finally o (Some final.Run) (record s { runs = runs_after o s.runs (run_of r braces template s) })
 
--- the commands that stay before one is taken in: all where it is added, else none
+-- the commands that stay before one is set: all if it is added with `+=`, otherwise none
 abbrev pub made_before : AssignOperator → List MadeRun → List MadeRun
 made_before Add made = made
 made_before _ made = []
 
--- a command is taken in after the others, by the words that it has: without one it leaves a note
+-- a command is added to the others, by its words: without one it leaves a note
 abbrev pub command_made : Rule → Option RunType → Template → Text → List Text → Scene → Scene
 command_made r braces template text [] s = noted_key r NoValue key.Run (option_map run_name braces) s
 command_made r braces template text (word ∷ more) s = record s { made = s.made ++ record { run = run_of r braces template s; text = text } ∷ [] }
 
--- a RUN once it is rendered is taken in after the others; one that is too long leaves a note
+-- a RUN once it is rendered is added to the others; one that is too long leaves a note
 abbrev pub run_made : Rule → Option RunType → Template → Rendered → Scene → Scene
 run_made r braces template rendered.TooLong s = noted_key r TextTooLong key.Run (option_map run_name braces) s
 run_made r braces template (rendered.Text text) s = command_made r braces template text (words text) s
 
--- a RUN is rendered and taken in; whatever comes of it, `=` and `:=` take all others away, and `:=` makes it final
+-- a RUN is rendered and added; whatever its outcome, `=` and `:=` remove all others, and `:=` makes RUN final
 abbrev pub run_rendered : Rule → AssignOperator → Option RunType → Template → Scene → Scene
 run_rendered r o braces template s =
     finally o (Some final.Run)

@@ -31,7 +31,7 @@ use Rattle.eval_assignments.specs.Names.{has_name}
 use Rattle.eval_assignments.specs.Runs.{run_kept, run_rendered}
 use Rattle.eval_assignments.specs.declared.escapes.Escape.{Escape}
 
--- whether an assignment is ignored: NAME where the event device has no name to assign
+-- whether an assignment is ignored: NAME if the event device has no name to assign
 abbrev pub is_ignored : Profile → Target → Scene → Bool
 is_ignored profile target.Name s = not (has_name profile s.state.event.device)
 is_ignored profile t s = false
@@ -41,7 +41,8 @@ abbrev pub text_given : Profile → Rule → Escape → AssignOperator → Targe
 text_given profile r e o about written t s =
     if is_ignored profile about s then noted r NameIgnored t s else finally o (final_target about) (assigned profile r e o about written t s)
 
--- what follows an assignment of a text that is too long: for the manual nothing is made final, for udev all the same
+-- what follows an assignment of a text that is too long: for the manual nothing is made final, for udev its key
+-- nevertheless is
 abbrev pub finally_too_long : Profile → AssignOperator → Target → Scene → Scene
 finally_too_long Manual o about s = s
 finally_too_long Udev o about s = finally o (final_target about) s
@@ -52,7 +53,7 @@ text_set profile r e o about written (rendered.Text t) s = text_given profile r 
 text_set profile r e o about written rendered.TooLong s =
     finally_too_long profile o about (noted r TextTooLong (word_of_key (key_of_target about) (attribute_of_target about)) s)
 
--- whether udev does nothing with a text where the device has no number: what is said of nodes and of links to them
+-- whether udev does nothing with a text if the device has no number: one for its node or for links to that
 abbrev pub is_of_node : Target → Bool
 is_of_node target.Owner = true
 is_of_node target.Group = true
@@ -61,7 +62,7 @@ is_of_node (target.Seclabel name) = true
 is_of_node target.Symlink = true
 is_of_node t = false
 
--- whether udev passes an assignment over since the device has no number
+-- whether udev skips an assignment since the device has no number
 abbrev pub lacks_number : Target → Option NumberValue → Bool
 lacks_number about None = is_of_node about
 lacks_number about (Some number) = false
@@ -70,7 +71,7 @@ lacks_number about (Some number) = false
 abbrev pub without_links : Scene → Scene
 without_links s = record s { state = record s.state { links = [] } }
 
--- what udev takes away before a text is rendered: with `=` and `:=` the links, whatever comes of the text
+-- what udev removes before a text is rendered: with `=` and `:=` the links, whatever the text
 abbrev pub emptied : AssignOperator → Target → Scene → Scene
 emptied Assign target.Symlink s = without_links s
 emptied AssignFinal target.Symlink s = without_links s
@@ -83,14 +84,14 @@ text_rendered Manual r o about template s =
 text_rendered Udev r o about template s =
     text_set Udev r (escape_of r.sets) o about template.written (within (most_bytes_of about) (render template s.state (mode_of Udev about (escape_of r.sets)))) s
 
--- an assignment of a text: udev passes some over where the device has no number, and leaves a note
+-- an assignment of a text: udev skips some if the device has no number, and leaves a note
 abbrev pub text_step : Profile → Rule → AssignOperator → Target → Template → Scene → Scene
 text_step Manual r o about template s = text_rendered Manual r o about template s
 text_step Udev r o about template s =
     if lacks_number about s.state.event.device.number then noted_key r NoDeviceNumber (key_of_target about) (attribute_of_target about) s
     else text_rendered Udev r o about template (emptied o about s)
 
--- a RUN is taken in: as it is written, and by udev rendered
+-- a RUN is added: as it is written, for udev rendered
 abbrev pub run_step : Profile → Rule → AssignOperator → Option RunType → Template → Scene → Scene
 run_step Manual r o braces template s = run_kept r o braces template s
 run_step Udev r o braces template s = run_rendered r o braces template s
@@ -101,7 +102,7 @@ step_by profile r o (change.Option known) s = finally o (final_option profile kn
 step_by profile r o (change.Text about template) s = text_step profile r o about template s
 step_by profile r o (change.Run braces template) s = run_step profile r o braces template s
 
--- an assignment of a rule; one to a key that is final changes nothing
+-- an assignment of a rule; one to a final key changes nothing
 unfoldable pub set_step : Rule → Scene → Assignment → Scene
 set_step r s a =
     if is_settled (final_key s.state.event.profile a.change) s.finals then s else step_by s.state.event.profile r a.operator a.change s

@@ -13,7 +13,7 @@ use Rattle.eval_state.specs.declared.note_kind.NoteKind.TheVariants.{NoValue, Ta
 use Rattle.eval_state.specs.declared.scene.Scene.{Scene}
 use Rattle.eval_assignments.specs.Lists.{without_texts}
 
--- whether a byte may be in a tag of udev's
+-- whether a byte may be in a tag for udev
 abbrev pub is_tag_byte : ℕ → Bool
 is_tag_byte b = is_ascii_alphanumeric b || (b == minus || b == underscore)
 
@@ -21,19 +21,19 @@ is_tag_byte b = is_ascii_alphanumeric b || (b == minus || b == underscore)
 abbrev pub most_tag_bytes : ℕ
 most_tag_bytes = 255
 
--- whether udev takes a text for a tag
+-- whether udev accepts a text as a tag
 abbrev pub is_tag : Text → Bool
 is_tag t = nat_le (length t) most_tag_bytes && list_all is_tag_byte t
 
--- the tags that are in the end: those that were not taken away
+-- the tags at the end: those that were not removed
 abbrev pub current_tags : Scene → List Text
 current_tags s = without_texts s.state.tags s.gone
 
--- a tag that stands again where it was taken away, and at the end where it was not there
+-- a tag that is set: again if it was removed, and at the end if it was not there
 abbrev pub tag_standing : Text → Scene → Scene
 tag_standing t s = record s { gone = without_text s.gone t; state = record s.state { tags = with_text s.state.tags t } }
 
--- a text is added as a tag, unless it is none
+-- a text is added as a tag; one that is not a tag leaves a note
 abbrev pub tag_added : Rule → Text → Scene → Scene
 tag_added r [] s = noted_key r NoValue key.Tag None s
 tag_added r (b ∷ t) s = if is_tag (b ∷ t) then tag_standing (b ∷ t) s else noted r TagIgnored (b ∷ t) s
@@ -42,7 +42,7 @@ tag_added r (b ∷ t) s = if is_tag (b ∷ t) then tag_standing (b ∷ t) s else
 abbrev pub without_tags : Scene → Scene
 without_tags s = record s { gone = []; state = record s.state { tags = [] } }
 
--- tags as an operator of udev's changes them: what is taken away is still met by TAG and TAGS
+-- tags as an operator changes them for udev: what is removed is still met by TAG and TAGS
 abbrev pub tag_changed : Rule → AssignOperator → Text → Scene → Scene
 tag_changed r Remove t s = record s { gone = with_text s.gone t }
 tag_changed r Add t s = tag_added r t s

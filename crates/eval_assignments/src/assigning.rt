@@ -18,7 +18,7 @@ use std::alloc::{AllocError, Global};
 use text_bytes::{Bytes, Profile};
 use text_tables::OwnedPairs;
 
-/// A text that is assigned; an empty one is none.
+/// A text that is assigned; `None` if it is empty.
 fn given(text: Bytes) -> Option<Bytes>
     ensures { result ≡ given text }
 {
@@ -29,7 +29,7 @@ fn given(text: Bytes) -> Option<Bytes>
     }
 }
 
-/// The names of links; their spaces are turned where the rule replaces them too.
+/// The names of links; their spaces become `_` if the rule replaces them, too.
 fn link_text(alloc: Global, escape: Escape, text: Bytes) -> Result<Bytes, AllocError>
     ensures { IfOk result (λ names. names ≡ link_text escape text) }
 {
@@ -100,7 +100,8 @@ fn assign_manual(
     Ok(())
 }
 
-/// Sets the owner of the device's node as udev does (systemd 257): an empty one leaves a note, and the one before stays.
+/// Sets the owner of the device's node as udev does (systemd 257): an empty one leaves a note, and the one before
+/// stays.
 fn set_owner(
     alloc: Global,
     rule: &Rule,
@@ -134,7 +135,7 @@ fn set_group(
     Ok(())
 }
 
-/// A text, or as it was written where it is empty.
+/// A text, or as it was written if it is empty.
 fn or_written(alloc: Global, written: &[u8], text: Bytes) -> Result<Bytes, AllocError>
     ensures { IfOk result (λ t. t ≡ or_written written.now text) }
 {

@@ -1,4 +1,4 @@
-//! The attribute that an assignment of udev's writes, found by its name.
+//! The attribute that an assignment writes for udev, found by its name.
 ghost use Rattle.std.specs.Prelude.{◌≡◌, ◌++◌, ◌∷◌, nat_lt, codes, length, OnOk, OnErr};
 ghost use Rattle.text_bytes.specs.Names.{slash};
 ghost use Rattle.eval_state.specs.Named.{named_place};
@@ -11,7 +11,7 @@ use rule_types::{Key, Rule};
 use std::alloc::{AllocError, Global};
 use text_bytes::Bytes;
 
-/// Assigns a value to an attribute that was found by its name; where it was not, a note is left.
+/// Assigns a value to an attribute that was found by its name; if it was not found, a note is left.
 fn put_attribute(
     alloc: Global,
     rule: &Rule,
@@ -29,7 +29,7 @@ fn put_attribute(
     }
 }
 
-/// Whether the path of an attribute of a device is longer than udev has room for.
+/// Whether the path of an attribute of a device has more bytes than udev has room for.
 fn is_path_long(path: &[u8], name: &[u8]) -> bool
     ensures { result ≡ nat_lt most_name_bytes (length (codes "/sys" ++ path.now ++ slash ∷ name.now)) }
 {
@@ -56,7 +56,7 @@ fn set_own_attribute(
     put_attribute(alloc, rule, name, found, value, scene)
 }
 
-/// Assigns a value to an attribute that is named with its device, where the chain has that at a place.
+/// Assigns a value to an attribute that is named with its device, if the chain has this device.
 fn set_named_attribute(
     alloc: Global,
     rule: &Rule,
@@ -78,10 +78,9 @@ fn set_named_attribute(
     }
 }
 
-/// Assigns a value to an attribute as udev finds it (systemd 257): `[SUBSYSTEM/KERNEL]ATTRIBUTE` is one of the device of the
-/// chain that is named so, where that is there, and a component `*` with others after it stands for the first folder
-/// that
-/// fits. A name that fits nothing leaves a note, and so does a path of over 1,023 bytes.
+/// Assigns a value to an attribute as udev finds it (systemd 257): `[SUBSYSTEM/KERNEL]ATTRIBUTE` is one of the
+/// device of the chain with this name, if there is one, and a component `*` with others after it means the first
+/// folder that fits. A name that fits nothing leaves a note, and so does a path of over 1,023 bytes.
 pub(crate) fn set_attribute(
     alloc: Global,
     rule: &Rule,

@@ -1,4 +1,4 @@
-//! How many bytes udev gives room to in a text that is assigned.
+//! How many bytes udev has room for in a text that is assigned.
 ghost use Rattle.std.specs.Prelude.{◌≡◌};
 ghost use Rattle.eval_assignments.specs.Bounds.{most_bytes_of, most_command_bytes, most_name_bytes, most_value_bytes};
 

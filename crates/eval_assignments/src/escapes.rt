@@ -7,18 +7,18 @@ use rule_types::{Assignment, Change, RuleOption, Target};
 use std::alloc::{AllocError, Global};
 use text_bytes::Profile;
 
-/// How a rule treats the bytes of links and names.
+/// How a rule treats bytes of links and names.
 #[derive(Clone, Copy, Debug, PartialEq, Eq)]
 pub enum Escape {
     /// Bytes that do not belong there are replaced; spaces separate links.
     Usual,
     /// `string_escape=none`: nothing is replaced; spaces separate links.
     Keep,
-    /// `string_escape=replace`: spaces of links are replaced too.
+    /// `string_escape=replace`: spaces in links are replaced, too.
     Replace,
 }
 
-/// How a rule treats bytes after one assignment more.
+/// How a rule treats bytes after one more assignment.
 fn escape_after(escape: Escape, change: &Change) -> Escape
     ensures { result ≡ escape_after escape change.now }
 {
@@ -29,7 +29,7 @@ fn escape_after(escape: Escape, change: &Change) -> Escape
     }
 }
 
-/// How a rule with these assignments treats bytes: by its last `string_escape`, wherever it stands.
+/// How a rule with these assignments treats bytes: by its last `string_escape`, wherever it is.
 #[tactic(auto, unfolding(crate::specs::Escapes::escape_of))]
 pub(crate) fn escape_of(sets: &[Assignment]) -> Escape
     ensures { result ≡ escape_of sets.now }
@@ -51,7 +51,7 @@ pub(crate) fn mode_of(profile: Profile, target: &Target, escape: Escape) -> Mode
     }
 }
 
-/// What a text is rendered for where bytes are replaced.
+/// What a text is rendered for if bytes are replaced.
 fn mode_in(profile: Profile, target: &Target) -> Mode
     ensures { result ≡ mode_in profile target.now }
 {
@@ -62,7 +62,7 @@ fn mode_in(profile: Profile, target: &Target) -> Mode
     }
 }
 
-/// What a name is rendered for: udev replaces bytes of a name by itself.
+/// What a name is rendered for: udev has its own replacement for bytes of a name.
 fn mode_of_name(profile: Profile) -> Mode
     ensures { result ≡ mode_of_name profile }
 {
@@ -72,14 +72,14 @@ fn mode_of_name(profile: Profile) -> Mode
     }
 }
 
-/// A byte with a space turned to `_`.
+/// A byte, with `_` for a space.
 fn turned_byte(byte: u8) -> u8
     ensures { result ≡ turned_byte byte }
 {
     if byte == b' ' { b'_' } else { byte }
 }
 
-/// A text with its spaces turned to `_`.
+/// A text with `_` for its spaces.
 pub(crate) fn turned(alloc: Global, text: &[u8]) -> Result<Vec<u8>, AllocError>
     ensures { IfOk result (λ whole. whole.items ≡ turned text.now) }
 {

@@ -42,8 +42,8 @@ pub(crate) fn final_option(profile: Profile, option: RuleOption) -> Option<Final
     }
 }
 
-/// The key of an assignment that `:=` makes final by a profile, if there is one: for udev (systemd 257) the priority of links is
-/// never final.
+/// The key of an assignment that `:=` makes final by a profile, if there is one: for udev (systemd 257) the
+/// priority of links is never final.
 pub fn final_key(profile: Profile, change: &Change) -> Option<FinalKey>
     ensures { result ≡ final_key profile change.now }
 {

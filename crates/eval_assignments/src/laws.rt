@@ -1,4 +1,4 @@
-//! What is true of what udev keeps of texts that are assigned.
+//! What is true of the part of assigned texts that udev keeps.
 //!
 //! Each function here is empty: its contract is the law.
 ghost use Rattle.std.specs.Prelude.{◌≡◌, ◌<◌, ◌^◌, ◌++◌, ◌==◌, ℕ, true, false, Some, codes};

@@ -22,14 +22,14 @@ fn is_between(byte: u8) -> bool
     byte == b' ' || byte == b'\t' || byte == b'\n' || byte == b'\r'
 }
 
-/// The parts of a text between the bytes at which udev parts it.
+/// The parts of a text between the bytes at which udev splits it.
 fn parts(alloc: Global, text: &[u8]) -> Result<Vec<&[u8]>, AllocError>
     ensures { IfOk result (λ found. map (λ t. t.now) found.items ≡ slice_split is_between text.now) }
 {
     text.split(|byte| is_between(*byte)).collect(alloc)
 }
 
-/// The words of a text as udev parts it, at spaces, tabs and the ends of lines.
+/// The words of a text as udev splits it, at spaces, tabs and the ends of lines.
 #[tactic(auto, using(crate::proofs::Cutting::held_more))]
 pub(crate) fn words(alloc: Global, text: &[u8]) -> Result<Vec<&[u8]>, AllocError>
     ensures { IfOk result (λ found. map (λ t. t.now) found.items ≡ words text.now) }
@@ -49,7 +49,7 @@ fn is_step(component: &[u8]) -> bool
     !component.is_empty() && component != b".".as_slice()
 }
 
-/// Puts a component after others, if it leads somewhere.
+/// Adds a component to others, if it leads somewhere.
 fn push_step<'a>(steps: &mut Vec<&'a [u8]>, component: &'a [u8]) -> Result<(), AllocError>
     ensures { OnOk result (map (λ t. t.now) steps.new.items ≡ map (λ t. t.now) steps.old.items ++ filter is_step (component.now ∷ [])) }
 {
@@ -73,14 +73,14 @@ pub(crate) fn components(alloc: Global, path: &[u8]) -> Result<Vec<&[u8]>, Alloc
     Ok(steps)
 }
 
-/// Whether a component may not stand in a link.
+/// Whether a component may not be in a link.
 fn is_barred(component: &[u8]) -> bool
     ensures { result ≡ is_barred component.now }
 {
     component == b"..".as_slice() || component.len() > MAX_COMPONENT_BYTES
 }
 
-/// Whether a component may not stand in a link, of several.
+/// Whether one of several components may not be in a link.
 fn any_barred(parts: &[&[u8]]) -> bool
     ensures { result ≡ list_any is_barred (map (λ t. t.now) parts.now) }
 {
@@ -99,7 +99,7 @@ fn is_dev(component: &[u8]) -> bool
     component == b"dev".as_slice()
 }
 
-/// The components after `dev`, where that is the first one.
+/// The components after `dev`, if that is the first one.
 fn behind_dev<'s, 'a>(components: &'s [&'a [u8]]) -> &'s [&'a [u8]]
     ensures { map (λ t. t.now) result.now ≡ behind_dev (map (λ t. t.now) components.now) }
 {
@@ -139,7 +139,7 @@ fn path_of(alloc: Global, components: &[&[u8]]) -> Result<Option<Bytes>, AllocEr
 }
 
 /// A link as udev keeps it: without slashes that repeat or are at an end, without `.`, and below `/dev`.
-/// None where the path leads out of `/dev`, where a component is `..`, and where one has over 255 bytes.
+/// `None` if the path leads out of `/dev`, if a component is `..`, or if one has over 255 bytes.
 fn plain_link(alloc: Global, path: &[u8]) -> Result<Option<Bytes>, AllocError>
     ensures { IfOk result (λ link. link ≡ plain_link path.now) }
 {
@@ -154,12 +154,12 @@ fn plain_link(alloc: Global, path: &[u8]) -> Result<Option<Bytes>, AllocError>
     }
 }
 
-/// What comes of the words that are to be links.
+/// The outcome of words that are meant as links.
 #[derive(Drop)]
 struct Links<'a> {
-    /// The links, as they are kept.
+    /// The links as they are kept.
     kept: Vec<Bytes>,
-    /// The first word that is no link.
+    /// The first word that is not a link.
     refused: Option<&'a [u8]>,
 }
 
@@ -177,7 +177,7 @@ impl<'a> Links<'a> {
     }
 }
 
-/// The links of words, and the first word that is none.
+/// The links of words, and the first word that is not a link.
 fn links_of<'a>(alloc: Global, words: &[&'a [u8]]) -> Result<Links<'a>, AllocError>
     ensures kept { IfOk result (λ links. links.kept.items ≡ plain_links (map (λ t. t.now) words.now)) }
     ensures refused { IfOk result (λ links. option_map (λ t. t.now) links.refused ≡ first_refused (map (λ t. t.now) words.now)) }
@@ -192,7 +192,7 @@ fn links_of<'a>(alloc: Global, words: &[&'a [u8]]) -> Result<Links<'a>, AllocErr
     Ok(links)
 }
 
-/// Returns texts.
+/// Texts, borrowed.
 fn lent(alloc: Global, texts: &[Bytes]) -> Result<Vec<&[u8]>, AllocError>
     ensures { IfOk result (λ lent. map (λ t. t.now) lent.items ≡ texts.now) }
 {
@@ -203,7 +203,7 @@ fn lent(alloc: Global, texts: &[Bytes]) -> Result<Vec<&[u8]>, AllocError>
     Ok(lent)
 }
 
-/// Leaves a note about a link that is refused, if one is.
+/// Leaves a note about a refused link, if there is one.
 fn note_link(
     alloc: Global,
     rule: &Rule,
@@ -219,8 +219,8 @@ fn note_link(
     }
 }
 
-/// Changes the links by an operator as udev does (systemd 257): each word of the text is a link, kept as its plain path
-/// below `/dev`; one that is none is left out, and the first of these is reported in a note.
+/// Changes the links by an operator as udev does (systemd 257): each word of the text is a link, kept as its plain
+/// path below `/dev`; a word that is not a link is left out, and the first of these is reported in a note.
 pub(crate) fn change_udev_links(
     alloc: Global,
     rule: &Rule,

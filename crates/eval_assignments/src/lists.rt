@@ -18,7 +18,7 @@ fn add_each(alloc: Global, texts: &mut OwnedTexts, more: &[&[u8]]) -> Result<(),
     Ok(())
 }
 
-/// Takes each of these texts away.
+/// Removes each of these texts.
 fn remove_each(texts: &mut OwnedTexts, gone: &[&[u8]])
     ensures { texts.new ≡ without_texts texts.old (map (λ t. t.now) gone.now) }
 {
@@ -49,7 +49,7 @@ pub(crate) fn change(
     }
 }
 
-/// Changes tags by an operator; a text is one tag, an empty one is none.
+/// Changes tags by an operator; a text is one tag, an empty text no tag.
 pub(crate) fn change_tags(
     alloc: Global,
     operator: AssignOperator,
@@ -65,7 +65,7 @@ pub(crate) fn change_tags(
     }
 }
 
-/// Puts a name after others, unless it is empty.
+/// Adds a name to others, unless it is empty.
 pub(crate) fn push_name<'a>(names: &mut Vec<&'a [u8]>, name: &'a [u8]) -> Result<(), AllocError>
     ensures { OnOk result (map (λ t. t.now) names.new.items ≡ map (λ t. t.now) names.old.items ++ not_empty (name.now ∷ [])) }
 {

@@ -16,7 +16,7 @@ fn octal_digit(number: u32) -> u8
     b'0' + number as u8
 }
 
-/// A mode as four octal digits, the greatest place first.
+/// A mode as four octal digits, the most significant first.
 fn four_digits(alloc: Global, mode: u32) -> Result<Bytes, AllocError>
     requires { mode < 8 ^ 4 }
     ensures { IfOk result (λ digits. digits ≡ four_digits mode) }
@@ -30,9 +30,8 @@ fn four_digits(alloc: Global, mode: u32) -> Result<Bytes, AllocError>
     Bytes::copy_of(alloc, &digits)
 }
 
-/// Sets the mode of the device's node as udev does (systemd 257): what octal digits write, reported as four of them. A
-/// text that is
-/// no mode leaves a note, and the mode before stays.
+/// Sets the mode of the device's node as udev does (systemd 257): as octal digits, reported as four of them. A text
+/// that is not a mode leaves a note, and the mode before stays.
 pub(crate) fn set_mode(
     alloc: Global,
     rule: &Rule,

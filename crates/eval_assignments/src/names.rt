@@ -20,8 +20,8 @@ fn is_net(subsystem: Option<&[u8]>) -> bool
 /// The numbers of interfaces are below this one.
 const INTERFACES: u64 = 1 << 31;
 
-/// Whether a device is an interface for udev (systemd 257): its property IFINDEX, as the kernel gives it, is a decimal number
-/// from 1 to 2,147,483,647.
+/// Whether a device is an interface for udev (systemd 257): its property IFINDEX, as the kernel gives it, is a
+/// decimal number from 1 to 2,147,483,647.
 pub fn is_interface(device: &Device<'_>) -> bool
     ensures { result ≡ is_interface device.now }
 {
@@ -42,28 +42,28 @@ pub(crate) fn has_name(profile: Profile, device: &Device<'_>) -> bool
     }
 }
 
-/// Whether udev puts `_` for a byte of a name.
+/// Whether udev puts `_` instead of a byte of a name.
 fn is_foreign(byte: u8) -> bool
     ensures { result ≡ is_foreign byte }
 {
     byte <= b' ' || byte >= 0x7F || byte == b':' || byte == b'/' || byte == b'%'
 }
 
-/// A byte of a name of udev's.
+/// A byte of a name for udev.
 fn name_byte(byte: u8) -> u8
     ensures { result ≡ name_byte byte }
 {
     if is_foreign(byte) { b'_' } else { byte }
 }
 
-/// A name of udev's, each byte that does not belong there as `_`.
+/// A name for udev, with `_` for each byte that does not belong there.
 fn name_bytes(alloc: Global, text: &[u8]) -> Result<Vec<u8>, AllocError>
     ensures { IfOk result (λ name. name.items ≡ map name_byte text.now) }
 {
     text.iter().map(|byte| name_byte(*byte)).collect(alloc)
 }
 
-/// A name that is assigned; its bytes are turned unless the rule keeps them.
+/// A name that is assigned; its bytes are replaced unless the rule keeps them.
 pub(crate) fn name_text(
     alloc: Global,
     profile: Profile,

@@ -46,7 +46,7 @@ fn has_dots(name: &[u8]) -> bool
     begins_with(b'.', name.split_at(first_len(name)).1)
 }
 
-/// The name of a parameter with slashes: where a dot is its first separator, dots and slashes change places.
+/// The name of a parameter with slashes: if a dot is its first separator, dots and slashes are exchanged.
 fn with_slashes(alloc: Global, name: &[u8]) -> Result<Vec<u8>, AllocError>
     ensures { IfOk result (λ made. made.items ≡ with_slashes name.now) }
 {
@@ -57,9 +57,8 @@ fn with_slashes(alloc: Global, name: &[u8]) -> Result<Vec<u8>, AllocError>
     }
 }
 
-/// The name of a parameter as udev tells it (systemd 257): its path below `/proc/sys`, without slashes that repeat or
-/// are at
-/// an end, and without `.`.
+/// The name of a parameter as udev reports it (systemd 257): its path below `/proc/sys`, without slashes that
+/// repeat or are at an end, and without `.`.
 fn parameter_name(alloc: Global, name: &[u8]) -> Result<Bytes, AllocError>
     ensures { IfOk result (λ made. made ≡ parameter_name name.now) }
 {
@@ -68,7 +67,7 @@ fn parameter_name(alloc: Global, name: &[u8]) -> Result<Bytes, AllocError>
     joined(alloc, &parts)
 }
 
-/// Assigns a value to a parameter by its name once that is rendered; one that is too long leaves a note.
+/// Assigns a value to a parameter by its name once this is rendered; one that is too long leaves a note.
 fn put_parameter(
     alloc: Global,
     rule: &Rule,
@@ -97,9 +96,8 @@ fn put_parameter(
     }
 }
 
-/// Assigns a value to a kernel parameter as udev does (systemd 257): its name is rendered and reported with slashes. A
-/// name of over
-/// 1,023 bytes leaves a note.
+/// Assigns a value to a kernel parameter as udev does (systemd 257): its name is rendered and reported with
+/// slashes. A name of over 1,023 bytes leaves a note.
 pub(crate) fn set_parameter(
     alloc: Global,
     rule: &Rule,

@@ -14,8 +14,8 @@ use text_bytes::Bytes;
 /// The most bytes of a value that is put together.
 const MAX_BYTES: usize = 16384;
 
-/// A text after a value, with a space between them; `None` where that is too long. A value without a
-/// byte gives its place to the text.
+/// A text after a value, with a space between them; `None` if that is too long. The text alone if the value is
+/// empty.
 fn appended(alloc: Global, value: &[u8], text: &[u8]) -> Result<Option<Bytes>, AllocError>
     ensures { IfOk result (λ joined. joined ≡ appended value.now text.now) }
 {
@@ -31,7 +31,7 @@ fn appended(alloc: Global, value: &[u8], text: &[u8]) -> Result<Option<Bytes>, A
     Ok(Some(Bytes::new(joined)))
 }
 
-/// Gives a property a value that was put together, or leaves a note where that is too long.
+/// Gives a property a value that was put together, or leaves a note if that is too long.
 fn set_joined(
     alloc: Global,
     rule: &Rule,
@@ -48,7 +48,7 @@ fn set_joined(
     }
 }
 
-/// Puts a text after the value of a property; the empty one changes nothing.
+/// Appends a text to the value of a property; an empty text changes nothing.
 fn add_to_property(
     alloc: Global,
     rule: &Rule,
@@ -84,14 +84,14 @@ pub(crate) fn change_property(
     }
 }
 
-/// A byte with a slash as `_`.
+/// A byte, with `_` for a slash.
 fn unslashed_byte(byte: u8) -> u8
     ensures { result ≡ unslashed_byte byte }
 {
     if byte == b'/' { b'_' } else { byte }
 }
 
-/// The value of a property as udev takes it: bytes are replaced where the rule says so.
+/// The value of a property as udev takes it: bytes are replaced if the rule says so.
 fn env_text(alloc: Global, escape: Escape, text: &[u8]) -> Result<Bytes, AllocError>
     ensures { IfOk result (λ value. value ≡ env_text escape text.now) }
 {
@@ -108,7 +108,7 @@ fn env_text(alloc: Global, escape: Escape, text: &[u8]) -> Result<Bytes, AllocEr
     }
 }
 
-/// A text that is not too long for a value of udev's.
+/// A text, unless it is too long for a value of udev.
 fn short_value(text: Bytes) -> Option<Bytes>
     ensures { result ≡ short_value text }
 {
@@ -129,7 +129,7 @@ fn spaced(alloc: Global, value: &[u8], text: &[u8]) -> Result<Bytes, AllocError>
     Ok(Bytes::new(whole))
 }
 
-/// A text after a value as udev puts it together; `None` where that is too long. Without a value it is the text.
+/// A text after a value as udev puts it together; `None` if that is too long. Without a value it is the text.
 fn extended(alloc: Global, value: Option<&Bytes>, text: Bytes) -> Result<Option<Bytes>, AllocError>
     ensures { IfOk result (λ whole. whole ≡ extended (option_map (λ v. v.now) value.entry) text) }
 {
@@ -139,7 +139,7 @@ fn extended(alloc: Global, value: Option<&Bytes>, text: Bytes) -> Result<Option<
     }
 }
 
-/// Gives a property a value that udev put together, or leaves a note where that is too long.
+/// Gives a property a value that udev put together, or leaves a note if that is too long.
 fn put_property(
     alloc: Global,
     rule: &Rule,
@@ -156,7 +156,7 @@ fn put_property(
     }
 }
 
-/// Puts a text after the value of a property of udev's; one that is written empty changes nothing.
+/// Appends a text to the value of a property as udev does; a text that is written empty changes nothing.
 fn extend_property(
     alloc: Global,
     rule: &Rule,
@@ -175,9 +175,8 @@ fn extend_property(
     put_property(alloc, rule, name, value, scene)
 }
 
-/// Changes a property by an operator as udev does (systemd 257): `+=` puts a space and the text after the value that
-/// is there,
-/// and changes nothing where the text is written empty. Over 511 bytes together a note is left.
+/// Changes a property by an operator as udev does (systemd 257): `+=` appends a space and the text to a value that
+/// is there, and changes nothing if the text is written empty. Over 511 bytes together leave a note.
 pub(crate) fn change_udev_property(
     alloc: Global,
     rule: &Rule,

@@ -16,7 +16,7 @@ use rule_types::{AssignOperator, Key, Rule, RunType};
 use std::alloc::{AllocError, Global};
 use text_bytes::Bytes;
 
-/// Takes in a RUN as it is written.
+/// Adds a RUN as it is written.
 pub(crate) fn keep_run<'a>(
     alloc: Global,
     rule: &'a Rule,
@@ -34,7 +34,7 @@ pub(crate) fn keep_run<'a>(
     Ok(())
 }
 
-/// Leaves a note about a RUN, which names its type where that is in braces.
+/// Leaves a note about a RUN, which names its type if that is in braces.
 fn note_run(
     alloc: Global,
     rule: &Rule,
@@ -51,7 +51,7 @@ fn note_run(
     }
 }
 
-/// Takes a command in after the others; one without a word leaves a note.
+/// Adds a command to the others; one without a word leaves a note.
 fn make_command<'a>(
     alloc: Global,
     rule: &'a Rule,
@@ -70,7 +70,7 @@ fn make_command<'a>(
     scene.made.push(MadeRun { run, text })
 }
 
-/// Takes a RUN in after the others once it is rendered; one that is too long leaves a note.
+/// Adds a RUN to the others once it is rendered; one that is too long leaves a note.
 fn make_run<'a>(
     alloc: Global,
     rule: &'a Rule,
@@ -88,7 +88,7 @@ fn make_run<'a>(
     }
 }
 
-/// Takes all commands away, unless one is to be added to them.
+/// Removes all commands, unless one is to be added to them.
 fn begin_anew(operator: AssignOperator, scene: &mut Scene<'_>)
     ensures { scene.new ≡ record scene.old { made = made_before operator scene.old.made } }
 {
@@ -98,9 +98,9 @@ fn begin_anew(operator: AssignOperator, scene: &mut Scene<'_>)
     }
 }
 
-/// Renders a RUN and takes it in as udev does (systemd 257), with the properties, links, tags, name, result and selected device
-/// that are known now, and as often as it is given. `=` and `:=` take all others away and `:=` makes RUN final, whatever comes
-/// of the text: over 16,383 bytes it leaves a note, and so does one without a word.
+/// Renders a RUN and adds it as udev does (systemd 257), with the properties, links, tags, name, result and
+/// selected device that are known now, and as often as it is given. `=` and `:=` remove all others and `:=` makes
+/// RUN final, whatever the text: over 16,383 bytes it leaves a note, and so does one without a word.
 pub(crate) fn render_run<'a>(
     alloc: Global,
     rule: &'a Rule,

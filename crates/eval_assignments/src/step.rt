@@ -19,7 +19,7 @@ use rule_types::{AssignOperator, Assignment, Change, Rule, RunType, Target};
 use std::alloc::{AllocError, Global};
 use text_bytes::{Bytes, Profile};
 
-/// Whether an assignment is ignored: NAME where the device has no name to assign.
+/// Whether an assignment is ignored: NAME if the device has no name to assign.
 fn is_ignored(profile: Profile, target: &Target, scene: &Scene<'_>) -> bool
     ensures { result ≡ is_ignored profile target.now scene.now }
 {
@@ -54,7 +54,7 @@ fn set_given(
     Ok(())
 }
 
-/// What follows an assignment of a text that is too long: for udev `:=` makes its key final all the same.
+/// What follows an assignment of a text that is too long: for udev `:=` nevertheless makes its key final.
 fn finish_too_long(
     profile: Profile,
     operator: AssignOperator,
@@ -98,7 +98,7 @@ fn set_text(
     }
 }
 
-/// Whether udev does nothing with a text where the device has no number.
+/// Whether udev does nothing with a text if the device has no number.
 fn is_of_node(target: &Target) -> bool
     ensures { result ≡ is_of_node target.now }
 {
@@ -109,7 +109,7 @@ fn is_of_node(target: &Target) -> bool
     }
 }
 
-/// Whether udev passes an assignment over since the device has no number.
+/// Whether udev skips an assignment since the device has no number.
 fn lacks_number(target: &Target, number: Option<&DeviceNumber<'_>>) -> bool
     ensures { result ≡ lacks_number target.now (option_copied number.entry) }
 {
@@ -119,14 +119,14 @@ fn lacks_number(target: &Target, number: Option<&DeviceNumber<'_>>) -> bool
     }
 }
 
-/// Takes all links away.
+/// Removes all links.
 fn clear_links(scene: &mut Scene<'_>)
     ensures { scene.new ≡ without_links scene.old }
 {
     scene.state.links.clear();
 }
 
-/// What udev takes away before a text is rendered.
+/// Removes what udev removes before a text is rendered.
 fn empty(operator: AssignOperator, target: &Target, scene: &mut Scene<'_>)
     ensures { scene.new ≡ emptied operator target.now scene.old }
 {
@@ -173,7 +173,7 @@ fn render_manual(
     )
 }
 
-/// Renders a text and assigns it, as udev does: it has as many bytes at most as udev has room for.
+/// Renders a text and assigns it, as udev does: it has at most as many bytes as udev has room for.
 fn render_udev(
     alloc: Global,
     rule: &Rule,
@@ -251,7 +251,7 @@ fn step_text(
     }
 }
 
-/// Takes a RUN in: as it is written, or as udev renders it.
+/// Adds a RUN: as it is written, or as udev renders it.
 fn step_run<'a>(
     alloc: Global,
     profile: Profile,
@@ -270,7 +270,7 @@ fn step_run<'a>(
     }
 }
 
-/// Makes an assignment, by what it changes, where it is known how its rule treats bytes.
+/// Makes an assignment, by what it changes and by how its rule treats bytes.
 fn step_by<'a>(
     alloc: Global,
     profile: Profile,
@@ -321,7 +321,7 @@ fn set_open<'a>(
     step_by(alloc, profile, rule, escape, assignment, scene)
 }
 
-/// Makes the assignments of a rule, one after another. How the rule treats bytes is looked for once.
+/// Makes the assignments of a rule, one after another. How the rule treats bytes is determined once.
 fn set_each<'a>(alloc: Global, rule: &'a Rule, scene: &mut Scene<'a>) -> Result<(), AllocError>
     ensures scene { OnOk result (scene.new ≡ fold (set_step rule.now) scene.old rule.now.sets) }
     ensures refused { OnErr result (scene.new.state.event ≡ scene.old.state.event) }
@@ -336,16 +336,17 @@ fn set_each<'a>(alloc: Global, rule: &'a Rule, scene: &mut Scene<'a>) -> Result<
 /// Makes the assignments of a rule, one after another, each unless its key is final: udev(7), "assign
 /// keys".
 ///
-/// A text is rendered first. One of more than 16,384 bytes leaves a note and changes nothing, and so
-/// does a NAME for what is no network device. A RUN is kept as it is written, with the device that is
-/// selected now. After a `:=` that was made, its key is final.
+/// A text is rendered first. One of more than 16,384 bytes leaves a note and changes nothing, and so does a NAME
+/// for what is not a network device. A RUN is kept as it is written, with the device that is selected now. After a
+/// `:=` that was made, its key is final.
 ///
-/// Of an event of udev's they are made as udev makes them (systemd 257). A text has 511, 1,023 or 16,383 bytes at most, by its
-/// key; one of more is final with `:=` all the same, and SYMLINK and RUN with `=` or `:=` have taken away what was there. Links,
-/// modes, tags, names and the names of attributes and parameters are as udev keeps them; what it refuses leaves a note, and so
-/// does what is said of a node of a device without a number. A RUN is rendered at its rule.
+/// For udev they are made as udev makes them (systemd 257). A text has at most 511, 1,023 or 16,383 bytes, by its
+/// key; a longer one nevertheless makes its key final with `:=`, and SYMLINK and RUN with `=` or `:=` have removed
+/// what was there. Links, modes, tags, names and the names of attributes and parameters are as udev keeps them;
+/// what it refuses leaves a note, and so does an assignment to the node of a device without a number, or to links
+/// to it. A RUN is rendered at its rule.
 ///
-/// Where memory runs out, nothing is left of the scene but its event.
+/// If memory runs out, nothing is left of the scene but its event.
 pub fn set_all<'a>(alloc: Global, rule: &'a Rule, scene: &mut Scene<'a>) -> Result<(), AllocError>
     ensures scene { OnOk result (scene.new ≡ fold (set_step rule.now) scene.old rule.now.sets) }
     ensures refused { OnErr result (scene.new ≡ blank scene.old.state.event) }
@@ -357,10 +358,10 @@ pub fn set_all<'a>(alloc: Global, rule: &'a Rule, scene: &mut Scene<'a>) -> Resu
     made
 }
 
-/// Makes one assignment of a rule, unless its key is final, as `set_all` makes each of them. How the rule treats bytes is
-/// looked for anew.
+/// Makes one assignment of a rule, unless its key is final, as `set_all` makes each of them. How the rule treats
+/// bytes is determined anew.
 ///
-/// Where memory runs out, nothing is left of the scene but its event.
+/// If memory runs out, nothing is left of the scene but its event.
 pub fn set_one<'a>(
     alloc: Global,
     rule: &'a Rule,

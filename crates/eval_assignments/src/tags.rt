@@ -10,28 +10,28 @@ use std::alloc::{AllocError, Global};
 /// The most bytes of a tag.
 const MAX_TAG_BYTES: usize = 255;
 
-/// Whether a byte may be in a tag of udev's.
+/// Whether a byte may be in a tag for udev.
 fn is_tag_byte(byte: u8) -> bool
     ensures { result ≡ is_tag_byte byte }
 {
     byte.is_ascii_alphanumeric() || byte == b'-' || byte == b'_'
 }
 
-/// Whether all bytes of a text may be in a tag of udev's.
+/// Whether all bytes of a text may be in a tag for udev.
 fn are_tag_bytes(text: &[u8]) -> bool
     ensures { result ≡ list_all is_tag_byte text.now }
 {
     text.iter().all(|byte| is_tag_byte(*byte))
 }
 
-/// Whether udev takes a text for a tag.
+/// Whether udev accepts a text as a tag.
 fn is_tag(text: &[u8]) -> bool
     ensures { result ≡ is_tag text.now }
 {
     text.len() <= MAX_TAG_BYTES && are_tag_bytes(text)
 }
 
-/// Makes a tag stand: again where it was taken away, and at the end where it was not there.
+/// Sets a tag: again if it was removed, and at the end if it was not there.
 fn make_stand(alloc: Global, tag: &[u8], scene: &mut Scene<'_>) -> Result<(), AllocError>
     ensures scene { OnOk result (scene.new ≡ tag_standing tag.now scene.old) }
     ensures refused { OnErr result (scene.new.state.event ≡ scene.old.state.event) }
@@ -40,7 +40,7 @@ fn make_stand(alloc: Global, tag: &[u8], scene: &mut Scene<'_>) -> Result<(), Al
     scene.state.tags.add(alloc, tag)
 }
 
-/// Adds a text as a tag, unless it is none.
+/// Adds a text as a tag, or leaves a note if it is not one.
 fn add_tag(alloc: Global, rule: &Rule, text: &[u8], scene: &mut Scene<'_>) -> Result<(), AllocError>
     ensures scene { OnOk result (scene.new ≡ tag_added rule.now text.now scene.old) }
     ensures refused { OnErr result (scene.new.state.event ≡ scene.old.state.event) }
@@ -54,7 +54,7 @@ fn add_tag(alloc: Global, rule: &Rule, text: &[u8], scene: &mut Scene<'_>) -> Re
     }
 }
 
-/// Takes all tags away.
+/// Removes all tags.
 fn clear_tags(scene: &mut Scene<'_>)
     ensures { scene.new ≡ without_tags scene.old }
 {
@@ -62,8 +62,8 @@ fn clear_tags(scene: &mut Scene<'_>)
     scene.state.tags.clear();
 }
 
-/// Changes tags by an operator as udev does (systemd 257): a tag has 1 to 255 letters, digits, `-` and `_`, and any other text
-/// leaves a note; what is taken away is still met by TAG and TAGS.
+/// Changes tags by an operator as udev does (systemd 257): a tag has 1 to 255 letters, digits, `-` and `_`, and any
+/// other text leaves a note; what is removed is still met by TAG and TAGS.
 pub(crate) fn change_udev_tags(
     alloc: Global,
     rule: &Rule,

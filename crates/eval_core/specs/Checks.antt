@@ -1,4 +1,4 @@
--- Serves inner proofs only: what is seen of an event before its rules run, and which rules this rules out.
+-- Serves inner proofs only: what is seen of an event before its rules run, and which rules this excludes.
 use Rattle.std.specs.Prelude.{ℕ, ◌+◌, ◌==◌, Bool, true, false, not, List, [], ◌∷◌, map, position, slice_get, Option, Some, None, option_map}
 use Rattle.std.specs.Option.{option_or}
 use Rattle.text_tables.specs.Texts.{Text, same_text}
@@ -16,17 +16,17 @@ use Rattle.eval_state.specs.Chains.{kernel_of}
 use Rattle.eval_state.specs.Texts.{or_empty, trimmed}
 use Rattle.eval_core.specs.declared.checks.Check.{Check}
 
--- where an attribute stands among what is seen, by its place among the names: after five others
+-- the position of an attribute in what is seen, by its place among the names: after five others
 abbrev pub behind_five : Option ℕ → Option ℕ
 behind_five None = None
 behind_five (Some place) = Some (place + 5)
 
--- where an attribute stands among what is seen
+-- the position of an attribute in what is seen
 abbrev pub attribute_slot : List Text → Text → Option ℕ
 attribute_slot names name = behind_five (position (same_text name) names)
 
--- where what a key looks at stands among what is seen: the action, the kernel's name, the subsystem, the driver, and
--- after the first byte of the kernel's name attributes
+-- the position of what a key looks at in what is seen: the action, the kernel's name, the subsystem, the driver, and
+-- after the first byte of the kernel's name the attributes
 abbrev pub slot_of : List Text → PlainKey → Option ℕ
 slot_of names plain.Action = Some 0
 slot_of names plain.Kernel = Some 1
@@ -35,12 +35,12 @@ slot_of names plain.Driver = Some 3
 slot_of names (plain.Attr name) = attribute_slot names name
 slot_of names key = None
 
--- where the first byte of what a key looks at stands among what is seen
+-- the position of the first byte of what a key looks at in what is seen
 abbrev pub head_slot : PlainKey → Option ℕ
 head_slot plain.Kernel = Some 4
 head_slot key = None
 
--- a check, where both its parts are known
+-- a check, if both its parts are known
 abbrev pub check_by : Option ℕ → Option ℕ → Option Check
 check_by None wanted = None
 check_by (Some slot) None = None
@@ -68,7 +68,7 @@ check_in names (part ∷ parts) = check_with names part
 abbrev pub check_of : List Text → Rule → Option Check
 check_of names r = check_in names r.plain
 
--- the sketch of an attribute of a device as it is compared, where it has it
+-- the sketch of an attribute of a device as it is compared, if it has one
 abbrev pub attribute_seen : DeviceValue → Text → Option ℕ
 attribute_seen device name = option_map (λ value. sketch (trimmed value)) (value_of device.attrs name)
 
@@ -84,7 +84,7 @@ abbrev pub is_other : ℕ → Option ℕ → Bool
 is_other wanted None = true
 is_other wanted (Some found) = not (found == wanted)
 
--- whether what is at a slot is not what is wanted there; where nothing is known, nothing is said
+-- whether what is at a position is not what is wanted there; if nothing is known, nothing is said
 abbrev pub differs : Option (Option ℕ) → ℕ → Bool
 differs None wanted = false
 differs (Some found) wanted = is_other wanted found

@@ -1,4 +1,4 @@
--- Serves inner proofs only: what is known of rules before they are looked at.
+-- Serves inner proofs only: what is known about rules before they are looked at.
 use Rattle.std.specs.Prelude.{ℕ, ◌-◌, Bool, true, false, ◌&&◌, if◌then◌else◌, List, [], ◌∷◌, length, slice_get, Option, Some, None}
 use Rattle.std.specs.Option.{option_or}
 use Rattle.text_bytes.specs.Texts.{is_empty}
@@ -34,14 +34,14 @@ abbrev pub guarded : Option Check → Course
 guarded None = Open
 guarded (Some check) = Guard check
 
--- the number that stands for what a key looks at, if it has marks
+-- the number for what a key looks at, if it has marks
 abbrev pub thing_of : UpKey → Option ℕ
 thing_of up.Subsystems = Some subsystem
 thing_of up.Drivers = Some driver
 thing_of (up.Attrs name) = Some (sketch name)
 thing_of key = None
 
--- a mark, where both its parts are known
+-- a mark, if both its parts are known
 abbrev pub mark_by : Option ℕ → Option ℕ → Option ℕ
 mark_by None value = None
 mark_by (Some thing) None = None
@@ -56,7 +56,7 @@ mark_of NotEqual key choice = None
 abbrev pub part_mark : UpMatch → Option ℕ
 part_mark part = mark_of part.wanted.operator part.key part.wanted.choice
 
--- the same of a match that may be absent
+-- the same for a match that may be absent
 abbrev pub mark_in : Option UpMatch → Option ℕ
 mark_in None = None
 mark_in (Some part) = part_mark part
@@ -65,7 +65,7 @@ mark_in (Some part) = part_mark part
 abbrev pub last_mark : List UpMatch → Option ℕ
 last_mark parts = mark_in (slice_get parts (length parts - 1))
 
--- the course of a rule that searches for one device, if there is a mark that this one has
+-- the course of a rule that searches for one device, if there is a mark that this device has
 abbrev pub searched : Option ℕ → Course
 searched None = Open
 searched (Some mark) = Search mark
@@ -103,7 +103,8 @@ course_by names r (Some check) = First check
 abbrev pub course_of : List Text → Rule → Course
 course_of names r = course_by names r (check_of names r)
 
--- what comes of a rule by what is seen: it fails, or its end is reached, with nothing changed; or its search finds no device
+-- the outcome of a rule by what is seen: it fails, or its end is reached, with nothing changed; or its search finds
+-- no device
 abbrev pub foretold : List (Option ℕ) → List Bool → Course → Fate
 foretold seen marks Open = Unknown
 foretold seen marks Bare = Reached
@@ -111,12 +112,12 @@ foretold seen marks (First check) = if is_ruled_out seen (Some check) then Faile
 foretold seen marks (Guard check) = if is_ruled_out seen (Some check) then Reached else Unknown
 foretold seen marks (Search mark) = if is_lacking (slice_get marks mark) then NotFound else Unknown
 
--- what comes of a rule of an event, by whose word it is evaluated: as udev has it nothing is foretold
+-- the outcome of a rule of an event, by the profile by which it is evaluated: for udev nothing is foretold
 abbrev pub foretold_by : Profile → List (Option ℕ) → List Bool → Course → Fate
 foretold_by profile.Manual seen marks course = foretold seen marks course
 foretold_by profile.Udev seen marks course = Unknown
 
--- a rule of which it is known what comes of it, so far as it is known
+-- what becomes of a scene by a rule whose outcome is known, as far as it is known
 abbrev pub as_foretold : Fate → Scene → Went → Went
 as_foretold Unknown s went = went
 as_foretold Failed s went = (s, false)

@@ -1,4 +1,4 @@
--- Serves inner proofs only: rules as they are laid out.
+-- Serves inner proofs only: rules laid out for evaluation.
 use Rattle.std.specs.Prelude.{◌≡◌, ℕ, List, map}
 use Rattle.text_tables.specs.Texts.{Text}
 use Rattle.rule_types.specs.Rules.{Rule}
@@ -6,7 +6,7 @@ use Rattle.rule_jumps.specs.Passed.{passed_over}
 use Rattle.eval_core.specs.Courses.{course_of}
 use Rattle.eval_core.specs.declared.courses.Course.{Course}
 
--- for each rule how many its jump passes over, and its course
+-- for each rule how many its jump skips, and its course
 pub record IsLaidOut (rules : List Rule) (passes : List ℕ) (names : List Text) (courses : List Course) : Type 0 where
   pub over : passes ≡ passed_over rules
   pub known : courses ≡ map (course_of names) rules

@@ -1,18 +1,18 @@
--- Serves inner proofs only: marks, by which it is seen that no device of a chain has what rules search for.
+-- Serves inner proofs only: marks, which show that no device of a chain has what rules search for.
 use Rattle.std.specs.Prelude.{ℕ, ◌+◌, ◌*◌, ◌%◌, Bool, true, false, not, List, fold, set, replicate, Option, Some, None}
 use Rattle.text_tables.specs.Pairs.{Pair}
 use Rattle.eval_core.specs.Sketches.{sketch}
 use Rattle.device_core.specs.Values.{DeviceValue, EventValue, chain}
 use Rattle.eval_state.specs.Texts.{or_empty, trimmed}
 
--- the numbers that stand for subsystems and for drivers; an attribute has the sketch of its name
+-- the numbers for subsystems and for drivers; an attribute has the sketch of its name
 abbrev pub subsystem : ℕ
 subsystem = 1
 
 abbrev pub driver : ℕ
 driver = 2
 
--- the mark of a thing with a value, each reported by a number
+-- the mark of a thing with a value, each given as a number
 unfoldable pub mark : ℕ → ℕ → ℕ
 mark thing value = ((thing % 2048) * 31 + value % 2048) % 2048
 

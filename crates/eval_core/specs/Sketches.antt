@@ -1,4 +1,4 @@
--- Serves inner proofs only: numbers by which texts are told apart.
+-- Serves inner proofs only: numbers by which texts can be distinguished.
 use Rattle.std.specs.Prelude.{ℕ, ◌+◌, ◌*◌, ◌%◌, ◌^◌, Bool, false, not, if◌then◌else◌, List, [], ◌∷◌, fold, Option, Some, None}
 use Rattle.std.specs.List.{list_all}
 use Rattle.text_bytes.specs.Names.{is_whitespace}
@@ -6,7 +6,7 @@ use Rattle.text_tables.specs.Texts.{Text}
 use Rattle.text_core.specs.declared.item.Item.{Item}
 use Rattle.text_core.specs.declared.item.Item.TheVariants as item
 
--- a sketch with one byte more
+-- a sketch with one more byte
 unfoldable pub mixed : ℕ → ℕ → ℕ
 mixed sketch b = ((sketch * 1099511628211) % 2 ^ 64 + b) % 2 ^ 64
 
@@ -14,7 +14,7 @@ mixed sketch b = ((sketch * 1099511628211) % 2 ^ 64 + b) % 2 ^ 64
 abbrev pub sketch : Text → ℕ
 sketch text = fold mixed 0 text
 
--- whether an item is a byte that is no whitespace
+-- whether an item is a byte that is not whitespace
 abbrev pub is_word : Item → Bool
 is_word (item.Byte b) = not (is_whitespace b)
 is_word _ = false
@@ -39,11 +39,11 @@ abbrev pub word_sketch : Option (List Item) → Option ℕ
 word_sketch None = None
 word_sketch (Some items) = if list_all is_word items then Some (items_sketch items) else None
 
--- the sketch of the one text that a choice fits, where it is one, without whitespace
+-- the sketch of the one text that a choice fits, if it fits only one, without whitespace
 abbrev pub exact_sketch : List (List Item) → Option ℕ
 exact_sketch choice = word_sketch (only_part choice)
 
--- the first byte of a text, or 256 where it is empty
+-- the first byte of a text, or 256 if it is empty
 abbrev pub first_byte : Text → ℕ
 first_byte [] = 256
 first_byte (b ∷ t) = b
@@ -63,6 +63,6 @@ abbrev pub head_in : Option (List Item) → Option ℕ
 head_in None = None
 head_in (Some items) = head_of items
 
--- the first byte of the texts that a choice fits, where it is one pattern, which begins with a byte
+-- the first byte of the texts that a choice fits, if it is one pattern that begins with a byte
 abbrev pub exact_head : List (List Item) → Option ℕ
 exact_head choice = head_in (only_part choice)

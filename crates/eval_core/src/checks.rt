@@ -1,9 +1,9 @@
-//! The check of a rule: by what is seen of an event it can be passed over.
+//! The check of a rule: with it and what is seen of an event, the rule can be skipped.
 //!
-//! Most rules begin with a match that asks for one text of something that no rule changes: the action,
-//! the kernel's name, the subsystem, the driver or an attribute of the event device. Where the event has
-//! another text there, reported by its sketch, the rule changes nothing, and need not be looked at. Of a
-//! pattern for the kernel's name the first byte is known, nearly always.
+//! Most rules begin with a match that asks for one text of something that no rule changes: the action, the kernel's
+//! name, the subsystem, the driver or an attribute of the event device. If the event has another text there, which
+//! its sketch shows, the rule changes nothing, and need not be looked at. For a pattern of the kernel's name the
+//! first byte is nearly always known.
 ghost use Rattle.std.specs.Prelude.{◌≡◌, ◌<◌, ◌≤◌, length, position, IfOk, IfSome};
 ghost use Rattle.text_tables.specs.Texts.{same_text};
 ghost use Rattle.eval_core.specs.Checks.{attribute_slot, check_by, check_of, check_with, choice_check, head_slot, slot_of};
@@ -15,13 +15,13 @@ use std::alloc::{AllocError, Global};
 use text_bytes::Bytes;
 use text_core::Choice;
 
-/// How many attributes are looked up for each event, at most.
+/// At most how many attributes are looked up for each event.
 const MAX_NAMES: usize = 60;
 
-/// What has to be seen of an event, or else a choice does not fit.
+/// What has to be seen of an event for a choice to fit.
 #[derive(Clone, Copy, Debug)]
 pub struct Check {
-    /// Where it stands among what is seen of an event.
+    /// Its position in what is seen of an event.
     pub slot: usize,
     /// The sketch of the text that is asked for.
     pub sketch: u64,
@@ -35,14 +35,14 @@ fn place_of(names: &[Bytes], name: &[u8]) -> Option<usize>
     names.iter().position(|known| name == known.as_slice())
 }
 
-/// Where an attribute stands among what is seen of an event: after five others.
+/// The position of an attribute in what is seen of an event: after five others.
 fn attribute_slot(names: &[Bytes], name: &[u8]) -> Option<usize>
     ensures { result ≡ attribute_slot names.now name.now }
 {
     Some(place_of(names, name)? + 5)
 }
 
-/// Where what a key looks at stands among what is seen of an event, if it is there.
+/// The position of what a key looks at in what is seen of an event, if it is there.
 fn slot_of(names: &[Bytes], key: &PlainKey) -> Option<usize>
     ensures { result ≡ slot_of names.now key.now }
 {
@@ -56,7 +56,7 @@ fn slot_of(names: &[Bytes], key: &PlainKey) -> Option<usize>
     }
 }
 
-/// A check, where both its parts are known.
+/// A check, if both its parts are known.
 fn check_by(slot: Option<usize>, sketch: Option<u64>) -> Option<Check>
     ensures { result ≡ check_by slot sketch }
 {
@@ -66,7 +66,7 @@ fn check_by(slot: Option<usize>, sketch: Option<u64>) -> Option<Check>
     })
 }
 
-/// Where the first byte of what a key looks at stands among what is seen of an event, if it is there.
+/// The position of the first byte of what a key looks at in what is seen of an event, if it is there.
 fn head_slot(key: &PlainKey) -> Option<usize>
     ensures { result ≡ head_slot key.now }
 {

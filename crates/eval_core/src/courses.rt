@@ -1,9 +1,9 @@
-//! The course of a rule: what is known of it before it is looked at.
+//! The course of a rule: what is known about it before it is looked at.
 //!
-//! Of many rules it is known by what is seen of an event how they end, and that they change nothing, or
-//! only forget which device was selected: those that are a label or a jump alone, those that jump where
-//! the event has something else than one text, and those that search for a device with something that no
-//! device of the chain has. Over an event of udev's nothing is foretold: there each rule is looked at.
+//! For many rules what is seen of an event decides how they end, and that they change nothing, or only forget which
+//! device was selected: those that are only a label or a jump, those that jump if the event has something other
+//! than one text, and those that search for a device with something that no device of the chain has. For an event
+//! by udev's profile nothing is foretold: there each rule is looked at.
 ghost use Rattle.std.specs.Prelude.{◌≡◌, map, IfOk};
 ghost use Rattle.eval_core.specs.Courses.{course_behind, course_of, foretold, foretold_by, guard_in, guarded, has_no_more, last_mark, part_mark, refused, search_in, searched, thing_of};
 
@@ -15,25 +15,25 @@ use rule_types::{MatchOperator, PlainMatch, Rule, UpKey, UpMatch};
 use std::alloc::{AllocError, Global};
 use text_bytes::{Bytes, Profile};
 
-/// What is known of a rule before it is looked at.
+/// What is known about a rule before it is looked at.
 #[derive(Clone, Copy, Debug)]
 pub enum Course {
     /// Nothing.
     Open,
     /// It has no parts: its end is reached.
     Bare,
-    /// It begins with a match of the event by `==`: where the check fails, it changes nothing.
+    /// It begins with a match of the event by `==`: if the check fails, it changes nothing.
     First(Check),
-    /// It is one match of the event by `!=`: where the check fails, its end is reached.
+    /// It is one match of the event by `!=`: if the check fails, its end is reached.
     Guard(Check),
-    /// It searches for one device, with no match of the event: where this mark is missing, none is found.
+    /// It searches for one device, with no match of the event: if this mark is missing, none is found.
     Search(usize),
 }
 
-/// What comes of a rule, as far as it is known by what is seen of an event.
+/// The outcome of a rule, as far as it follows from what is seen of an event.
 #[derive(Clone, Copy, Debug)]
 pub enum Fate {
-    /// That is not known.
+    /// It is not known.
     Unknown,
     /// Nothing is changed, and its end is not reached.
     Failed,
@@ -63,7 +63,7 @@ fn guarded(check: Option<Check>) -> Course
     }
 }
 
-/// The course of a rule that searches for one device, if there is a mark that this one has.
+/// The course of a rule that searches for one device, if there is a mark that this device has.
 fn searched(mark: Option<usize>) -> Course
     ensures { result ≡ searched mark }
 {
@@ -73,7 +73,7 @@ fn searched(mark: Option<usize>) -> Course
     }
 }
 
-/// The number that stands for what a key looks at, if it has marks.
+/// The number for what a key looks at, if it has marks.
 fn thing_of(key: &UpKey) -> Option<u64>
     ensures { result ≡ thing_of key.now }
 {
@@ -122,8 +122,8 @@ fn guard_in(names: &[Bytes], parts: &[PlainMatch]) -> Course
     }
 }
 
-/// The course of a rule with these matches of the event, and these of one device, of which this is the
-/// first. The last one mostly asks for what is rarest.
+/// The course of a rule with these matches of the event and these of one device, the first of which is passed
+/// separately. The last one mostly asks for what is rarest.
 fn search_in(plain: &[PlainMatch], parts: &[UpMatch], part: &UpMatch) -> Course
     ensures { result ≡ search_in plain.now parts.now part.now }
 {
@@ -181,7 +181,7 @@ pub(crate) fn courses(
         .collect(alloc)
 }
 
-/// What comes of a rule with a course, as far as it is known by what is seen.
+/// The outcome of a rule with a course, as far as it follows from what is seen.
 fn foretold(seen: &[Option<u64>], marks: &MarkSet, course: Course) -> Fate
     ensures { result ≡ foretold seen.now marks.now course }
 {
@@ -212,7 +212,7 @@ fn foretold(seen: &[Option<u64>], marks: &MarkSet, course: Course) -> Fate
     }
 }
 
-/// What comes of a rule with a course, by whose word it is evaluated: as udev has it nothing is known.
+/// The outcome of a rule with a course, by the profile by which it is evaluated: for udev nothing is known.
 pub(crate) fn foretold_by(
     profile: Profile,
     seen: &[Option<u64>],

@@ -1,4 +1,4 @@
-//! First bytes, by which texts are told apart from patterns that begin with a byte.
+//! First bytes, by which it shows that a text does not fit a pattern that begins with a byte.
 //!
 //! Most patterns of the kernel's names begin with a few letters, so that a name's first byte is nearly
 //! always enough to see that a choice does not fit.
@@ -8,7 +8,7 @@ ghost use Rattle.eval_core.specs.Sketches.{byte_item, exact_head, first_byte, he
 use crate::sketches::only_part;
 use text_core::{Choice, Item};
 
-/// The first byte of a text, or 256 where it is empty.
+/// The first byte of a text, or 256 if it is empty.
 pub fn first_byte(text: &[u8]) -> u64
     ensures { result ≡ first_byte text.now }
 {
@@ -35,8 +35,8 @@ fn head_of(items: &[Item]) -> Option<u64>
     byte_item(items.first()?)
 }
 
-/// The first byte of the texts that a choice fits, where it is one pattern, which begins with a byte: the
-/// choice fits no text with another first byte.
+/// The first byte of the texts that a choice fits, if it is one pattern that begins with a byte: the choice fits no
+/// text with another first byte.
 pub fn exact_head(choice: &Choice) -> Option<u64>
     ensures { result ≡ exact_head choice.now }
 {

@@ -1,8 +1,8 @@
-//! What the devices of a chain have, as marks: where one is missing, a search finds no device.
+//! What the devices of a chain have, as marks: if one is missing, a search finds no device.
 //!
-//! Rules search for a device with a subsystem, with a driver, or with an attribute of some value. Each of
-//! these has a mark, a number, and two of them may have the same one. So a mark that is there says
-//! nothing; but where it is not, no device of the chain has what it stands for.
+//! Rules search for a device with a subsystem, with a driver, or with an attribute of some value. Each of these has
+//! a mark, a number, and two of them may have the same one. So a mark that is there says nothing; but if it is not
+//! there, no device of the chain has what it stands for.
 ghost use Rattle.std.specs.Prelude.{◌≡◌, ◌<◌, fold, slice_get};
 ghost use Rattle.eval_core.specs.Marks.{driver, is_lacking, mark, marks, none_set, subsystem, with_attribute, with_device, with_mark};
 
@@ -15,13 +15,13 @@ use text_tables::Pairs;
 /// How many marks there are.
 const ALL: u64 = 2048;
 
-/// The number that stands for subsystems; an attribute has the sketch of its name.
+/// The number for subsystems; an attribute has the sketch of its name.
 pub(crate) const SUBSYSTEM: u64 = 1;
 
-/// The number that stands for drivers.
+/// The number for drivers.
 pub(crate) const DRIVER: u64 = 2;
 
-/// The mark of a thing with a value, each reported by a number.
+/// The mark of a thing with a value, each given as a number.
 #[tactic(auto, unfolding(crate::specs::Marks::mark))]
 pub(crate) fn mark(thing: u64, value: u64) -> usize
     ensures value { result ≡ mark thing value }
@@ -45,7 +45,7 @@ impl Model for MarkSet {
 }
 
 impl MarkSet {
-    /// Marks of which none is set.
+    /// Marks, none of which is set.
     fn none() -> MarkSet
         ensures { result ≡ none_set }
     {

@@ -1,4 +1,4 @@
-//! Rules that are laid out, as one value.
+//! Rules laid out for evaluation, as one value.
 ghost use Rattle.std.specs.Prelude.{◌≡◌, IfOk};
 ghost use Rattle.eval_rules.specs.Outcomes.{outcome};
 ghost use Rattle.eval_core.specs.Layout.{IsLaidOut};
@@ -17,7 +17,7 @@ use std::alloc::{AllocError, Global};
 use std::marker::Model;
 use text_bytes::Bytes;
 
-/// Rules that are laid out for evaluation. `compile` alone makes it.
+/// Rules laid out for evaluation. Only `compile` makes it.
 #[derive(Drop)]
 pub struct Program {
     rules: Vec<Rule>,
@@ -38,9 +38,9 @@ impl Model for Program {
     ghost invariant = { λ p. IsLaidOut p.rules.items p.passes.items p.names.items p.courses.items };
 }
 
-/// Lays the rules of a set out for evaluation; its messages are dropped.
+/// Lays out the rules of a set for evaluation; its messages are dropped.
 ///
-/// The error comes where memory runs out; the rules are dropped then.
+/// Fails if memory runs out; the rules are then dropped.
 pub fn compile(alloc: Global, rules: RuleSet) -> Result<Program, AllocError>
     ensures { IfOk result (λ program. program ≡ rules.rules) }
 {
@@ -56,7 +56,7 @@ pub fn compile(alloc: Global, rules: RuleSet) -> Result<Program, AllocError>
     })
 }
 
-/// What an event comes to, where the rules and it are lent for one time.
+/// The outcome of an event; the rules and the event are borrowed for the same lifetime.
 fn evaluate<'a, L: Lookup>(
     alloc: Global,
     layout: Layout<'a>,
@@ -77,7 +77,7 @@ fn evaluate<'a, L: Lookup>(
 }
 
 impl Program {
-    /// What an event comes to by the rules, as `evaluate_plain` has it.
+    /// The outcome of an event by the rules, as `evaluate_plain` has it.
     pub fn evaluate<L: Lookup>(
         &self,
         alloc: Global,

@@ -21,7 +21,7 @@ use text_bytes::Bytes;
 pub(crate) struct Layout<'a> {
     /// The rules.
     pub rules: &'a [Rule],
-    /// How many rules the jump of each passes over.
+    /// How many rules the jump of each skips.
     pub passes: &'a [usize],
     /// The names of the attributes that are looked up for each event.
     pub names: &'a [Bytes],
@@ -41,8 +41,7 @@ fn behind(rules: &[Rule], passes: &[usize], place: usize, reached: bool) -> usiz
     if reached { place + 1 + over } else { place + 1 }
 }
 
-/// Evaluates a rule of which it is known, as far as that goes, what comes of it, and answers whether its
-/// end was reached.
+/// Evaluates a rule whose outcome is known as far as `fate` says, and returns whether its end was reached.
 fn step<'a, L: Lookup>(
     alloc: Global,
     rule: &'a Rule,
@@ -64,8 +63,8 @@ fn step<'a, L: Lookup>(
     }
 }
 
-/// Evaluates rules, one after another: those that are ruled out are passed over, and so are those
-/// between a rule that jumps and the one to which it does.
+/// Evaluates rules, one after another: those that are ruled out are skipped, and so are those between a rule that
+/// jumps and the one to which it does.
 pub(crate) fn run<'a, L: Lookup>(
     alloc: Global,
     layout: Layout<'a>,

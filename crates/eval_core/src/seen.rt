@@ -10,7 +10,7 @@ use eval_state::{Chain, trimmed};
 use std::alloc::{AllocError, Global};
 use text_bytes::Bytes;
 
-/// The sketch of an attribute of a device as it is compared, where it has it.
+/// The sketch of an attribute of a device as it is compared, if it has one.
 fn attribute_seen(device: &Device<'_>, name: &[u8]) -> Option<u64>
     ensures { result ≡ attribute_seen device.now name.now }
 {
@@ -39,7 +39,7 @@ pub(crate) fn seen(
     Ok(found)
 }
 
-/// Whether what is seen is not what has this sketch.
+/// Whether what is seen does not have this sketch.
 fn is_other(sketch: u64, seen: Option<u64>) -> bool
     ensures { result ≡ is_other sketch seen }
 {

@@ -1,7 +1,7 @@
-//! Numbers by which texts are told apart.
+//! Numbers by which texts can be distinguished.
 //!
-//! Texts of different sketches are different; those of the same one are still to be compared. So a
-//! sketch of each text is enough to see, nearly always, that a choice does not fit.
+//! Texts with different sketches are different; those with the same sketch still have to be compared. So a sketch
+//! of each text nearly always suffices to see that a choice does not fit.
 ghost use Rattle.std.specs.Prelude.{◌≡◌, fold, option_map};
 ghost use Rattle.std.specs.List.{list_all};
 ghost use Rattle.eval_core.specs.Sketches.{byte_of, exact_sketch, is_word, items_sketch, mixed, only_part, sketch};
@@ -9,7 +9,7 @@ ghost use Rattle.eval_core.specs.Sketches.{byte_of, exact_sketch, is_word, items
 use text_bytes::is_whitespace;
 use text_core::{Choice, Item, Pattern};
 
-/// A sketch with one byte more.
+/// A sketch with one more byte.
 #[tactic(auto, unfolding(crate::specs::Sketches::mixed))]
 fn mixed(sketch: u64, byte: u8) -> u64
     ensures { result ≡ mixed sketch byte }
@@ -30,7 +30,7 @@ pub fn sketch(text: &[u8]) -> u64
     sketch
 }
 
-/// Whether an item is a byte that is no whitespace.
+/// Whether an item is a byte that is not whitespace.
 fn is_word(item: &Item) -> bool
     ensures { result ≡ is_word item.now }
 {
@@ -80,8 +80,8 @@ pub(crate) fn only_part(parts: &[Pattern]) -> Option<&[Item]>
     }
 }
 
-/// The sketch of the one text that a choice fits, where it is one, without whitespace: the choice fits no
-/// text with another sketch.
+/// The sketch of the one text that a choice fits, if it fits only one, without whitespace: the choice fits no text
+/// with another sketch.
 pub fn exact_sketch(choice: &Choice) -> Option<u64>
     ensures { result ≡ exact_sketch choice.now }
 {

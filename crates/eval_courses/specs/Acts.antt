@@ -43,7 +43,8 @@ abbrev pub asks_elsewhere : Profile → Text → EventValue → Bool
 asks_elsewhere profile.Manual path event = false
 asks_elsewhere profile.Udev path event = is_elsewhere event (named path)
 
--- whether a TEST is not made, by whether it has a mask: with one it is not, nor of an absolute path or of a device that is not in the chain
+-- whether a TEST is not made, by whether it has a mask: with one it is not, nor with an absolute path or for a device
+-- that is not in the chain
 abbrev pub is_unmade : Bool → Text → EventValue → Bool
 is_unmade has_mask path event = has_mask || (begins_with slash path || asks_elsewhere event.profile path event)
 
@@ -60,7 +61,7 @@ abbrev pub answer_told : Text → Option AnswerValue → Text
 answer_told command None = codes "no answer for " ++ escape_text command
 answer_told command (Some answer) = escape_text command ++ codes " answers " ++ decimal answer.status ++ spaced answer.text
 
--- a property
+-- a property as it is reported
 unfoldable pub property_told : Pair → Text
 property_told property = shown property.0 ++ equals ∷ shown property.1
 
@@ -68,11 +69,11 @@ property_told property = shown property.0 ++ equals ∷ shown property.1
 abbrev pub set_told : List Text → Text
 set_told properties = if is_empty properties then codes "sets nothing" else codes "sets " ++ joined properties
 
--- the properties of those that stand now which did not stand so before
+-- the properties that are there now and were not there with the same value before
 abbrev pub newly_set : List Pair → List Pair → List Pair
 newly_set before now = filter (λ property. not (stands property before)) now
 
--- what was set of properties, by those before and those now
+-- the properties that were set, by those before and those now
 abbrev pub taken_told : List Pair → List Pair → Text
 taken_told before now = set_told (map property_told (newly_set before now))
 
@@ -81,7 +82,7 @@ abbrev pub parent_told : Profile → Text → State → List Pair → Text
 parent_told profile.Manual value s env = taken_told s.env env
 parent_told profile.Udev value s env = on_rendered (λ names. taken_told s.env env) (names_text value s)
 
--- an IMPORT that is not run, the value of which udev renders all the same
+-- an IMPORT that is not run; udev nevertheless renders its value
 abbrev pub unrun_told : Profile → ℕ → Template → State → Text
 unrun_told profile.Manual most template s = codes "not run"
 unrun_told profile.Udev most template s = on_rendered (λ text. codes "not run") (import_text most template s)
@@ -102,7 +103,7 @@ deed_told (deed.Test mask template) s env = on_rendered (path_told (is_some mask
 deed_told (deed.Program template) s env = on_rendered (λ command. answer_told command (value_of s.event.programs command)) (program_text template s)
 deed_told (deed.Import from) s env = import_told from s env
 
--- an act, whether its rule goes on, and what it met, by what it comes to
+-- an act, whether its rule goes on, and what it met, by the scene after it
 abbrev pub act_met : Act → State → Scene × Bool → Text
 act_met act s went = act_key act ++ met went.1 ++ deed_told act.deed s went.0.state.env
 

@@ -20,7 +20,7 @@ use Rattle.eval_courses.specs.Upward.{search_told}
 abbrev pub told_onward : (Scene → List Text) → Went → List Text
 told_onward told went = if went.1 then told went.0 else []
 
--- the parts of a rule that are of one step, told one after another, up to the first that stops the rule
+-- the texts of the parts of a rule that are of one step, one after another, up to the first that stops the rule
 unfoldable pub told_walk : {P : Type 0} → (P → Scene → Went) → (P → Scene → Text) → List P → Scene → List Text
 told_walk step told [] s = []
 told_walk step told (p ∷ ps) s = told p s ∷ told_onward (told_walk step told ps) (step p s)
@@ -37,7 +37,7 @@ acts_told entries r parts s = told_walk (act_step entries r) (act_told entries r
 abbrev pub results_told : List Comparison → Scene → List Text
 results_told parts s = told_walk result_step (λ part s. result_told part s.state) parts s
 
--- what a rule comes to after the matches of the event, after the search, and after what acts
+-- a rule after the matches of the event, after the search, and after what acts
 abbrev pub matched : Rule → Scene → Went
 matched r s = walk (plain_step r) r.plain s
 
@@ -55,7 +55,8 @@ keys_told entries r s =
     ++ told_onward (acts_told entries r r.acts) (searched r s)
     ++ told_onward (results_told r.results) (acted entries r s)
 
--- how a rule ended whose keys let it go on: nothing in it counts for the event, so that it is passed over, or its end was reached
+-- how a rule whose keys let it go on ended: nothing in it counts for the event, so that it is skipped, or its end was
+-- reached
 abbrev pub end_reached : Bool → Since → Rule → Scene → Text
 end_reached idle since r s = if idle then codes "nothing in it counts for this device" else ending since r s
 

@@ -1,4 +1,5 @@
--- Serves inner proofs only: what is known of an act before it is done, what a match looks at as it is lent, and how a course ends.
+-- Serves inner proofs only: what is known about an act before it is done, what a match looks at as it is borrowed,
+-- and how a course ends.
 use Rattle.std.specs.Prelude.{Bool, false, if◌then◌else◌, List, [], ◌∷◌, ◌++◌, map, option_map, codes}
 use Rattle.text_tables.specs.Texts.{Text}
 use Rattle.text_tables.specs.Pairs.{Pair}
@@ -40,7 +41,7 @@ subject_of (lent_as.Given profile texts) = members_by profile (map (λ t. t.now)
 subject_of lent_as.Unknown = never
 subject_of lent_as.Unread = unread
 
--- how a rule ends in which nothing counts for the event, by whether its keys let it go on
+-- how a rule in which nothing counts for the event ends, by whether its keys let it go on
 abbrev pub idle_end : Bool → Text
 idle_end goes_on = if goes_on then codes "nothing in it counts for this device" else codes "stops there"
 

@@ -23,7 +23,7 @@ abbrev pub operator_text : MatchOperator → Text
 operator_text Equal = codes "=="
 operator_text NotEqual = codes "!="
 
--- the letter before a value of which case is ignored
+-- the letter before a value whose case is ignored
 abbrev pub case_mark : Bool → Text
 case_mark true = codes "i"
 case_mark false = []
@@ -32,7 +32,7 @@ case_mark false = []
 unfoldable pub wanted_text : MatchOperator → Bool → Text → Text
 wanted_text operator blind value = operator_text operator ++ case_mark blind ++ double_quote ∷ shortened value ++ double_quote ∷ []
 
--- the same of a comparison
+-- the same for a comparison
 abbrev pub comparison_text : Comparison → Text
 comparison_text wanted = wanted_text wanted.operator wanted.blind wanted.written
 

@@ -1,4 +1,4 @@
--- What holds of courses, said of what their rules come to.
+-- What holds for courses, by the outcome of their rules.
 use Rattle.std.specs.Prelude.{List, [], ◌∷◌, Option, Some, None}
 use Rattle.text_tables.specs.Texts.{Text}
 

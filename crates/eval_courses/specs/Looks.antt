@@ -20,7 +20,7 @@ abbrev pub value_told : Option Text → Text
 value_told None = codes "none"
 value_told (Some text) = shown text
 
--- texts, a space between
+-- texts, with spaces between
 abbrev pub members_told : List Text → Text
 members_told [] = codes "none"
 members_told (text ∷ others) = shown text ++ flat_map (λ other. space ∷ shown other) others

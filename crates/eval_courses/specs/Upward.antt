@@ -1,4 +1,4 @@
--- What the matches of one device met, device by device, and what the search for one device came to.
+-- What the matches of one device met, device by device, and the outcome of the search for one device.
 use Rattle.std.specs.Prelude.{ℕ, zero, suc, Bool, true, false, if◌then◌else◌, List, [], ◌∷◌, ◌++◌, length, map, filter, count_by, Option, Some, None, option_map, codes, decimal}
 use Rattle.std.specs.List.{list_any, range_with_len}
 use Rattle.text_bytes.specs.Texts.{is_empty}
@@ -64,12 +64,12 @@ partly parts state = filter (λ place. list_any (holds_at state place) parts) (f
 abbrev pub unmet : List Text → Text
 unmet devices = if is_empty devices then codes "any" else codes "all: " ++ joined devices
 
--- what the search came to: the device at a place, or none
+-- the outcome of the search: the device at a place, or none
 abbrev pub found_told : List UpMatch → State → Option ℕ → Text
 found_told parts state (Some place) = name_at state place ++ codes " meets all"
 found_told parts state None = codes "no device meets " ++ unmet (map (partly_told parts state) (partly parts state))
 
--- the search for one device: each of its matches, and what the search came to
+-- the search for one device: each of its matches, and its outcome
 unfoldable pub search_told : List UpMatch → State → List Text
 search_told [] state = []
 search_told (part ∷ parts) state =

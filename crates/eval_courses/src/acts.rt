@@ -1,8 +1,7 @@
 //! What acts, and what it met.
 //!
-//! What an act looks at is rendered before it is done, and what it sets is known after it: what is reported it is made
-//! in
-//! two parts.
+//! What an act looks at is rendered before it is done, and what it sets is known after it: the report is made in two
+//! parts.
 ghost use Rattle.std.specs.Prelude.{◌≡◌, ◌∷◌, ◌++◌, [], IfOk, OnOk, List, None, Some, codes, option_copied};
 ghost use Rattle.text_bytes.specs.Escapes.{escape_text};
 ghost use Rattle.text_tables.specs.Pairs.{Pair, value_of};
@@ -34,12 +33,12 @@ use std::alloc::{AllocError, Global};
 use text_bytes::{Bytes, Profile, begins_with, escape};
 use text_tables::OwnedPairs;
 
-/// What is reported for an act before it is done.
+/// What is known of the report on an act before it is done.
 #[derive(Drop)]
 pub enum ToldBefore {
-    /// All that there is to tell.
+    /// All of the report.
     Whole(Bytes),
-    /// The start of it, and the properties as they are before: after that start those are told that the act sets.
+    /// The start of the report, and the properties before the act: after that start come those that the act sets.
     Taking(Bytes, OwnedPairs),
 }
 
@@ -85,7 +84,7 @@ fn test_told(
     }
 }
 
-/// Puts what a program wrote after a text.
+/// Appends what a program wrote to a text.
 fn push_spaced(alloc: Global, text: &mut Vec<u8>, written: &[u8]) -> Result<(), AllocError>
     ensures { OnOk result (text.new.items ≡ text.old.items ++ spaced written.now) }
 {
@@ -96,14 +95,14 @@ fn push_spaced(alloc: Global, text: &mut Vec<u8>, written: &[u8]) -> Result<(), 
     push_shown(alloc, text, written)
 }
 
-/// Puts an escaped text after another.
+/// Appends an escaped text to another.
 fn push_escaped(alloc: Global, text: &mut Vec<u8>, about: &[u8]) -> Result<(), AllocError>
     ensures { OnOk result (text.new.items ≡ text.old.items ++ escape_text about.now) }
 {
     text.extend_from_slice(&escape(alloc, about)?)
 }
 
-/// Puts the command of a PROGRAM and the answer to it after a text.
+/// Appends the command of a PROGRAM and the answer to it to a text.
 fn push_answered(
     alloc: Global,
     text: &mut Vec<u8>,
@@ -118,7 +117,7 @@ fn push_answered(
     push_spaced(alloc, text, answer.text())
 }
 
-/// Puts the command of a PROGRAM after a text, where there is no answer to it.
+/// Appends the command of a PROGRAM without an answer to a text.
 fn push_unanswered(alloc: Global, text: &mut Vec<u8>, command: &[u8]) -> Result<(), AllocError>
     ensures { OnOk result (text.new.items ≡ text.old.items ++ answer_told command.now None) }
 {
@@ -126,7 +125,7 @@ fn push_unanswered(alloc: Global, text: &mut Vec<u8>, command: &[u8]) -> Result<
     push_escaped(alloc, text, command)
 }
 
-/// Puts the command of a PROGRAM, by what the event's block answers to it, after a text.
+/// Appends the command of a PROGRAM to a text, by what the event's block answers to it.
 fn push_answer(
     alloc: Global,
     text: &mut Vec<u8>,
@@ -182,7 +181,7 @@ fn command_told(alloc: Global, command: &[u8]) -> Result<Bytes, AllocError>
     Ok(Bytes::new(text))
 }
 
-/// What is reported for an IMPORT{builtin} before it is done.
+/// What is known of the report on an IMPORT{builtin} before it is done.
 fn builtin_told_before(
     alloc: Global,
     template: &Template,
@@ -199,14 +198,14 @@ fn builtin_told_before(
     }
 }
 
-/// What is reported for an IMPORT{parent} before it is done, by the properties as they are.
+/// What is known of the report on an IMPORT{parent} before it is done, by the properties as they are.
 fn taking(alloc: Global, state: &State<'_>) -> Result<ToldBefore, AllocError>
     ensures { IfOk result (λ o. (env : List Pair) → told_behind o env ≡ taken_told state.now.env env) }
 {
     Ok(ToldBefore::Taking(Bytes::new(Vec::new(alloc)), copied(alloc, &state.env)?))
 }
 
-/// What is reported for an IMPORT{parent} of udev's before it is done.
+/// What is known of the report on an IMPORT{parent} before it is done, for udev.
 fn names_told_before(
     alloc: Global,
     value: &[u8],
@@ -220,7 +219,7 @@ fn names_told_before(
     }
 }
 
-/// What is reported for an IMPORT{parent} before it is done.
+/// What is known of the report on an IMPORT{parent} before it is done.
 fn parent_told_before(
     alloc: Global,
     value: &[u8],
@@ -234,7 +233,7 @@ fn parent_told_before(
     }
 }
 
-/// What is reported for an IMPORT of udev's that is not run, by its value.
+/// What is reported for an IMPORT that is not run, by its value, for udev.
 fn unrun_value_told(alloc: Global, text: &Rendered) -> Result<Bytes, AllocError>
     ensures { IfOk result (λ told. told ≡ on_rendered (λ t. codes "not run") text.now) }
 {
@@ -244,7 +243,7 @@ fn unrun_value_told(alloc: Global, text: &Rendered) -> Result<Bytes, AllocError>
     }
 }
 
-/// What is reported for an IMPORT that is not run, the value of which udev renders all the same.
+/// What is reported for an IMPORT that is not run; udev nevertheless renders its value.
 fn unrun_told(
     alloc: Global,
     most: usize,
@@ -259,7 +258,7 @@ fn unrun_told(
     }
 }
 
-/// What is reported for an IMPORT before it is done.
+/// What is known of the report on an IMPORT before it is done.
 fn import_told_before(
     alloc: Global,
     from: &Import,
@@ -288,7 +287,7 @@ fn import_told_before(
     }
 }
 
-/// What is reported for an act before it is done.
+/// What is known of the report on an act before it is done.
 fn told_before(alloc: Global, deed: &Deed, state: &mut State<'_>) -> Result<ToldBefore, AllocError>
     ensures told { IfOk result (λ o. (env : List Pair) → told_behind o env ≡ deed_told deed.now state.old env) }
     ensures kept { state.new ≡ state.old }
@@ -305,7 +304,7 @@ fn told_before(alloc: Global, deed: &Deed, state: &mut State<'_>) -> Result<Told
     }
 }
 
-/// Puts what is reported for an act that was done after a text.
+/// Appends the report on an act that was done to a text.
 fn push_behind(
     alloc: Global,
     text: &mut Vec<u8>,
@@ -340,7 +339,7 @@ fn act_met(
     Ok(Bytes::new(text))
 }
 
-/// Does what an act asks for, and tells what it met, by what was reported before.
+/// Does what an act asks for, and adds what it met to the texts, by what was known before.
 #[tactic(auto, using(eval_rules::proofs::Staying::act_stays, crate::proofs::Telling::done_is))]
 fn tell_done<L: Lookup>(
     alloc: Global,
@@ -360,7 +359,7 @@ fn tell_done<L: Lookup>(
     Ok(goes_on)
 }
 
-/// Does what an act asks for, and tells what it met.
+/// Does what an act asks for, and adds what it met to the texts.
 pub(crate) fn tell_act<L: Lookup>(
     alloc: Global,
     rule: &Rule,

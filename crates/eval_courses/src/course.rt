@@ -21,13 +21,14 @@ use text_bytes::Bytes;
 /// The course of a rule over an event.
 #[derive(Drop)]
 pub struct Course {
-    /// A text for each key that was reached, with what it met, in the order of evaluation, and one for how the rule ended.
+    /// A text for each key that was reached, with what it met, in the order of evaluation, and one for how the rule
+    /// ended.
     pub texts: Vec<Bytes>,
     /// Whether the rule's end was reached.
     pub reached: bool,
 }
 
-/// Tells the matches of the event, up to the first that does not hold.
+/// Adds the texts of the matches of the event, up to the first that does not hold.
 fn tell_event(
     alloc: Global,
     rule: &Rule,
@@ -47,7 +48,7 @@ fn tell_event(
     Ok(true)
 }
 
-/// Tells what acts, up to the first that stops the rule.
+/// Adds the texts of what acts, up to the first that stops the rule.
 fn tell_acts<L: Lookup>(
     alloc: Global,
     rule: &Rule,
@@ -68,7 +69,7 @@ fn tell_acts<L: Lookup>(
     Ok(true)
 }
 
-/// Tells the matches of the result of the last program, up to the first that does not hold.
+/// Adds the texts of the matches of the result of the last program, up to the first that does not hold.
 fn tell_results(
     alloc: Global,
     parts: &[Comparison],
@@ -86,7 +87,7 @@ fn tell_results(
     Ok(true)
 }
 
-/// Tells the keys of a rule, up to the first that stops it, and answers whether all let it go on.
+/// Adds the texts of the keys of a rule, up to the first that stops it, and returns whether all let it go on.
 fn tell_keys<L: Lookup>(
     alloc: Global,
     rule: &Rule,
@@ -110,7 +111,7 @@ fn tell_keys<L: Lookup>(
     tell_results(alloc, rule.results(), scene, texts)
 }
 
-/// How a rule ends in which nothing counts for the event.
+/// How a rule in which nothing counts for the event ends.
 fn idle_end(goes_on: bool) -> &'static [u8]
     ensures { result.now ≡ idle_end goes_on }
 {
@@ -121,7 +122,7 @@ fn idle_end(goes_on: bool) -> &'static [u8]
     }
 }
 
-/// Tells the keys of a rule in which nothing counts for the event, and how it ends, and passes over it.
+/// Skips a rule in which nothing counts for the event, and adds the texts of its keys and of how it ends.
 fn tell_idle<'a, L: Lookup>(
     alloc: Global,
     rule: &'a Rule,
@@ -144,8 +145,8 @@ fn tell_idle<'a, L: Lookup>(
     Ok(())
 }
 
-/// Tells the keys of a rule in which something counts and how it ends, and answers whether its end was
-/// reached.
+/// Evaluates a rule in which something counts, adds the texts of its keys and of how it ends, and returns whether
+/// its end was reached.
 fn tell_steps<'a, L: Lookup>(
     alloc: Global,
     rule: &'a Rule,
@@ -166,7 +167,7 @@ fn tell_steps<'a, L: Lookup>(
     Ok(true)
 }
 
-/// Tells a rule, and answers whether its end was reached.
+/// Evaluates a rule, adds the texts of its course, and returns whether its end was reached.
 #[tactic(auto, using(crate::proofs::Ending::idle_comes, crate::proofs::Ending::steps_come, crate::proofs::Ending::idle_course, crate::proofs::Ending::steps_course))]
 fn tell_rule<'a, L: Lookup>(
     alloc: Global,
@@ -187,18 +188,17 @@ fn tell_rule<'a, L: Lookup>(
     tell_steps(alloc, rule, lookup, since, scene, texts)
 }
 
-/// Evaluates a rule as `apply` does, and tells its course: a text for each key that was reached, with what it met, and one
-/// for how the rule ended. The texts are those that follow `why FILE:LINE: ` in an answer.
+/// Evaluates a rule as `apply` does, and returns its course: a text for each key that was reached, with what it
+/// met, and one for how the rule ended. The texts are those that follow `why FILE:LINE: ` in an answer.
 ///
-/// A match of the event and one of the result is reported with whether it holds and what it looked at; a match of one
-/// device
-/// with what it met at each device of the chain, and after all of these which device meets them all, or how many each
-/// device meets; what acts with whether the rule goes on, what was asked, and what was set. Nothing is reported after
-/// a key
-/// that stops the rule but `stops there`; where no key stops a rule that is passed over, since nothing in it counts for the
-/// event, its end is `nothing in it counts for this device`. `since` says since which rule each key is final.
+/// A match of the event or of the result is reported with whether it holds and what it looked at; a match of one
+/// device with what it met at each device of the chain, and after all of these which device meets them all, or how
+/// many the devices meet that meet some; what acts with whether the rule goes on, what was asked, and what was set.
+/// Nothing is reported after a key that stops the rule but `stops there`; if no key stops a rule that is skipped,
+/// since nothing in it counts for the event, its end is `nothing in it counts for this device`. `since` says since
+/// which rule each key is final.
 ///
-/// Where memory runs out, nothing is left of the scene but its event.
+/// If memory runs out, nothing is left of the scene but its event.
 pub fn tell_course<'a, L: Lookup>(
     alloc: Global,
     rule: &'a Rule,

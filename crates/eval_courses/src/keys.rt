@@ -16,14 +16,14 @@ fn operator_text(operator: MatchOperator) -> &'static [u8]
     }
 }
 
-/// The letter before a value of which case is ignored.
+/// The letter before a value whose case is ignored.
 fn case_mark(blind: bool) -> &'static [u8]
     ensures { result.now ≡ case_mark blind }
 {
     if blind { b"i" } else { b"" }
 }
 
-/// Puts what a key is compared with after a text.
+/// Appends what a key is compared with to a text.
 #[tactic(auto, unfolding(crate::specs::Keys::wanted_text))]
 fn push_wanted(
     alloc: Global,
@@ -42,7 +42,7 @@ fn push_wanted(
     Ok(())
 }
 
-/// Puts a comparison after a text.
+/// Appends a comparison to a text.
 fn push_comparison(alloc: Global, text: &mut Vec<u8>, wanted: &Comparison) -> Result<(), AllocError>
     ensures { OnOk result (text.new.items ≡ text.old.items ++ comparison_text wanted.now) }
 {
@@ -55,7 +55,7 @@ fn push_comparison(alloc: Global, text: &mut Vec<u8>, wanted: &Comparison) -> Re
     )
 }
 
-/// Puts a match of the event after a text.
+/// Appends a match of the event to a text.
 pub(crate) fn push_plain_key(
     alloc: Global,
     text: &mut Vec<u8>,
@@ -67,7 +67,7 @@ pub(crate) fn push_plain_key(
     push_comparison(alloc, text, &part.wanted)
 }
 
-/// Puts a match of one device after a text.
+/// Appends a match of one device to a text.
 pub(crate) fn push_up_key(
     alloc: Global,
     text: &mut Vec<u8>,
@@ -79,7 +79,7 @@ pub(crate) fn push_up_key(
     push_comparison(alloc, text, &part.wanted)
 }
 
-/// Puts a match of the result after a text.
+/// Appends a match of the result to a text.
 pub(crate) fn push_result_key(
     alloc: Global,
     text: &mut Vec<u8>,
@@ -116,7 +116,7 @@ fn value_of_deed(deed: &Deed) -> &[u8]
     }
 }
 
-/// Puts an act after a text.
+/// Appends an act to a text.
 pub(crate) fn push_act_key(alloc: Global, text: &mut Vec<u8>, act: &Act) -> Result<(), AllocError>
     ensures { OnOk result (text.new.items ≡ text.old.items ++ act_key act.now) }
 {

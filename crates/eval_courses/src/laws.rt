@@ -1,4 +1,4 @@
-//! What holds of courses, whatever the rule. Each function here is empty: its contract is the law.
+//! What holds for courses, whatever the rule. Each function here is empty: its contract is the law.
 ghost use Rattle.std.specs.Prelude.{◌≡◌, ◌↔◌, ◌∷◌, ◌++◌, ℕ, List, Some, codes, true, false};
 ghost use Rattle.text_tables.specs.Texts.{Text};
 ghost use Rattle.hwdb_lookup.specs.declared.entry.Entry.{Entry};
@@ -14,12 +14,13 @@ ghost use Rattle.eval_courses.specs.Courses.{course};
 ghost use Rattle.eval_courses.specs.Upward.{name_at, search_told};
 ghost use Rattle.eval_courses.specs.Laws.{last_of};
 
-/// The last text of a course is `stops there` exactly where the rule's end was not reached, unless the rule is passed over.
+/// The last text of a course is `stops there` exactly if the rule's end was not reached, unless the rule is
+/// skipped.
 pub fn course_ends_as_its_rule()
     ensures { (entries : List Entry) (since : finals.Since) (r : rules.Rule) (s : Scene) → is_idle r s.state.event ≡ false → (last_of (course entries since r s) ≡ Some (codes "stops there")) ↔ ((apply entries r s).1 ≡ false) }
 {}
 
-/// The last text of the course of a rule that is passed over says so exactly where all its keys let it go on.
+/// The last text of the course of a rule that is skipped says so exactly if all its keys let it go on.
 pub fn course_tells_what_is_passed_over()
     ensures { (entries : List Entry) (since : finals.Since) (r : rules.Rule) (s : Scene) → is_idle r s.state.event ≡ true → (last_of (course entries since r s) ≡ Some (codes "nothing in it counts for this device")) ↔ ((before_sets entries r s).1 ≡ true) }
 {}

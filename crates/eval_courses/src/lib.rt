@@ -1,8 +1,8 @@
 //! The course of a rule over an event: the keys that were reached, what each of them found, and how the rule ended.
 //!
-//! A rule is evaluated in the steps of `eval_rules`, by the same functions, and each key is reported beside its step:
-//! what a match looks at before the step, and what an act sets after it. After a key that stops the rule, only the fact
-//! that it stops is reported.
+//! A rule is evaluated in the steps of `eval_rules`, by the same functions, and each key is reported along with its
+//! step: what a match looks at before the step, and what an act sets after it. After a key that stops the rule,
+//! only the fact that it stops is reported.
 //!
 //! Functions that allocate return `AllocError` when memory runs out.
 #![tactic(auto)]

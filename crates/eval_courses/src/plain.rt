@@ -13,7 +13,7 @@ use rule_types::{Comparison, PlainMatch, Rule};
 use std::alloc::{AllocError, Global};
 use text_bytes::Bytes;
 
-/// Puts whether a rule goes on after a text.
+/// Appends to a text whether a rule goes on.
 pub(crate) fn push_met(text: &mut Vec<u8>, goes_on: bool) -> Result<(), AllocError>
     ensures { OnOk result (text.new.items ≡ text.old.items ++ met goes_on) }
 {
@@ -48,7 +48,7 @@ fn result_told(alloc: Global, part: &Comparison, state: &State<'_>) -> Result<By
     Ok(Bytes::new(text))
 }
 
-/// Reaches a match of the event, tells what it met, and answers whether it holds.
+/// Reaches a match of the event, adds what it met to the texts, and returns whether it holds.
 pub(crate) fn tell_match(
     alloc: Global,
     rule: &Rule,
@@ -64,7 +64,7 @@ pub(crate) fn tell_match(
     plain_step(alloc, rule, part, scene)
 }
 
-/// Tells what a match of the result of the last program met, and answers whether it holds.
+/// Adds what a match of the result of the last program met to the texts, and returns whether it holds.
 #[tactic(auto, unfolding(eval_rules::specs::Steps::result_step))]
 pub(crate) fn tell_result(
     alloc: Global,

@@ -1,4 +1,4 @@
-//! Which properties stand only after an act.
+//! Which properties are there only after an act.
 ghost use Rattle.std.specs.Prelude.{◌≡◌, ◌++◌, IfOk, OnOk, map};
 ghost use Rattle.eval_effects.specs.Items.{stands};
 ghost use Rattle.eval_courses.specs.Acts.{newly_set, property_told, set_told};
@@ -19,7 +19,7 @@ pub(crate) fn copied(alloc: Global, properties: &OwnedPairs) -> Result<OwnedPair
     Ok(copy)
 }
 
-/// Whether a property stands among others with its value.
+/// Whether a property is among others with its value.
 fn stands(properties: &OwnedPairs, name: &[u8], value: &[u8]) -> bool
     ensures { result ≡ stands (name.now, value.now) properties.now }
 {
@@ -29,7 +29,7 @@ fn stands(properties: &OwnedPairs, name: &[u8], value: &[u8]) -> bool
     }
 }
 
-/// A property.
+/// A property as it is reported.
 #[tactic(auto, unfolding(crate::specs::Acts::property_told))]
 fn property_told(alloc: Global, name: &[u8], value: &[u8]) -> Result<Bytes, AllocError>
     ensures { IfOk result (λ text. text ≡ property_told (name.now, value.now)) }
@@ -41,7 +41,7 @@ fn property_told(alloc: Global, name: &[u8], value: &[u8]) -> Result<Bytes, Allo
     Ok(Bytes::new(text))
 }
 
-/// The properties of those that stand now which did not stand so before.
+/// The properties that are there now and were not there with the same value before.
 pub(crate) fn newly_set(
     alloc: Global,
     before: &OwnedPairs,
@@ -58,7 +58,7 @@ pub(crate) fn newly_set(
     Ok(texts)
 }
 
-/// Puts which properties were set after a text.
+/// Appends to a text which properties were set.
 pub(crate) fn push_set(text: &mut Vec<u8>, properties: &[Bytes]) -> Result<(), AllocError>
     ensures { OnOk result (text.new.items ≡ text.old.items ++ set_told properties.now) }
 {

@@ -20,17 +20,17 @@ use text_bytes::Profile;
 pub(crate) enum Subject<'s, 'a> {
     /// One text.
     One(&'s [u8]),
-    /// The subsystem of the event device, by whose word it is compared.
+    /// The subsystem of the event device, and the profile by which it is compared.
     Subsystem(Profile, &'s [u8]),
     /// An attribute, which may be absent or not read.
     Attribute(Attribute<'a>),
     /// A constant, which may be absent.
     Constant(Option<&'s [u8]>),
-    /// Texts as rules left them, by whose word they are compared.
+    /// Texts as rules left them, and the profile by which they are compared.
     Members(Profile, &'s [Vec<u8>]),
-    /// Texts as the event gave them, by whose word they are compared.
+    /// Texts as the event gave them, and the profile by which they are compared.
     Given(Profile, &'a [&'a [u8]]),
-    /// A constant that there is not.
+    /// An unknown constant.
     Unknown,
     /// What is not read.
     Unread,
@@ -47,7 +47,7 @@ fn named_constant<'s, 'a>(name: &[u8], state: &'s State<'a>) -> Subject<'s, 'a>
     }
 }
 
-/// The assigned name, empty where there is none.
+/// The assigned name, empty if there is none.
 fn assigned_name<'s>(state: &'s State<'_>) -> &'s [u8]
     ensures { result.now ≡ or_empty state.now.name }
 {
@@ -57,7 +57,7 @@ fn assigned_name<'s>(state: &'s State<'_>) -> &'s [u8]
     }
 }
 
-/// By whose word rules are evaluated over the event.
+/// The profile by which rules are evaluated over the event.
 fn profile_of(state: &State<'_>) -> Profile
     ensures { result ≡ state.now.event.profile }
 {
@@ -97,14 +97,14 @@ fn tags_at<'s, 'a>(state: &'s State<'a>, place: usize) -> Subject<'s, 'a>
     }
 }
 
-/// The kernel's name of the device at a place, empty where there is none.
+/// The kernel's name of the device at a place, empty if there is none.
 pub(crate) fn kernel_at<'s>(state: &'s State<'_>, place: usize) -> &'s [u8]
     ensures { result.now ≡ or_empty (option_map kernel_of (device_at state.now.event place)) }
 {
     state.event.kernel_at(place).unwrap_or(b"")
 }
 
-/// What a match of one device looks at at a place.
+/// What a match of one device looks at, at a place.
 pub(crate) fn up_subject<'s, 'a>(key: &UpKey, state: &'s State<'a>, place: usize) -> Subject<'s, 'a>
     ensures { subject_of result ≡ up_subject key.now state.now place }
 {
@@ -137,7 +137,7 @@ pub(crate) fn is_absent(subject: &Subject<'_, '_>) -> bool
     }
 }
 
-/// Puts a text that may be absent after another.
+/// Appends a text that may be absent to another.
 fn push_value(alloc: Global, text: &mut Vec<u8>, value: Option<&[u8]>) -> Result<(), AllocError>
     ensures { OnOk result (text.new.items ≡ text.old.items ++ value_told (option_map (λ t. t.now) value.entry)) }
 {
@@ -147,7 +147,7 @@ fn push_value(alloc: Global, text: &mut Vec<u8>, value: Option<&[u8]>) -> Result
     }
 }
 
-/// Puts texts as rules left them after a text, a space between.
+/// Appends texts as rules left them to a text, with spaces between.
 fn push_members(alloc: Global, text: &mut Vec<u8>, members: &[Vec<u8>]) -> Result<(), AllocError>
     ensures { OnOk result (text.new.items ≡ text.old.items ++ members_told (map (λ t. t.items) members.now)) }
 {
@@ -162,7 +162,7 @@ fn push_members(alloc: Global, text: &mut Vec<u8>, members: &[Vec<u8>]) -> Resul
     Ok(())
 }
 
-/// Puts texts as the event gave them after a text, a space between.
+/// Appends texts as the event gave them to a text, with spaces between.
 fn push_given(alloc: Global, text: &mut Vec<u8>, members: &[&[u8]]) -> Result<(), AllocError>
     ensures { OnOk result (text.new.items ≡ text.old.items ++ members_told (map (λ t. t.now) members.now)) }
 {
@@ -177,7 +177,7 @@ fn push_given(alloc: Global, text: &mut Vec<u8>, members: &[&[u8]]) -> Result<()
     Ok(())
 }
 
-/// Puts an attribute after a text.
+/// Appends an attribute to a text.
 fn push_attribute(
     alloc: Global,
     text: &mut Vec<u8>,
@@ -191,7 +191,7 @@ fn push_attribute(
     }
 }
 
-/// Puts what a match looked at after a text.
+/// Appends what a match looked at to a text.
 #[tactic(auto, using(crate::proofs::Looking::looked_subsystem, crate::proofs::Looking::looked_members))]
 pub(crate) fn push_looked(
     alloc: Global,

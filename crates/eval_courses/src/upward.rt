@@ -1,4 +1,4 @@
-//! The matches of one device, what they met device by device, and what the search came to.
+//! The matches of one device, what they met device by device, and the outcome of the search.
 ghost use Rattle.std.specs.Prelude.{◌≡◌, ◌++◌, IfOk, OnOk, false, length, map};
 ghost use Rattle.std.specs.List.{list_any};
 ghost use Rattle.device_core.specs.Values.{chain};
@@ -18,7 +18,7 @@ use rule_types::UpMatch;
 use std::alloc::{AllocError, Global};
 use text_bytes::Bytes;
 
-/// Puts the kernel's name of the device at a place after a text.
+/// Appends the kernel's name of the device at a place to a text.
 fn push_name(
     alloc: Global,
     text: &mut Vec<u8>,
@@ -30,7 +30,7 @@ fn push_name(
     push_shown(alloc, text, kernel_at(state, place))
 }
 
-/// Puts what a match that fails met after a text.
+/// Appends what a match that fails met to a text.
 fn push_failing(
     alloc: Global,
     text: &mut Vec<u8>,
@@ -45,7 +45,7 @@ fn push_failing(
     push_looked(alloc, text, subject)
 }
 
-/// Puts what a match met at the device at a place after a text.
+/// Appends what a match met at the device at a place to a text.
 fn push_met_at(
     alloc: Global,
     text: &mut Vec<u8>,
@@ -168,7 +168,7 @@ fn partly_all_told(
     Ok(texts)
 }
 
-/// Puts what no device meets after a text: any of the matches, or all of them, with the devices that meet some.
+/// Appends what no device meets to a text: any of the matches, or all of them, with the devices that meet some.
 fn push_unmet(text: &mut Vec<u8>, devices: &[Bytes]) -> Result<(), AllocError>
     ensures { OnOk result (text.new.items ≡ text.old.items ++ unmet devices.now) }
 {
@@ -179,7 +179,7 @@ fn push_unmet(text: &mut Vec<u8>, devices: &[Bytes]) -> Result<(), AllocError>
     push_joined(text, devices)
 }
 
-/// What the search came to.
+/// The outcome of the search.
 fn found_told(alloc: Global, parts: &[UpMatch], state: &State<'_>) -> Result<Bytes, AllocError>
     ensures { IfOk result (λ text. text ≡ found_told parts.now state.now (found_place parts.now state.now)) }
 {
@@ -197,7 +197,7 @@ fn found_told(alloc: Global, parts: &[UpMatch], state: &State<'_>) -> Result<Byt
     Ok(Bytes::new(text))
 }
 
-/// Tells each match of one device.
+/// Adds the text of each match of one device.
 fn tell_each(
     alloc: Global,
     parts: &[UpMatch],
@@ -212,7 +212,7 @@ fn tell_each(
     Ok(())
 }
 
-/// Tells the search for one device, and makes it: each of its matches, and what it came to.
+/// Searches for one device, and adds the texts of the search: each of its matches, and its outcome.
 #[tactic(auto, unfolding(crate::specs::Upward::search_told))]
 pub(crate) fn tell_search(
     alloc: Global,

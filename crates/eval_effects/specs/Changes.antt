@@ -1,4 +1,4 @@
--- What changed between two scenes, as texts: items that stand only since then or no longer, and RUNs.
+-- What changed between two scenes, as texts: items that are there only now or no longer, and RUNs.
 use Rattle.std.specs.Prelude.{ℕ, zero, suc, ◌||◌, ◌&&◌, if◌then◌else◌, Bool, List, [], ◌∷◌, ◌++◌, is_some, length, drop, map, codes, flat_map}
 use Rattle.std.specs.List.{list_any, prefix_len, zip}
 use Rattle.text_bytes.specs.Names.{equals, space}
@@ -13,7 +13,8 @@ use Rattle.eval_effects.specs.Items.{items}
 use Rattle.eval_effects.specs.Items.{stands}
 use Rattle.eval_effects.specs.Shown.{shown}
 
--- what is compared of a scene: its items, its RUNs, those that udev made at their rules, and how many notes it has
+-- what is compared between scenes: its items, its RUNs, those that udev made at their rules, and how many notes it
+-- has
 pub record Standing : Type 0 where
   pub items : List Pair
   pub runs : List RunValue
@@ -28,23 +29,23 @@ abbrev pub value_part : Text → Text
 value_part [] = codes " added"
 value_part (byte ∷ value) = equals ∷ shown (byte ∷ value) ++ codes " set"
 
--- an item that is set
+-- the text of an item that is set
 abbrev pub set_text : Pair → Text
 set_text item = shown item.0 ++ value_part item.1
 
--- an item of those that stand now is reported unless it stood so before
+-- an item that is there now is reported unless it was there like this before
 abbrev pub set_item : List Pair → Pair → List Text
 set_item was item = if stands item was then [] else set_text item ∷ []
 
--- an item whose name no longer stands
+-- the text of an item whose name is no longer there
 abbrev pub removed_text : Text → Text
 removed_text name = shown name ++ codes " removed"
 
--- an item of those that stood before is reported where its name no longer stands
+-- an item that was there before is reported if its name is no longer there
 abbrev pub removed_item : List Pair → Pair → List Text
 removed_item now item = if is_some (value_of now item.0) then [] else removed_text item.0 ∷ []
 
--- what changed of items, by those before and those now
+-- what changed in items, by those before and those now
 abbrev pub item_changes : List Pair → List Pair → List Text
 item_changes was now = flat_map (set_item was) now ++ flat_map (removed_item now) was
 
@@ -52,15 +53,15 @@ item_changes was now = flat_map (set_item was) now ++ flat_map (removed_item now
 abbrev pub is_kept : List RunValue → RunValue → Bool
 is_kept runs run = list_any (λ other. same_run other run) runs
 
--- a RUN, by its type and its written text
+-- the text of a RUN, by its type and its written text
 unfoldable pub run_text : RunValue → Text
 run_text run = codes "run " ++ run_name (run_kind run.braces) ++ space ∷ shown run.template.written
 
--- a RUN of those now is reported unless it was there before
+-- a RUN that is there now is reported unless it was there before
 abbrev pub added_run : List RunValue → RunValue → List Text
 added_run was run = if is_kept was run then [] else (run_text run ++ codes " added") ∷ []
 
--- a RUN of those before is reported where it is no longer there
+-- a RUN that was there before is reported if it is no longer there
 abbrev pub removed_run : List RunValue → RunValue → List Text
 removed_run now run = if is_kept now run then [] else (run_text run ++ codes " removed") ∷ []
 
@@ -69,11 +70,11 @@ abbrev pub removed_runs : List RunValue → List RunValue → List Text
 removed_runs was now =
     if is_empty was || list_any (is_kept now) was then flat_map (removed_run now) was else codes "all runs removed" ∷ []
 
--- what changed of RUNs, by those before and those now
+-- what changed in RUNs, by those before and those now
 abbrev pub run_changes : List RunValue → List RunValue → List Text
 run_changes was now = flat_map (added_run was) now ++ removed_runs was now
 
--- whether two RUNs that udev made are the same: of one type, as written and as rendered
+-- whether two RUNs that udev made are the same: of the same type, as written and as rendered
 abbrev pub same_made : MadeRun → MadeRun → Bool
 same_made a b = same_run a.run b.run && same_text a.text b.text
 
@@ -81,7 +82,7 @@ same_made a b = same_run a.run b.run && same_text a.text b.text
 abbrev pub stayed : List MadeRun → List MadeRun → ℕ
 stayed was now = prefix_len (λ pair. same_made pair.0 pair.1) (zip was now)
 
--- a RUN that udev made, and what became of it
+-- the text of a RUN that udev made, and what became of it
 abbrev pub made_run : Text → MadeRun → Text
 made_run became made = run_text made.run ++ became
 
@@ -91,7 +92,7 @@ removed_made n [] = []
 removed_made zero (made ∷ was) = codes "all runs removed" ∷ []
 removed_made (suc n) (made ∷ was) = map (made_run (codes " removed")) (drop n was)
 
--- what changed of RUNs that udev made, by those before and those now: one may be there several times
+-- what changed in RUNs that udev made, by those before and those now: one may be there several times
 abbrev pub made_changes : List MadeRun → List MadeRun → List Text
 made_changes was now = map (made_run (codes " added")) (drop (stayed was now) now) ++ removed_made (stayed was now) was
 

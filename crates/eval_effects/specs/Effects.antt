@@ -1,4 +1,4 @@
--- What the assignments of a rule did, told while they are made.
+-- What the assignments of a rule did, reported while they are made.
 use Rattle.std.specs.Prelude.{ℕ, if◌then◌else◌, List, [], ◌∷◌, ◌++◌, Option, Some, None, option_map, unwrap_or, codes, slice_get}
 use Rattle.text_tables.specs.Texts.{Text}
 use Rattle.rule_types.specs.Rules.{Rule}
@@ -23,11 +23,11 @@ abbrev pub settled_key : Finals → Option FinalKey → Option FinalKey
 settled_key finals None = None
 settled_key finals (Some key) = if is_final finals key then Some key else None
 
--- an assignment to a key that is final since a rule
+-- the text of an assignment to a key that has been final since a rule
 abbrev pub final_text : FinalKey → Rule → Text
 final_text key r = final_name key ++ codes " is final since " ++ rule_place r
 
--- what the note is that an assignment left, if it left one: the one after those that there were
+-- the kind of the note that an assignment left, if it left one: the note after those that there were
 abbrev pub note_left : ℕ → Scene → Option NoteKind
 note_left count s = option_map (λ note. note.kind) (slice_get s.notes count)
 
@@ -57,12 +57,13 @@ abbrev pub said_left : Change → Option Note → List Text
 said_left c None = []
 said_left c (Some note) = said_of c note.kind note.word
 
--- an assignment that was made or left a note, by what stood before it and the scene after it: what changed, and what was left out
+-- an assignment that was made or left a note, by what was there before it and the scene after it: what changed, and
+-- what was left out
 abbrev pub made_text : Change → Standing → Scene → Text
 made_text c was s = changed_text c (changes was s ++ said_left c (note_behind was.notes s))
 
--- an assignment, by its key where that was final, what stood before it, and the scene after it; a key that no earlier rule made
--- final is final since the rule itself
+-- an assignment, by its key if that was final, what was there before it, and the scene after it; a key that no
+-- earlier rule made final has been final since the rule itself
 abbrev pub effect_by : Since → Rule → Change → Option FinalKey → Standing → Scene → Text
 effect_by since r c (Some key) was s = final_text key (unwrap_or (since_of since key) r)
 effect_by since r c None was s = made_text c was s
@@ -76,11 +77,11 @@ abbrev pub effects : Since → Rule → Scene → List Assignment → List Text
 effects since r s [] = []
 effects since r s (a ∷ more) = effect since r s a ∷ effects since r (set_step r s a) more
 
--- a rule whose end is reached, by what its assignments did
+-- the text of a rule whose end is reached, by what its assignments did
 abbrev pub ending_of : List Text → Text
 ending_of [] = codes "reached its end"
 ending_of (text ∷ more) = codes "reached its end: " ++ joined (text ∷ more)
 
--- a rule whose end is reached over a scene, where it is known since which rules keys are final
+-- the text of a rule whose end is reached over a scene, given since which rules keys are final
 unfoldable pub ending : Since → Rule → Scene → Text
 ending since r s = ending_of (effects since r s r.sets)

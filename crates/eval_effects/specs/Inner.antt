@@ -4,10 +4,10 @@ use Rattle.text_tables.specs.Pairs.{Pair, with_values}
 use Rattle.text_tables.specs.Texts.{Text, is_among}
 use Rattle.eval_effects.specs.Items.{item_name}
 
--- a table of items, in which the first of two with one name counts: they are put into it from the last on
+-- a table of items, in which the first of two with the same name counts: they are put into it from the last on
 abbrev pub table_of : List Pair → List Pair
 table_of items = with_values [] (reverse items)
 
--- a tag as an item, unless it was taken away
+-- a tag as an item, unless it was removed
 abbrev pub tag_item : List Text → Text → List Pair
 tag_item gone tag = if is_among gone tag then [] else (item_name (codes "tag") tag, []) ∷ []

@@ -1,4 +1,5 @@
--- What is in a scene, as items: each has a name, the word of its line with what it is about, and a value.
+-- What is in a scene, as items: each has a name, which is the first word of its line with what it is about, and a
+-- value.
 use Rattle.std.specs.Prelude.{ℤ, Bool, true, false, List, [], ◌∷◌, ◌++◌, map, Option, Some, None, codes}
 use Rattle.std.specs.Fmt.{signed_decimal}
 use Rattle.text_bytes.specs.Names.{space}
@@ -11,7 +12,7 @@ use Rattle.eval_assignments.specs.Tags.{current_tags}
 abbrev pub item_name : Text → Text → Text
 item_name word about = word ++ space ∷ about
 
--- a text that may not be there, as an item
+-- a text as an item, if there is one
 abbrev pub given_item : Text → Option Text → List Pair
 given_item word None = []
 given_item word (Some text) = (word, text) ∷ []
@@ -24,22 +25,22 @@ text_items word texts = map (λ text. (item_name word text, [])) texts
 abbrev pub pair_items : Text → List Pair → List Pair
 pair_items word pairs = map (λ pair. (item_name word pair.0, pair.1)) pairs
 
--- a priority as an item, where one was assigned
+-- a priority as an item, if one was assigned
 abbrev pub priority_item : Option ℤ → List Pair
 priority_item None = []
 priority_item (Some priority) = (codes "priority", signed_decimal priority) ∷ []
 
--- the word on watching
+-- the word for watching or not
 abbrev pub watch_word : Bool → Text
 watch_word true = codes "watch"
 watch_word false = codes "nowatch"
 
--- the word on watching as an item, where it was assigned
+-- the word for watching or not as an item, if it was assigned
 abbrev pub watch_item : Option Bool → List Pair
 watch_item None = []
 watch_item (Some watched) = (watch_word watched, []) ∷ []
 
--- that what is known of the device stays, as an item
+-- that what is known about the device stays, as an item
 abbrev pub persist_item : Bool → List Pair
 persist_item true = (codes "persist", []) ∷ []
 persist_item false = []
@@ -66,11 +67,11 @@ items s =
     ++ pair_items (codes "attr") s.attrs
     ++ pair_items (codes "sysctl") s.sysctls
 
--- whether a value is there and is this text
+-- whether there is a value, and it is this text
 abbrev pub is_value : Option Text → Text → Bool
 is_value None text = false
 is_value (Some value) text = same_text value text
 
--- whether an item stands among others: its name has its value
+-- whether an item is among others: its name has its value
 abbrev pub stands : Pair → List Pair → Bool
 stands item items = is_value (value_of items item.0) item.1

@@ -1,4 +1,4 @@
--- How lines that tell why name keys and rules.
+-- How the lines of `--why` name keys and rules.
 use Rattle.std.specs.Prelude.{◌∷◌, ◌++◌, Option, option_map, codes, decimal}
 use Rattle.text_bytes.specs.Escapes.{escape_text}
 use Rattle.text_bytes.specs.Names.{colon}
@@ -19,7 +19,7 @@ key_text key attribute = word_of_key key (option_map escape_text attribute)
 abbrev pub change_key : Change → Text
 change_key c = key_text (key_of_change c) (attribute_of_change c)
 
--- a key that no longer changes: options are told apart by their words
+-- a key that no longer changes: options are distinguished by their words
 abbrev pub final_name : FinalKey → Text
 final_name Owner = codes "OWNER"
 final_name Group = codes "GROUP"
@@ -30,6 +30,6 @@ final_name Run = codes "RUN"
 final_name Priority = codes "link_priority"
 final_name Watch = codes "watch"
 
--- where a rule stands, `FILE:LINE`, the file's name escaped
+-- the place of a rule, `FILE:LINE`, with the file's name escaped
 abbrev pub rule_place : Rule → Text
 rule_place r = escape_text r.file ++ colon ∷ decimal r.line

@@ -1,4 +1,4 @@
--- Texts as lines that tell why show them, and several of them in one line.
+-- Texts as the lines of `--why` show them, and several of them in one line.
 use Rattle.std.specs.Prelude.{ℕ, nat_lt, if◌then◌else◌, List, [], ◌∷◌, ◌++◌, length, take, codes, decimal, flat_map}
 use Rattle.text_bytes.specs.Escapes.{escape_text}
 use Rattle.text_bytes.specs.Names.{double_quote}
@@ -12,11 +12,11 @@ most_shown = 200
 unfoldable pub cut : Text → Text
 cut text = escape_text (take most_shown text) ++ codes ".. (" ++ decimal (length text) ++ codes " bytes)"
 
--- a text as it is between quotes: escaped, or cut where it is long
+-- a text as it is between quotes: escaped, or cut if it is long
 abbrev pub shortened : Text → Text
 shortened text = if nat_lt most_shown (length text) then cut text else escape_text text
 
--- a text as it is shown: so too, and an empty one as two quotes
+-- a text as it is shown: the same, but an empty one as two quotes
 abbrev pub shown : Text → Text
 shown [] = double_quote ∷ double_quote ∷ []
 shown (byte ∷ text) = shortened (byte ∷ text)

@@ -1,11 +1,11 @@
--- Since which rule each key is final: the first one after which the key no longer changes.
+-- The rule since which each key is final: the first one after which the key no longer changes.
 use Rattle.std.specs.Prelude.{Bool, if◌then◌else◌, List, Option, Some, None, fold}
 use Rattle.rule_types.specs.Rules.{Rule}
 use Rattle.eval_state.specs.declared.finals.FinalKey.{FinalKey}
 use Rattle.eval_state.specs.declared.finals.FinalKey.TheVariants as key
 use Rattle.eval_state.specs.declared.finals.Finals.{Finals}
 
--- of each key the rule since which it is final, if it is final
+-- for each key the rule since which it is final, if it is final
 pub record Since : Type 0 where
   pub owner : Option Rule
   pub group : Option Rule
@@ -31,12 +31,13 @@ since_of since key.Run = since.run
 since_of since key.Priority = since.priority
 since_of since key.Watch = since.watch
 
--- the rule since which a key is final after one rule more: the one that is known, or that rule where the key is final now
+-- the rule since which a key is final after one more rule: the one that is known, or that rule if the key is final
+-- now
 abbrev pub since_either : Option Rule → Bool → Rule → Option Rule
 since_either (Some first) final r = Some first
 since_either None final r = if final then Some r else None
 
--- the same of all keys, by those that are final after the rule
+-- the same for all keys, by those that are final after the rule
 abbrev pub since_behind : Since → Rule → Finals → Since
 since_behind since r finals = record {
   owner = since_either since.owner finals.owner r;

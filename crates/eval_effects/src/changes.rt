@@ -1,4 +1,4 @@
-//! Items that stand only now, and names that no longer stand.
+//! Items that are there only now, and names that are no longer there.
 ghost use Rattle.std.specs.Prelude.{◌≡◌, ◌++◌, IfOk, OnOk, flat_map, is_some, option_map};
 ghost use Rattle.text_tables.specs.Pairs.{value_of};
 ghost use Rattle.eval_effects.specs.Items.{is_value, stands};
@@ -11,7 +11,8 @@ use std::alloc::{AllocError, Global};
 use text_bytes::Bytes;
 use text_tables::Pairs;
 
-/// A table of items, in which a name has the value that it has among them: of two items with one name the first counts.
+/// A table of items, in which a name has the value that it has among them: of two items with the same name the
+/// first counts.
 fn table_of<'i>(alloc: Global, items: &'i [Item]) -> Result<Pairs<'i>, AllocError>
     ensures { IfOk result (λ table. table ≡ table_of items.now) }
 {
@@ -22,7 +23,7 @@ fn table_of<'i>(alloc: Global, items: &'i [Item]) -> Result<Pairs<'i>, AllocErro
     Ok(table)
 }
 
-/// Whether a value is there and is this text.
+/// Whether there is a value, and it is this text.
 fn is_value(value: Option<&[u8]>, text: &[u8]) -> bool
     ensures { result ≡ is_value (option_map (λ v. v.now) value.entry) text.now }
 {
@@ -32,7 +33,7 @@ fn is_value(value: Option<&[u8]>, text: &[u8]) -> bool
     }
 }
 
-/// Whether an item stands among others: its name has its value.
+/// Whether an item is among others: its name has its value.
 fn stands(items: &Pairs<'_>, item: &Item) -> bool
     ensures { result ≡ stands item.now items.now }
 {
@@ -46,7 +47,7 @@ fn is_named(items: &Pairs<'_>, name: &[u8]) -> bool
     items.get(name).is_some()
 }
 
-/// Puts what becomes of an item that takes a value after a text.
+/// Appends what becomes of an item that takes a value.
 fn push_value(alloc: Global, text: &mut Vec<u8>, value: &[u8]) -> Result<(), AllocError>
     ensures { OnOk result (text.new.items ≡ text.old.items ++ value_part value.now) }
 {
@@ -58,7 +59,7 @@ fn push_value(alloc: Global, text: &mut Vec<u8>, value: &[u8]) -> Result<(), All
     text.extend_from_slice(b" set")
 }
 
-/// An item that is set.
+/// The text of an item that is set.
 fn set_text(alloc: Global, item: &Item) -> Result<Bytes, AllocError>
     ensures { IfOk result (λ text. text ≡ set_text item.now) }
 {
@@ -68,7 +69,7 @@ fn set_text(alloc: Global, item: &Item) -> Result<Bytes, AllocError>
     Ok(Bytes::new(text))
 }
 
-/// An item whose name no longer stands.
+/// The text of an item whose name is no longer there.
 fn removed_text(alloc: Global, name: &[u8]) -> Result<Bytes, AllocError>
     ensures { IfOk result (λ text. text ≡ removed_text name.now) }
 {
@@ -78,7 +79,7 @@ fn removed_text(alloc: Global, name: &[u8]) -> Result<Bytes, AllocError>
     Ok(Bytes::new(text))
 }
 
-/// Tells an item after other texts, unless it stood so before.
+/// Adds the text of an item, unless it was there like this before.
 fn push_set(
     alloc: Global,
     told: &mut Vec<Bytes>,
@@ -93,7 +94,7 @@ fn push_set(
     Ok(())
 }
 
-/// Tells an item of before after other texts, where its name no longer stands.
+/// Adds the text of an earlier item if its name is no longer there.
 fn push_removed(
     alloc: Global,
     told: &mut Vec<Bytes>,
@@ -108,7 +109,7 @@ fn push_removed(
     Ok(())
 }
 
-/// Tells the items that did not stand so before, after other texts.
+/// Adds the texts of the items that were not there like this before.
 fn push_all_set(
     alloc: Global,
     told: &mut Vec<Bytes>,
@@ -123,7 +124,7 @@ fn push_all_set(
     Ok(())
 }
 
-/// Tells the items whose names no longer stand, after other texts.
+/// Adds the texts of the items whose names are no longer there.
 fn push_all_removed(
     alloc: Global,
     told: &mut Vec<Bytes>,
@@ -138,7 +139,7 @@ fn push_all_removed(
     Ok(())
 }
 
-/// Tells what changed of items, after other texts.
+/// Adds the texts of what changed in items.
 pub(crate) fn push_item_changes(
     alloc: Global,
     told: &mut Vec<Bytes>,

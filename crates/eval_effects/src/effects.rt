@@ -31,7 +31,7 @@ fn settled_key(finals: Finals, key: Option<FinalKey>) -> Option<FinalKey>
     }
 }
 
-/// An assignment to a key that is final since a rule.
+/// The text of an assignment to a key that has been final since a rule.
 fn final_text(alloc: Global, key: FinalKey, rule: &Rule) -> Result<Bytes, AllocError>
     ensures { IfOk result (λ text. text ≡ final_text key rule.now) }
 {
@@ -48,7 +48,7 @@ fn note_behind<'s>(count: usize, scene: &'s Scene<'_>) -> Option<&'s Note>
     scene.notes.as_slice().get(count)
 }
 
-/// All that changed since so much stood.
+/// All that changed since a scene was like this.
 fn changes(alloc: Global, was: &Standing<'_>, scene: &Scene<'_>) -> Result<Vec<Bytes>, AllocError>
     ensures { IfOk result (λ told. told.items ≡ changes was.now scene.now) }
 {
@@ -59,7 +59,7 @@ fn changes(alloc: Global, was: &Standing<'_>, scene: &Scene<'_>) -> Result<Vec<B
     Ok(told)
 }
 
-/// The key of an assignment, and what is said of it.
+/// The key of an assignment, and what is said about it.
 fn key_with(alloc: Global, change: &Change, said: &[u8]) -> Result<Bytes, AllocError>
     ensures { IfOk result (λ text. text ≡ change_key change.now ++ said.now) }
 {
@@ -81,7 +81,7 @@ fn changed_text(alloc: Global, change: &Change, changes: &[Bytes]) -> Result<Byt
     Ok(Bytes::new(text))
 }
 
-/// A link that was refused.
+/// The text of a link that was refused.
 fn link_told(alloc: Global, link: &[u8]) -> Result<Bytes, AllocError>
     ensures { IfOk result (λ text. text ≡ shown link.now ++ codes " ignored, no link") }
 {
@@ -91,7 +91,7 @@ fn link_told(alloc: Global, link: &[u8]) -> Result<Bytes, AllocError>
     Ok(Bytes::new(text))
 }
 
-/// Tells the key of an assignment and what is said of it, after other texts.
+/// Adds a text of the key of an assignment and what is said about it.
 fn push_with_key(
     alloc: Global,
     told: &mut Vec<Bytes>,
@@ -104,7 +104,7 @@ fn push_with_key(
     Ok(())
 }
 
-/// Tells what a note of an assignment says, after other texts.
+/// Adds the text of a note of an assignment.
 fn push_said(
     alloc: Global,
     told: &mut Vec<Bytes>,
@@ -137,7 +137,7 @@ fn push_said(
     }
 }
 
-/// Tells what the note of an assignment says after other texts, if it left one.
+/// Adds the text of the note of an assignment, if it left one.
 fn push_left(
     alloc: Global,
     told: &mut Vec<Bytes>,
@@ -152,7 +152,7 @@ fn push_left(
     }
 }
 
-/// An assignment that was made or left a note, by what stood before it and the scene after it.
+/// An assignment that was made or left a note, by what was there before it and the scene after it.
 fn made_text(
     alloc: Global,
     change: &Change,
@@ -166,7 +166,7 @@ fn made_text(
     changed_text(alloc, change, &told)
 }
 
-/// Makes an assignment and tells what it did.
+/// Makes an assignment, and returns a text of what it did.
 #[tactic(auto, unfolding(crate::specs::Effects::effect))]
 fn set_told<'a>(
     alloc: Global,
@@ -189,7 +189,7 @@ fn set_told<'a>(
     }
 }
 
-/// Makes the assignments of a rule, one after another, and tells what each did.
+/// Makes the assignments of a rule, one after another, and returns a text of what each did.
 fn set_all_told<'a>(
     alloc: Global,
     rule: &'a Rule,
@@ -208,7 +208,7 @@ fn set_all_told<'a>(
     Ok(told)
 }
 
-/// A rule whose end is reached, by what its assignments did.
+/// The text of a rule whose end is reached, by what its assignments did.
 fn ending_of(alloc: Global, told: &[Bytes]) -> Result<Bytes, AllocError>
     ensures { IfOk result (λ text. text ≡ ending_of told.now) }
 {
@@ -220,7 +220,7 @@ fn ending_of(alloc: Global, told: &[Bytes]) -> Result<Bytes, AllocError>
     Ok(Bytes::new(text))
 }
 
-/// The end of a rule, where its scene may be left half done.
+/// The end of a rule; on failure its scene may be left half done.
 #[tactic(auto, unfolding(crate::specs::Effects::ending))]
 fn end_open<'a>(
     alloc: Global,
@@ -236,15 +236,15 @@ fn end_open<'a>(
     ending_of(alloc, &told)
 }
 
-/// Makes the assignments of a rule whose end is reached, as `set_all` does, and tells what each of them did: udev(7),
-/// "assign keys".
+/// Makes the assignments of a rule whose end is reached, as `set_all` does, and returns a text of what each of them
+/// did: udev(7), "assign keys".
 ///
-/// The text is `reached its end`, and after a colon for each assignment, in the order of evaluation: that its key is
-/// final, and since which rule; or what it changed of links, tags, properties and all else that stands, and of what is to
-/// be run, and that its text was too long or was ignored. Since which rules keys are final is asked of `since`;
-/// a key that no rule there made final is so since this rule.
+/// The text is `reached its end`, and after a colon for each assignment, in the order of evaluation: that its key
+/// is final, and since which rule; or what it changed in links, tags, properties and all other items, and in what
+/// is to be run, and that its text was too long or was ignored. `since` gives the rules since which keys are final;
+/// a key that no rule there made final has been final since this rule.
 ///
-/// Where memory runs out, nothing is left of the scene but its event.
+/// If memory runs out, nothing is left of the scene but its event.
 pub fn end_told<'a>(
     alloc: Global,
     rule: &'a Rule,

@@ -11,8 +11,8 @@ use std::marker::Model;
 use text_bytes::Bytes;
 use text_tables::{OwnedPairs, OwnedTexts};
 
-/// Something that is in a scene: its name is the word of its line, after which stands what it is about, where several
-/// items have the word.
+/// Something in a scene. Its name is the first word of its line, followed by what it is about if several items have
+/// that word.
 #[derive(Drop)]
 pub struct Item {
     name: Bytes,
@@ -35,14 +35,14 @@ impl Item {
         self.name.as_slice()
     }
 
-    /// Returns its value; empty where a name says all.
+    /// Returns its value; empty if the name says all.
     pub fn value(&self) -> &[u8]
         ensures { result.now ≡ self.now.1 }
     {
         self.value.as_slice()
     }
 
-    /// Gives up the item for its name and its value.
+    /// Returns its name and its value.
     pub fn into_parts(self) -> (Bytes, Bytes)
         ensures { result ≡ self }
     {
@@ -61,7 +61,7 @@ pub fn item_name(alloc: Global, word: &[u8], about: &[u8]) -> Result<Bytes, Allo
     Ok(Bytes::new(name))
 }
 
-/// Puts an item after others.
+/// Adds an item.
 fn push_item(
     alloc: Global,
     items: &mut Vec<Item>,
@@ -75,7 +75,7 @@ fn push_item(
     Ok(())
 }
 
-/// Puts an item that has its word alone after others.
+/// Adds an item whose name is its word alone.
 fn push_word(
     alloc: Global,
     items: &mut Vec<Item>,
@@ -87,7 +87,7 @@ fn push_word(
     push_item(alloc, items, Bytes::copy_of(alloc, word)?, value)
 }
 
-/// Puts a text that may not be there after others.
+/// Adds a text as an item, if there is one.
 fn push_given(
     alloc: Global,
     items: &mut Vec<Item>,
@@ -102,7 +102,7 @@ fn push_given(
     }
 }
 
-/// Puts texts after others.
+/// Adds texts as items.
 fn push_texts(
     alloc: Global,
     items: &mut Vec<Item>,
@@ -117,7 +117,7 @@ fn push_texts(
     Ok(())
 }
 
-/// Puts a tag after others, unless it was taken away.
+/// Adds a tag, unless it was removed.
 fn push_tag(
     alloc: Global,
     items: &mut Vec<Item>,
@@ -132,7 +132,7 @@ fn push_tag(
     Ok(())
 }
 
-/// Puts the tags that were not taken away after others.
+/// Adds the tags that were not removed.
 fn push_tags(alloc: Global, items: &mut Vec<Item>, scene: &Scene<'_>) -> Result<(), AllocError>
     ensures { OnOk result (items.new.items ≡ items.old.items ++ text_items (codes "tag") (current_tags scene.now)) }
 {
@@ -142,7 +142,7 @@ fn push_tags(alloc: Global, items: &mut Vec<Item>, scene: &Scene<'_>) -> Result<
     Ok(())
 }
 
-/// Puts names with their values after others.
+/// Adds names with their values as items.
 fn push_pairs(
     alloc: Global,
     items: &mut Vec<Item>,
@@ -162,7 +162,7 @@ fn push_pairs(
     Ok(())
 }
 
-/// Puts a priority after others, where one was assigned.
+/// Adds a priority, if one was assigned.
 fn push_priority(
     alloc: Global,
     items: &mut Vec<Item>,
@@ -181,14 +181,14 @@ fn push_priority(
     )
 }
 
-/// The word on watching.
+/// The word for watching or not.
 fn watch_word(watched: bool) -> &'static [u8]
     ensures { result.now ≡ watch_word watched }
 {
     if watched { b"watch" } else { b"nowatch" }
 }
 
-/// Puts the word on watching after others, where it was assigned.
+/// Adds the word for watching or not, if it was assigned.
 fn push_watch(alloc: Global, items: &mut Vec<Item>, watch: Option<bool>) -> Result<(), AllocError>
     ensures { OnOk result (items.new.items ≡ items.old.items ++ watch_item watch) }
 {
@@ -198,7 +198,7 @@ fn push_watch(alloc: Global, items: &mut Vec<Item>, watch: Option<bool>) -> Resu
     }
 }
 
-/// Puts that what is known of the device stays after others.
+/// Adds that what is known about the device stays, if it does.
 fn push_persist(alloc: Global, items: &mut Vec<Item>, persist: bool) -> Result<(), AllocError>
     ensures { OnOk result (items.new.items ≡ items.old.items ++ persist_item persist) }
 {
@@ -208,7 +208,7 @@ fn push_persist(alloc: Global, items: &mut Vec<Item>, persist: bool) -> Result<(
     Ok(())
 }
 
-/// Puts the items of the device's node after others.
+/// Adds the items of the device's node.
 #[tactic(auto, unfolding(crate::specs::Items::node_items))]
 fn push_node(alloc: Global, items: &mut Vec<Item>, scene: &Scene<'_>) -> Result<(), AllocError>
     ensures { OnOk result (items.new.items ≡ items.old.items ++ node_items scene.now) }

@@ -1,4 +1,4 @@
-//! What is true of the texts that tell what assignments did.
+//! What is true of the texts about what assignments did.
 //!
 //! Each function here is empty: its contract is the law.
 ghost use Rattle.std.specs.Prelude.{◌≡◌, List, find, option_map};
@@ -9,13 +9,13 @@ ghost use Rattle.eval_state.specs.declared.finals.Finals.{Finals};
 ghost use Rattle.eval_effects.specs.Laws.{TellsIgnored, TellsNone, TellsPassedOver, TellsTooLong};
 ghost use Rattle.eval_effects.specs.Since.{since_of, since_over};
 
-/// A key is final since the first rule after which it is final.
+/// A key has been final since the first rule after which it is final.
 pub fn final_since_the_first_rule()
     ensures { (stages : List (Rule × Finals)) (key : FinalKey) → since_of (since_over stages) key ≡ option_map (λ stage. stage.0) (find (λ stage. is_final stage.1 key) stages) }
 {}
 
-/// The note that an assignment leaves tells that its text was too long or its NAME ignored, and of udev that the device has no
-/// number.
+/// The note that an assignment leaves says that its text was too long or its NAME ignored, and for udev that the
+/// device has no number.
 pub fn notes_tell_what_is_left_out()
     ensures none { TellsNone }
     ensures passed_over { TellsPassedOver }

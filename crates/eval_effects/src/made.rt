@@ -7,7 +7,7 @@ use eval_state::MadeRun;
 use std::alloc::{AllocError, Global};
 use text_bytes::Bytes;
 
-/// Whether two RUNs are the same: of one type, as written and as rendered.
+/// Whether two RUNs are the same: of the same type, as written and as rendered.
 fn same_made(one: &MadeRun<'_>, other: &MadeRun<'_>) -> bool
     ensures { result ≡ same_made one.now other.now }
 {
@@ -26,7 +26,7 @@ fn stayed(was: &[MadeRun<'_>], now: &[MadeRun<'_>]) -> usize
         .count()
 }
 
-/// Tells RUNs and what became of them, after other texts.
+/// Adds the texts of RUNs and what became of them.
 fn push_each(
     alloc: Global,
     told: &mut Vec<Bytes>,
@@ -41,7 +41,7 @@ fn push_each(
     Ok(())
 }
 
-/// Tells the RUNs that are no longer there, after other texts: one by one, unless none stayed.
+/// Adds the texts of the RUNs that are no longer there: one by one, unless none stayed.
 fn push_removed(
     alloc: Global,
     told: &mut Vec<Bytes>,
@@ -61,7 +61,7 @@ fn push_removed(
     push_each(alloc, told, b" removed", was.split_at(stayed).1)
 }
 
-/// Tells what changed of RUNs that udev made, after other texts.
+/// Adds the texts of what changed in RUNs that udev made.
 pub(crate) fn push_made_changes(
     alloc: Global,
     told: &mut Vec<Bytes>,

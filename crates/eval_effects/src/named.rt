@@ -1,4 +1,4 @@
-//! How lines that tell why name keys and rules.
+//! How the lines of `--why` name keys and rules.
 ghost use Rattle.std.specs.Prelude.{◌≡◌, ◌++◌, OnOk, option_map};
 ghost use Rattle.eval_effects.specs.Named.{change_key, final_name, key_text, rule_place};
 
@@ -8,7 +8,7 @@ use rule_types::{Change, Key, Rule};
 use std::alloc::{AllocError, Global};
 use text_bytes::escape;
 
-/// Puts a key after a text, with its attribute escaped in braces, if it has one.
+/// Appends a key, with its attribute escaped in braces, if it has one.
 pub fn push_key(
     alloc: Global,
     text: &mut Vec<u8>,
@@ -26,7 +26,7 @@ pub fn push_key(
     Ok(())
 }
 
-/// Puts the key of an assignment after a text.
+/// Appends the key of an assignment.
 pub(crate) fn push_change_key(
     alloc: Global,
     text: &mut Vec<u8>,
@@ -53,7 +53,7 @@ pub(crate) fn final_name(key: FinalKey) -> &'static [u8]
     }
 }
 
-/// Puts where a rule follows a text, `FILE:LINE`, the file's name escaped.
+/// Appends the place of a rule, `FILE:LINE`, with the file's name escaped.
 pub fn push_rule(alloc: Global, text: &mut Vec<u8>, rule: &Rule) -> Result<(), AllocError>
     ensures { OnOk result (text.new.items ≡ text.old.items ++ rule_place rule.now) }
 {

@@ -22,7 +22,7 @@ fn any_kept(was: &[Run<'_>], now: &[Run<'_>]) -> bool
     was.iter().any(|run| is_kept(now, run))
 }
 
-/// A RUN by its type and its written text, and what became of it.
+/// The text of a RUN, by its type and its written text, and what became of it.
 #[tactic(auto, unfolding(crate::specs::Changes::run_text))]
 pub(crate) fn run_told(alloc: Global, run: &Run<'_>, became: &[u8]) -> Result<Bytes, AllocError>
     ensures { IfOk result (λ text. text ≡ run_text run.now ++ became.now) }
@@ -35,7 +35,7 @@ pub(crate) fn run_told(alloc: Global, run: &Run<'_>, became: &[u8]) -> Result<By
     Ok(Bytes::new(text))
 }
 
-/// Tells a RUN after other texts, unless it was there before.
+/// Adds the text of a RUN, unless it was there before.
 fn push_added(
     alloc: Global,
     told: &mut Vec<Bytes>,
@@ -50,7 +50,7 @@ fn push_added(
     Ok(())
 }
 
-/// Tells a RUN of before after other texts, where it is no longer there.
+/// Adds the text of an earlier RUN if it is no longer there.
 fn push_removed(
     alloc: Global,
     told: &mut Vec<Bytes>,
@@ -65,7 +65,7 @@ fn push_removed(
     Ok(())
 }
 
-/// Tells the RUNs that were not there before, after other texts.
+/// Adds the texts of the RUNs that were not there before.
 fn push_all_added(
     alloc: Global,
     told: &mut Vec<Bytes>,
@@ -80,7 +80,7 @@ fn push_all_added(
     Ok(())
 }
 
-/// Tells one by one the RUNs that are no longer there, after other texts.
+/// Adds, one by one, the texts of the RUNs that are no longer there.
 fn push_each_removed(
     alloc: Global,
     told: &mut Vec<Bytes>,
@@ -95,7 +95,7 @@ fn push_each_removed(
     Ok(())
 }
 
-/// Tells the RUNs that are no longer there, after other texts: one by one, unless none of them stayed.
+/// Adds the texts of the RUNs that are no longer there: one by one, unless none of them stayed.
 fn push_all_removed(
     alloc: Global,
     told: &mut Vec<Bytes>,
@@ -111,7 +111,7 @@ fn push_all_removed(
     Ok(())
 }
 
-/// Tells what changed of RUNs, after other texts.
+/// Adds the texts of what changed in RUNs.
 pub(crate) fn push_run_changes(
     alloc: Global,
     told: &mut Vec<Bytes>,

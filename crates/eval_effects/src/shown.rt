@@ -1,4 +1,4 @@
-//! Texts as lines that tell why show them, and several of them in one line.
+//! Texts as the lines of `--why` show them, and several of them in one line.
 ghost use Rattle.std.specs.Prelude.{◌≡◌, ◌++◌, ◌≤◌, length, OnOk};
 ghost use Rattle.eval_effects.specs.Shown.{behind_commas, cut, joined, shortened, shown};
 
@@ -9,7 +9,7 @@ use text_bytes::{Bytes, escape};
 /// The most bytes of a text that are shown.
 const MAX_SHOWN: usize = 200;
 
-/// Puts the start of a long text after another one, with how many bytes the whole has.
+/// Appends the start of a long text, with the number of bytes of the whole.
 #[tactic(auto, unfolding(crate::specs::Shown::cut))]
 fn push_cut(alloc: Global, text: &mut Vec<u8>, about: &[u8]) -> Result<(), AllocError>
     requires { MAX_SHOWN ≤ length about.now }
@@ -22,8 +22,8 @@ fn push_cut(alloc: Global, text: &mut Vec<u8>, about: &[u8]) -> Result<(), Alloc
     text.extend_from_slice(b" bytes)")
 }
 
-/// Puts a text after another one as it is between quotes: escaped, and of one over 200 bytes the first 200, and then
-/// `.. (N bytes)`.
+/// Appends a text as it is between quotes: escaped, and if it has over 200 bytes the first 200, and then `.. (N
+/// bytes)`.
 pub fn push_shortened(alloc: Global, text: &mut Vec<u8>, about: &[u8]) -> Result<(), AllocError>
     ensures { OnOk result (text.new.items ≡ text.old.items ++ shortened about.now) }
 {
@@ -34,7 +34,7 @@ pub fn push_shortened(alloc: Global, text: &mut Vec<u8>, about: &[u8]) -> Result
     }
 }
 
-/// Puts a text after another one as it is shown: as `push_shortened` does, and an empty one as two quotes.
+/// Appends a text as it is shown: as `push_shortened` does, but an empty one as two quotes.
 pub fn push_shown(alloc: Global, text: &mut Vec<u8>, about: &[u8]) -> Result<(), AllocError>
     ensures { OnOk result (text.new.items ≡ text.old.items ++ shown about.now) }
 {
@@ -45,7 +45,7 @@ pub fn push_shown(alloc: Global, text: &mut Vec<u8>, about: &[u8]) -> Result<(),
     }
 }
 
-/// Puts texts after another one, each after a comma.
+/// Appends texts, each after a comma.
 fn push_behind_commas(text: &mut Vec<u8>, more: &[Bytes]) -> Result<(), AllocError>
     ensures { OnOk result (text.new.items ≡ text.old.items ++ behind_commas more.now) }
 {
@@ -56,7 +56,7 @@ fn push_behind_commas(text: &mut Vec<u8>, more: &[Bytes]) -> Result<(), AllocErr
     Ok(())
 }
 
-/// Puts texts after another one, with commas between them.
+/// Appends texts, with commas between them.
 pub fn push_joined(text: &mut Vec<u8>, texts: &[Bytes]) -> Result<(), AllocError>
     ensures { OnOk result (text.new.items ≡ text.old.items ++ joined texts.now) }
 {

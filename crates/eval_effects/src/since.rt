@@ -1,4 +1,4 @@
-//! Since which rule each key is final.
+//! The rule since which each key has been final.
 ghost use Rattle.std.specs.Prelude.{◌≡◌, option_map, unwrap_or};
 ghost use Rattle.eval_effects.specs.Since.{no_since, since_behind, since_either, since_of};
 
@@ -6,7 +6,7 @@ use eval_state::{FinalKey, Finals};
 use rule_types::Rule;
 use std::marker::Model;
 
-/// Of each key that `:=` made final the rule after which it was final first.
+/// For each key that `:=` made final, the first rule after which it was final.
 #[derive(Drop)]
 pub struct Since<'a> {
     owner: Option<&'a Rule>,
@@ -37,7 +37,7 @@ impl<'a> Model for Since<'a> {
     } };
 }
 
-/// The rule since which a key is final after one rule more: the one that is known, or that rule where the key is final
+/// The rule since which a key is final after one more rule: the one that is known, or that rule if the key is final
 /// now.
 fn since_either<'a>(first: Option<&'a Rule>, is_final: bool, rule: &'a Rule) -> Option<&'a Rule>
     ensures { option_map (λ r. r.now) result ≡ since_either (option_map (λ r. r.now) first.entry) is_final rule.now }
@@ -65,7 +65,7 @@ impl<'a> Since<'a> {
         }
     }
 
-    /// Takes in a rule, with the keys that are final after it.
+    /// Records a rule, with the keys that are final after it.
     pub fn tell(&mut self, rule: &'a Rule, finals: Finals)
         ensures { self.new ≡ since_behind self.old rule.now finals }
     {
@@ -79,7 +79,7 @@ impl<'a> Since<'a> {
         self.watch = since_either(self.watch, finals.watch, rule);
     }
 
-    /// The rule since which a key is final, if a rule that was taken in made it final.
+    /// The rule since which a key is final, if a recorded rule made it final.
     pub fn rule_of(&self, key: FinalKey) -> Option<&'a Rule>
         ensures { option_map (λ rule. rule.now) result ≡ since_of self.now key }
     {

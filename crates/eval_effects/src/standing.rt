@@ -1,4 +1,4 @@
-//! What is kept of a scene, to compare a later one with it.
+//! What is kept from a scene, to compare a later one with it.
 ghost use Rattle.std.specs.Prelude.{◌≡◌, IfOk};
 ghost use Rattle.eval_effects.specs.Changes.{standing};
 
@@ -25,7 +25,7 @@ impl<'a> Model for Standing<'a> {
     ghost view = { λ s. record { items = s.items.items; runs = s.runs.items; made = s.made.items; notes = s.notes } };
 }
 
-/// A RUN, which stays as it is written.
+/// A copy of a RUN, as it is written.
 fn copy_of<'a>(run: &Run<'a>) -> Run<'a>
     ensures { result ≡ run.now }
 {
@@ -43,7 +43,7 @@ fn copied<'a>(alloc: Global, runs: &[Run<'a>]) -> Result<Vec<Run<'a>>, AllocErro
     Ok(copy)
 }
 
-/// A RUN that udev made, with its command.
+/// A copy of a RUN that udev made, with its command.
 fn copy_of_made<'a>(alloc: Global, made: &MadeRun<'a>) -> Result<MadeRun<'a>, AllocError>
     ensures { IfOk result (λ copy. copy ≡ made.now) }
 {
@@ -65,7 +65,7 @@ fn copied_made<'a>(alloc: Global, made: &[MadeRun<'a>]) -> Result<Vec<MadeRun<'a
 }
 
 impl<'a> Standing<'a> {
-    /// What is in a scene.
+    /// What there is in a scene.
     pub(crate) fn of(alloc: Global, scene: &Scene<'a>) -> Result<Standing<'a>, AllocError>
         ensures { IfOk result (λ s. s ≡ standing scene.now) }
     {

@@ -19,7 +19,7 @@ use Rattle.eval_acts.specs.BuiltinRuns.{most_set}
 use Rattle.eval_laws.specs.DeviceWeights.{text_weight}
 use Rattle.eval_state.specs.Texts.{or_empty}
 
--- the most that a part adds beside its attribute and the name of its file
+-- the most that a part adds besides its attribute and the name of its file
 abbrev pub most_added : ℕ
 most_added = 32896
 
@@ -35,12 +35,12 @@ entries_weight entries = sum_by entry_weight entries
 abbrev pub part_allowance : Rule → Option Text → ℕ
 part_allowance r attribute = most_added + length (or_empty attribute) + length r.file
 
--- what a builtin of udev's may set
+-- what a builtin of udev may set
 abbrev pub builtin_allowance : Profile → ℕ
 builtin_allowance Manual = 0
 builtin_allowance Udev = most_set
 
--- what IMPORT may add besides, by a profile and for a block of so many bytes
+-- what IMPORT may add in addition, by a profile and for a block of so many bytes
 abbrev pub import_allowance : Profile → ℕ → List Entry → Deed → ℕ
 import_allowance profile len entries (deed.Import i) = 2 * len + entries_weight entries + builtin_allowance profile
 import_allowance profile len entries (deed.Test mask t) = 0
@@ -50,8 +50,8 @@ import_allowance profile len entries (deed.Program t) = 0
 abbrev pub deed_allowance : Profile → ℕ → List Entry → Rule → Deed → ℕ
 deed_allowance profile len entries r d = part_allowance r (attribute_of_deed d) + import_allowance profile len entries d
 
--- what udev may add besides where a text is assigned, by the text as it is written, for a block of so many bytes: a label that comes to nothing
--- is as it is written, and the name of an attribute may come from the block
+-- what udev may add in addition if a text is assigned, by the text as it is written, for a block of so many bytes: a
+-- label that is rendered to nothing is as it is written, and the name of an attribute may come from the block
 abbrev pub udev_allowance : ℕ → Target → Text → ℕ
 udev_allowance len (target.Seclabel name) written = length written
 udev_allowance len (target.Attr name) written = len
@@ -62,7 +62,7 @@ abbrev pub text_allowance : Profile → ℕ → Target → Text → ℕ
 text_allowance Manual len about written = 0
 text_allowance Udev len about written = udev_allowance len about written
 
--- what an assignment may add besides
+-- what an assignment may add in addition
 abbrev pub change_allowance : Profile → ℕ → Change → ℕ
 change_allowance profile len (change.Option known) = 0
 change_allowance profile len (change.Text about template) = text_allowance profile len about template.written

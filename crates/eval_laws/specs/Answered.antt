@@ -1,4 +1,4 @@
--- When a PROGRAM is done, said of the event's block.
+-- When a PROGRAM is done, in terms of the event's block.
 use Rattle.std.specs.Prelude.{◌≡◌, Some}
 use Rattle.text_tables.specs.Texts.{Text}
 use Rattle.text_tables.specs.Pairs.{value_of}

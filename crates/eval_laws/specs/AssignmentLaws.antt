@@ -18,13 +18,13 @@ SameAt key.Run s t = (t.runs ≡ s.runs) × (t.made ≡ s.made)
 SameAt key.Priority s t = t.priority ≡ s.priority
 SameAt key.Watch s t = t.watch ≡ s.watch
 
--- whether a key may be final: for udev the priority of links never is
+-- whether a key may be final: for udev the priority of links never may
 abbrev pub may_be_final : Profile → FinalKey → Bool
 may_be_final Manual k = true
 may_be_final Udev key.Priority = false
 may_be_final Udev k = true
 
--- a key has the value in a later scene that it had in an earlier one, and is final there
+-- a key has in a later scene the value that it had in an earlier one, and is final there
 pub record Keeps (k : FinalKey) (s t : Scene) : Type 0 where
   pub same : SameAt k s t
   pub stays : is_final t.finals k ≡ true

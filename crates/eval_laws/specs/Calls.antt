@@ -5,7 +5,7 @@ use Rattle.device_core.specs.RunBlocks.{blocks_of, is_too_long, most_bytes, line
 use Rattle.device_core.specs.Splits.{Split, Takes, given}
 use Rattle.device_core.specs.declared.splitter.Taken.{Taken}
 
--- a call: the piece, what came of it, and the splitter after it
+-- a call: the piece, its outcome, and the splitter after it
 pub record Call : Type 0 where
   pub piece : List ℕ
   pub taken : Taken
@@ -31,12 +31,12 @@ pub record GiveRuns (calls : List Call) (now : Split) : Type 0 where
   pub given : given_by calls ≡ complete_runs (used_by calls)
   pub pending : now.pending ≡ rest_of (used_by calls)
 
--- The blocks given, with that of the end, are the runs of the bytes used: none was too long to be one.
+-- The blocks given, with that at the end, are the runs of the bytes used: none was too long to be one.
 pub record GiveAll (calls : List Call) (last : List (List ℕ)) : Type 0 where
   pub runs_are : given_by calls ++ last ≡ runs (used_by calls)
   pub blocks_are : given_by calls ++ last ≡ blocks_of is_too_long (used_by calls)
 
--- The blocks of the input are these and one more, which is too long, in this line.
+-- The blocks of the input are these and one more, which is too long, with its first excess byte in this line.
 pub record EndsTooLong (input : List ℕ) (blocks : List (List ℕ)) (line : ℕ) : Type 0 where
   pub last : List ℕ
   pub are : blocks_of is_too_long input ≡ blocks ++ last ∷ []

@@ -1,4 +1,4 @@
--- What `==` says of the texts that a key looks at.
+-- What `==` says about the texts that a key looks at.
 use Rattle.std.specs.Prelude.{◌≡◌, ◌∷◌, ◌++◌, ℕ, Bool, true, List, [], All, option_to_list}
 use Rattle.std.specs.List.{list_any}
 use Rattle.text_bytes.specs.Names.{is_whitespace}
@@ -27,7 +27,7 @@ texts_of udev_unread = []
 abbrev pub equal_to : Bool → Text → List (List Item) → Comparison
 equal_to blind written choice = record { operator = Equal; blind = blind; written = written; choice = choice }
 
--- `==` holds exactly where the choice fits one of the texts, each as it stands
+-- `==` holds if and only if the choice fits one of the texts, each as it is
 abbrev pub ComparesAsItStands : Subject → Type 0
 ComparesAsItStands subject = (blind : Bool) (written : Text) (choice : List (List Item)) → holds subject (equal_to blind written choice) ≡ list_any (choice_fits choice) (texts_of subject)
 
@@ -57,8 +57,8 @@ pub record IsWithoutItsEnd (text short : Text) : Type 0 where
   pub blank : All IsWhitespace end
   pub cut : ¬ HasLast IsWhitespace short
 
--- `==` holds exactly where the choice fits this text, if the choice ends in whitespace, and else exactly where it fits the
--- text without the whitespace at its end.
+-- `==` holds if and only if the choice fits this text, if the choice ends in whitespace, and else if and only if it
+-- fits the text without the whitespace at its end.
 pub record ComparesWithoutItsEnd (subject : Subject) (text : Text) : Type 0 where
   pub whole : (blind : Bool) (written : Text) (choice : List (List Item)) → EndsInWhitespace choice → holds subject (equal_to blind written choice) ≡ choice_fits choice text
   pub cut : (blind : Bool) (written : Text) (choice : List (List Item)) → ¬ EndsInWhitespace choice → (short : Text) → IsWithoutItsEnd text short → holds subject (equal_to blind written choice) ≡ choice_fits choice short

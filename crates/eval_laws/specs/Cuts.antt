@@ -1,4 +1,4 @@
--- A text cut into its complete runs and its rest, reported by its bytes alone.
+-- A text cut into its complete runs and its rest, in terms of its bytes alone.
 use Rattle.std.specs.Prelude.{◌≡◌, ◌≢◌, ℕ, List, [], ◌∷◌, ◌++◌, replicate}
 use Rattle.text_bytes.specs.Names.{newline}
 
@@ -7,8 +7,8 @@ pub record HasNoEmptyLine (text : List ℕ) : Type 0 where
   pub begins : (behind : List ℕ) → text ≢ newline ∷ behind
   pub in_a_row : (before behind : List ℕ) → text ≢ before ++ newline ∷ newline ∷ behind
 
--- A complete run ends in a newline, that of its last line. The newline of the empty line after it is
--- not counted to it.
+-- A complete run ends in a newline, that of its last line. The newline of the empty line after it does not belong to
+-- it.
 pub record IsCompleteRun (run : List ℕ) : Type 0 where
   pub no_empty_line : HasNoEmptyLine run
   pub before : List ℕ

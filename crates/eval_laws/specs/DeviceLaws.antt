@@ -1,4 +1,4 @@
--- What a block gives and what its groups are, said of its lines and not of how they are read.
+-- What a block gives and what its groups are, in terms of its lines and not of how they are read.
 use Rattle.std.specs.Prelude.{◌≡◌, ℕ, ◌+◌, ◌≤◌, Bool, true, false, List, ◌∷◌, ◌++◌, length, Some}
 use Rattle.std.specs.List.{filter_map, flat_map, list_any, AllByRecursion}
 use Rattle.text_tables.specs.Texts.{Text}
@@ -26,7 +26,7 @@ pub record IsFaulty (lines : List Text) (number : ℕ) (kind : BlockFaultKind) :
 abbrev pub AreFaultless : List Text → Type 0
 AreFaultless lines = (number : ℕ) (kind : BlockFaultKind) → ¬ IsFaulty lines number kind
 
--- the fault of the least faulty line
+-- the fault of the first faulty line
 pub record IsLeastFault (lines : List Text) (fault : BlockFault) : Type 0 where
   pub faulty : IsFaulty lines fault.line fault.kind
   pub least : (number : ℕ) (kind : BlockFaultKind) → IsFaulty lines number kind → fault.line ≤ number
@@ -35,7 +35,7 @@ pub record IsLeastFault (lines : List Text) (fault : BlockFault) : Type 0 where
 abbrev pub has_device : List Row → Bool
 has_device rows = list_any (is_kind Device) rows
 
--- a group is a `P:` and lines that are none
+-- a group is a `P:` and lines that are not
 pub record IsGroup (group : List Row) : Type 0 where
   pub head : Row
   pub tail : List Row
@@ -43,7 +43,7 @@ pub record IsGroup (group : List Row) : Type 0 where
   pub begins : is_kind Device head ≡ true
   pub alone : has_device tail ≡ false
 
--- lines are some that are no `P:`, and then the groups one after another
+-- lines are some that are not a `P:`, and then the groups one after another
 pub record AreGrouped (rows : List Row) : Type 0 where
   pub whole : rows ≡ before_device rows ++ flat_map (λ group. group) (groups rows)
   pub before : has_device (before_device rows) ≡ false

@@ -1,5 +1,4 @@
--- What an event weighs: each of its texts by its length and one more. The bound on an answer's weight
--- stands on it.
+-- What an event weighs: each of its texts by its length and one more. The bound on an answer's weight uses it.
 use Rattle.std.specs.Prelude.{ℕ, ◌+◌, List, Option, Some, None, length}
 use Rattle.std.specs.List.{sum_by}
 use Rattle.text_tables.specs.Texts.{Text}
@@ -10,7 +9,7 @@ use Rattle.device_core.specs.Values.{NumberValue, DeviceValue, AnswerValue, Even
 abbrev pub text_weight : Text → ℕ
 text_weight text = length text + 1
 
--- a text that may not be there
+-- a text that may be absent
 abbrev pub given_weight : Option Text → ℕ
 given_weight None = 0
 given_weight (Some text) = text_weight text
@@ -27,7 +26,7 @@ pair_weight pair = text_weight pair.0 + text_weight pair.1
 abbrev pub pairs_weight : List Pair → ℕ
 pairs_weight pairs = sum_by pair_weight pairs
 
--- a device number that may not be there
+-- a device number that may be absent
 abbrev pub number_weight : Option NumberValue → ℕ
 number_weight None = 0
 number_weight (Some number) = text_weight number.major + text_weight number.minor

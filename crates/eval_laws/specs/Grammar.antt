@@ -1,4 +1,4 @@
--- How a builtin's command is written: said of its pieces, without a reader.
+-- How a builtin's command is written: in terms of its pieces, without a reader.
 use Rattle.std.specs.Prelude.{◌≡◌, ◌↔◌, ℕ, Bool, true, false, not, ◌==◌, List, [], ◌∷◌, ◌++◌, map, filter, flat_map, All, Some, None}
 use Rattle.std.specs.List.{list_any, slice_split}
 use Rattle.text_bytes.specs.Names.{space}
@@ -43,14 +43,14 @@ is_gap piece = false
 abbrev pub words_of : List Piece → List Text
 words_of pieces = map (flat_map meant) (filter (λ run. not (is_empty run)) (slice_split is_gap pieces))
 
--- A command has these words: it is written in pieces of which they are the words.
+-- A command has these words: it is written in pieces whose words they are.
 pub record HasWords (command : Text) (words : List Text) : Type 0 where
   pub pieces : List Piece
   pub whole : command ≡ flat_map written pieces
   pub each : All IsPiece pieces
   pub cut : words ≡ words_of pieces
 
--- In a command a quote stays open: after some pieces it stands, and no such quote after it.
+-- In a command a quote stays open: it comes after some pieces, and no such quote after it.
 pub record HasOpenQuote (command : Text) : Type 0 where
   pub pieces : List Piece
   pub quote : ℕ
@@ -60,7 +60,7 @@ pub record HasOpenQuote (command : Text) : Type 0 where
   pub is_one : is_quote quote ≡ true
   pub unclosed : HasNo quote inside
 
--- What is read of a command is just what it is: its words, or none where a quote stays open.
+-- What is read from a command is just what it is: its words, or none if a quote stays open.
 pub record IsRead (command : Text) : Type 0 where
   pub words : (words : List Text) → (command_words command ≡ Some words) ↔ HasWords command words
   pub unclosed : (command_words command ≡ None) ↔ HasOpenQuote command

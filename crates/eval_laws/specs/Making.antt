@@ -17,7 +17,8 @@ use Rattle.eval_assignments.specs.Bounds.{most_bytes_of}
 use Rattle.eval_assignments.specs.Escapes.{escape_of, mode_of}
 use Rattle.eval_assignments.specs.Steps.{emptied, is_ignored, lacks_number}
 
--- whether a text is taken that is too long: by the manual it is as if it was not written, where udev makes its key final all the same
+-- whether an assignment whose text is too long counts: by the manual it is as if it was not written, but udev makes
+-- its key final nevertheless
 abbrev pub is_taken_too_long : Profile → Bool
 is_taken_too_long Manual = false
 is_taken_too_long Udev = true
@@ -27,14 +28,14 @@ abbrev pub is_text_made : Profile → Target → Rendered → Scene → Bool
 is_text_made profile about (rendered.Text t) s = not (is_ignored profile about s)
 is_text_made profile about rendered.TooLong s = is_taken_too_long profile
 
--- the same of a template that `:=` assigns; udev passes some keys over where the device has no number
+-- the same for a template that `:=` assigns; udev skips some keys if the device has no number
 abbrev pub is_template_made : Profile → Rule → Target → Template → Scene → Bool
 is_template_made Manual r about template s = is_text_made Manual about (render template s.state (mode_of Manual about (escape_of r.sets))) s
 is_template_made Udev r about template s =
     not (lacks_number about s.state.event.device.number)
     && is_text_made Udev about (within (most_bytes_of about) (render template (emptied AssignFinal about s).state (mode_of Udev about (escape_of r.sets)))) (emptied AssignFinal about s)
 
--- whether an assignment by `:=` is made, where its key is not final: an option and a RUN always are
+-- whether an assignment by `:=` is made, if its key is not final: an option and a RUN always are
 abbrev pub is_made : Rule → Change → Scene → Bool
 is_made r (change.Option known) s = true
 is_made r (change.Text about template) s = is_template_made s.state.event.profile r about template s

@@ -1,4 +1,4 @@
--- How a name is written that names an attribute with its device, and which device is meant.
+-- How a name that names an attribute with its device is written, and which device is meant.
 use Rattle.std.specs.Prelude.{◌≡◌, ◌⊎◌, ℕ, ◌<◌, ◌==◌, true, false, ◌∷◌, ◌++◌, length}
 use Rattle.std.specs.List.{list_any}
 use Rattle.text_bytes.specs.Names.{close_bracket, open_bracket, slash}
@@ -15,7 +15,8 @@ HasNone byte text = list_any (λ b. b == byte) text ≡ false
 abbrev pub bracketed : Text → Text → Text → Text
 bracketed subsystem kernel behind = open_bracket ∷ (subsystem ++ slash ∷ (kernel ++ close_bracket ∷ behind))
 
--- A name is written so: the subsystem has no slash and the kernel's name no `]`, and the attribute follows them, perhaps after a slash.
+-- A name is written like this: the subsystem has no slash and the kernel's name no `]`, and the attribute follows
+-- them, perhaps after a slash.
 pub record IsWrittenSo (name : Text) (is : NamedValue) : Type 0 where
   pub subsystem : HasNone slash is.subsystem
   pub kernel : HasNone close_bracket is.kernel

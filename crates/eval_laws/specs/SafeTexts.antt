@@ -1,12 +1,12 @@
--- What a safe text consists of, and what making a text safe does to each byte: said of the bytes alone.
+-- What a safe text consists of, and what making a text safe does to each byte: in terms of the bytes alone.
 use Rattle.std.specs.Prelude.{◌≡◌, ℕ, ◌+◌, ◌<◌, ◌≤◌, ◌==◌, true, false, List, length, drop, slice_index, Some}
 use Rattle.std.specs.Char.{is_ascii_alphanumeric}
 use Rattle.std.specs.List.{list_any}
 use Rattle.text_bytes.specs.Names.{backslash, space, underscore, is_whitespace}
 use Rattle.bstr.specs.Utf8.{decoded}
 
--- The byte at a place is over 127 and part of a UTF-8 sequence: a character is decoded from this start on, and its bytes
--- reach over the place.
+-- The byte at a place is over 127 and part of a UTF-8 sequence: a character is decoded from this start on, and its
+-- bytes cover the place.
 pub record IsInCharacter (text : List ℕ) (place : ℕ) : Type 0 where
   pub high : 127 < slice_index text place
   pub start : ℕ
@@ -28,8 +28,8 @@ pub data IsSafeByte (marks text : List ℕ) (place : ℕ) : Type 0 where
 abbrev pub IsSafe : List ℕ → List ℕ → Type 0
 IsSafe marks text = (place : ℕ) → place < length text → IsSafeByte marks text place
 
--- A text has become another one of its length: at this place a safe byte stayed, other whitespace became a space, and any
--- other byte `_`.
+-- A text has become another one of the same length: at this place a safe byte stayed, other whitespace became a
+-- space, and any other byte `_`.
 pub record IsMadeSafe (marks text made : List ℕ) (place : ℕ) : Type 0 where
   pub kept : IsSafeByte marks text place → slice_index made place ≡ slice_index text place
   pub blank : ¬ IsSafeByte marks text place → is_whitespace (slice_index text place) ≡ true → slice_index made place ≡ space

@@ -1,4 +1,4 @@
--- The words of a text, said of its bytes.
+-- The words of a text, in terms of its bytes.
 use Rattle.std.specs.Prelude.{◌≡◌, ℕ, true, false, List, [], ◌∷◌, ◌++◌, drop}
 use Rattle.std.specs.List.{list_all, list_any}
 use Rattle.text_bytes.specs.Names.{is_whitespace}
@@ -24,7 +24,7 @@ abbrev pub BeginsWithWord : Text → Type 0
 BeginsWithWord [] = Unit {0}
 BeginsWithWord (b ∷ text) = is_whitespace b ≡ false
 
--- A word is at the first place of a text that is no whitespace, and reaches up to the next whitespace or to the end.
+-- A word is at the first place of a text that is not whitespace, and reaches up to the next whitespace or to the end.
 pub record HasFirst (text word behind : Text) : Type 0 where
   pub gap : Text
   pub whole : text ≡ gap ++ (word ++ behind)
@@ -38,8 +38,8 @@ abbrev pub HasWords : Text → List Text → Type 0
 HasWords text [] = IsGap text
 HasWords text (word ∷ more) = (behind : Text) × HasFirst text word behind × HasWords behind more
 
--- A text has this end, which begins at the word with a number, the first having the number 0: before it stand the words
--- before that one. Where there are no more words, the end is empty.
+-- A text has this end, which begins at the word with a number, the first having the number 0: before it come the
+-- words before that one. If there are no more words, the end is empty.
 pub record IsEndFromWord (number : ℕ) (text end : Text) : Type 0 where
   pub front : Text
   pub whole : text ≡ front ++ end

@@ -1,4 +1,4 @@
--- What an answer weighs: each of its texts by its length and one more. Numbers and switches weigh nothing.
+-- What an answer weighs: the length of each of its texts, and one more for each. Numbers and switches weigh nothing.
 use Rattle.std.specs.Prelude.{ℕ, ◌+◌}
 use Rattle.std.specs.List.{sum_by}
 use Rattle.rule_types.specs.Names.{run_name}

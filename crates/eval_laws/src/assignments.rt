@@ -27,8 +27,8 @@ ghost use Rattle.eval_assignments.specs.Lists.{changed};
 ghost use Rattle.eval_assignments.specs.Tags.{current_tags, is_tag};
 ghost use Rattle.eval_assignments.specs.Steps.{set_step};
 
-/// A key that is final keeps its value through any further assignments of any rule, and stays final. The
-/// priority of links never is final for udev.
+/// A key that is final keeps its value through any further assignments of any rule, and stays final. For udev the
+/// priority of links is never final.
 pub fn final_keys_stay()
     ensures { (r : Rule) (key : FinalKey) (sets : List Assignment) (s : Scene) → may_be_final s.state.event.profile key ≡ true → is_final s.finals key ≡ true → Keeps key s (fold (set_step r) s sets) }
 {}
@@ -38,7 +38,7 @@ pub fn additions_that_are_there_change_nothing()
     ensures { (more texts : List Text) → All (λ t. is_among texts t ≡ true) more → changed Add more texts ≡ texts }
 {}
 
-/// Tags and links that were taken away are not there.
+/// Tags and links that were removed are not there.
 pub fn removed_texts_are_gone()
     ensures { (gone texts : List Text) (t : Text) → is_among gone t ≡ true → is_among (changed Remove gone texts) t ≡ false }
 {}
@@ -48,8 +48,8 @@ pub fn runs_that_are_there_stay_alone()
     ensures { (runs : List RunValue) (run : RunValue) → list_any (same_run run) runs ≡ true → runs_after Add runs run ≡ runs }
 {}
 
-/// With udev a tag that `-=` takes away is not reported, and matches of tags go on to meet it. `+=` leaves a tag
-/// that is reported and met, whether it was taken away before or not, and so does `=`.
+/// With udev a tag that `-=` removes is not in the answer, but matches of tags still find it. `+=` leaves a tag
+/// that is in the answer and found, whether it was removed before or not, and so does `=`.
 pub fn a_tag_that_is_taken_away_is_met_and_not_told()
     ensures met { (r : Rule) (template : templates.Parts) (s : Scene) (t : Text) → s.state.event.profile ≡ Udev → within most_name_bytes (render template s.state Plain) ≡ rendered.Text t → (set_step r s (record { operator = Remove; change = change.Text target.Tag template })).state.tags ≡ s.state.tags }
     ensures not_told { (r : Rule) (template : templates.Parts) (s : Scene) (t : Text) → s.state.event.profile ≡ Udev → within most_name_bytes (render template s.state Plain) ≡ rendered.Text t → is_among (current_tags (set_step r s (record { operator = Remove; change = change.Text target.Tag template }))) t ≡ false }

@@ -1,5 +1,5 @@
-//! What holds of runs and blocks whatever text they are in, and of a splitter's calls however an
-//! input is cut. Each law is the contract of a function that does nothing.
+//! What is true of runs and blocks in any text, and of a splitter's calls however an input is cut. Each law is the
+//! contract of a function with an empty body.
 ghost use Rattle.std.specs.Prelude.{◌≡◌, ◌<◌, ◌+◌, ◌↔◌, ◌⊎◌, List, ℕ, Bool, true, ◌++◌, length, take};
 ghost use Rattle.device_core.specs.Runs.{lines_inclusive, complete_runs, rest_of, runs};
 ghost use Rattle.eval_laws.specs.Cuts.{IsCutInto};
@@ -8,9 +8,9 @@ ghost use Rattle.device_core.specs.Splits.{Split, opened, given, Ends, FailsBy};
 ghost use Rattle.eval_laws.specs.Calls.{Call, TakesAll, used_by, given_by, GiveRuns, GiveAll, EndsTooLong};
 ghost use Rattle.device_core.specs.declared.splitter.SplitFault.TheVariants.{TooLong};
 
-/// A text is newlines, then runs, each followed by the newline of an empty line and by further
-/// newlines, then a rest, in just one way: the runs are the complete ones. A run begins with no
-/// newline, ends in one and has no two in a row; a rest begins with none and has no two in a row.
+/// A text is newlines, then runs, each followed by the newline of an empty line and by further newlines, then a
+/// rest, in just one way: the runs are the complete ones. A run begins with no newline, ends in one and has no two
+/// in a row; a rest begins with none and has no two in a row.
 pub fn a_text_is_cut_one_way()
     ensures { (text : List ℕ) (found : List (List ℕ)) (rest : List ℕ)
         → IsCutInto text found rest ↔ ((complete_runs text ≡ found) × (rest_of text ≡ rest)) }
@@ -24,16 +24,16 @@ pub fn runs_of_pieces()
     ensures all { (s t : List ℕ) → runs (s ++ t) ≡ complete_runs s ++ runs (rest_of s ++ t) }
 {}
 
-/// The blocks of an input are all its runs, where none is faulty, and else those before the first
-/// faulty one, and that one.
+/// The blocks of an input are all its runs if none is faulty, and else those before the first faulty one, and that
+/// one.
 pub fn blocks_end_at_the_first_fault()
     ensures { (is_faulty : List ℕ → Bool) (input : List ℕ) (found : List (List ℕ))
         → (found ≡ blocks_of is_faulty input)
         ↔ (FindsAll is_faulty (runs input) found ⊎ FindsFaulty is_faulty (runs input) found) }
 {}
 
-/// A reader to whom more runs are faulty than those that are too long finds its blocks among those
-/// that a splitter gives.
+/// A reader for whom more runs are faulty than those that are too long finds its blocks among those that a splitter
+/// gives.
 pub fn other_faults_end_the_blocks_sooner()
     ensures { (is_faulty : List ℕ → Bool)
         → ((run : List ℕ) → is_too_long run ≡ true → is_faulty run ≡ true)
@@ -41,15 +41,15 @@ pub fn other_faults_end_the_blocks_sooner()
         → blocks_of is_faulty input ≡ up_to_faulty is_faulty (blocks_of is_too_long input) }
 {}
 
-/// The first byte too many of a run is in the last line of its first 65,537 bytes.
+/// The first excess byte of a run is in the last line of its first 65,537 bytes.
 pub fn excess_stands_in_the_last_line()
     ensures { (run : List ℕ) → most_bytes < length run
         → line_of_excess run ≡ length (lines_inclusive (take (most_bytes + 1) run)) }
 {}
 
-/// However an input is cut into pieces, a new splitter gives the complete runs of the bytes that it
-/// used and keeps their rest, and its end gives that rest. So it gives the blocks of the input, and
-/// where it fails, that of its fault is the last, whatever comes later.
+/// However an input is cut into pieces, a new splitter gives the complete runs of the bytes that it used and keeps
+/// their rest, and its end gives that rest. So it gives the blocks of the input, and if it fails, the block of its
+/// fault is the last, whatever comes later.
 pub fn calls_give_the_blocks()
     ensures takes { (calls : List Call) (now : Split) → TakesAll opened calls now → GiveRuns calls now }
     ensures end { (calls : List Call) (now last : Split) (some : Bool)

@@ -35,37 +35,36 @@ ghost use Rattle.eval_assignments.specs.Steps.{set_step};
 ghost use Rattle.eval_laws.specs.AssignmentLaws.{Keeps};
 ghost use Rattle.eval_laws.specs.Making.{is_made};
 
-/// `=` and `:=` leave just the tags or links that are given, each once: the first, and after it what
-/// they leave of the others without that one.
+/// `=` and `:=` leave just the tags or links that are given, each once: the first, and after it what they leave of
+/// the others without that one.
 pub fn assigned_texts_are_alone()
     ensures none { (texts : List Text) → changed Assign [] texts ≡ [] }
     ensures first { (text : Text) (others texts : List Text) → changed Assign (text ∷ others) texts ≡ text ∷ without_text (changed Assign others texts) text }
     ensures last { (given texts : List Text) → changed AssignFinal given texts ≡ changed Assign given texts }
 {}
 
-/// `+=` leaves tags and links as they are, in their order, and puts after them those that are given
-/// and not there, as `=` leaves these.
+/// `+=` leaves tags and links as they are, in their order, and adds after them those that are given and not there,
+/// as `=` leaves these.
 pub fn added_texts_stand_behind()
     ensures order { (more texts : List Text) → changed Add more texts ≡ texts ++ filter (λ t. not (is_among texts t)) (changed Assign more []) }
     ensures members { (more texts : List Text) (t : Text) → is_among (changed Add more texts) t ≡ (is_among texts t || is_among more t) }
 {}
 
-/// `-=` takes away just the tags or links that are given; the others stay, in their order.
+/// `-=` removes just the tags or links that are given; the others stay, in their order.
 pub fn only_the_given_texts_are_removed()
     ensures { (gone texts : List Text) → changed Remove gone texts ≡ filter (λ t. not (is_among gone t)) texts }
 {}
 
-/// `:=` makes its key final where it is made, so that no later assignment changes the key. No other
-/// operator makes a key final. udev takes an assignment for made whose text is too long, too.
+/// `:=` makes its key final if it is made, so that no later assignment changes the key. No other operator makes a
+/// key final. For udev an assignment whose text is too long also counts as made.
 pub fn a_final_assignment_makes_its_key_final()
     ensures made { (r : Rule) (a : Assignment) (s : Scene) (k : FinalKey) → a.operator ≡ AssignFinal → final_key s.state.event.profile a.change ≡ Some k → is_final s.finals k ≡ false → is_final (set_step r s a).finals k ≡ is_made r a.change s }
     ensures later { (r : Rule) (a : Assignment) (s : Scene) (k : FinalKey) → a.operator ≡ AssignFinal → final_key s.state.event.profile a.change ≡ Some k → is_made r a.change s ≡ true → (other : Rule) (sets : List Assignment) → Keeps k (set_step r s a) (fold (set_step other) (set_step r s a) sets) }
     ensures others { (r : Rule) (a : Assignment) (s : Scene) → a.operator ≢ AssignFinal → (set_step r s a).finals ≡ s.finals }
 {}
 
-/// An assignment of OWNER, GROUP or MODE that is made leaves its text, and with the empty text none. With
-/// udev the empty text leaves what was there, and so does a mode that is none; a mode is reported with four
-/// octal digits.
+/// An assignment of OWNER, GROUP or MODE that is made leaves its text, and with the empty text none. With udev the
+/// empty text keeps what was there, and so does an invalid mode; a mode is reported with four octal digits.
 pub fn assigned_texts_stand()
     ensures owner { (r : Rule) (o : AssignOperator) (template : templates.Parts) (s : Scene) (t : Text) → s.state.event.profile ≡ Manual → is_final s.finals key.Owner ≡ false → render template s.state Plain ≡ rendered.Text t → (set_step r s (record { operator = o; change = change.Text target.Owner template })).owner ≡ (if is_empty t then None else Some t) }
     ensures group { (r : Rule) (o : AssignOperator) (template : templates.Parts) (s : Scene) (t : Text) → s.state.event.profile ≡ Manual → is_final s.finals key.Group ≡ false → render template s.state Plain ≡ rendered.Text t → (set_step r s (record { operator = o; change = change.Text target.Group template })).group ≡ (if is_empty t then None else Some t) }
@@ -75,9 +74,9 @@ pub fn assigned_texts_stand()
     ensures udev_mode { (r : Rule) (o : AssignOperator) (template : templates.Parts) (s : Scene) (t : Text) → s.state.event.profile ≡ Udev → (number : NumberValue) → s.state.event.device.number ≡ Some number → is_final s.finals key.Mode ≡ false → within most_value_bytes (render template s.state Plain) ≡ rendered.Text t → (set_step r s (record { operator = o; change = change.Text target.Mode template })).mode ≡ (if is_empty t then s.mode else if is_some (mode_of t) then option_map four_digits (mode_of t) else s.mode) }
 {}
 
-/// A RUN that is not there, and whose written text is not empty, is the last of the runs after `+=`,
-/// and the only one after any other operator. One whose written text is empty is not taken in. udev takes
-/// in the text that it is rendered to at its rule, if that has a word, after those that the operator leaves.
+/// A RUN that is not there, and whose written text is not empty, is the last of the runs after `+=`, and the only
+/// one after any other operator. One whose written text is empty is not added. udev adds the text that it is
+/// rendered to at its rule, if that has a word, after those that the operator leaves.
 pub fn new_runs_stand_last()
     ensures added { (runs : List RunValue) (run : RunValue) → is_empty run.template.written ≡ false → list_any (same_run run) runs ≡ false → runs_after Add runs run ≡ runs ++ run ∷ [] }
     ensures alone { (o : AssignOperator) (runs : List RunValue) (run : RunValue) → o ≢ Add → is_empty run.template.written ≡ false → runs_after o runs run ≡ run ∷ [] }

@@ -1,4 +1,4 @@
-//! What is true of blocks, said of whole lines and not of how they are read.
+//! What is true of blocks, in terms of whole lines and not of how they are read.
 //!
 //! Each function here is empty: its contract is the law.
 ghost use Rattle.std.specs.Prelude.{◌≡◌, ◌↔◌, ◌≤◌, ◌∷◌, List, ℕ, length, true, false, Ok, Err, IsOk};
@@ -12,12 +12,12 @@ ghost use Rattle.eval_laws.specs.DeviceLaws.{rows_of, AreFaultless, AreGrouped, 
 ghost use Rattle.device_core.specs.declared.faults.BlockFault.{BlockFault};
 ghost use Rattle.device_core.specs.declared.faults.BlockFaultKind.TheVariants.{NoDevice};
 
-/// Where a line is faulty, the fault is that of the least such line.
+/// If a line is faulty, the fault is that of the first such line.
 pub fn the_least_faulty_line_counts()
     ensures { (lines : List Text) (fault : BlockFault) → IsLeastFault lines fault → given_by lines ≡ Err fault }
 {}
 
-/// There is an event exactly where no line is faulty and one is a `P:`.
+/// There is an event if and only if no line is faulty and one is a `P:`.
 pub fn faultless_lines_with_a_device_give_an_event()
     ensures { (lines : List Text) → IsOk (given_by lines) ↔ ((AreFaultless lines) × (has_device (rows_of lines) ≡ true)) }
 {}
@@ -27,7 +27,7 @@ pub fn an_event_is_that_of_its_lines()
     ensures { (lines : List Text) (given : EventValue) → given_by lines ≡ Ok given → (chain given ≡ devices (rows_of lines)) × (given ≡ event (rows_of lines) given.device given.parents) }
 {}
 
-/// Where no line is faulty and none is a `P:`, that is the fault of the last line.
+/// If no line is faulty and none is a `P:`, that is the fault of the last line.
 pub fn faultless_lines_without_a_device_lack_it()
     ensures { (line : Text) (below : List Text) → AreFaultless (line ∷ below) → has_device (rows_of (line ∷ below)) ≡ false → given_by (line ∷ below) ≡ Err (record { line = length (line ∷ below); kind = NoDevice }) }
 {}
@@ -38,7 +38,7 @@ pub fn each_line_belongs_to_the_device_above()
     ensures { (rows : List Row) → AreGrouped rows }
 {}
 
-/// The texts of an event, each with one more, are together no longer than its block.
+/// The texts of an event, each with one more, together are no longer than its block.
 pub fn an_event_weighs_no_more_than_its_block()
     ensures { (block : Text) (given : EventValue) → block_gives block ≡ Ok given → event_weight given ≤ length block }
 {}

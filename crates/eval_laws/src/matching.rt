@@ -1,4 +1,4 @@
-//! What holds of matches, whatever the rules are. Each function here is empty: its contract is the law.
+//! What is true of matches, whatever the rules are. Each function here is empty: its contract is the law.
 ghost use Rattle.std.specs.Prelude.{◌≡◌, ◌≢◌, ◌↔◌, ℕ, List, Some, None, true, false, not};
 ghost use Rattle.std.specs.List.{list_any};
 ghost use Rattle.text_bytes.specs.declared.profile.Profile.TheVariants.{Manual};
@@ -25,18 +25,18 @@ pub fn one_device_meets_all_matches()
     ensures { (parts : List UpMatch) (state : State) (place : ℕ) → found_place parts state ≡ Some place → IsFirstToMeet parts state place }
 {}
 
-/// A search finds nothing exactly where no device of the chain meets all of the matches.
+/// A search finds nothing if and only if no device of the chain meets all of the matches.
 pub fn nothing_is_found_where_no_device_meets_all_matches()
     ensures { (parts : List UpMatch) (state : State) → (found_place parts state ≡ None) ↔ NoneMeets parts state }
 {}
 
-/// `!=` of a list holds exactly where no member fits.
+/// `!=` of a list holds if and only if no member fits.
 pub fn a_list_differs_where_no_member_fits()
     ensures { (texts : List Text) (wanted : Comparison) → wanted.operator ≡ NotEqual → holds (members texts) wanted ≡ not (list_any (choice_fits wanted.choice) texts) }
 {}
 
-/// `==` of any key but ATTR and ATTRS holds exactly where the choice fits a text that the key looks at,
-/// as that stands. With udev that is so of keys other than SUBSYSTEM, and those of links and tags.
+/// `==` of any key except ATTR and ATTRS holds if and only if the choice fits a text that the key looks at, as it
+/// is. With udev that is so for keys other than SUBSYSTEM, and those of links and tags.
 pub fn texts_are_compared_as_they_stand()
     ensures event { (key : PlainKey) (state : State) → state.event.profile ≡ Manual → ((name : Text) → ¬ (key ≡ plain.Attr name)) → ComparesAsItStands (plain_subject key state) }
     ensures device { (key : UpKey) (state : State) (place : ℕ) → state.event.profile ≡ Manual → ((name : Text) → ¬ (key ≡ up.Attrs name)) → ComparesAsItStands (up_subject key state place) }
@@ -45,16 +45,14 @@ pub fn texts_are_compared_as_they_stand()
     ensures program { (state : State) → ComparesAsItStands (one state.result) }
 {}
 
-/// CONST looks at the constant of its name as it stands, and where the event gives none, `==` fails and
-/// `!=` holds.
+/// CONST looks at the constant of its name as it is, and if the event gives none, `==` fails and `!=` holds.
 pub fn constants_are_compared_as_they_stand()
     ensures given { (name text : Text) (state : State) (wanted : Comparison) → is_known name ≡ true → value_of state.event.constants name ≡ Some text → holds (plain_subject (plain.Const name) state) wanted ≡ agrees wanted.operator (choice_fits wanted.choice text) }
     ensures absent { (name : Text) (state : State) (wanted : Comparison) → is_known name ≡ true → value_of state.event.constants name ≡ None → holds (plain_subject (plain.Const name) state) wanted ≡ agrees wanted.operator false }
 {}
 
-/// `==` of ATTR and ATTRS holds exactly where the choice fits the attribute, if the last pattern of the
-/// choice ends in whitespace, and else exactly where it fits the attribute without the whitespace at its
-/// end.
+/// `==` of ATTR and ATTRS holds if and only if the choice fits the attribute, if the last pattern of the choice
+/// ends in whitespace, and else if and only if it fits the attribute without the whitespace at its end.
 pub fn attributes_are_compared_without_their_end()
     ensures event { (name text : Text) (state : State) → state.event.profile ≡ Manual → value_of state.event.device.attrs name ≡ Some text → ComparesWithoutItsEnd (plain_subject (plain.Attr name) state) text }
     ensures device { (name text : Text) (state : State) (place : ℕ) (device : DeviceValue) → state.event.profile ≡ Manual → device_at state.event place ≡ Some device → value_of device.attrs name ≡ Some text → ComparesWithoutItsEnd (up_subject (up.Attrs name) state place) text }

@@ -1,4 +1,4 @@
-//! What holds of names of attributes that name their device, too, as udev reads them. Each function here is
+//! What is true of names of attributes that also name their device, as udev reads them. Each function here is
 //! empty: its contract is the law.
 ghost use Rattle.std.specs.Prelude.{◌≡◌, ◌↔◌, ◌<◌, ◌∷◌, ℕ, Some, None, false, length};
 ghost use Rattle.text_bytes.specs.Names.{close_bracket, slash};
@@ -9,9 +9,9 @@ ghost use Rattle.eval_state.specs.Chains.{device_at};
 ghost use Rattle.eval_state.specs.Named.{NamedValue, is_named, named, named_place};
 ghost use Rattle.eval_laws.specs.Naming.{HasNone, IsNearestNamed, IsWrittenSo, bracketed};
 
-/// A name that begins with `[SUBSYSTEM/KERNEL]` names a device and, after that, its attribute, where the
-/// subsystem has no slash and the kernel's name no `]`. One slash before the attribute is no part of it. No
-/// other name names a device.
+/// A name that begins with `[SUBSYSTEM/KERNEL]` names a device and, after that, its attribute, if the subsystem has
+/// no slash and the kernel's name no `]`. One slash before the attribute is not part of it. No other name names a
+/// device.
 pub fn a_name_in_brackets_names_a_device()
     ensures plain { (subsystem kernel attribute : Text) → HasNone slash subsystem → HasNone close_bracket kernel → begins_with slash attribute ≡ false → named (bracketed subsystem kernel attribute) ≡ Some (record { subsystem = subsystem; kernel = kernel; attribute = attribute }) }
     ensures slashed { (subsystem kernel attribute : Text) → HasNone slash subsystem → HasNone close_bracket kernel → named (bracketed subsystem kernel (slash ∷ attribute)) ≡ Some (record { subsystem = subsystem; kernel = kernel; attribute = attribute }) }

@@ -9,10 +9,10 @@ ghost use Rattle.eval_acts.specs.Acts.{act_step};
 ghost use Rattle.eval_acts.specs.Questions.{result_of, with_result};
 ghost use Rattle.eval_laws.specs.Answered.{IsAnswered, program};
 
-/// `PROGRAM==` holds exactly where the event's block answers its command with status 0, and then the
-/// answer's text is the result, with udev as it has its bytes, and nothing else changes. After each failure the result is empty,
-/// whatever it was before: where the command is too long, where the block has no answer to it, and
-/// where the answer has another status.
+/// `PROGRAM==` holds if and only if the event's block answers its command with status 0, and then the answer's
+/// text, for udev with its bytes as udev has them, is the result, and nothing else changes. After each failure the
+/// result is empty, whatever it was before: if the command is too long, if the block has no answer to it, or if the
+/// answer has another status.
 pub fn a_program_that_fails_leaves_no_result()
     ensures holds { (entries : List Entry) (rule : Rule) (template : templates.Parts) (scene : Scene) → ((act_step entries rule (program template) scene).1 ≡ true) ↔ ((text : Text) × IsAnswered template scene text) }
     ensures answered { (entries : List Entry) (rule : Rule) (template : templates.Parts) (scene : Scene) (text : Text) → IsAnswered template scene text → act_step entries rule (program template) scene ≡ (with_result (result_of scene.state.event.profile text) scene, true) }

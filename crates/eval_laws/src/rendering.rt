@@ -1,4 +1,4 @@
-//! What a rendered text comes to, whatever the template and the event.
+//! What is true of a rendered text, whatever the template and the event.
 ghost use Rattle.std.specs.Prelude.{◌≡◌, ◌<◌, ◌∷◌, ◌++◌, false, flat_map, length, take, List, None, Some, ℕ};
 ghost use Rattle.text_bytes.specs.Texts.{is_empty};
 ghost use Rattle.text_bytes.specs.declared.profile.Profile.TheVariants.{Manual, Udev};
@@ -23,24 +23,23 @@ ghost use Rattle.eval_laws.specs.SafeTexts.{IsSafe};
 
 use crate::safe_texts::safe_texts_are_safe;
 
-/// A text that is rendered for a link has only ASCII letters and digits, marks, spaces, backslashes with
-/// an `x` after them, and bytes over 127 that are part of a UTF-8 sequence; it does nothing when it is
-/// called.
+/// A text that is rendered for a link has only ASCII letters and digits, marks, spaces, backslashes with an `x`
+/// after them, and bytes over 127 that are part of a UTF-8 sequence.
 pub fn rendered_links_are_safe()
     ensures { (template : templates.Parts) (state : states.State) (text : Text) → render template state Link ≡ rendered.Text text → IsSafe link_marks text }
 {
     safe_texts_are_safe();
 }
 
-/// By the manual a text is rendered piece by piece, and too long only where the whole of it is. udev takes a
-/// text for too long, too, where it has an attribute of over 511 bytes that is not named with its device.
+/// By the manual a text is rendered piece by piece, and too long only if the whole of it is. For udev a text is
+/// also too long if it has an attribute of over 511 bytes that is not named with its device.
 pub fn long_attributes_are_too_long()
     ensures manual { (template : templates.Parts) (state : states.State) (mode : Mode) → state.event.profile ≡ Manual → render template state mode ≡ answer mode (bounded (flat_map (text_in mode state) template.pieces)) }
     ensures udev { (template : templates.Parts) (state : states.State) (mode : Mode) (before behind : List Piece) (name : Text) → state.event.profile ≡ Udev → template.pieces ≡ before ++ piece.Attr name ∷ behind → named_attribute name state.event ≡ None → 511 < length (or_empty (attribute name state)) → render template state mode ≡ rendered.TooLong }
 {}
 
-/// With udev an attribute that is named with its device is that of this device in any text, made safe, as far
-/// as its first 511 bytes.
+/// With udev an attribute that is named with its device is that of this device in any text, made safe, up to its
+/// first 511 bytes.
 pub fn named_attributes_are_cut()
     ensures { (state : states.State) (name : Text) (is : NamedValue) (place : ℕ) (device : DeviceValue) → state.event.profile ≡ Udev → named name ≡ Some is → is_empty is.attribute ≡ false → named_place is state.event ≡ Some place → device_at state.event place ≡ Some device → piece_text state (piece.Attr name) ≡ safe attribute_marks (trimmed (take 511 (or_empty (value_of device.attrs is.attribute)))) }
 {}

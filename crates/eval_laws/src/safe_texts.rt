@@ -1,4 +1,4 @@
-//! What making a text safe comes to, said of bytes. Each function here is empty: its contract is the law.
+//! What making a text safe does, in terms of bytes. Each function here is empty: its contract is the law.
 ghost use Rattle.std.specs.Prelude.{◌≡◌, ◌↔◌, ◌<◌, List, ℕ, length};
 ghost use Rattle.text_links.specs.Safe.{attribute_marks, link_marks, safe};
 ghost use Rattle.eval_laws.specs.SafeTexts.{IsMadeSafe, IsSafe};
@@ -19,8 +19,8 @@ pub fn safe_bytes_stay()
     ensures attribute_twice { (text : List ℕ) → safe attribute_marks (safe attribute_marks text) ≡ safe attribute_marks text }
 {}
 
-/// A text made safe keeps its length. Byte by byte, what is safe where it stands is left, other
-/// whitespace becomes a space, and any other byte `_`.
+/// A text made safe keeps its length. Byte by byte, what is safe where it is stays, other whitespace becomes a
+/// space, and any other byte `_`.
 pub fn other_bytes_are_replaced()
     ensures as_long { (marks text : List ℕ) → length (safe marks text) ≡ length text }
     ensures bytes { (marks text : List ℕ) (place : ℕ) → place < length text → IsMadeSafe marks text (safe marks text) place }

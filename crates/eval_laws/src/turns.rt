@@ -19,14 +19,14 @@ ghost use Rattle.eval_rules.specs.Idle.{is_idle};
 ghost use Rattle.eval_rules.specs.Outcomes.{by_name, commands, made_command, outcome_of};
 ghost use Rattle.eval_rules.specs.Steps.{apply};
 
-/// A rule of assignments alone makes them, one after another, and its end is reached. udev does so
-/// where the rule is not one that it passes over.
+/// A rule of assignments alone makes them, one after another, and its end is reached. udev does so if it does not
+/// skip the rule.
 pub fn a_rule_of_assignments_makes_them()
     ensures manual { (entries : List Entry) (r : Rule) (s : Scene) → s.state.event.profile ≡ Manual → r.plain ≡ [] → r.up ≡ [] → r.acts ≡ [] → r.results ≡ [] → apply entries r s ≡ (fold (set_step r) s r.sets, true) }
     ensures counts { (entries : List Entry) (r : Rule) (s : Scene) → is_idle r s.state.event ≡ false → r.plain ≡ [] → r.up ≡ [] → r.acts ≡ [] → r.results ≡ [] → apply entries r s ≡ (fold (set_step r) s r.sets, true) }
 {}
 
-/// A rule whose end is not reached, and one without a jump, is followed by the next one.
+/// A rule whose end is not reached, or that has no jump, is followed by the next one.
 pub fn the_next_rule_follows()
     ensures stopped { (entries : List Entry) (r : Rule) (rules : List Rule) (s : Scene) → (apply entries r s).1 ≡ false → run entries None (r ∷ rules) s ≡ run entries None rules (apply entries r s).0 }
     ensures plain { (entries : List Entry) (r : Rule) (rules : List Rule) (s : Scene) → r.goto ≡ None → run entries None (r ∷ rules) s ≡ run entries None rules (apply entries r s).0 }
@@ -37,9 +37,9 @@ pub fn sorted_properties_have_their_values()
     ensures { (env : List Pair) (name : Text) → AreOnce (names env) → value_of (by_name env) name ≡ value_of env name }
 {}
 
-/// A RUN that is kept when no rule is left is a command at its place among the others, rendered by what
-/// is then known of the event, with the device that was selected when its rule was reached. Those that
-/// udev rendered at their rules follow them, in their order.
+/// A RUN that is kept when no rule is left is a command at its place among the others, rendered by what is then
+/// known about the event, with the device that was selected when its rule was reached. Those that udev rendered at
+/// their rules follow them, in their order.
 pub fn commands_are_rendered_in_the_end()
     ensures kept { (s : Scene) (before behind : List RunValue) (kept : RunValue) (text : Text) → s.runs ≡ before ++ kept ∷ behind → render kept.template (record s.state { selected = kept.selected }) Plain ≡ rendered.Text text → (outcome_of s).runs ≡ commands s.state before ++ record { kind = run_kind kept.braces; text = text } ∷ (commands s.state behind ++ map made_command s.made) }
     ensures made { (s : Scene) → s.runs ≡ [] → (outcome_of s).runs ≡ map made_command s.made }

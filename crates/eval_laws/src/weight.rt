@@ -15,16 +15,15 @@ ghost use Rattle.eval_laws.specs.Allowances.{most_weight};
 ghost use Rattle.eval_laws.specs.Counts.{part_count};
 ghost use Rattle.eval_laws.specs.Weights.{outcome_weight};
 
-/// The texts that an event comes to, each with one more, are together at most four times its block and
-/// 128, and for each part of a rule 32,896, the length of its attribute and that of its file's name, and
-/// for each IMPORT besides twice the block and all keys and values of the database, each with one more.
-/// An event of udev's may come to more by the text of each SECLABEL as it is written, by the block for
-/// each ATTR, and by 65,536 for each IMPORT.
+/// The texts in the outcome of an event, each with one more, are together at most four times its block and 128, and
+/// for each part of a rule 32,896, the length of its attribute and that of its file's name, and in addition for
+/// each IMPORT twice the block and all keys and values of the database, each with one more. For udev the outcome
+/// may have more: the text of each SECLABEL as it is written, the block for each ATTR, and 65,536 for each IMPORT.
 pub fn an_answer_weighs_no_more_than_is_allowed()
     ensures { (profile : Profile) (rules : List Rule) (entries : List Entry) (block : Text) (event : EventValue) → block_gives block ≡ Ok event → outcome_weight (outcome rules entries (by_profile profile event)) ≤ most_weight profile (length block) entries rules }
 {}
 
-/// An event comes to no more notes than its rules have parts: each part is met at most once, and leaves
+/// The outcome of an event has no more notes than its rules have parts: each part is met at most once, and leaves
 /// at most one note.
 pub fn each_part_leaves_at_most_one_note()
     ensures { (rules : List Rule) (entries : List Entry) (event : EventValue) → length (outcome rules entries event).notes ≤ sum_by part_count rules }

@@ -28,8 +28,8 @@ abbrev pub is_elsewhere : EventValue → Option NamedValue → Bool
 is_elsewhere event None = false
 is_elsewhere event (Some n) = not (is_empty n.attribute) && is_none (named_place n event)
 
--- whether udev would read an attribute of this name where a dry run does not: one of a device that the block does not have, or one whose name
--- has substitutions
+-- whether udev would read an attribute of this name that a dry run does not read: one of a device that the block does
+-- not have, or one whose name has substitutions
 abbrev pub is_unknown : Text → EventValue → Bool
 is_unknown name event = if begins_with open_bracket name then is_elsewhere event (named name) else has_sign name
 
@@ -42,11 +42,11 @@ is_not_read_by profile.Udev name event = is_unknown name event
 unfoldable pub is_not_read : Text → EventValue → Bool
 is_not_read name event = is_not_read_by event.profile name event
 
--- an attribute of the device that is at a place, if a place was found: empty where the device has none, and cut
+-- an attribute of the device that is at a place, if there is a place: empty if the device has none, and cut
 abbrev pub found_value : EventValue → Text → Option ℕ → Option Text
 found_value event name found = option_map (λ place. capped (or_empty (attribute_of event name place))) found
 
--- an attribute of a named device; without a name of its own there is none
+-- an attribute of a named device; none if its name is empty
 abbrev pub named_value : EventValue → Option NamedValue → Option Text
 named_value event None = None
 named_value event (Some n) = if is_empty n.attribute then None else found_value event n.attribute (named_place n event)

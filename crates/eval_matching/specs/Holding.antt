@@ -12,9 +12,9 @@ use Rattle.rule_types.specs.declared.part.Comparison.{Comparison}
 use Rattle.eval_state.specs.Texts.{trimmed}
 use Rattle.eval_matching.specs.Udev.{compared_with, last_is, members_fit, subsystem_fits}
 
--- what a match looks at: one text; an attribute or a constant, each of which may be absent; texts, of which some member
--- may fit; what no match holds of; what is not read in a dry run; and what udev compares otherwise: a subsystem, an attribute, which may be
--- absent, texts, and an attribute that is not read in a dry run
+-- what a match looks at: one text; an attribute or a constant, each of which may be absent; texts, of which some
+-- member may fit; what no match holds for; what is not read in a dry run; and what udev compares in a different way:
+-- a subsystem, an attribute, which may be absent, texts, and an attribute that is not read in a dry run
 pub data Subject : Type 0 where
   one : Text → Subject
   attribute constant : Option Text → Subject
@@ -25,7 +25,7 @@ pub data Subject : Type 0 where
   udev_members : List Text → Subject
   udev_unread : Subject
 
--- `!=` turns the answer round
+-- `!=` negates the answer
 abbrev pub agrees : MatchOperator → Bool → Bool
 agrees Equal fits = fits
 agrees NotEqual fits = not fits
@@ -39,11 +39,12 @@ is_whitespace_item _ = false
 abbrev pub ends_in_whitespace : List (List Item) → Bool
 ends_in_whitespace choice = last_is (last_is is_whitespace_item) choice
 
--- an attribute as it is compared: the whitespace at its end counts only where the choice has some there
+-- an attribute as it is compared: the whitespace at its end counts only if the choice has some there
 abbrev pub as_compared : List (List Item) → Text → Text
 as_compared choice text = if ends_in_whitespace choice then text else trimmed text
 
--- whether a comparison holds; what is absent or not read fails `==` and meets `!=`, where udev has an attribute fail both
+-- whether a comparison holds; what is absent or not read fails `==` and meets `!=`, but for udev an attribute fails
+-- both
 unfoldable pub holds : Subject → Comparison → Bool
 holds (one text) wanted = agrees wanted.operator (choice_fits wanted.choice text)
 holds (attribute None) wanted = agrees wanted.operator false

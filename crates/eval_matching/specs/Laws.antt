@@ -1,4 +1,4 @@
--- What the search finds, said without its order.
+-- What the search finds, stated without its order.
 use Rattle.std.specs.Prelude.{◌≡◌, ℕ, ◌<◌, true, false, List, length}
 use Rattle.std.specs.List.{list_all}
 use Rattle.device_core.specs.Values.{chain}

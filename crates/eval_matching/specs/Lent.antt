@@ -4,7 +4,7 @@ use Rattle.eval_matching.specs.Holding.{Subject, attribute, udev_attribute, udev
 use Rattle.eval_matching.specs.declared.attributes.Attribute.{Attribute}
 use Rattle.eval_matching.specs.declared.attributes.Attribute.TheVariants as lent
 
--- an attribute that is lent, as what a match looks at
+-- a borrowed attribute, as what a match looks at
 abbrev pub lent_subject : Attribute → Subject
 lent_subject (lent.Manual value) = attribute (option_map (λ t. t.now) value)
 lent_subject (lent.Udev value) = udev_attribute (option_map (λ t. t.now) value)

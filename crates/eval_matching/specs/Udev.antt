@@ -1,4 +1,4 @@
--- How udev of systemd 257 compares what it compares otherwise than the manual has it.
+-- How udev of systemd 257 compares, where this differs from the manual.
 use Rattle.std.specs.Prelude.{ℕ, ◌-◌, Bool, false, not, ◌||◌, ◌==◌, if◌then◌else◌, List, length, map, take, slice_get, Option, Some, None, codes}
 use Rattle.std.specs.Char.{to_ascii_lowercase}
 use Rattle.std.specs.List.{prefix_len, suffix_len, list_any}
@@ -13,15 +13,15 @@ abbrev pub passes : {A : Type 0} → (A → Bool) → Option A → Bool
 passes test None = false
 passes test (Some x) = test x
 
--- whether a list has a last element, and that passes
+-- whether a list has a last element, and it passes
 abbrev pub last_is : {A : Type 0} → (A → Bool) → List A → Bool
 last_is test xs = passes test (slice_get xs (length xs - 1))
 
--- whether a value is one of the three words of which udev takes each for all three
+-- whether a value is one of the three words each of which udev takes for all three
 abbrev pub means_each : Text → Bool
 means_each value = same_text value (codes "subsystem") || (same_text value (codes "bus") || same_text value (codes "class"))
 
--- a text as it is compared with a word of small letters, by whether case is ignored
+-- a text as it is compared with a word of lower case letters, by whether case is ignored
 abbrev pub as_spelled : Bool → Text → Text
 as_spelled blind text = if blind then map to_ascii_lowercase text else text
 
@@ -34,7 +34,7 @@ subsystem_fits wanted text =
 abbrev pub members_fit : Comparison → List Text → Bool
 members_fit wanted texts = same_text wanted.written (codes "?*") || list_any (choice_fits wanted.choice) texts
 
--- the first of the texts between bars that is not empty; the empty text where there is none
+-- the first of the texts between bars that is not empty; the empty text if there is none
 abbrev pub first_part : Text → Text
 first_part value = let behind = skip_while is_bar value in take (prefix_len (λ b. not (is_bar b)) behind) behind
 
@@ -46,7 +46,7 @@ trims value = last_is (λ b. not (is_whitespace b)) (first_part value)
 abbrev pub is_cut : ℕ → Bool
 is_cut b = is_blank b || (b == newline || b == carriage_return)
 
--- the most bytes of an attribute that are compared, where it is compared without its end
+-- the most bytes of an attribute that are compared if it is compared without its end
 abbrev pub most_compared : ℕ
 most_compared = 511
 

@@ -25,7 +25,7 @@ pub enum Attribute<'a> {
     NotRead,
 }
 
-/// An attribute of the device at a place of the chain, where there is such a device and the device has it.
+/// An attribute of the device at a place of the chain, if there is such a device and it has the attribute.
 fn attribute_of<'a>(chain: &Chain<'a>, name: &[u8], place: usize) -> Option<&'a [u8]>
     ensures { option_map (λ value. value.now) result ≡ attribute_of chain.now name.now place }
 {
@@ -49,7 +49,7 @@ fn is_elsewhere(chain: &Chain<'_>, named: Option<Named<'_>>) -> bool
     }
 }
 
-/// Whether udev would read an attribute of this name where a dry run does not.
+/// Whether udev would read an attribute of this name that a dry run does not read.
 fn is_unknown(name: &[u8], chain: &Chain<'_>) -> bool
     ensures { result ≡ is_unknown name.now chain.now }
 {
@@ -73,7 +73,7 @@ pub fn is_not_read(name: &[u8], chain: &Chain<'_>) -> bool
     }
 }
 
-/// An attribute of the device at a place, empty where the device has none, and cut.
+/// An attribute of the device at a place, empty if the device has none, and cut.
 fn value_at<'a>(chain: &Chain<'a>, name: &[u8], place: usize) -> &'a [u8]
     ensures { result.now ≡ capped (or_empty (attribute_of chain.now name.now place)) }
 {
@@ -83,7 +83,7 @@ fn value_at<'a>(chain: &Chain<'a>, name: &[u8], place: usize) -> &'a [u8]
     }
 }
 
-/// An attribute of the device that is at a place, if a place was found.
+/// An attribute of the device that is at a place, if there is a place.
 fn found_value<'a>(chain: &Chain<'a>, name: &[u8], found: Option<usize>) -> Option<&'a [u8]>
     ensures { option_map (λ value. value.now) result ≡ found_value chain.now name.now found }
 {
@@ -128,8 +128,8 @@ fn udev_attribute<'a>(chain: &Chain<'a>, place: usize, name: &[u8]) -> Attribute
 }
 
 /// What a match of ATTR or ATTRS looks at, at a place of the chain: by the manual the attribute of the device there; as
-/// udev of systemd 257 has it, that of a device of the chain where the name is `[SUBSYSTEM/KERNEL]ATTRIBUTE`, which is
-/// empty where that device has none, and its first 511 bytes.
+/// udev of systemd 257 has it, that of a device of the chain if the name is `[SUBSYSTEM/KERNEL]ATTRIBUTE`, which is
+/// empty if that device has none, and its first 511 bytes.
 pub fn attribute_at<'a>(state: &State<'a>, place: usize, name: &[u8]) -> Attribute<'a>
     ensures { lent_subject result ≡ attribute_by state.now.event.profile name.now state.now.event (attribute_of state.now.event name.now place) }
 {
@@ -139,7 +139,7 @@ pub fn attribute_at<'a>(state: &State<'a>, place: usize, name: &[u8]) -> Attribu
     }
 }
 
-/// Whether a comparison holds of what a match of ATTR or ATTRS looks at.
+/// Whether a comparison holds for what a match of ATTR or ATTRS looks at.
 #[tactic(auto, unfolding(crate::specs::Holding::holds))]
 pub(crate) fn lent_holds(wanted: &Comparison, attribute: &Attribute<'_>) -> bool
     ensures { result ≡ holds (lent_subject attribute.now) wanted.now }

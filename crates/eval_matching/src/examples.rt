@@ -3,7 +3,7 @@ ghost use Rattle.std.specs.Prelude.{◌≡◌, ◌++◌, ◌∷◌, [], codes, t
 ghost use Rattle.text_bytes.specs.Names.{form_feed, newline, tab, vertical_tab};
 ghost use Rattle.eval_matching.specs.Udev.{as_spelled, compared_with, first_part, means_each, trims};
 
-/// Values of ATTR, of which some are compared with an attribute without the white space at its end.
+/// Values of ATTR, some of which are compared with an attribute without the white space at its end.
 pub fn some_values()
     ensures word { trims (codes "a") ≡ true }
     ensures blank { trims (codes "a ") ≡ false }

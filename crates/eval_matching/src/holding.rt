@@ -10,7 +10,7 @@ use rule_types::{Comparison, MatchOperator};
 use text_bytes::is_whitespace;
 use text_core::{Choice, Item, Pattern};
 
-/// What comes of an answer by an operator: `==` leaves it, and `!=` turns it round.
+/// An answer, by an operator: `==` leaves it as it is, and `!=` negates it.
 pub fn agrees(operator: MatchOperator, fits: bool) -> bool
     ensures { result ≡ agrees operator fits }
 {
@@ -61,7 +61,7 @@ fn as_compared<'a>(choice: &Choice, text: &'a [u8]) -> &'a [u8]
     }
 }
 
-/// Whether a comparison holds of a text.
+/// Whether a comparison holds for a text.
 #[tactic(auto, unfolding(crate::specs::Holding::holds))]
 pub(crate) fn text_holds(wanted: &Comparison, text: &[u8]) -> bool
     ensures { result ≡ holds (one text.now) wanted.now }
@@ -69,7 +69,7 @@ pub(crate) fn text_holds(wanted: &Comparison, text: &[u8]) -> bool
     agrees(wanted.operator, wanted.choice.fits(text))
 }
 
-/// Whether a comparison holds of an attribute, which may be absent.
+/// Whether a comparison holds for an attribute, which may be absent.
 #[tactic(auto, unfolding(crate::specs::Holding::holds))]
 pub(crate) fn attribute_holds(wanted: &Comparison, value: Option<&[u8]>) -> bool
     ensures { result ≡ holds (attribute (option_map (λ t. t.now) value.entry)) wanted.now }
@@ -83,7 +83,7 @@ pub(crate) fn attribute_holds(wanted: &Comparison, value: Option<&[u8]>) -> bool
     }
 }
 
-/// Whether a comparison holds of a constant, which may be absent.
+/// Whether a comparison holds for a constant, which may be absent.
 #[tactic(auto, unfolding(crate::specs::Holding::holds))]
 pub(crate) fn constant_holds(wanted: &Comparison, value: Option<&[u8]>) -> bool
     ensures { result ≡ holds (constant (option_map (λ t. t.now) value.entry)) wanted.now }
@@ -94,35 +94,35 @@ pub(crate) fn constant_holds(wanted: &Comparison, value: Option<&[u8]>) -> bool
     }
 }
 
-/// Whether some of the texts that rules left fits.
+/// Whether one of the texts that rules left fits.
 pub(crate) fn some_fits(choice: &Choice, texts: &[Vec<u8>]) -> bool
     ensures { result ≡ list_any (λ t. choice_fits choice.now t.items) texts.now }
 {
     texts.iter().any(|text| choice.fits(text))
 }
 
-/// Whether some of the texts that the event gave fits.
+/// Whether one of the texts that the event gave fits.
 pub(crate) fn some_given_fits(choice: &Choice, texts: &[&[u8]]) -> bool
     ensures { result ≡ list_any (λ t. choice_fits choice.now t.now) texts.now }
 {
     texts.iter().any(|text| choice.fits(text))
 }
 
-/// Whether a comparison holds of texts as rules left them.
+/// Whether a comparison holds for texts as rules left them.
 pub(crate) fn members_hold(wanted: &Comparison, texts: &[Vec<u8>]) -> bool
     ensures { result ≡ holds (members (map (λ t. t.items) texts.now)) wanted.now }
 {
     agrees(wanted.operator, some_fits(&wanted.choice, texts))
 }
 
-/// Whether a comparison holds of texts as the event gave them.
+/// Whether a comparison holds for texts as the event gave them.
 pub(crate) fn given_members_hold(wanted: &Comparison, texts: &[&[u8]]) -> bool
     ensures { result ≡ holds (members (map (λ t. t.now) texts.now)) wanted.now }
 {
     agrees(wanted.operator, some_given_fits(&wanted.choice, texts))
 }
 
-/// Whether a comparison holds of what is not read.
+/// Whether a comparison holds for what is not read.
 #[tactic(auto, unfolding(crate::specs::Holding::holds))]
 pub(crate) fn unread_holds(wanted: &Comparison) -> bool
     ensures { result ≡ holds unread wanted.now }

@@ -1,4 +1,4 @@
-//! Laws of what udev compares, each the contract of a function that does nothing.
+//! Laws of what udev compares, each the contract of a function with an empty body.
 ghost use Rattle.std.specs.Prelude.{◌≡◌, ◌&&◌, ◌++◌, ◌∷◌, ℕ, [], Option, Some, None, not, true, false};
 ghost use Rattle.std.specs.List.{list_all, list_any};
 ghost use Rattle.text_bytes.specs.Names.{bar, open_bracket};
@@ -19,13 +19,13 @@ ghost use Rattle.eval_matching.specs.Holding.{holds, udev_attribute, udev_unread
 ghost use Rattle.eval_matching.specs.Subjects.{plain_subject};
 ghost use Rattle.eval_matching.specs.Udev.{capped, first_part, is_cut, last_is, without_end};
 
-/// As udev has it ATTR of an attribute that the device does not have fails, with `==` and with `!=`.
+/// For udev, ATTR with an attribute that the device does not have fails, with `==` and with `!=`.
 pub fn an_absent_attribute_fails_both()
     ensures { (name : Text) (state : State) (wanted : Comparison) → state.event.profile ≡ profile.Udev → begins_with open_bracket name ≡ false → value_of state.event.device.attrs name ≡ None → holds (plain_subject (plain.Attr name) state) wanted ≡ false }
 {}
 
 /// A name that names a device of the chain, and an attribute, looks at that attribute of that device, and the device's
-/// own attribute does not matter; it is empty where the device has none. Of a device that is not in the chain it is
+/// own attribute does not matter; it is empty if the device has none. Of a device that is not in the chain it is
 /// not read.
 pub fn a_named_device_is_looked_at()
     ensures there { (text : Text) (event : EventValue) (own : Option Text) (n : NamedValue) (place : ℕ) (device : DeviceValue) → named (open_bracket ∷ text) ≡ Some n → is_empty n.attribute ≡ false → named_place n event ≡ Some place → device_at event place ≡ Some device → udev_subject (open_bracket ∷ text) event own ≡ udev_attribute (Some (capped (or_empty (value_of device.attrs n.attribute)))) }
@@ -34,8 +34,8 @@ pub fn a_named_device_is_looked_at()
     ensures unnamed { (text : Text) (event : EventValue) (own : Option Text) → named (open_bracket ∷ text) ≡ None → udev_subject (open_bracket ∷ text) event own ≡ udev_attribute None }
 {}
 
-/// A name that names no device looks at the device's own attribute, unless it has a byte that begins a substitution: then
-/// it is not read.
+/// A name that names no device looks at the device's own attribute, unless it has a byte that begins a
+/// substitution: then it is not read.
 pub fn a_plain_name_looks_at_the_device()
     ensures plain { (name : Text) (event : EventValue) (own : Option Text) → begins_with open_bracket name ≡ false → has_sign name ≡ false → udev_subject name event own ≡ udev_attribute own }
     ensures substituted { (name : Text) (event : EventValue) (own : Option Text) → begins_with open_bracket name ≡ false → has_sign name ≡ true → udev_subject name event own ≡ udev_unread }

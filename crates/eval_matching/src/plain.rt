@@ -11,7 +11,7 @@ use eval_state::State;
 use rule_types::{Comparison, PlainKey, PlainMatch};
 use text_bytes::Profile;
 
-/// The assigned name, empty where there is none.
+/// The assigned name, empty if there is none.
 fn name<'s>(state: &'s State<'_>) -> &'s [u8]
     ensures { result.now ≡ or_empty state.now.name }
 {
@@ -28,7 +28,7 @@ pub fn is_known_constant(name: &[u8]) -> bool
     name == b"arch".as_slice() || name == b"virt".as_slice() || name == b"cvm".as_slice()
 }
 
-/// Whether a comparison holds of the constant of a name.
+/// Whether a comparison holds for the constant of a name.
 #[tactic(auto, unfolding(crate::specs::Holding::holds))]
 fn named_constant_holds(wanted: &Comparison, name: &[u8], state: &State<'_>) -> bool
     ensures { result ≡ holds (named_constant name.now state.now) wanted.now }
@@ -40,7 +40,7 @@ fn named_constant_holds(wanted: &Comparison, name: &[u8], state: &State<'_>) -> 
     }
 }
 
-/// Whether a comparison holds of the subsystem of the event device.
+/// Whether a comparison holds for the subsystem of the event device.
 fn subsystem_match_holds(wanted: &Comparison, state: &State<'_>) -> bool
     ensures { result ≡ holds (subsystem_by state.now.event.profile (or_empty state.now.event.device.subsystem)) wanted.now }
 {
@@ -51,7 +51,7 @@ fn subsystem_match_holds(wanted: &Comparison, state: &State<'_>) -> bool
     }
 }
 
-/// Whether a comparison holds of links or tags as rules left them.
+/// Whether a comparison holds for links or tags as rules left them.
 pub(crate) fn kept_hold(wanted: &Comparison, state: &State<'_>, texts: &[Vec<u8>]) -> bool
     ensures { result ≡ holds (members_by state.now.event.profile (map (λ t. t.items) texts.now)) wanted.now }
 {
@@ -61,16 +61,16 @@ pub(crate) fn kept_hold(wanted: &Comparison, state: &State<'_>, texts: &[Vec<u8>
     }
 }
 
-/// Whether a match of the event holds, as udev(7) has it: for each key what it looks at is compared
-/// with the choice. Of SYMLINK and TAG, `!=` holds where no member fits; an absent attribute or constant
-/// fails `==` and meets `!=`; whitespace at the end of an attribute counts only where the choice ends in
-/// whitespace; SYSCTL is not read, and counts as absent.
+/// Whether a match of the event holds, as udev(7) has it: for each key what it looks at is compared with the
+/// choice. Of SYMLINK and TAG, `!=` holds if no member fits; an absent attribute or constant fails `==` and meets
+/// `!=`, and a constant that CONST does not know fails both; whitespace at the end of an attribute counts only if
+/// the choice ends in whitespace; SYSCTL is not read, and counts as absent.
 ///
-/// Of an event of udev's as udev of systemd 257 has it: an attribute that is absent or not read fails `==` and `!=`;
+/// For udev (systemd 257): an attribute that is absent or not read fails `==` and `!=`;
 /// of an attribute that is there at most 511 bytes are compared, without the spaces, tabs, line feeds and carriage
 /// returns at its end, unless the first of the texts between bars that is not empty ends in whitespace, or all are
 /// empty; `subsystem`, `bus` and `class`, each alone in a value of SUBSYSTEM, fit each of the three; `?*` fits SYMLINK
-/// and TAG also where there are none.
+/// and TAG also if there are none.
 pub fn plain_holds(part: &PlainMatch, state: &State<'_>) -> bool
     ensures { result ≡ holds (plain_subject part.now.key state.now) part.now.wanted }
 {

@@ -1,4 +1,4 @@
-//! How udev of systemd 257 compares what it compares otherwise than the manual has it.
+//! How udev of systemd 257 compares, where this differs from the manual.
 ghost use Rattle.std.specs.Prelude.{◌≡◌, ◌≤◌, codes, length, map, not, option_map};
 ghost use Rattle.std.specs.Char.{to_ascii_lowercase};
 ghost use Rattle.std.specs.List.{list_any, prefix_len, suffix_len};
@@ -11,24 +11,24 @@ use crate::holding::{agrees, some_fits, some_given_fits};
 use rule_types::Comparison;
 use text_bytes::{is_blank, is_whitespace};
 
-/// The most bytes of an attribute that are compared, where it is compared without its end.
+/// The most bytes of an attribute that are compared if it is compared without its end.
 const MAX_COMPARED: usize = 511;
 
-/// Whether a value is one of the three words of which udev takes each for all three.
+/// Whether a value is one of the three words each of which udev takes for all three.
 fn means_each(value: &[u8]) -> bool
     ensures { result ≡ means_each value.now }
 {
     value == b"subsystem".as_slice() || value == b"bus".as_slice() || value == b"class".as_slice()
 }
 
-/// Whether two texts have the same bytes, where the case of ASCII letters is ignored.
+/// Whether two texts have the same bytes, ignoring the case of ASCII letters.
 fn same_in_any_case(text: &[u8], other: &[u8]) -> bool
     ensures { result ≡ same_text (map to_ascii_lowercase text.now) (map to_ascii_lowercase other.now) }
 {
     text.eq_ignore_ascii_case(other)
 }
 
-/// Whether a text is one of these words, where the case of ASCII letters is ignored.
+/// Whether a text is one of these words, ignoring the case of ASCII letters.
 fn means_each_in_any_case(text: &[u8]) -> bool
     ensures { result ≡ means_each (map to_ascii_lowercase text.now) }
 {
@@ -59,7 +59,7 @@ fn subsystem_fits(wanted: &Comparison, text: &[u8]) -> bool
     }
 }
 
-/// Whether a comparison holds of a subsystem.
+/// Whether a comparison holds for a subsystem.
 #[tactic(auto, unfolding(crate::specs::Holding::holds))]
 pub(crate) fn subsystem_holds(wanted: &Comparison, text: &[u8]) -> bool
     ensures { result ≡ holds (udev_subsystem text.now) wanted.now }
@@ -88,7 +88,7 @@ fn given_members_fit(wanted: &Comparison, texts: &[&[u8]]) -> bool
     is_something(wanted) || some_given_fits(&wanted.choice, texts)
 }
 
-/// Whether a comparison holds of texts as rules left them.
+/// Whether a comparison holds for texts as rules left them.
 #[tactic(auto, unfolding(crate::specs::Holding::holds))]
 pub(crate) fn members_hold(wanted: &Comparison, texts: &[Vec<u8>]) -> bool
     ensures { result ≡ holds (udev_members (map (λ t. t.items) texts.now)) wanted.now }
@@ -96,7 +96,7 @@ pub(crate) fn members_hold(wanted: &Comparison, texts: &[Vec<u8>]) -> bool
     agrees(wanted.operator, members_fit(wanted, texts))
 }
 
-/// Whether a comparison holds of texts as the event gave them.
+/// Whether a comparison holds for texts as the event gave them.
 #[tactic(auto, unfolding(crate::specs::Holding::holds))]
 pub(crate) fn given_members_hold(wanted: &Comparison, texts: &[&[u8]]) -> bool
     ensures { result ≡ holds (udev_members (map (λ t. t.now) texts.now)) wanted.now }
@@ -120,7 +120,7 @@ fn before_bar(text: &[u8]) -> usize
     text.iter().take_while(|byte| **byte != b'|').count()
 }
 
-/// The first of the texts between bars that is not empty; the empty text where there is none.
+/// The first of the texts between bars that is not empty; the empty text if there is none.
 fn first_part(value: &[u8]) -> &[u8]
     ensures { result.now ≡ first_part value.now }
 {
@@ -188,7 +188,7 @@ fn value_fits(wanted: &Comparison, text: &[u8]) -> bool
         .fits(compared_with(wanted.written.as_slice(), text))
 }
 
-/// Whether a comparison holds of an attribute, which may be absent.
+/// Whether a comparison holds for an attribute, which may be absent.
 #[tactic(auto, unfolding(crate::specs::Holding::holds))]
 pub(crate) fn attribute_holds(wanted: &Comparison, value: Option<&[u8]>) -> bool
     ensures { result ≡ holds (udev_attribute (option_map (λ t. t.now) value.entry)) wanted.now }

@@ -15,7 +15,7 @@ use eval_state::State;
 use rule_types::{Comparison, UpKey, UpMatch};
 use text_bytes::Profile;
 
-/// The subsystem of the device at a place, empty where there is none.
+/// The subsystem of the device at a place, empty if there is none.
 pub fn subsystem_at<'a>(state: &State<'a>, place: usize) -> &'a [u8]
     ensures { result.now ≡ or_empty (option_and_then (λ device. device.subsystem) (device_at state.now.event place)) }
 {
@@ -25,7 +25,7 @@ pub fn subsystem_at<'a>(state: &State<'a>, place: usize) -> &'a [u8]
     }
 }
 
-/// The driver of the device at a place, empty where there is none.
+/// The driver of the device at a place, empty if there is none.
 pub fn driver_at<'a>(state: &State<'a>, place: usize) -> &'a [u8]
     ensures { result.now ≡ or_empty (option_and_then (λ device. device.driver) (device_at state.now.event place)) }
 {
@@ -35,7 +35,7 @@ pub fn driver_at<'a>(state: &State<'a>, place: usize) -> &'a [u8]
     }
 }
 
-/// Whether a comparison holds of tags as the event gave them.
+/// Whether a comparison holds for tags as the event gave them.
 fn given_hold(wanted: &Comparison, state: &State<'_>, texts: &[&[u8]]) -> bool
     ensures { result ≡ holds (members_by state.now.event.profile (map (λ t. t.now) texts.now)) wanted.now }
 {
@@ -45,7 +45,7 @@ fn given_hold(wanted: &Comparison, state: &State<'_>, texts: &[&[u8]]) -> bool
     }
 }
 
-/// Whether a comparison holds of the tags of the device at a place.
+/// Whether a comparison holds for the tags of the device at a place.
 fn tags_hold(wanted: &Comparison, state: &State<'_>, place: usize) -> bool
     ensures { result ≡ holds (members_by state.now.event.profile (tags_at state.now place)) wanted.now }
 {
@@ -58,9 +58,9 @@ fn tags_hold(wanted: &Comparison, state: &State<'_>, place: usize) -> bool
     }
 }
 
-/// Whether a match of one device holds at a place of the chain; at a place where no device stands it is compared with an
-/// empty text, no attribute and no tag. Of an event of udev's attributes and tags are compared as ATTR and TAG are, and
-/// an attribute that is absent fails `==` and `!=`.
+/// Whether a match of one device holds at a place of the chain; at a place without a device it is compared with an
+/// empty text, no attribute and no tag. For udev, attributes and tags are compared as ATTR and TAG are, and an
+/// attribute that is absent fails `==` and `!=`.
 #[tactic(auto, unfolding(crate::specs::Subjects::holds_at))]
 pub fn holds_at(part: &UpMatch, state: &State<'_>, place: usize) -> bool
     ensures { result ≡ holds_at state.now place part.now }

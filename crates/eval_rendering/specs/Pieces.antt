@@ -1,4 +1,4 @@
--- What is in a text in place of each substitution.
+-- What each substitution is replaced with.
 use Rattle.std.specs.Prelude.{ℕ, ◌-◌, Bool, false, nat_lt, if◌then◌else◌, List, [], length, take, Option, Some, None, option_map, unwrap_or, codes}
 use Rattle.std.specs.List.{list_any}
 use Rattle.std.specs.Option.{option_and_then}
@@ -20,12 +20,12 @@ use Rattle.eval_state.specs.Start.{node_path}
 use Rattle.eval_state.specs.declared.state.State.{State}
 use Rattle.eval_rendering.specs.Words.{from_word, spaced, word_at}
 
--- a text, or another where there is none
+-- a text, or another one if there is none
 abbrev pub or_else : Option Text → Option Text → Option Text
 or_else None other = other
 or_else (Some text) other = Some text
 
--- the device that is selected; a place that is none of the chain's selects none
+-- the device that is selected; a place outside of the chain selects none
 abbrev pub selected_device : State → Option DeviceValue
 selected_device state = option_and_then (device_at state.event) state.selected
 
@@ -37,19 +37,21 @@ attribute name state = or_else (value_of state.event.device.attrs name) (option_
 abbrev pub most_attribute_bytes : ℕ
 most_attribute_bytes = 511
 
--- an attribute of a device, empty where the device has none of this name
+-- an attribute of a device, empty if the device has none of this name
 abbrev pub attribute_of : Text → DeviceValue → Text
 attribute_of name device = or_empty (value_of device.attrs name)
 
--- the attribute of a device of the chain that is named with its device, where the device is there; without a name of an attribute it is none
+-- the attribute of a device of the chain that is named with its device, if the device is there; without a name of an
+-- attribute there is none
 abbrev pub attribute_named : EventValue → NamedValue → Option Text
 attribute_named event n = if is_empty n.attribute then None else option_map (attribute_of n.attribute) (option_and_then (device_at event) (named_place n event))
 
--- the same by the whole name, where it has the form `[SUBSYSTEM/KERNEL]ATTRIBUTE`
+-- the same by the whole name, if it has the form `[SUBSYSTEM/KERNEL]ATTRIBUTE`
 abbrev pub named_attribute : Text → EventValue → Option Text
 named_attribute name event = option_and_then (attribute_named event) (named name)
 
--- the attribute that is in a text, as the device has it; udev looks for a device that is named, too, and cuts its attribute off
+-- the attribute that is put into a text, as the device has it; udev also looks for a device that is named, and cuts
+-- its attribute off
 abbrev pub attribute_as : Profile → Text → State → Text
 attribute_as Manual name state = or_empty (attribute name state)
 attribute_as Udev name state = unwrap_or (option_map (take most_attribute_bytes) (named_attribute name state.event)) (or_empty (attribute name state))
@@ -59,7 +61,7 @@ abbrev pub number_as : Profile → Text → Text
 number_as Manual kernel = longest_end is_digit kernel
 number_as Udev kernel = if same_text (longest_end is_digit kernel) kernel then [] else longest_end is_digit kernel
 
--- the name of a device that no rule gave one: the kernel's, and for udev the node before that
+-- the name of a device to which no rule gave one: the kernel's, or for udev the node if there is one
 abbrev pub own_name : Profile → DeviceValue → Text
 own_name Manual device = kernel_of device
 own_name Udev device = unwrap_or device.node (kernel_of device)
@@ -68,7 +70,7 @@ own_name Udev device = unwrap_or device.node (kernel_of device)
 abbrev pub parent_node : State → Option Text
 parent_node state = option_and_then (λ parent. parent.node) (device_at state.event 1)
 
--- what is in place of each piece, as it is
+-- what each piece is replaced with, as it is
 abbrev pub piece_text : State → Piece → Text
 piece_text state (piece.Plain text) = text
 piece_text state piece.Kernel = kernel_of state.event.device
@@ -95,7 +97,7 @@ abbrev pub is_long : State → Piece → Bool
 is_long state (piece.Attr name) = nat_lt most_attribute_bytes (length (attribute_as Udev name state))
 is_long state other = false
 
--- whether a text with these pieces is too long whatever its own length is: for udev where an attribute is
+-- whether a text with these pieces is too long whatever its own length is: for udev if an attribute is
 abbrev pub has_long : Profile → State → List Piece → Bool
 has_long Manual state pieces = false
 has_long Udev state pieces = list_any (is_long state) pieces

@@ -15,7 +15,7 @@ use Rattle.eval_rendering.specs.declared.rendered.Mode.TheVariants.{Plain, Link}
 use Rattle.eval_rendering.specs.declared.rendered.Rendered.{Rendered}
 use Rattle.eval_rendering.specs.declared.rendered.Rendered.TheVariants as rendered
 
--- whether a piece is in a link as it is: what is written in the template, and the result of a program
+-- whether a piece is put into a link as it is: what is written in the template, and the result of a program
 abbrev pub is_raw : Piece → Bool
 is_raw (piece.Plain text) = true
 is_raw piece.Result = true
@@ -28,7 +28,7 @@ abbrev pub is_word : Mode → Piece → Bool
 is_word Plain p = false
 is_word Link p = not (is_raw p)
 
--- what is in place of a piece
+-- what a piece is replaced with
 abbrev pub text_in : Mode → State → Piece → Text
 text_in mode state p = if is_word mode p then underscored (piece_text state p) else piece_text state p
 
@@ -37,7 +37,7 @@ abbrev pub finished : Mode → Text → Text
 finished Plain text = text
 finished Link text = safe link_marks text
 
--- a text as it is answered
+-- a text as it is returned
 abbrev pub answer : Mode → Option Text → Rendered
 answer mode None = rendered.TooLong
 answer mode (Some text) = rendered.Text (finished mode text)
@@ -48,6 +48,6 @@ render template state mode =
     if has_long state.event.profile state template.pieces then rendered.TooLong
     else answer mode (bounded (flat_map (text_in mode state) template.pieces))
 
--- a text that udev renders only as it evaluates a rule, and of which it takes what reading leaves
+-- a text that udev renders only as it evaluates a rule, taking what reading leaves of it
 abbrev pub rendered_as_udev : Text → State → Rendered
 rendered_as_udev text state = render (record { written = text; pieces = left_of text }) state Plain

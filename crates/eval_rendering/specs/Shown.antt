@@ -1,4 +1,4 @@
--- For proofs only, no reader has to believe it: the text of a piece, lent, made or put together.
+-- Serves inner proofs only: the text of a piece, borrowed, made or joined.
 use Rattle.std.specs.Prelude.{map}
 use Rattle.text_tables.specs.Texts.{Text}
 use Rattle.eval_rendering.specs.declared.pieces.PieceText.{PieceText}

@@ -1,11 +1,11 @@
--- The words of a program's result, and what else substitutions take of a text.
+-- The words of a program's result, and what else substitutions take from a text.
 use Rattle.std.specs.Prelude.{ℕ, zero, suc, not, List, [], ◌∷◌, ◌++◌, drop, take, flat_map}
 use Rattle.std.specs.List.{prefix_len}
 use Rattle.text_bytes.specs.Names.{space, is_whitespace}
 use Rattle.text_tables.specs.Texts.{Text}
 use Rattle.text_bytes.specs.Texts.{skip_while}
 
--- how many bytes the word has that a text begins with
+-- how many bytes the word at the start of a text has
 abbrev pub word_len : Text → ℕ
 word_len text = prefix_len (λ b. not (is_whitespace b)) text
 
@@ -18,7 +18,7 @@ from_word (suc number) text = skip_while is_whitespace (drop (word_len (from_wor
 abbrev pub word_at : ℕ → Text → Text
 word_at number text = take (word_len (from_word number text)) (from_word number text)
 
--- texts with a space between each two
+-- texts joined by spaces
 abbrev pub spaced : List Text → Text
 spaced [] = []
 spaced (text ∷ texts) = text ++ flat_map (λ other. space ∷ other) texts

@@ -1,4 +1,4 @@
-//! The attributes that are in texts.
+//! The attributes that are put into texts.
 ghost use Rattle.std.specs.Prelude.{◌≡◌, option_copied, option_map, take};
 ghost use Rattle.std.specs.List.{list_any};
 ghost use Rattle.std.specs.Option.{option_and_then};
@@ -44,14 +44,14 @@ fn attribute<'a>(state: &State<'a>, name: &[u8]) -> Option<&'a [u8]>
     }
 }
 
-/// An attribute of a device, empty where the device has none of this name.
+/// An attribute of a device, empty if the device has none of this name.
 fn attribute_of<'a>(device: &'a Device<'a>, name: &[u8]) -> &'a [u8]
     ensures { result.now ≡ attribute_of name.now device.now }
 {
     device.attrs().get(name).unwrap_or(b"")
 }
 
-/// The attribute of a device of the chain that is named with its device, where the device is there.
+/// The attribute of a device of the chain that is named with its device, if the device is there.
 fn attribute_named<'a>(state: &State<'a>, named: &Named<'_>) -> Option<&'a [u8]>
     ensures { option_map (λ value. value.now) result ≡ attribute_named state.now.event named.now }
 {
@@ -63,7 +63,7 @@ fn attribute_named<'a>(state: &State<'a>, named: &Named<'_>) -> Option<&'a [u8]>
     Some(attribute_of(device, named.attribute))
 }
 
-/// The same by the whole name, where it has the form `[SUBSYSTEM/KERNEL]ATTRIBUTE`.
+/// The same by the whole name, if it has the form `[SUBSYSTEM/KERNEL]ATTRIBUTE`.
 fn named_attribute<'a>(state: &State<'a>, name: &[u8]) -> Option<&'a [u8]>
     ensures { option_map (λ value. value.now) result ≡ named_attribute name.now state.now.event }
 {
@@ -79,8 +79,8 @@ fn cut_off(value: &[u8]) -> &[u8]
     value.split_at(MAX_ATTRIBUTE_BYTES.min(value.len())).0
 }
 
-/// The attribute that udev puts in, as the device has it: that of a device of the chain which the name
-/// names, too, cut off after its first 511 bytes, or else that of the event device or the selected one.
+/// The attribute that udev puts in, as the device has it: that of a device of the chain if the name also names one,
+/// cut off after its first 511 bytes, or else that of the event device or the selected one.
 fn udev_attribute<'a>(state: &State<'a>, name: &[u8]) -> &'a [u8]
     ensures { result.now ≡ attribute_as Profile.Udev name.now state.now }
 {
@@ -90,7 +90,7 @@ fn udev_attribute<'a>(state: &State<'a>, name: &[u8]) -> &'a [u8]
     }
 }
 
-/// The attribute that is in a text, as the device has it; empty where there is none.
+/// The attribute that is put into a text, as the device has it; empty if there is none.
 pub(crate) fn attribute_as<'a>(profile: Profile, state: &State<'a>, name: &[u8]) -> &'a [u8]
     ensures { result.now ≡ attribute_as profile name.now state.now }
 {
@@ -117,7 +117,7 @@ fn any_is_long(state: &State<'_>, pieces: &[Piece]) -> bool
     pieces.iter().any(|piece| is_long(state, piece))
 }
 
-/// Whether a template is too long whatever the length of its text is: for udev where one of its attributes is.
+/// Whether a template is too long whatever the length of its text is: for udev if one of its attributes is.
 pub(crate) fn has_long(state: &State<'_>, template: &Template) -> bool
     ensures { result ≡ has_long state.now.event.profile state.now template.now.pieces }
 {

@@ -39,7 +39,7 @@ impl BoundedText {
         }
     }
 
-    /// Puts more after the text, unless it is too long then.
+    /// Appends more to the text, unless it is then too long.
     pub(crate) fn push(&mut self, more: &[u8]) -> Result<(), AllocError>
         ensures { OnOk result (self.new ≡ joined self.old more.now) }
     {
@@ -51,7 +51,7 @@ impl BoundedText {
         Ok(())
     }
 
-    /// Puts texts with a space between each two after the text, until it is too long.
+    /// Appends texts, joined by spaces, until the text is too long.
     pub(crate) fn push_spaced(&mut self, texts: &[Vec<u8>]) -> Result<(), AllocError>
         ensures { OnOk result (self.new ≡ joined self.old (spaced (map (λ t. t.items) texts.now))) }
     {
@@ -64,7 +64,7 @@ impl BoundedText {
         }
     }
 
-    /// Puts texts, each with a space before it, after the text, until it is too long.
+    /// Appends texts, each with a space before it, until the text is too long.
     fn push_others(&mut self, others: &[Vec<u8>]) -> Result<(), AllocError>
         requires { joined self.old [] ≡ self.old }
         ensures { OnOk result (self.new ≡ joined self.old (flat_map (λ other. space ∷ other.items) others.now)) }
@@ -86,7 +86,7 @@ impl BoundedText {
         self.fits
     }
 
-    /// Gives the text up, unless it is too long.
+    /// Returns the text, unless it is too long.
     pub(crate) fn into_text(self) -> Option<Vec<u8>>
         ensures { option_map (λ text. text.items) result ≡ self }
     {

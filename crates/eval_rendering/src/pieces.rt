@@ -1,7 +1,7 @@
-//! What is in a text in place of each substitution.
+//! What each substitution is replaced with.
 //!
-//! Most of it is lent by the event or its state; what has to be changed is made. The links, which can have any number
-//! of bytes, are put together no further than a rendered text may go.
+//! Most of it is borrowed from the event or its state; what has to be changed is made. The links, which can have
+//! any number of bytes, are joined only as far as a rendered text may go.
 ghost use Rattle.std.specs.Prelude.{◌≡◌, OnOk, IfOk, option_map, unwrap_or, codes};
 ghost use Rattle.std.specs.Option.{option_and_then};
 ghost use Rattle.eval_state.specs.Chains.{kernel_of};
@@ -25,16 +25,16 @@ use text_links::{attribute_safe, underscored};
 /// The text of a piece.
 #[derive(Debug, Drop)]
 pub(crate) enum PieceText<'s> {
-    /// One that is lent.
+    /// One that is borrowed.
     Lent(&'s [u8]),
     /// One that was made for the piece.
     Made(Vec<u8>),
-    /// Several that are lent, with a space between each two.
+    /// Several that are borrowed, joined by spaces.
     Spaced(&'s [Vec<u8>]),
 }
 
 impl<'s> PieceText<'s> {
-    /// Puts the text after another one.
+    /// Appends the text to another.
     pub(crate) fn push_to(&self, text: &mut BoundedText) -> Result<(), AllocError>
         ensures { OnOk result (text.new ≡ joined text.old (shown self.now)) }
     {
@@ -45,7 +45,7 @@ impl<'s> PieceText<'s> {
         }
     }
 
-    /// The text as one word; of one that is too long perhaps only so much that it is too long, too.
+    /// The text as one word; if it is too long, perhaps only so much of it that it is still too long.
     pub(crate) fn to_word(&self, alloc: Global) -> Result<Vec<u8>, AllocError>
         ensures { IfOk result (λ word. bounded word.items ≡ bounded (underscored (shown self.now))) }
     {
@@ -57,7 +57,7 @@ impl<'s> PieceText<'s> {
     }
 }
 
-/// The kernel's name of the selected device, empty where there is none.
+/// The kernel's name of the selected device, empty if there is none.
 fn selected_kernel<'s>(state: &'s State<'_>) -> &'s [u8]
     ensures { result.now ≡ or_empty (option_map kernel_of (selected_device state.now)) }
 {
@@ -67,7 +67,7 @@ fn selected_kernel<'s>(state: &'s State<'_>) -> &'s [u8]
     }
 }
 
-/// The driver of the selected device, empty where there is none.
+/// The driver of the selected device, empty if there is none.
 fn selected_driver<'a>(state: &State<'a>) -> &'a [u8]
     ensures { result.now ≡ or_empty (option_and_then (λ device. device.driver) (selected_device state.now)) }
 {
@@ -97,7 +97,7 @@ fn minor<'a>(state: &State<'a>) -> &'a [u8]
     }
 }
 
-/// The node of the second device of the chain, empty where there is none.
+/// The node of the second device of the chain, empty if there is none.
 fn parent_node<'a>(state: &State<'a>) -> &'a [u8]
     ensures { result.now ≡ or_empty (parent_node state.now) }
 {
@@ -107,7 +107,7 @@ fn parent_node<'a>(state: &State<'a>) -> &'a [u8]
     }
 }
 
-/// The name of the event device where no rule gave one: the kernel's, and for udev the node before that.
+/// The name of the event device if no rule gave one: the kernel's, or for udev the node if there is one.
 fn own_name<'s>(profile: Profile, state: &'s State<'_>) -> &'s [u8]
     ensures { result.now ≡ own_name profile state.now.event.device }
 {
@@ -127,7 +127,7 @@ fn name<'s>(profile: Profile, state: &'s State<'_>) -> &'s [u8]
     }
 }
 
-/// The path of the event device's node, empty where there is none.
+/// The path of the event device's node, empty if there is none.
 fn devnode(alloc: Global, node: Option<&[u8]>) -> Result<Vec<u8>, AllocError>
     ensures { IfOk result (λ path. path.items ≡ or_empty (option_map (λ n. node_path n.now) node.entry)) }
 {
@@ -137,7 +137,7 @@ fn devnode(alloc: Global, node: Option<&[u8]>) -> Result<Vec<u8>, AllocError>
     }
 }
 
-/// What is in place of a piece.
+/// What a piece is replaced with.
 pub(crate) fn piece_text<'s>(
     alloc: Global,
     state: &'s State<'_>,

@@ -9,8 +9,8 @@ use text_bytes::Bytes;
 pub enum Mode {
     /// Any text: substitutions are put in as they are.
     Plain,
-    /// The name of a link or of a network device: substitutions but that of `$result` are put in as one
-    /// word, and the text is made safe.
+    /// The name of a link or of a network device: substitutions except that of `$result` are put in as one word,
+    /// and the text is made safe.
     Link,
 }
 
@@ -19,12 +19,12 @@ pub enum Mode {
 pub enum Rendered {
     /// The text, of at most 16,384 bytes.
     Text(Bytes),
-    /// The text would have more bytes, or, for udev, a substitution of it has an attribute of over 511.
+    /// The text would have more bytes, or, for udev, one of its substitutions has an attribute of over 511.
     TooLong,
 }
 
 impl Rendered {
-    /// The text, unless it has more bytes than these; one that has is too long.
+    /// The text, unless it has more bytes than these; then it is too long.
     pub fn within(self, most: usize) -> Rendered
         ensures { result ≡ within most self }
     {

@@ -13,7 +13,7 @@ use std::alloc::{AllocError, Global};
 use text_bytes::{Bytes, Profile};
 use text_links::link_safe;
 
-/// Whether a piece is in a link as it is.
+/// Whether a piece is put into a link as it is.
 fn is_raw(piece: &Piece) -> bool
     ensures { result ≡ is_raw piece.now }
 {
@@ -36,7 +36,7 @@ fn is_word(mode: Mode, piece: &Piece) -> bool
     }
 }
 
-/// Puts what is in place of a piece after a text.
+/// Appends what a piece is replaced with.
 fn push_piece(
     alloc: Global,
     text: &mut BoundedText,
@@ -65,7 +65,7 @@ fn finished(alloc: Global, text: Vec<u8>, mode: Mode) -> Result<Vec<u8>, AllocEr
     }
 }
 
-/// A text as it is answered.
+/// A text as it is returned.
 fn answer(alloc: Global, text: Option<Vec<u8>>, mode: Mode) -> Result<Rendered, AllocError>
     ensures { IfOk result (λ rendered. rendered ≡ answer mode (option_map (λ t. t.items) text)) }
 {
@@ -75,15 +75,15 @@ fn answer(alloc: Global, text: Option<Vec<u8>>, mode: Mode) -> Result<Rendered, 
     }
 }
 
-/// A template with each substitution made over what is known of an event, as udev(7) has them. Over
-/// 16,384 bytes it is [`TooLong`](Rendered::TooLong), and no piece after the first that does not fit is looked at.
+/// A template with each substitution made from what is known about an event, as udev(7) has them. Over 16,384 bytes
+/// it is [`TooLong`](Rendered::TooLong), and no piece after the first that does not fit is looked at.
 ///
-/// Of an event of udev's `$name`, `$number` and `$attr` stand for what they do in udev (systemd 257), and a text is
-/// [`TooLong`](Rendered::TooLong), too, where a substitution has an attribute of over 511 bytes; an attribute of a device
-/// that is named with it, as `$attr{[SUBSYSTEM/KERNEL]ATTRIBUTE}`, is cut off there instead.
+/// For an event by udev's profile, `$name`, `$number` and `$attr` mean what they do in udev (systemd 257), and a
+/// text is also [`TooLong`](Rendered::TooLong) if a substitution has an attribute of over 511 bytes; an attribute
+/// that names its device, such as `$attr{[SUBSYSTEM/KERNEL]ATTRIBUTE}`, is cut off there instead.
 ///
-/// In [`Link`](Mode::Link) each substitution but that of `$result` loses the whitespace at its ends, and
-/// each run of it inside becomes one `_`; the whole is then made safe for a path.
+/// In [`Link`](Mode::Link) each substitution except that of `$result` loses the whitespace at its ends, and each
+/// run of it inside becomes one `_`; the whole is then made safe for a path.
 #[tactic(auto, using(crate::proofs::Joining::joined_bounded), unfolding(crate::specs::Rendering::render))]
 pub fn render(
     alloc: Global,
@@ -107,7 +107,7 @@ pub fn render(
 }
 
 /// A text that udev renders only as it evaluates a rule, such as the name of a parameter: it is read as udev reads
-/// templates, which leaves out all after a fault, and rendered as any text.
+/// templates, without what comes after a fault, and rendered as any text.
 pub fn render_text(alloc: Global, text: &[u8], state: &State<'_>) -> Result<Rendered, AllocError>
     ensures { IfOk result (λ rendered. rendered ≡ rendered_as_udev text.now state.now) }
 {

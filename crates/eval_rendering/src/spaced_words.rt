@@ -8,7 +8,7 @@ use crate::bounded_text::MAX_BYTES;
 use std::alloc::{AllocError, Global};
 use text_links::Word;
 
-/// Texts with a space between each two, as one word; of one that is too long only so much that it is too long, too.
+/// Texts joined by spaces, as one word; if that is too long, only so much of it that it is still too long.
 pub(crate) fn spaced_word(alloc: Global, texts: &[Vec<u8>]) -> Result<Vec<u8>, AllocError>
     ensures { IfOk result (λ word. bounded word.items ≡ bounded (underscored (spaced (map (λ t. t.items) texts.now)))) }
 {

@@ -9,7 +9,7 @@ ghost use Rattle.eval_rendering.specs.Words.{from_word, word_at, word_len};
 use text_bytes::{Profile, is_whitespace};
 use text_links::last_digits;
 
-/// How many bytes the word has that a text begins with.
+/// How many bytes the word at the start of a text has.
 fn word_len(text: &[u8]) -> usize
     ensures value { result ≡ word_len text.now }
     ensures within { result ≤ length text.now }
@@ -41,8 +41,8 @@ fn from_next_word(text: &[u8]) -> &[u8]
     from_first_word(text.split_at(word_len(text)).1)
 }
 
-/// A text from its word with a number on; the first word has the number 0. No more words are passed
-/// over than the text has.
+/// A text from its word with a number on; the first word has the number 0. No more words are skipped than the text
+/// has.
 pub(crate) fn from_word(number: u16, text: &[u8]) -> &[u8]
     ensures { result.now ≡ from_word number text.now }
 {

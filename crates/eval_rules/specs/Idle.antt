@@ -1,4 +1,4 @@
--- Rules that udev passes over before it looks at their matches, since nothing in them counts for the event.
+-- Rules that udev skips before it looks at their matches, since nothing in them counts for the event.
 use Rattle.std.specs.Prelude.{Bool, true, false, not, ◌&&◌, ◌||◌, if◌then◌else◌, codes, is_some, fold}
 use Rattle.std.specs.List.{list_any}
 use Rattle.text_bytes.specs.declared.profile.Profile.{Profile}
@@ -18,7 +18,7 @@ use Rattle.eval_state.specs.declared.scene.Scene.{Scene}
 use Rattle.eval_assignments.specs.Names.{is_interface}
 use Rattle.eval_assignments.specs.Steps.{set_step}
 
--- whether a device goes
+-- whether the event's device is removed
 abbrev pub is_removal : EventValue → Bool
 is_removal event = same_text event.action (codes "remove")
 
@@ -31,7 +31,8 @@ is_of_device target.Symlink = true
 is_of_device target.Name = true
 is_of_device t = false
 
--- whether a key applies to a device: those of its node where it has a number, its name where it is an interface, any other to all
+-- whether a key applies to a device: those of its node if it has a number, its name if it is an interface, any other
+-- to all
 abbrev pub applies : Target → DeviceValue → Bool
 applies target.Owner device = is_some device.number
 applies target.Group device = is_some device.number
@@ -40,8 +41,8 @@ applies target.Symlink device = is_some device.number
 applies target.Name device = is_interface device
 applies t device = true
 
--- whether an assignment of a text counts for an event: its key applies to the device, which does not go where it is one of the node or
--- the name
+-- whether an assignment of a text counts for an event: its key applies to the device, and is not one of the node or
+-- the name of a device that is removed
 abbrev pub text_counts : Target → EventValue → Bool
 text_counts about event = applies about event.device && not (is_of_device about && is_removal event)
 
@@ -62,12 +63,12 @@ abbrev pub something_counts : Rule → EventValue → Bool
 something_counts r event =
     is_some r.goto || (list_any (λ act. deed_counts act.deed) r.acts || list_any (λ a. change_counts a.change event) r.sets)
 
--- whether a rule is passed over: by the manual none is, by udev one in which nothing counts for the event
+-- whether a rule is skipped: by the manual none is, for udev one in which nothing counts for the event
 unfoldable pub is_idle_by : Profile → Rule → EventValue → Bool
 is_idle_by Manual r event = false
 is_idle_by Udev r event = not (something_counts r event)
 
--- whether a rule is passed over at an event
+-- whether a rule is skipped at an event
 abbrev pub is_idle : Rule → EventValue → Bool
 is_idle r event = is_idle_by event.profile r event
 
@@ -76,10 +77,11 @@ abbrev pub change_applies : Change → DeviceValue → Bool
 change_applies (change.Text about template) device = applies about device
 change_applies c device = true
 
--- an assignment of a rule that is passed over: where its key does not apply to the device, it leaves its note; else nothing comes of it
+-- an assignment of a rule that is skipped: if its key does not apply to the device, it leaves its note; otherwise it
+-- has no effect
 abbrev pub note_step : Rule → Scene → Assignment → Scene
 note_step r s a = if change_applies a.change s.state.event.device then s else set_step r s a
 
--- the assignments of a rule that is passed over, none of which stops it
+-- the assignments of a rule that is skipped, none of which stops it
 abbrev pub note_all : Rule → Scene → Scene × Bool
 note_all r s = (fold (note_step r) s r.sets, true)

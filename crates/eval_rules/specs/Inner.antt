@@ -40,6 +40,6 @@ made_of s env runs = record {
   notes = s.notes;
 }
 
--- the place of the next rule that is not passed over while a label is sought, or none is, from a place on
+-- the place of the next rule that is not skipped, while a label is sought or none is, from a place on
 abbrev pub landing : Option Text → List Rule → ℕ → ℕ
 landing sought rules from = from + prefix_len (is_passed sought) (drop from rules)

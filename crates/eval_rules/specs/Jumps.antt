@@ -11,17 +11,17 @@ abbrev pub is_label : Text → Option Text → Bool
 is_label name None = false
 is_label name (Some label) = same_text label name
 
--- whether a rule is passed over: a label is sought, and it is not the rule's
+-- whether a rule is skipped: a label is sought, and it is not the rule's
 abbrev pub is_passed : Option Text → Rule → Bool
 is_passed None r = false
 is_passed (Some name) r = not (is_label name r.label)
 
--- the label that is sought after a rule: that of its GOTO, where the rule's end was reached
+-- the label that is sought after a rule: that of its GOTO, if the rule's end was reached
 abbrev pub sought_after : Bool → Rule → Option Text
 sought_after reached r = if reached then r.goto else None
 
--- rules one after another, perhaps while a label is sought: the first that has it is evaluated, and those above it are
--- passed over
+-- rules one after another, perhaps while a label is sought: the first that has it is evaluated, and those above it
+-- are skipped
 unfoldable pub run : List Entry → Option Text → List Rule → Scene → Scene
 run entries sought [] s = s
 run entries sought (r ∷ rs) s =

@@ -1,4 +1,4 @@
--- What holds of rules, whatever they are.
+-- What holds for rules, whatever they are.
 use Rattle.std.specs.Prelude.{◌≡◌, ℕ, Bool, List}
 use Rattle.std.specs.List.{list_all}
 use Rattle.std.specs.List.Sorted.{IsStrictlySortedBy}
@@ -13,15 +13,15 @@ use Rattle.eval_matching.specs.Subjects.{plain_subject}
 use Rattle.eval_state.specs.declared.scene.Scene.{Scene}
 use Rattle.eval_rules.specs.declared.outcome.Outcome.{Outcome}
 
--- whether all matches of the event hold that a rule has
+-- whether all matches of the event that a rule has hold
 abbrev pub plain_hold : State → Rule → Bool
 plain_hold state r = list_all (λ part. holds (plain_subject part.key state) part.wanted) r.plain
 
--- one scene is another but for its notes
+-- one scene is another apart from its notes
 abbrev pub SameButNotes : Scene → Scene → Type 0
 SameButNotes s t = (record t { notes = s.notes }) ≡ s
 
--- one outcome is another but for its notes
+-- one outcome is another apart from its notes
 abbrev pub SameOutcomeButNotes : Outcome → Outcome → Type 0
 SameOutcomeButNotes o p = (record p { notes = o.notes }) ≡ o
 
@@ -30,6 +30,6 @@ pub record IsMetByOneDevice (parts : List UpMatch) (state : State) : Type 0 wher
   pub place : ℕ
   pub first : IsFirstToMeet parts state place
 
--- each name of properties comes before all later ones, so that none is there twice
+-- each name of properties comes before all later ones, so that no name is there twice
 abbrev pub NamesRise : List Pair → Type 0
 NamesRise pairs = IsStrictlySortedBy text_order (names pairs)

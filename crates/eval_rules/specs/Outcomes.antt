@@ -1,4 +1,4 @@
--- What an event comes to.
+-- The outcome of an event.
 use Rattle.std.specs.Prelude.{List, [], ◌∷◌, ◌++◌, None, map, option_map, flat_map, fold}
 use Rattle.text_bytes.specs.Insertion.{put_by}
 use Rattle.text_tables.specs.Pairs.{Pair}
@@ -25,7 +25,7 @@ use Rattle.eval_rules.specs.Jumps.{run}
 use Rattle.eval_rules.specs.declared.outcome.Command.{Command}
 use Rattle.eval_rules.specs.declared.outcome.Outcome.{Outcome}
 
--- a RUN as it is rendered in the end: over what is then known, but with the device that its rule had selected
+-- a RUN as it is rendered at the end: over what is then known, but with the device that its rule had selected
 abbrev pub run_text : State → RunValue → Rendered
 run_text state kept = render kept.template (with_selected kept.selected state) Plain
 
@@ -34,7 +34,7 @@ abbrev pub command : RunValue → Rendered → List Command
 command kept (rendered.Text text) = record { kind = run_kind kept.braces; text = text } ∷ []
 command kept rendered.TooLong = []
 
--- the note of a RUN that is too long, with its braces where it has any
+-- the note of a RUN that is too long, with its braces if it has any
 abbrev pub late_note : RunValue → Rendered → List Note
 late_note kept (rendered.Text text) = []
 late_note kept rendered.TooLong = note_about kept.rule TextTooLong (word_of_key key.Run (option_map run_name kept.braces)) ∷ []
@@ -47,7 +47,7 @@ commands state runs = flat_map (λ kept. command kept (run_text state kept)) run
 abbrev pub late_notes : State → List RunValue → List Note
 late_notes state runs = flat_map (λ kept. late_note kept (run_text state kept)) runs
 
--- a RUN of udev's as a command: it was rendered at its rule
+-- a RUN as a command for udev: it was rendered at its rule
 abbrev pub made_command : MadeRun → Command
 made_command made = record { kind = run_kind made.run.braces; text = made.text }
 
@@ -59,8 +59,8 @@ put pairs pair = put_by (λ p. p.0) (λ earlier later. later) pairs pair
 abbrev pub by_name : List Pair → List Pair
 by_name pairs = fold put [] pairs
 
--- what a scene comes to when no rule is left: without the tags that were taken away, and with the commands that were made at their rules
--- after those that are rendered now
+-- the outcome of a scene when no rule is left: without the tags that were removed, and with the commands that were
+-- made at their rules after those that are rendered now
 unfoldable pub outcome_of : Scene → Outcome
 outcome_of s = record {
   name = s.state.name;
@@ -80,6 +80,6 @@ outcome_of s = record {
   notes = s.notes ++ late_notes s.state s.runs;
 }
 
--- what an event comes to: all rules run over it from its start, and in the end what they keep is rendered
+-- the outcome of an event: all rules run over it from its start, and at the end what they keep is rendered
 abbrev pub outcome : List Rule → List Entry → EventValue → Outcome
 outcome rules entries event = outcome_of (run entries None rules (start event))

@@ -14,11 +14,11 @@ use Rattle.eval_acts.specs.Reaching.{reached}
 use Rattle.eval_assignments.specs.Steps.{set_step}
 use Rattle.eval_rules.specs.Idle.{is_idle, note_all}
 
--- what an event has come to, and whether the rule goes on
+-- a scene, and whether the rule goes on
 abbrev pub Went : Type 0
 Went = Scene × Bool
 
--- what a rule does next, where it goes on; where it does not, what was changed until then stays
+-- what a rule does next, if it goes on; if it does not, what was changed until then stays
 abbrev pub onward : (Scene → Went) → Went → Went
 onward next went = if went.1 then next went.0 else went
 
@@ -27,7 +27,7 @@ unfoldable pub walk : {P : Type 0} → (P → Scene → Went) → List P → Sce
 walk step [] s = (s, true)
 walk step (p ∷ ps) s = onward (walk step ps) (step p s)
 
--- a match of the event: one of SYSCTL leaves its note, and the rule goes on where the match holds
+-- a match of the event: one of what is not read leaves its note, and the rule goes on if the match holds
 unfoldable pub plain_step : Rule → PlainMatch → Scene → Went
 plain_step r part s = (reached r part.key s, holds (plain_subject part.key s.state) part.wanted)
 
@@ -35,11 +35,11 @@ plain_step r part s = (reached r part.key s, holds (plain_subject part.key s.sta
 unfoldable pub result_step : Comparison → Scene → Went
 result_step part s = (s, holds (one s.state.result) part)
 
--- what is known of an event, with the device at a place selected, or none
+-- what is known about an event, with the device at a place selected, or none
 abbrev pub with_selected : Option ℕ → State → State
 with_selected place state = record state { selected = place }
 
--- the search for one device: the nearest that meets all of the matches is selected, or none where none does; without a
+-- the search for one device: the nearest that meets all of the matches is selected, or none if none does; without a
 -- match nothing is searched, and the selection stays
 abbrev pub search : List UpMatch → Scene → Went
 search [] s = (s, true)
@@ -50,8 +50,8 @@ search (part ∷ parts) s =
 abbrev pub set_all : Rule → Scene → Went
 set_all r s = (fold (set_step r) s r.sets, true)
 
--- a rule up to its assignments: the matches of the event, the search for one device, what acts, the matches of the result; the second
--- part of what it comes to says whether all of them let the rule go on
+-- a rule up to its assignments: the matches of the event, the search for one device, what acts, the matches of the
+-- result; and whether all of them let the rule go on
 abbrev pub before_sets : List Entry → Rule → Scene → Went
 before_sets entries r s =
     onward (walk result_step r.results)
@@ -59,14 +59,14 @@ before_sets entries r s =
     (onward (search r.up)
     (walk (plain_step r) r.plain s)))
 
--- a rule in its five steps, the assignments last; the second part of what it comes to says whether its end was reached
+-- a rule in its five steps, the assignments last; and whether its end was reached
 unfoldable pub steps : List Entry → Rule → Scene → Went
 steps entries r s = onward (set_all r) (before_sets entries r s)
 
--- a rule that is passed over: it leaves its notes and changes nothing else, and its end is not reached
+-- a rule that is skipped: it leaves its notes and changes nothing else, and its end is not reached
 abbrev pub only_noted : List Entry → Rule → Scene → Went
 only_noted entries r s = (record s { notes = (onward (note_all r) (before_sets entries r s)).0.notes }, false)
 
--- a rule over a scene: udev passes it over where nothing in it counts for the event
+-- a rule over a scene: udev skips it if nothing in it counts for the event
 unfoldable pub apply : List Entry → Rule → Scene → Went
 apply entries r s = if is_idle r s.state.event then only_noted entries r s else steps entries r s

@@ -40,7 +40,7 @@ fn braces(kept: &Run<'_>) -> Option<&'static [u8]>
     Some(kept.braces()?.name())
 }
 
-/// Takes in a RUN that was rendered: as a command, or with a note where it is too long.
+/// Takes a RUN that was rendered: as a command, or with a note if it is too long.
 fn take_run(
     alloc: Global,
     kept: &Run<'_>,
@@ -87,7 +87,7 @@ pub fn made_command(alloc: Global, made: &MadeRun<'_>) -> Result<Command, AllocE
     })
 }
 
-/// Adds what was rendered at its rule after other commands.
+/// Adds what was rendered at its rule to other commands.
 fn add_made(alloc: Global, made: &[MadeRun<'_>], commands: &mut Commands) -> Result<(), AllocError>
     ensures { OnOk result (commands.new ≡ commands.old ++ map made_command made.now) }
 {
@@ -97,7 +97,7 @@ fn add_made(alloc: Global, made: &[MadeRun<'_>], commands: &mut Commands) -> Res
     Ok(())
 }
 
-/// All commands: what is to be run, rendered, and after that what was rendered at its rule.
+/// All commands: what is to be run, rendered, and then what was rendered at its rule.
 fn all_commands(
     alloc: Global,
     runs: &[Run<'_>],
@@ -111,7 +111,7 @@ fn all_commands(
     Ok(commands)
 }
 
-/// What is to be run, rendered, and the properties, sorted, where no rule is left.
+/// What is to be run, rendered, and the properties, sorted, once no rule is left.
 fn rendered(alloc: Global, scene: &mut Scene<'_>) -> Result<(Commands, OwnedPairs), AllocError>
     ensures { IfOk result (λ done. made_of scene.new done.1 done.0 ≡ outcome_of scene.old) }
 {
@@ -121,7 +121,7 @@ fn rendered(alloc: Global, scene: &mut Scene<'_>) -> Result<(Commands, OwnedPair
     Ok((commands, by_name(env)?))
 }
 
-/// Tags without those that were taken away.
+/// Tags without those that were removed.
 fn present_tags(mut tags: OwnedTexts, gone: &OwnedTexts) -> OwnedTexts
     ensures { result ≡ without_texts tags gone.now }
 {
@@ -181,7 +181,7 @@ fn outcome_with(scene: Scene<'_>, commands: Commands, env: OwnedPairs) -> Outcom
     }
 }
 
-/// What a scene comes to when no rule is left: what is to be run is rendered, and properties are sorted.
+/// The outcome of a scene when no rule is left: what is to be run is rendered, and properties are sorted.
 pub fn finish(alloc: Global, mut scene: Scene<'_>) -> Result<Outcome, AllocError>
     ensures { IfOk result (λ outcome. outcome ≡ outcome_of scene.entry) }
 {
@@ -213,11 +213,10 @@ fn evaluate<'a, L: Lookup>(
     }
 }
 
-/// What an event comes to by the rules as they are read, as udev(7) has it: each rule in turn over what
-/// the rules before it left, jumps followed, the database asked where a rule imports from it; then each
-/// RUN rendered with what is known in the end. Programs, builtins other than `hwdb` and files are not
-/// run or read, and leave notes. An event of udev's profile is evaluated as udev of systemd 257 itself
-/// does it.
+/// The outcome of an event by the rules as they are read, as udev(7) has it: each rule in turn over what the rules
+/// before it left, with its jumps, the database asked if a rule imports from it; then each RUN rendered with what
+/// is known at the end. Programs, builtins other than `hwdb` and files are not run or read, and leave notes unless
+/// the event's block has their answer. For udev, the event is evaluated as udev of systemd 257 does it.
 pub fn evaluate_plain<L: Lookup>(
     alloc: Global,
     rules: &RuleSet,

@@ -1,4 +1,4 @@
-//! Rules that udev passes over, since nothing in them counts for the event.
+//! Rules that udev skips, since nothing in them counts for the event.
 ghost use Rattle.std.specs.Prelude.{◌≡◌, OnOk, OnErr, fold};
 ghost use Rattle.std.specs.List.{list_any};
 ghost use Rattle.eval_rules.specs.Idle.{applies, change_applies, change_counts, deed_counts, is_idle, is_idle_by, is_of_device, is_removal, note_all, note_step, something_counts, text_counts};
@@ -11,7 +11,7 @@ use rule_types::{Act, Assignment, Change, Deed, Rule, RuleOption, Target};
 use std::alloc::{AllocError, Global};
 use text_bytes::Profile;
 
-/// Whether the event's device goes.
+/// Whether the event's device is removed.
 fn is_removal(event: &Event<'_>) -> bool
     ensures { result ≡ is_removal event.now }
 {
@@ -28,8 +28,8 @@ fn is_of_device(target: &Target) -> bool
     }
 }
 
-/// Whether a key applies to a device: those of its node where it has a number, its name where it is an
-/// interface, any other to all.
+/// Whether a key applies to a device: those of its node if it has a number, its name if it is an interface, any
+/// other to all.
 fn applies(target: &Target, device: &Device<'_>) -> bool
     ensures { result ≡ applies target.now device.now }
 {
@@ -42,8 +42,8 @@ fn applies(target: &Target, device: &Device<'_>) -> bool
     }
 }
 
-/// Whether an assignment of a text counts for an event: its key applies to the device, which does not
-/// go where it is one of the node or the name.
+/// Whether an assignment of a text counts for an event: its key applies to the device, and is not one of the node
+/// or the name of a device that is removed.
 fn text_counts(target: &Target, event: &Event<'_>) -> bool
     ensures { result ≡ text_counts target.now event.now }
 {
@@ -93,10 +93,10 @@ fn something_counts(rule: &Rule, event: &Event<'_>) -> bool
     rule.goto().is_some() || acts_count(rule.acts()) || sets_count(rule.sets(), event)
 }
 
-/// Whether a rule is passed over before its matches are looked at: by udev (systemd 257) one that
-/// neither jumps, nor runs a program, nor imports, nor assigns anything that counts for the event.
-/// OWNER, GROUP, MODE and SYMLINK count for a device with a number, NAME for a network interface, and
-/// none of them on `remove`; `static_node` counts for no event. By the manual no rule is passed over.
+/// Whether a rule is skipped before its matches are looked at: for udev (systemd 257) one that neither jumps, nor
+/// runs a program, nor imports, nor assigns anything that counts for the event. OWNER, GROUP, MODE and SYMLINK count
+/// for a device with a number, NAME for a network interface, and none of them on `remove`; `static_node` counts for
+/// no event. By the manual no rule is skipped.
 #[tactic(auto, unfolding(crate::specs::Idle::is_idle_by))]
 pub fn is_idle(rule: &Rule, event: &Event<'_>) -> bool
     ensures { result ≡ is_idle rule.now event.now }
@@ -117,7 +117,7 @@ fn change_applies(change: &Change, device: &Device<'_>) -> bool
     }
 }
 
-/// Leaves the note of an assignment whose key does not apply to the device; nothing comes of any other.
+/// Leaves the note of an assignment whose key does not apply to the device; any other has no effect.
 fn note_step<'a>(
     alloc: Global,
     rule: &'a Rule,
@@ -133,8 +133,7 @@ fn note_step<'a>(
     set_one(alloc, rule, assignment, scene)
 }
 
-/// Leaves the notes of those assignments of a rule whose keys do not apply to the device, in place of
-/// making any.
+/// Leaves the notes of those assignments of a rule whose keys do not apply to the device, instead of making any.
 fn note_each<'a>(alloc: Global, rule: &'a Rule, scene: &mut Scene<'a>) -> Result<(), AllocError>
     ensures scene { OnOk result (scene.new ≡ fold (note_step rule.now) scene.old rule.now.sets) }
     ensures refused { OnErr result (scene.new.state.event ≡ scene.old.state.event) }
@@ -145,10 +144,10 @@ fn note_each<'a>(alloc: Global, rule: &'a Rule, scene: &mut Scene<'a>) -> Result
     Ok(())
 }
 
-/// The end of a rule that is passed over: where its keys let it go on to its assignments, those that do
-/// not apply to the device leave their notes, and none is made.
+/// The end of a rule that is skipped: if its keys let it go on to its assignments, those that do not apply to the
+/// device leave their notes, and none is made.
 ///
-/// The error comes where memory runs out; the event then stays.
+/// There is an error only if memory runs out; the event then stays.
 pub fn note_all<'a>(
     alloc: Global,
     rule: &'a Rule,

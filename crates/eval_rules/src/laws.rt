@@ -1,4 +1,4 @@
-//! What holds of rules that are passed over, whatever the rule. Each function here is empty: its contract is the law.
+//! What holds for rules that are skipped, whatever the rule. Each function here is empty: its contract is the law.
 ghost use Rattle.std.specs.Prelude.{◌≡◌, List, true, false};
 ghost use Rattle.text_bytes.specs.declared.profile.Profile.TheVariants.{Manual};
 ghost use Rattle.hwdb_lookup.specs.declared.entry.Entry.{Entry};
@@ -7,14 +7,13 @@ ghost use Rattle.eval_state.specs.declared.scene.Scene.{Scene};
 ghost use Rattle.eval_rules.specs.Idle.{is_idle, is_removal};
 ghost use Rattle.eval_rules.specs.Steps.{apply, steps, with_selected};
 
-/// By the manual no rule is passed over.
+/// By the manual no rule is skipped.
 pub fn manual_evaluates_every_rule()
     ensures { (entries : List Entry) (r : rules.Rule) (s : Scene) → s.state.event.profile ≡ Manual → apply entries r s ≡ steps entries r s }
 {}
 
-/// A rule that is passed over leaves what it would leave if it were evaluated, but for the device that is selected and the
-/// keys that are final, and its end is not reached. Where the device goes, its links, owner, group, mode and name are not
-/// changed either.
+/// Unless the device is removed, a rule that is skipped leaves what it would leave if it were evaluated, apart from
+/// the device that is selected and the keys that are final, and its end is not reached.
 pub fn passed_over_rule_lacks_nothing()
     ensures { (entries : List Entry) (r : rules.Rule) (s : Scene) → is_idle r s.state.event ≡ true → is_removal s.state.event ≡ false → apply entries r s ≡ (record (steps entries r s).0 { finals = s.finals; state = with_selected s.state.selected (steps entries r s).0.state }, false) }
 {}

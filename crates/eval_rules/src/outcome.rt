@@ -1,4 +1,4 @@
-//! What an event comes to.
+//! The outcome of an event.
 ghost use Rattle.std.specs.Prelude.{◌≡◌, ◌++◌, ◌∷◌, [], OnOk, OnErr};
 
 use eval_state::Notes;
@@ -13,7 +13,7 @@ use text_tables::{OwnedPairs, OwnedTexts};
 pub struct Command {
     /// Whether it is a program or a builtin.
     pub kind: RunType,
-    /// The command, its substitutions made.
+    /// The command, with its substitutions made.
     pub text: Bytes,
 }
 
@@ -57,7 +57,7 @@ impl Commands {
         held
     }
 
-    /// Adds a command at the end. Where memory runs out, the commands stay as they are.
+    /// Adds a command at the end. If memory runs out, the commands stay as they are.
     pub(crate) fn push(&mut self, command: Command) -> Result<(), AllocError>
         ensures commands { OnOk result (self.new ≡ self.old ++ command ∷ []) }
         ensures refused { OnErr result (self.new ≡ self.old) }
@@ -74,23 +74,23 @@ impl Commands {
     }
 }
 
-/// What an event comes to when all rules have run over it: what udev(7) would do with its device, and
-/// what a dry run did not do.
+/// The outcome of an event when all rules have run over it: what udev(7) would do with its device, and what a dry
+/// run did not do.
 #[derive(Drop)]
 pub struct Outcome {
-    /// The name of a network device, where a rule assigned one.
+    /// The name of a network device, if a rule assigned one.
     pub name: Option<Bytes>,
-    /// The owner of the device's node, as it was written.
+    /// The owner of the device's node, as it was assigned.
     pub owner: Option<Bytes>,
-    /// The group of the device's node, as it was written.
+    /// The group of the device's node, as it was assigned.
     pub group: Option<Bytes>,
-    /// The mode of the device's node, as it was written.
+    /// The mode of the device's node, as it was assigned; for udev as four octal digits.
     pub mode: Option<Bytes>,
-    /// How links of this device stand against those of others (`link_priority`), where it was assigned.
+    /// The priority of this device's links over those of others (`link_priority`), if it was assigned.
     pub priority: Option<i32>,
-    /// Whether the device's node is watched (`watch`, `nowatch`), where it was assigned.
+    /// Whether the device's node is watched (`watch`, `nowatch`), if it was assigned.
     pub watch: Option<bool>,
-    /// Whether what is known of the device stays in udev's database (`db_persist`).
+    /// Whether what is known about the device stays in udev's database (`db_persist`).
     pub persist: bool,
     /// The labels of security modules, by module, in the order in which these were named first.
     pub labels: OwnedPairs,

@@ -13,7 +13,7 @@ use hwdb_lookup::Lookup;
 use rule_types::Rule;
 use std::alloc::{AllocError, Global};
 
-/// Whether a rule is passed over while a label is sought, or none is.
+/// Whether a rule is skipped, while a label is sought or none is.
 pub fn is_passed(sought: Option<&[u8]>, rule: &Rule) -> bool
     ensures { result ≡ is_passed (option_map (λ t. t.now) sought.entry) rule.now }
 {
@@ -31,7 +31,7 @@ pub fn sought_after(reached: bool, rule: &Rule) -> Option<&[u8]>
     if reached { rule.goto() } else { None }
 }
 
-/// How many rules from the front on are passed over.
+/// How many rules from the first on are skipped.
 fn passed_len(sought: Option<&[u8]>, rules: &[Rule]) -> usize
     ensures value { result ≡ prefix_len (is_passed (option_map (λ t. t.now) sought.entry)) rules.now }
     ensures within { result ≤ length rules.now }
@@ -42,7 +42,7 @@ fn passed_len(sought: Option<&[u8]>, rules: &[Rule]) -> usize
         .count()
 }
 
-/// The place of the next rule that is not passed over, from a place on.
+/// The place of the next rule that is not skipped, from a place on.
 fn landing(sought: Option<&[u8]>, rules: &[Rule], from: usize) -> usize
     requires { from ≤ length rules.now }
     ensures place { result ≡ landing (option_map (λ t. t.now) sought.entry) rules.now from }
@@ -52,8 +52,8 @@ fn landing(sought: Option<&[u8]>, rules: &[Rule], from: usize) -> usize
     from + passed_len(sought, behind)
 }
 
-/// Evaluates rules, one after another. After a rule whose end was reached and that jumps, those are
-/// passed over that are between it and the next one with the label.
+/// Evaluates rules, one after another. After a rule that jumps and whose end was reached, those between it and the
+/// next one with the label are skipped.
 #[tactic(auto, using(crate::proofs::Running::run_end))]
 pub(crate) fn run<'a, L: Lookup>(
     alloc: Global,

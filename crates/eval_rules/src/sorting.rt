@@ -1,7 +1,6 @@
 //! Properties, sorted by name.
 //!
-//! While rules run, properties are in the order in which they came; only what is answered is sorted,
-//! once.
+//! While rules run, properties are in the order in which they came; only the outcome is sorted, once.
 ghost use Rattle.std.specs.Prelude.{◌≡◌, IfOk};
 ghost use Rattle.eval_rules.specs.Outcomes.{by_name};
 

@@ -1,6 +1,6 @@
 //! One rule, step by step.
 //!
-//! Most rules fail at their first match: until one holds that takes memory, nothing is taken.
+//! Most rules fail at their first match; memory is taken only for notes, acts and assignments.
 ghost use Rattle.std.specs.Prelude.{◌≡◌, true, false, OnErr, OnOk, IfOk};
 ghost use Rattle.std.specs.List.{list_all};
 ghost use Rattle.eval_matching.specs.Holding.{holds, one};
@@ -18,9 +18,9 @@ use hwdb_lookup::Lookup;
 use rule_types::{Act, Comparison, PlainMatch, Rule, UpMatch};
 use std::alloc::{AllocError, Global};
 
-/// Reaches a match of the event, and answers whether it holds. One of SYSCTL leaves its note.
+/// Reaches a match of the event, and returns whether it holds. One of what is not read leaves its note.
 ///
-/// Where memory runs out, the scene stays as it is.
+/// If memory runs out, the scene stays as it is.
 #[tactic(auto, unfolding(crate::specs::Steps::plain_step))]
 pub fn plain_step(
     alloc: Global,
@@ -55,7 +55,7 @@ fn match_event(
     Ok(true)
 }
 
-/// Selects the nearest device that meets all of the matches, or none, and answers whether one does.
+/// Selects the nearest device that meets all of the matches, or none, and returns whether one does.
 /// Without a match nothing is searched, and the selection stays.
 pub fn search(parts: &[UpMatch], scene: &mut Scene<'_>) -> bool
     ensures scene { (scene.new, result) ≡ search parts.now scene.old }
@@ -95,7 +95,7 @@ fn results_hold(parts: &[Comparison], state: &State<'_>) -> bool
     parts.iter().all(|part| result_holds(part, state))
 }
 
-/// Goes through the matches of the result, and answers whether they hold.
+/// Goes through the matches of the result, and returns whether they hold.
 #[tactic(auto, using(crate::proofs::Walks::results_hold))]
 fn match_results(parts: &[Comparison], scene: &Scene<'_>) -> bool
     ensures { (scene.now, result) ≡ walk result_step parts.now scene.now }
@@ -103,8 +103,8 @@ fn match_results(parts: &[Comparison], scene: &Scene<'_>) -> bool
     results_hold(parts, &scene.state)
 }
 
-/// Goes through a rule up to its assignments, and answers whether it goes on to them: the matches of the
-/// event, the search for one device, what acts, the matches of the result.
+/// Goes through a rule up to its assignments, and returns whether it goes on to them: the matches of the event, the
+/// search for one device, what acts, the matches of the result.
 fn try_rule<L: Lookup>(
     alloc: Global,
     rule: &Rule,
@@ -126,8 +126,7 @@ fn try_rule<L: Lookup>(
     Ok(match_results(rule.results(), scene))
 }
 
-/// Goes through a rule's five steps, up to the first that stops it, and answers whether its end was
-/// reached.
+/// Goes through a rule's five steps, up to the first that stops it, and returns whether its end was reached.
 #[tactic(auto, unfolding(crate::specs::Steps::steps))]
 fn take_steps<'a, L: Lookup>(
     alloc: Global,
@@ -145,8 +144,8 @@ fn take_steps<'a, L: Lookup>(
     Ok(true)
 }
 
-/// Passes over a rule in which nothing counts for the event: it leaves its notes; the device that was
-/// selected before is selected again, and no other key is final than before.
+/// Skips a rule in which nothing counts for the event: it leaves its notes; the device that was selected before is
+/// selected again, and the keys that were final before are the final ones.
 fn pass_over<'a, L: Lookup>(
     alloc: Global,
     rule: &'a Rule,
@@ -166,7 +165,7 @@ fn pass_over<'a, L: Lookup>(
     Ok(())
 }
 
-/// Evaluates a rule, or passes it over, and answers whether its end was reached.
+/// Evaluates a rule, or skips it, and returns whether its end was reached.
 #[tactic(auto, unfolding(crate::specs::Steps::apply))]
 fn evaluate<'a, L: Lookup>(
     alloc: Global,
@@ -184,12 +183,12 @@ fn evaluate<'a, L: Lookup>(
     take_steps(alloc, rule, lookup, scene)
 }
 
-/// Evaluates a rule, and answers whether its end was reached: the matches of the event, the search for
-/// one device, what acts, the matches of the result, the assignments. Where one of them stops the rule,
-/// what was changed until then stays. Over an event of udev's, a rule in which nothing counts for the
-/// event is passed over: it leaves its notes and changes nothing else, and its end is not reached.
+/// Evaluates a rule, and returns whether its end was reached: the matches of the event, the search for one device,
+/// what acts, the matches of the result, the assignments. If one of them stops the rule, what was changed until
+/// then stays. For udev, a rule in which nothing counts for the event is skipped: it leaves its notes and changes
+/// nothing else, and its end is not reached.
 ///
-/// Where memory runs out, nothing is left of the scene but its event.
+/// If memory runs out, nothing is left of the scene but its event.
 pub fn apply<'a, L: Lookup>(
     alloc: Global,
     rule: &'a Rule,

@@ -11,11 +11,11 @@ use Rattle.eval_effects.specs.Items.{items}
 use Rattle.eval_sources.specs.Sources.{Kept, Source, Stage, source_of}
 use Rattle.eval_sources.specs.Told.{stages_from, stages_over}
 
--- of each name that stands its value is kept, with where it comes from
+-- for each name that is there its value is kept, with where it comes from
 unfoldable pub Keeps : List Stage → List Pair → List (Text × Kept) → Type 0
 Keeps stages items held = (name : Text) → value_of held name ≡ option_map (λ value. (value, source_of stages (name, value))) (value_of items name)
 
--- what is kept where these items stand is followed by what is kept after one stage more, whatever stages came before
+-- from what is kept when these items are there follows what is kept after one more stage, whatever stages came before
 unfoldable pub GoesOn : List Pair → Source → List Pair → List (Text × Kept) → List (Text × Kept) → Type 0
 GoesOn was source now held held_now =
     (before : List Stage) (last : Source) → Keeps (before ++ (last, was) ∷ []) was held → Keeps (before ++ (last, was) ∷ (source, now) ∷ []) now held_now
@@ -24,8 +24,8 @@ GoesOn was source now held held_now =
 abbrev pub can_change : Bool → Rule → Bool
 can_change reached r = not (is_empty r.acts) || (reached && not (is_empty r.sets))
 
--- Rules were evaluated up to these, over a scene that came to this one: of all stages that were passed it is kept where what
--- stands comes from, and those that are left are still to come.
+-- Rules were evaluated up to these, over a scene that became this one: for all stages so far, where each item that is
+-- there comes from is kept, and those that are left are still to come.
 pub record Halfway (entries : List Entry) (rules left : List Rule) (sought : Option Text) (first s : Scene) (held : List (Text × Kept)) : Type 0 where
   pub before : List Stage
   pub last : Source

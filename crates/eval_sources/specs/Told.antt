@@ -1,4 +1,4 @@
--- What comes of an event, and where it comes from.
+-- The stages and the commands of an event, and where they come from.
 use Rattle.std.specs.Prelude.{if◌then◌else◌, List, [], ◌∷◌, ◌++◌, Option, Some, None, map, flat_map}
 use Rattle.text_tables.specs.Texts.{Text}
 use Rattle.hwdb_lookup.specs.declared.entry.Entry.{Entry}
@@ -16,14 +16,14 @@ use Rattle.eval_rules.specs.declared.outcome.Command.{Command}
 use Rattle.eval_effects.specs.Items.{items}
 use Rattle.eval_sources.specs.Sources.{Stage}
 
--- a stage for each rule that is come to, perhaps while a label is sought, with the items that follow it
+-- a stage for each rule that is reached, perhaps while a label is looked for, with the items that are there after it
 unfoldable pub stages_from : List Entry → Option Text → List Rule → Scene → List Stage
 stages_from entries sought [] s = []
 stages_from entries sought (r ∷ rs) s =
     if is_passed sought r then stages_from entries sought rs s
     else (Some r, items (apply entries r s).0) ∷ stages_from entries (sought_after (apply entries r s).1 r) rs (apply entries r s).0
 
--- all stages from a scene on: what is there, and after each rule that is come to
+-- all stages from a scene on: at the start, and after each rule that is reached
 abbrev pub stages_over : List Entry → List Rule → Scene → List Stage
 stages_over entries rules s = (None, items s) ∷ stages_from entries None rules s
 
@@ -31,7 +31,7 @@ stages_over entries rules s = (None, items s) ∷ stages_from entries None rules
 abbrev pub stages : List Rule → List Entry → EventValue → List Stage
 stages rules entries event = stages_over entries rules (start event)
 
--- the commands of what is kept, each with the rule that added it
+-- the commands of RUNs, each with the rule that added it
 abbrev pub sourced_commands : State → List RunValue → List (Command × Rule)
 sourced_commands state runs = flat_map (λ kept. map (λ done. (done, kept.rule)) (command kept (run_text state kept))) runs
 
@@ -39,7 +39,7 @@ sourced_commands state runs = flat_map (λ kept. map (λ done. (done, kept.rule)
 abbrev pub sourced_made : MadeRun → Command × Rule
 sourced_made made = (made_command made, made.run.rule)
 
--- the commands when no rule is left, from a scene on, each with the rule that added it
+-- the commands after the last rule, from a scene on, each with the rule that added it
 abbrev pub commands_over : List Entry → List Rule → Scene → List (Command × Rule)
 commands_over entries rules s =
     let end = run entries None rules s in sourced_commands end.state end.runs ++ map sourced_made end.made

@@ -43,7 +43,7 @@ impl<'a> SourcedCommand<'a> {
     }
 }
 
-/// Takes in a RUN that was rendered: as a command, unless it is too long.
+/// Adds a rendered RUN as a command, unless it is too long.
 fn take_run<'a>(
     kept: &Run<'a>,
     rendered: Rendered,
@@ -65,7 +65,7 @@ fn take_run<'a>(
     Ok(())
 }
 
-/// Renders what is to be run, one after another. Another device may be selected then.
+/// Renders what is to be run, one after another. Of the state, only the selected device may change.
 pub(crate) fn sourced_commands<'a>(
     alloc: Global,
     runs: &[Run<'a>],
@@ -82,7 +82,7 @@ pub(crate) fn sourced_commands<'a>(
     Ok(done)
 }
 
-/// Adds what was rendered at its rule after other commands, each with that rule.
+/// Adds the commands that were rendered at their rules, each with its rule.
 pub(crate) fn add_made<'a>(
     alloc: Global,
     made: &[MadeRun<'a>],

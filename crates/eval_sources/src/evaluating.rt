@@ -1,4 +1,4 @@
-//! An event, from its start to what it comes to and where that comes from.
+//! An event, from its start to its outcome and where that comes from.
 ghost use Rattle.std.specs.Prelude.{◌≡◌, None, IfOk, OnOk};
 ghost use Rattle.eval_rules.specs.Inner.{unselected};
 ghost use Rattle.eval_rules.specs.Jumps.{run};
@@ -17,10 +17,10 @@ use rule_core::RuleSet;
 use rule_types::Rule;
 use std::alloc::{AllocError, Global};
 
-/// What an event comes to, and where it comes from.
+/// The outcome of an event, and where it comes from.
 #[derive(Drop)]
 pub struct Sourced<'a> {
-    /// What it comes to.
+    /// The outcome.
     pub outcome: Outcome,
     /// The rule that each item of it comes from.
     pub sources: Sources<'a>,
@@ -28,8 +28,8 @@ pub struct Sourced<'a> {
     pub commands: Vec<SourcedCommand<'a>>,
 }
 
-/// Runs rules over a scene in which none has run yet; gives where what then stands comes from, and the commands. Another
-/// device may be selected then.
+/// Runs rules over a scene in which none has run yet; returns where the items at the end come from, and the
+/// commands. Another device may then be selected.
 fn run_sourced<'a, L: Lookup>(
     alloc: Global,
     rules: &'a [Rule],
@@ -47,10 +47,10 @@ fn run_sourced<'a, L: Lookup>(
     Ok((sources, commands))
 }
 
-/// What an event comes to by the rules as they are read, as `evaluate_plain` has it, and where it comes from. An item,
-/// that is a link, a tag, the value of a property and what else has a line, comes from the first rule from behind which
-/// on it stands as it is in the end; from none, if it stood so from the start. A command comes from the rule that
-/// added it.
+/// The outcome of an event by the rules as they are read, as `evaluate_plain` has it, and where it comes from. An
+/// item (a link, a tag, the value of a property or anything else that has a line) comes from the first rule after
+/// which it is there, unchanged, until the end; it comes from none if it was there like this from the start. A
+/// command comes from the rule that added it.
 pub fn evaluate_sources<'a, L: Lookup>(
     alloc: Global,
     rules: &'a RuleSet,

@@ -1,8 +1,8 @@
 //! Where the parts of an outcome come from: the rule that is responsible for each item.
 //!
 //! Rules are evaluated as they were read, while a table keeps the current items, each with the rule that changed it
-//! last; after each rule that may have changed something, the table is made anew. The definition needs no walk: an item
-//! comes from the first rule after which it is present, unchanged, until the end.
+//! last; after each rule that may have changed something, the table is built anew. The definition needs no walk: an
+//! item comes from the first rule after which it is present, unchanged, until the end.
 //!
 //! Functions that allocate return `AllocError` when memory runs out.
 #![tactic(auto)]

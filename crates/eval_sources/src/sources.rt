@@ -1,4 +1,4 @@
-//! A table that keeps beside each item where it comes from.
+//! A table that keeps for each item where it comes from.
 ghost use Rattle.std.specs.Prelude.{◌≡◌, [], None, IfOk, OnOk, option_map};
 ghost use Rattle.text_tables.specs.Pairs.{named, value_of, with_value};
 ghost use Rattle.eval_sources.specs.Sources.{kept_behind, kept_of, source_by, source_in, with_kept};
@@ -11,7 +11,7 @@ use std::marker::Model;
 use std::mem;
 use text_bytes::Bytes;
 
-/// What is kept of an item: its value, and the rule that it comes from, if it comes from one.
+/// What is kept for an item: its value, and the rule that it comes from, if it comes from one.
 #[derive(Drop)]
 pub(crate) struct Kept<'a> {
     value: Bytes,
@@ -27,7 +27,7 @@ impl<'a> Model for Kept<'a> {
     ghost view = { λ k. (k.value, option_map (λ rule. rule.now) k.rule) };
 }
 
-/// What is kept of the items that stand, by their names.
+/// What is kept for the items that are there, by their names.
 #[derive(Drop)]
 pub struct Sources<'a> {
     held: IndexMap<Vec<u8>, Kept<'a>>,
@@ -43,7 +43,7 @@ impl<'a> Model for Sources<'a> {
     ghost view = { λ s. map (λ e. (e.0.items, e.1)) s.held.entries };
 }
 
-/// The rule that an item with a value comes from: the one that is kept of it, if it is kept with that value, else
+/// The rule that an item with a value comes from: the one that is kept for it if it is kept with that value, else
 /// another one.
 fn source_by<'a>(
     kept: Option<&Kept<'a>>,
@@ -68,22 +68,23 @@ impl<'a> Sources<'a> {
         }
     }
 
-    /// Returns what is kept of a name.
+    /// Returns what is kept for a name.
     fn get(&self, name: &[u8]) -> Option<&Kept<'a>>
         ensures { option_map (λ k. k.now) result ≡ value_of self.now name.now }
     {
         self.held.get(name)
     }
 
-    /// The rule that an item comes from: the one that is kept of it, if it is kept with that value, else another one.
+    /// The rule that an item comes from: the one that is kept for it if it is kept with that value, else another
+    /// one.
     fn source_in(&self, name: &[u8], value: &[u8], otherwise: Option<&'a Rule>) -> Option<&'a Rule>
         ensures { option_map (λ rule. rule.now) result ≡ source_in self.now (option_map (λ rule. rule.now) otherwise.entry) (name.now, value.now) }
     {
         source_by(self.get(name), otherwise, value)
     }
 
-    /// The rule that the item with a name and a value comes from; none where it stood so from the start, or does not
-    /// stand.
+    /// The rule that the item with a name and a value comes from; `None` if it was there like this from the start,
+    /// or is not there.
     pub fn rule_of(&self, name: &[u8], value: &[u8]) -> Option<&'a Rule>
         ensures { option_map (λ rule. rule.now) result ≡ source_in self.now None (name.now, value.now) }
     {
@@ -97,7 +98,7 @@ impl<'a> Sources<'a> {
         self.held.contains_key(name)
     }
 
-    /// Keeps something of a name in place of what was kept of it.
+    /// Keeps something for a name, instead of what was kept for it.
     fn put(&mut self, name: Vec<u8>, kept: Kept<'a>) -> Result<(), AllocError>
         ensures { OnOk result (self.new ≡ with_value self.old name.items kept.entry) }
     {
@@ -105,7 +106,7 @@ impl<'a> Sources<'a> {
         Ok(())
     }
 
-    /// Keeps something of a name, unless the name is kept.
+    /// Keeps something for a name, unless the name is kept.
     fn add(&mut self, name: Bytes, kept: Kept<'a>) -> Result<(), AllocError>
         ensures { OnOk result (self.new ≡ with_kept self.old name kept.entry) }
     {
@@ -115,7 +116,7 @@ impl<'a> Sources<'a> {
         self.put(name.into_vec(), kept)
     }
 
-    /// Keeps an item that follows a rule, or at the start, by what was kept before.
+    /// Keeps an item that is there after a rule, or at the start, by what was kept before.
     fn keep(
         &mut self,
         before: &Sources<'a>,
@@ -129,7 +130,7 @@ impl<'a> Sources<'a> {
         self.add(name, Kept { value, rule })
     }
 
-    /// Keeps the items that follow one rule more, and no others.
+    /// Keeps the items that are there after one more rule, and no others.
     #[tactic(auto, unfolding(crate::specs::Sources::kept_behind))]
     pub(crate) fn tell(
         &mut self,

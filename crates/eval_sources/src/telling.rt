@@ -22,7 +22,7 @@ fn can_change(reached: bool, rule: &Rule) -> bool
     !rule.acts().is_empty() || (reached && !rule.sets().is_empty())
 }
 
-/// Keeps what is at the start of an event.
+/// Keeps what is there at the start of an event.
 pub(crate) fn begin<'a>(alloc: Global, scene: &Scene<'_>) -> Result<Sources<'a>, AllocError>
     ensures { IfOk result (λ kept. Keeps ((None, items scene.now) ∷ []) (items scene.now) kept) }
 {
@@ -32,7 +32,7 @@ pub(crate) fn begin<'a>(alloc: Global, scene: &Scene<'_>) -> Result<Sources<'a>,
     Ok(sources)
 }
 
-/// Evaluates a rule, keeps what follows it, and answers whether its end was reached.
+/// Evaluates a rule, keeps what is there after it, and returns whether its end was reached.
 fn step<'a, L: Lookup>(
     alloc: Global,
     rule: &'a Rule,
@@ -52,8 +52,8 @@ fn step<'a, L: Lookup>(
     Ok(reached)
 }
 
-/// Evaluates rules, one after another, and keeps where what stands comes from. After a rule whose end was reached and
-/// that jumps, those are passed over that are between it and the next one with the label.
+/// Evaluates rules, one after another, and keeps where each item that is there comes from. After a rule whose end
+/// was reached and that jumps, those between it and the next one with the label are skipped.
 pub(crate) fn run<'a, L: Lookup>(
     alloc: Global,
     rules: &'a [Rule],

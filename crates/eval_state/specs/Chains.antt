@@ -8,6 +8,6 @@ use Rattle.text_links.specs.Kernels.{kernel_name}
 abbrev pub kernel_of : DeviceValue → Text
 kernel_of device = kernel_name device.path
 
--- the device at a place of the chain, where there is one; the event device is at 0
+-- the device at a position of the chain, if there is one; the event device is at 0
 abbrev pub device_at : EventValue → ℕ → Option DeviceValue
 device_at event place = slice_get (chain event) place

@@ -1,4 +1,5 @@
--- The files and folders of a device in sysfs, as far as the names of its attributes tell them. A name is a path below the device's own folder.
+-- The files and folders of a device in sysfs, as far as the names of its attributes show them. A name is a path below
+-- the device's own folder.
 use Rattle.std.specs.Prelude.{ℕ, ◌+◌, ◌-◌, Bool, false, not, ◌==◌, ◌||◌, ◌&&◌, nat_eq, if◌then◌else◌, List, [], ◌∷◌, ◌++◌, length, take, drop, slice_index, Option, Some, None, option_map, position}
 use Rattle.std.specs.List.{list_any, prefix_len, range_with_len, starts_with}
 use Rattle.std.specs.Option.{option_and_then, option_or}
@@ -16,7 +17,7 @@ is_star name place = starts_with nat_eq (drop place name) (star ∷ slash ∷ []
 unfoldable pub star_place : Text → Option ℕ
 star_place name = position (is_star name) (range_with_len 0 (length name))
 
--- what follows the front of a text, where it begins with that
+-- what follows the front of a text, if it begins with that
 abbrev pub behind : Text → Text → Option Text
 behind front text = if same_text (take (length front) text) front then Some (drop (length front) text) else None
 
@@ -28,7 +29,7 @@ first_component path = take (prefix_len (λ b. not (b == slash)) path) path
 abbrev pub behind_component : Text → Text
 behind_component path = drop (prefix_len (λ b. not (b == slash)) path) path
 
--- whether a component is a folder that `*` stands for: there is one, and it does not begin with a dot
+-- whether a component is a folder that `*` may stand for: there is one, and it does not begin with a dot
 abbrev pub is_folder : Text → Bool
 is_folder component = not (is_empty component) && not (begins_with dot component)
 
@@ -41,7 +42,7 @@ is_end (Some rest) = is_empty rest || begins_with slash rest
 abbrev pub lies_at : Text → Text → Bool
 lies_at path other = is_end (behind path other)
 
--- the folder that a path begins with, where `*` stands for it and a path lies after it
+-- the folder that a path begins with, if `*` may stand for it and a path is after it
 abbrev pub folder_before : Text → Text → Option Text
 folder_before rest path =
     if is_folder (first_component path) && lies_at rest (behind_component path) then Some (first_component path) else None
@@ -55,15 +56,15 @@ abbrev pub first_folder : Text → Text → List Text → Option Text
 first_folder front rest [] = None
 first_folder front rest (name ∷ others) = option_or (folder_between front rest name) (first_folder front rest others)
 
--- a name with a folder in place of the `*` at a place, if a device has one there
+-- a name with a folder instead of the `*` at a place, if a device has one there
 abbrev pub starred_at : Option ℕ → DeviceValue → Text → Option Text
 starred_at None device name = Some name
 starred_at (Some place) device name =
     option_map (λ folder. take place name ++ folder ++ drop (place + 1) name)
     (first_folder (take place name) (drop (place + 1) name) (names device.attrs))
 
--- a name as udev looks it up: its first component `*` that is not its last stands for the first folder in which the rest is there; none where
--- there is no such folder
+-- a name as udev looks it up: its first component `*` that is not its last stands for the first folder in which the
+-- rest is there; none if there is no such folder
 abbrev pub starred : DeviceValue → Text → Option Text
 starred device name = starred_at (star_place name) device name
 

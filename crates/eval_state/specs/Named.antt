@@ -1,4 +1,4 @@
--- Names of attributes that name a device, too, as udev has them: `[SUBSYSTEM/KERNEL]ATTRIBUTE`.
+-- Names of attributes that also name a device, as udev has them: `[SUBSYSTEM/KERNEL]ATTRIBUTE`.
 use Rattle.std.specs.Prelude.{ℕ, Bool, false, ◌&&◌, if◌then◌else◌, [], ◌∷◌, length, drop, Option, Some, None, position}
 use Rattle.std.specs.List.{range_with_len}
 use Rattle.text_bytes.specs.Names.{close_bracket, open_bracket, slash}
@@ -27,18 +27,18 @@ abbrev pub named_behind : Option (Text × Text) → Option NamedValue
 named_behind None = None
 named_behind (Some cut) = named_by cut.0 (split_once close_bracket cut.1)
 
--- what a name of an attribute names, where it names a device: the subsystem comes before the first slash, the kernel's name before the
--- first `]` after that, and one slash after it is no part of the attribute
+-- what a name of an attribute names, if it names a device: the subsystem comes before the first slash, the kernel's
+-- name before the first `]` after that, and one slash after it is not part of the attribute
 unfoldable pub named : Text → Option NamedValue
 named [] = None
 named (b ∷ text) = if begins_with open_bracket (b ∷ text) then named_behind (split_once slash text) else None
 
--- whether a subsystem is there, and is this one
+-- whether there is a subsystem, and it is this one
 abbrev pub is_subsystem : Text → Option Text → Bool
 is_subsystem name None = false
 is_subsystem name (Some subsystem) = same_text subsystem name
 
--- whether a device is there, and is the one that is named
+-- whether there is a device, and it is the one that is named
 abbrev pub is_named : NamedValue → Option DeviceValue → Bool
 is_named n None = false
 is_named n (Some device) = is_subsystem n.subsystem device.subsystem && same_text (kernel_of device) n.kernel

@@ -29,7 +29,7 @@ text_of AttributeNotRead = codes "attribute not read"
 text_of AttributeNotFound = codes "attribute not found"
 text_of BuiltinNeeds = codes "builtin needs"
 
--- the note that something of a rule was not done: where the rule stands, and the first 32 bytes of a text
+-- the note that something in a rule was not done: the rule's file and line, and the first 32 bytes of a text
 abbrev pub note_about : Rule → NoteKind → Text → Note
 note_about r kind text = record { file = r.file; line = r.line; kind = kind; word = word_of text }
 

@@ -3,7 +3,7 @@ use Rattle.std.specs.Prelude.{List, [], ◌∷◌, fold}
 use Rattle.text_tables.specs.Texts.{Text}
 use Rattle.text_tables.specs.Pairs.{Pair, with_value, without_name}
 
--- a property is set; the empty text takes it away
+-- a property is set; the empty text removes it
 abbrev pub property_set : Text → Text → List Pair → List Pair
 property_set name [] env = without_name env name
 property_set name (b ∷ t) env = with_value env name (b ∷ t)

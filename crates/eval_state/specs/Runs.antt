@@ -1,4 +1,4 @@
--- What is kept of each RUN until all rules have run.
+-- What is kept for each RUN until all rules have run.
 use Rattle.std.specs.Prelude.{ℕ, Bool, true, false, ◌&&◌, ◌||◌, if◌then◌else◌, List, [], ◌∷◌, ◌++◌, Option, Some, None}
 use Rattle.std.specs.List.{list_any}
 use Rattle.text_bytes.specs.Texts.{is_empty}
@@ -30,7 +30,7 @@ same_kind Program Builtin = false
 same_kind Builtin Program = false
 same_kind Builtin Builtin = true
 
--- whether two RUNs have one type and one written text
+-- whether two RUNs have the same type and the same written text
 abbrev pub same_run : RunValue → RunValue → Bool
 same_run a b = same_kind (run_kind a.braces) (run_kind b.braces) && same_text a.template.written b.template.written
 
@@ -38,7 +38,7 @@ same_run a b = same_kind (run_kind a.braces) (run_kind b.braces) && same_text a.
 abbrev pub with_run : List RunValue → RunValue → List RunValue
 with_run runs run = if is_empty run.template.written || list_any (same_run run) runs then runs else runs ++ run ∷ []
 
--- what is to be run, as an operator changes it: `+=` adds, any other begins anew
+-- what is to be run, as an operator changes it: `+=` adds, any other starts anew
 abbrev pub runs_after : AssignOperator → List RunValue → RunValue → List RunValue
 runs_after Add runs run = with_run runs run
 runs_after _ runs run = with_run [] run

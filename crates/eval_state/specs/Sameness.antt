@@ -1,4 +1,4 @@
--- Serves the proofs of this crate alone: that being the same RUN is an equality, and that RUNs that are the same are hashed alike.
+-- Serves inner proofs only: that being the same RUN is an equality, and that RUNs that are the same are hashed alike.
 use Rattle.std.proofs.Common.{◌≡◌, true, refl, ap}
 use Rattle.std.specs.Cmp.{IsEquivalence, IsPartialEquivalence, and_equiv, on_equiv, partial_equiv_from_equiv, second_so}
 use Rattle.std.specs.Cmp.Lexicographic.{bytes_decides, on_texts_equal}

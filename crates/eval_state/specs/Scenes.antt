@@ -1,4 +1,5 @@
--- What an event has come to: where nothing is left, before any rule has run, with a note more, and with other properties.
+-- The outcome of an event so far: if nothing is left, before any rule has run, with one more note, and with other
+-- properties.
 use Rattle.std.specs.Prelude.{false, List, [], ◌∷◌, ◌++◌, Option, None}
 use Rattle.text_tables.specs.Texts.{Text}
 use Rattle.text_tables.specs.Pairs.{Pair}
@@ -33,15 +34,15 @@ blank event = record {
   ran = none_ran;
 }
 
--- what an event has come to before any rule has run: its state as it begins, and nothing collected
+-- the outcome of an event before any rule has run: its state as it begins, and nothing collected
 abbrev pub start : EventValue → Scene
 start event = record (blank event) { state = states.start event }
 
--- one note more: that something of a rule was not done, reported with a text
+-- one more note: that something in a rule was not done, reported with a text
 abbrev pub noted : Rule → NoteKind → Text → Scene → Scene
 noted r kind text s = record s { notes = s.notes ++ note_about r kind text ∷ [] }
 
--- one note more, reported with a key
+-- one more note, reported with a key
 abbrev pub noted_key : Rule → NoteKind → Key → Option Text → Scene → Scene
 noted_key r kind key attribute s = noted r kind (word_of_key key attribute) s
 

@@ -1,11 +1,11 @@
--- What is known of an event before any rule has run.
+-- What is known about an event before any rule has run.
 use Rattle.std.specs.Prelude.{List, [], ◌∷◌, ◌++◌, Option, Some, None, option_map, codes}
 use Rattle.text_tables.specs.Texts.{Text, with_texts}
 use Rattle.text_tables.specs.Pairs.{Pair, with_values}
 use Rattle.device_core.specs.Values.{EventValue}
 use Rattle.eval_state.specs.declared.state.State.{State}
 
--- a property, where it has a value
+-- a property, if it has a value
 abbrev pub given : Text → Option Text → List Pair
 given name None = []
 given name (Some value) = (name, value) ∷ []
@@ -14,7 +14,7 @@ given name (Some value) = (name, value) ∷ []
 abbrev pub node_path : Text → Text
 node_path node = codes "/dev/" ++ node
 
--- what the event itself says of its device
+-- what the event itself says about its device
 abbrev pub told_by : EventValue → List Pair
 told_by event =
     (codes "ACTION", event.action) ∷ (codes "DEVPATH", event.device.path)
@@ -27,11 +27,11 @@ told_by event =
 unfoldable pub start_env : EventValue → List Pair
 start_env event = with_values (with_values [] event.device.env) (told_by event)
 
--- what is known where nothing is left but the event itself
+-- what is known if nothing is left but the event itself
 abbrev pub blank : EventValue → State
 blank event = record { event = event; selected = None; result = []; name = None; env = []; links = []; tags = [] }
 
--- what is known of an event before any rule has run
+-- what is known about an event before any rule has run
 abbrev pub start : EventValue → State
 start event = record (blank event) {
   env = start_env event;

@@ -4,7 +4,7 @@ use Rattle.std.specs.List.{suffix_len}
 use Rattle.text_bytes.specs.Names.{is_whitespace}
 use Rattle.text_tables.specs.Texts.{Text}
 
--- a text, empty where there is none
+-- a text, empty if there is none
 abbrev pub or_empty : Option Text → Text
 or_empty text = unwrap_or text []
 

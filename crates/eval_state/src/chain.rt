@@ -8,7 +8,7 @@ use std::marker::Model;
 use text_bytes::Bytes;
 use text_links::kernel_name;
 
-/// An event that is borrowed, with the kernel's names of its devices made ready.
+/// A borrowed event, with the kernel's names of its devices prepared.
 #[derive(Drop)]
 pub struct Chain<'a> {
     event: &'a Event<'a>,
@@ -65,7 +65,7 @@ impl<'a> Chain<'a> {
         self.event.device()
     }
 
-    /// Returns the device at a place of the chain, where there is one; the event device is at 0.
+    /// Returns the device at a position of the chain, if there is one; the event device is at 0.
     pub fn device_at(&self, place: usize) -> Option<&'a Device<'a>>
         ensures { option_copied result ≡ device_at self.now place }
     {
@@ -79,7 +79,7 @@ impl<'a> Chain<'a> {
         self.kernel.as_slice()
     }
 
-    /// The kernel's name of the device at a place, where there is one.
+    /// The kernel's name of the device at a position, if there is one.
     pub fn kernel_at(&self, place: usize) -> Option<&[u8]>
         ensures { option_map (λ name. name.now) result ≡ option_map kernel_of (device_at self.now place) }
     {
@@ -90,7 +90,7 @@ impl<'a> Chain<'a> {
     }
 }
 
-/// Returns the name at a place of a list, where there is one.
+/// Returns the name at a place of a list, if there is one.
 fn kept_at(names: &[Bytes], place: usize) -> Option<&[u8]>
     ensures { option_map (λ name. name.now) result ≡ slice_get names.now place }
 {

@@ -1,4 +1,4 @@
-//! The files and folders of a device in sysfs, as far as the names of its attributes tell them.
+//! The files and folders of a device in sysfs, as far as the names of its attributes show them.
 ghost use Rattle.std.specs.Prelude.{◌≡◌, ◌≤◌, ◌<◌, ◌==◌, not, IfOk, IfSome, length, option_map};
 ghost use Rattle.std.specs.List.{list_any, prefix_len};
 ghost use Rattle.text_bytes.specs.Names.{slash};
@@ -27,7 +27,7 @@ fn star_place(name: &[u8]) -> Option<usize>
     (0..name.len()).position(|place| is_star(name, place))
 }
 
-/// What follows the front of a text, where it begins with that.
+/// What follows the front of a text, if it begins with that.
 fn behind<'a>(front: &[u8], text: &'a [u8]) -> Option<&'a [u8]>
     ensures { option_map (λ t. t.now) result ≡ behind front.now text.now }
 {
@@ -50,7 +50,7 @@ fn cut_component(path: &[u8]) -> (&[u8], &[u8])
     path.split_at(component_len(path))
 }
 
-/// Whether a component is a folder that `*` stands for.
+/// Whether a component is a folder that `*` may stand for.
 fn is_folder(component: &[u8]) -> bool
     ensures { result ≡ is_folder component.now }
 {
@@ -67,7 +67,7 @@ fn lies_at(path: &[u8], other: &[u8]) -> bool
     }
 }
 
-/// The folder that a path begins with, where `*` stands for it and a path lies after it.
+/// The folder that a path begins with, if `*` may stand for it and a path is after it.
 fn folder_before<'a>(rest: &[u8], path: &'a [u8]) -> Option<&'a [u8]>
     ensures { option_map (λ t. t.now) result ≡ folder_before rest.now path.now }
 {
@@ -98,9 +98,9 @@ fn first_folder<'a>(front: &[u8], rest: &[u8], pairs: &Pairs<'a>) -> Option<&'a 
     None
 }
 
-/// A name as udev (systemd 257) looks it up below a device: its first component `*` that is not its last stands for a
-/// folder, the first of the device's attributes in which the rest of the name is a file or a folder. `None` where there
-/// is no such folder; a name without such a component is itself.
+/// A name as udev (systemd 257) looks it up below a device: its first component `*` that is not its last stands for
+/// a folder, the first in the device's attributes in which the rest of the name is a file or a folder. `None` if
+/// there is no such folder; a name without such a component is itself.
 pub fn starred(alloc: Global, device: &Device<'_>, name: &[u8]) -> Result<Option<Bytes>, AllocError>
     ensures { IfOk result (λ found. found ≡ starred device.now name.now) }
 {
@@ -138,8 +138,8 @@ fn has_name(device: &Device<'_>, name: &[u8]) -> bool
 }
 
 /// Whether udev (systemd 257) finds a file or a folder of a device by a name, as far as the names of the device's
-/// attributes tell: a name is there where an attribute has it or lies in a folder of it, and the empty one is the
-/// device's own folder. A first component `*` stands for a folder, as in [`starred`].
+/// attributes show: a name is there if an attribute has it or is in a folder with that name, and the empty one is
+/// the device's own folder. A first component `*` stands for a folder, as in [`starred`].
 pub fn has_file(alloc: Global, device: &Device<'_>, name: &[u8]) -> Result<bool, AllocError>
     ensures { IfOk result (λ found. found ≡ has_file device.now name.now) }
 {

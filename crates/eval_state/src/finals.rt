@@ -2,7 +2,7 @@
 ghost use Rattle.std.specs.Prelude.{◌≡◌};
 ghost use Rattle.eval_state.specs.Finals.{is_final, made_final, no_finals};
 
-/// A key that `:=` makes final, as udev(7) has it: no later rule changes it, of whatever file.
+/// A key that `:=` makes final, as udev(7) has it: no later rule of any file changes it.
 #[derive(Clone, Copy, Debug, PartialEq, Eq)]
 pub enum FinalKey {
     /// OWNER.
@@ -19,7 +19,7 @@ pub enum FinalKey {
     Run,
     /// `link_priority` of OPTIONS.
     Priority,
-    /// `watch` and `nowatch` of OPTIONS, which are one.
+    /// `watch` and `nowatch` of OPTIONS, which are one key.
     Watch,
 }
 

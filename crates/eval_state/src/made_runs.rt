@@ -1,4 +1,4 @@
-//! What is to be run, as udev takes it in: rendered at its rule, as often as it is given.
+//! What is to be run, as udev collects it: rendered at its rule, as often as it is given.
 ghost use Rattle.std.specs.Prelude.{◌≡◌, ◌++◌, ◌∷◌, [], OnOk, OnErr};
 
 use crate::runs::Run;
@@ -47,14 +47,14 @@ impl<'a> MadeRuns<'a> {
         &self.held
     }
 
-    /// Takes all away.
+    /// Removes all.
     pub fn clear(&mut self)
         ensures { self.new ≡ [] }
     {
         self.held.clear();
     }
 
-    /// Adds one at the end. Where memory runs out, what is to be run stays as it is.
+    /// Adds one at the end. If memory runs out, what is to be run stays as it is.
     pub fn push(&mut self, made: MadeRun<'a>) -> Result<(), AllocError>
         ensures runs { OnOk result (self.new ≡ self.old ++ made.entry ∷ []) }
         ensures refused { OnErr result (self.new ≡ self.old) }

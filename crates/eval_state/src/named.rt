@@ -1,4 +1,4 @@
-//! Names of attributes that name a device, too, as udev has them: `[SUBSYSTEM/KERNEL]ATTRIBUTE`.
+//! Names of attributes that also name a device, as udev has them: `[SUBSYSTEM/KERNEL]ATTRIBUTE`.
 ghost use Rattle.std.specs.Prelude.{◌≡◌, option_copied, option_map};
 ghost use Rattle.text_bytes.specs.Texts.{split_once};
 ghost use Rattle.text_bytes.specs.Names.{slash};
@@ -52,9 +52,9 @@ fn named_behind(text: &[u8]) -> Option<Named<'_>>
 }
 
 impl<'a> Named<'a> {
-    /// What a name of an attribute names, where it has the form `[SUBSYSTEM/KERNEL]ATTRIBUTE`, as udev reads it: the
-    /// subsystem comes before the first slash, the kernel's name, which may have slashes, before the first `]` after
-    /// that, and one slash after it is no part of the attribute.
+    /// What a name of an attribute names, if it has the form `[SUBSYSTEM/KERNEL]ATTRIBUTE`, as udev reads it: the
+    /// subsystem comes before the first slash, the kernel's name, which may have slashes, before the first `]`
+    /// after that, and one slash after it is not part of the attribute.
     #[tactic(auto, unfolding(crate::specs::Named::named))]
     pub fn read(name: &'a [u8]) -> Option<Named<'a>>
         ensures { result ≡ named name.now }
@@ -67,7 +67,7 @@ impl<'a> Named<'a> {
     }
 }
 
-/// Whether a subsystem is there, and is this one.
+/// Whether there is a subsystem, and it is this one.
 fn is_subsystem(name: &[u8], subsystem: Option<&[u8]>) -> bool
     ensures { result ≡ is_subsystem name.now (option_map (λ t. t.now) subsystem.entry) }
 {
@@ -78,7 +78,7 @@ fn is_subsystem(name: &[u8], subsystem: Option<&[u8]>) -> bool
 }
 
 impl<'c> Chain<'c> {
-    /// Whether the device at a place is there, and is the one that is named.
+    /// Whether there is a device at a place, and it is the one that is named.
     fn is_named_at(&self, named: &Named<'_>, place: usize) -> bool
         ensures { result ≡ is_named named.now (device_at self.now place) }
     {

@@ -7,10 +7,10 @@ ghost use Rattle.eval_state.specs.Notes.{text_of};
 pub enum NoteKind {
     /// IMPORT of a type that is never run; the word is the type.
     ImportNotRun,
-    /// IMPORT of a builtin that is not run, or of none; the word is the command's first one, for udev the name of the
-    /// builtin.
+    /// IMPORT of a builtin that is not run, or is unknown; the word is the command's first one, for udev the name
+    /// of the builtin.
     BuiltinNotRun,
-    /// The words after `hwdb` are none that it takes; the word is the command.
+    /// The words after `hwdb` are not what it takes; the word is the command.
     BadHwdbArguments,
     /// The block does not say what a PROGRAM answers; the word is the command.
     NoAnswer,
@@ -20,29 +20,29 @@ pub enum NoteKind {
     SysctlNotRead,
     /// A text of more than 16,384 bytes; the word is the key, with its attribute in braces.
     TextTooLong,
-    /// NAME of a device that is no network device; the word is the name.
+    /// NAME of a device that is not a network device; the word is the name.
     NameIgnored,
-    /// Of udev alone: a link, an owner, a group, a mode or a label of a device without a number; the word is the key,
-    /// with its attribute in braces.
+    /// For udev alone: a link, an owner, a group, a mode or a label of a device without a number; the word is the
+    /// key, with its attribute in braces.
     NoDeviceNumber,
-    /// Of udev alone: an owner, a group, a mode, a tag or a command without a byte that counts; the word is the key, with
-    /// its attribute in braces.
+    /// For udev alone: an owner, a group, a mode, a tag or a command without a byte that counts; the word is the
+    /// key, with its attribute in braces.
     NoValue,
-    /// Of udev alone: a link that would not lie below `/dev`; the word is the link as it was given.
+    /// For udev alone: a link that would not be below `/dev`; the word is the link as it was given.
     LinkIgnored,
-    /// Of udev alone: a mode that is no octal number of at most 7777; the word is the text.
+    /// For udev alone: a mode that is not an octal number of at most 7777; the word is the text.
     ModeIgnored,
-    /// Of udev alone: a tag with other bytes than letters, digits, `-` and `_`, or with over 255; the word is the tag.
+    /// For udev alone: a tag with other bytes than letters, digits, `-` and `_`, or with over 255; the word is the
+    /// tag.
     TagIgnored,
-    /// Of udev alone: a match of an attribute of a device that is named, and that the block does not have; the word is
+    /// For udev alone: a match of an attribute of a named device that the block does not have; the word is
     /// the attribute's name with the device.
     AttributeNotRead,
-    /// Of udev alone: an assignment to an attribute whose name has a `*/` that fits no name of the block; the word is the
-    /// attribute's name.
+    /// For udev alone: an assignment to an attribute whose name has a `*/` that fits no name of the block; the word
+    /// is the attribute's name.
     AttributeNotFound,
-    /// Of udev alone: a builtin asked for what the kernel says about each such device, and the block does not have it;
-    /// the
-    /// word is the builtin's name, a colon, a space and what it asked for.
+    /// For udev alone: a builtin asked for what the kernel reports about each such device, and the block does not
+    /// have it; the word is the builtin's name, a colon, a space and what it asked for.
     BuiltinNeeds,
 }
 

@@ -19,12 +19,12 @@ pub struct Note {
     pub line: u32,
     /// What was not done.
     pub kind: NoteKind,
-    /// The first 32 bytes of the text that it is about, before they are escaped.
+    /// The first 32 bytes of the text that it is about, before escaping.
     pub word: Bytes,
 }
 
 impl Note {
-    /// The note that something of a rule was not done, reported with a text.
+    /// The note that something in a rule was not done, reported with a text.
     pub fn about(
         alloc: Global,
         rule: &Rule,
@@ -89,7 +89,7 @@ impl Notes {
         &self.held
     }
 
-    /// Adds a note at the end. Where memory runs out, the notes stay as they are.
+    /// Adds a note at the end. If memory runs out, the notes stay as they are.
     pub fn add(&mut self, note: Note) -> Result<(), AllocError>
         ensures notes { OnOk result (self.new ≡ self.old ++ note ∷ []) }
         ensures refused { OnErr result (self.new ≡ self.old) }

@@ -5,7 +5,7 @@ ghost use Rattle.eval_state.specs.Properties.{property_set};
 use std::alloc::{AllocError, Global};
 use text_tables::OwnedPairs;
 
-/// Sets a property; the empty text takes it away.
+/// Sets a property; the empty text removes it.
 pub fn set_property(
     alloc: Global,
     name: &[u8],

@@ -2,7 +2,7 @@
 ghost use Rattle.std.specs.Prelude.{◌≡◌};
 ghost use Rattle.eval_state.specs.Ran.{none_ran};
 
-/// Of the builtins of udev that run once for an event, those that have run, each with whether it succeeded.
+/// Which of udev's builtins that run once for an event have run, and whether each succeeded.
 #[derive(Clone, Copy)]
 pub struct Ran {
     /// `usb_id`.

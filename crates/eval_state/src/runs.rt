@@ -1,7 +1,7 @@
-//! What is kept of each RUN until all rules have run.
+//! What is kept for each RUN until all rules have run.
 //!
-//! A command is rendered in the end, with what is then known of the event, but with the device that
-//! was selected when its rule was reached: so a run holds its template, and the place of that device.
+//! A command is rendered at the end, with what is then known about the event, but with the device that was selected
+//! when its rule was reached: so a run holds its template, and the place of that device.
 //!
 //! A RUN is added once for its type and its written text. So runs are a set, in which one is found by
 //! its bytes and not by a search through all.
@@ -41,8 +41,8 @@ impl<'a> Model for Run<'a> {
 }
 
 impl<'a> Run<'a> {
-    /// A RUN of a rule, as it is written, with the type in its braces, and while a device is selected,
-    /// or none.
+    /// A RUN of a rule, as it is written, with the type in its braces, and with the device selected at the time, if
+    /// any.
     pub fn new(
         rule: &'a Rule,
         braces: Option<RunType>,
@@ -83,7 +83,7 @@ impl<'a> Run<'a> {
         }
     }
 
-    /// Returns the command, its substitutions not yet made.
+    /// Returns the command, with its substitutions not yet made.
     pub fn template(&self) -> &'a Template
         ensures { result.now ≡ self.now.template }
     {
@@ -98,7 +98,7 @@ impl<'a> Run<'a> {
     }
 }
 
-/// Two RUNs are the same where they have one type and one written text.
+/// Two RUNs are the same if they have the same type and the same written text.
 impl<'a> PartialEq for Run<'a> {
     ghost eq = { same_run };
 
@@ -162,14 +162,14 @@ impl<'a> Runs<'a> {
         self.held.as_slice()
     }
 
-    /// Takes all away.
+    /// Removes all.
     pub(crate) fn clear(&mut self)
         ensures { self.new ≡ [] }
     {
         self.held.clear();
     }
 
-    /// Adds a RUN at the end, unless it is there or its written text is empty. Where memory runs
+    /// Adds a RUN at the end, unless it is there or its written text is empty. If memory runs
     /// out, the runs stay as they are.
     fn add(&mut self, run: Run<'a>) -> Result<(), AllocError>
         ensures runs { OnOk result (self.new ≡ with_run self.old run.entry) }
@@ -182,7 +182,7 @@ impl<'a> Runs<'a> {
         Ok(())
     }
 
-    /// One RUN alone, or nothing where its written text is empty.
+    /// One RUN alone, or nothing if its written text is empty.
     fn alone(alloc: Global, run: Run<'a>) -> Result<Runs<'a>, AllocError>
         ensures { IfOk result (λ runs. runs ≡ with_run [] run.entry) }
     {
@@ -191,10 +191,10 @@ impl<'a> Runs<'a> {
         Ok(runs)
     }
 
-    /// Takes a RUN in by its operator: `+=` adds it unless the same one is there, any other operator
-    /// makes it the only one. One whose written text is empty is not taken in.
+    /// Applies a RUN by its operator: `+=` adds it unless the same one is there, any other operator makes it the
+    /// only one. One whose written text is empty is left out.
     ///
-    /// Where memory runs out, the runs stay as they are.
+    /// If memory runs out, the runs stay as they are.
     pub fn change(
         &mut self,
         alloc: Global,

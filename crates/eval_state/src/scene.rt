@@ -17,10 +17,10 @@ use std::alloc::{AllocError, Global};
 use text_bytes::Bytes;
 use text_tables::{OwnedPairs, OwnedTexts};
 
-/// What an event has come to so far.
+/// The outcome of an event so far.
 #[derive(Drop)]
 pub struct Scene<'a> {
-    /// What is known of the event, which later rules look at.
+    /// What is known about the event, which later rules look at.
     pub state: State<'a>,
     /// The owner of the device's node, as it was written.
     pub owner: Option<Bytes>,
@@ -28,35 +28,34 @@ pub struct Scene<'a> {
     pub group: Option<Bytes>,
     /// The mode of the device's node, as it was written.
     pub mode: Option<Bytes>,
-    /// How links of this device stand against those of others (`link_priority`).
+    /// The priority of this device's links over those of others (`link_priority`).
     pub priority: Option<i32>,
     /// Whether the device's node is watched (`watch`, `nowatch`).
     pub watch: Option<bool>,
-    /// Whether what is known of the device stays in udev's database (`db_persist`).
+    /// Whether what is known about the device stays in udev's database (`db_persist`).
     pub persist: bool,
-    /// Of udev alone: the tags that were taken away, which matches of tags go on to meet.
+    /// For udev alone: the tags that were removed, which matches of tags still find.
     pub gone: OwnedTexts,
     /// Labels of security modules.
     pub labels: OwnedPairs,
-    /// Attributes that are to be written.
+    /// Attributes to be written.
     pub attrs: OwnedPairs,
-    /// Kernel parameters that are to be written.
+    /// Kernel parameters to be written.
     pub sysctls: OwnedPairs,
     /// What is to be run, as it was written.
     pub runs: Runs<'a>,
-    /// Of udev alone: what is to be run, rendered at its rule.
+    /// For udev alone: what is to be run, rendered at its rule.
     pub made: MadeRuns<'a>,
     /// What was not done.
     pub notes: Notes,
     /// The keys that no longer change.
     pub finals: Finals,
-    /// Of udev alone: the builtins that run once for an event, with whether each succeeded.
+    /// For udev alone: the builtins that run once for an event, with whether each succeeded.
     pub ran: Ran,
 }
 
 impl<'a> Scene<'a> {
-    /// What an event has come to before any rule has run: its state as it begins, and nothing
-    /// collected.
+    /// The outcome of an event before any rule has run: its state as it begins, and nothing collected.
     pub fn new(alloc: Global, event: &'a Event<'_>) -> Result<Scene<'a>, AllocError>
         ensures { IfOk result (λ scene. scene ≡ start event.now) }
     {
@@ -80,8 +79,8 @@ impl<'a> Scene<'a> {
         })
     }
 
-    /// Forgets all but the event itself: what is called where memory ran out, so that nothing half
-    /// done is taken for what the event has come to.
+    /// Forgets all but the event itself: called when memory ran out, so that nothing half done is taken for the
+    /// outcome of the event.
     pub fn clear(&mut self, alloc: Global)
         ensures { self.new ≡ blank self.old.state.event }
     {
@@ -103,7 +102,7 @@ impl<'a> Scene<'a> {
         self.ran = Ran::none();
     }
 
-    /// Leaves a note that something of a rule was not done, reported with a text. Where memory runs
+    /// Leaves a note that something in a rule was not done, reported with a text. If memory runs
     /// out, the scene stays as it is.
     pub fn note(
         &mut self,
@@ -118,7 +117,7 @@ impl<'a> Scene<'a> {
         self.notes.add(Note::about(alloc, rule, kind, text)?)
     }
 
-    /// Leaves a note that names a key, with its attribute if it has one. Where memory runs out, the scene stays as it
+    /// Leaves a note that names a key, with its attribute if it has one. If memory runs out, the scene stays as it
     /// is.
     pub fn note_key(
         &mut self,
@@ -135,8 +134,8 @@ impl<'a> Scene<'a> {
         self.note(alloc, rule, kind, &word)
     }
 
-    /// Leaves a note that a text of a key was too long; the note names the key, with its attribute if
-    /// it has one. Where memory runs out, the scene stays as it is.
+    /// Leaves a note that a text for a key was too long; the note names the key, with its attribute if
+    /// it has one. If memory runs out, the scene stays as it is.
     pub fn note_too_long(
         &mut self,
         alloc: Global,

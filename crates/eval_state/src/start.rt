@@ -1,4 +1,4 @@
-//! What is known of an event before any rule has run.
+//! What is known about an event before any rule has run.
 ghost use Rattle.std.specs.Prelude.{◌≡◌, [], OnOk, IfOk, option_map, codes};
 ghost use Rattle.text_tables.specs.Pairs.{with_values};
 ghost use Rattle.text_tables.specs.Texts.{with_texts};
@@ -11,7 +11,7 @@ use std::alloc::{AllocError, Global};
 use text_bytes::Bytes;
 use text_tables::{OwnedPairs, OwnedTexts};
 
-/// Sets a property where it has a value.
+/// Sets a property if it has a value.
 fn set_given(
     alloc: Global,
     env: &mut OwnedPairs,
@@ -35,7 +35,7 @@ pub fn node_path(alloc: Global, node: &[u8]) -> Result<Bytes, AllocError>
     Ok(Bytes::new(path))
 }
 
-/// Sets the path of the node, where there is one.
+/// Sets the path of the node, if there is one.
 fn set_node(alloc: Global, env: &mut OwnedPairs, node: Option<&[u8]>) -> Result<(), AllocError>
     ensures { OnOk result (env.new ≡ with_values env.old (given (codes "DEVNAME") (option_map (λ n. node_path n.now) node.entry))) }
 {
@@ -45,7 +45,7 @@ fn set_node(alloc: Global, env: &mut OwnedPairs, node: Option<&[u8]>) -> Result<
     }
 }
 
-/// Sets what the event itself says of its device.
+/// Sets what the event itself says about its device.
 fn set_told(alloc: Global, env: &mut OwnedPairs, event: &Event<'_>) -> Result<(), AllocError>
     ensures { OnOk result (env.new ≡ with_values env.old (told_by event.now)) }
 {
@@ -97,9 +97,9 @@ fn set_tables(
 }
 
 impl<'a> State<'a> {
-    /// What is known of an event before any rule has run, as udev(7) has it: the properties of its
-    /// device with ACTION, DEVPATH and, where given, SUBSYSTEM, DEVNAME (`/dev/` and the node), MAJOR
-    /// and MINOR set over them; its links and its tags; no result, no name and no selected device.
+    /// What is known about an event before any rule has run, as udev(7) has it: the properties of its device with
+    /// ACTION, DEVPATH and, if given, SUBSYSTEM, DEVNAME (`/dev/` and the node), MAJOR and MINOR set over them; its
+    /// links and its tags; no result, no name and no selected device.
     pub fn new(alloc: Global, event: &'a Event<'_>) -> Result<State<'a>, AllocError>
         ensures { IfOk result (λ state. state ≡ start event.now) }
     {

@@ -1,4 +1,4 @@
-//! What is known of an event.
+//! What is known about an event.
 ghost use Rattle.std.specs.Prelude.{◌≡◌};
 ghost use Rattle.text_tables.specs.Pairs.{value_of};
 ghost use Rattle.eval_state.specs.Start.{blank};
@@ -9,7 +9,7 @@ use std::alloc::Global;
 use text_bytes::Bytes;
 use text_tables::{OwnedPairs, OwnedTexts};
 
-/// What is known of an event while rules run.
+/// What is known about an event while rules run.
 #[derive(Drop)]
 pub struct State<'a> {
     /// The event: what happened, the device and its parents.
@@ -17,7 +17,7 @@ pub struct State<'a> {
     /// The place in the chain of the device that the last search found, if it found one; the event
     /// device is at 0.
     pub selected: Option<usize>,
-    /// What the last program answered; empty where none did.
+    /// What the last program answered; empty if none did.
     pub result: Bytes,
     /// The name that was assigned.
     pub name: Option<Bytes>,
@@ -30,7 +30,7 @@ pub struct State<'a> {
 }
 
 impl<'a> State<'a> {
-    /// Returns the value of a property as it is now, empty where it has none.
+    /// Returns the value of a property as it is now, empty if it has none.
     pub fn property(&self, name: &[u8]) -> &[u8]
         ensures { result.now ≡ or_empty (value_of self.now.env name.now) }
     {

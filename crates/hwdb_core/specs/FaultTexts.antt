@@ -1,4 +1,4 @@
--- What is said of database files that are not read.
+-- What is said about database files that are not read.
 use Rattle.std.specs.Prelude.{ℕ, List, codes}
 use Rattle.hwdb_core.specs.declared.fault.HwdbFault.{HwdbFault}
 use Rattle.hwdb_core.specs.declared.fault.HwdbFault.TheVariants.{TooMany, Memory}

@@ -11,7 +11,7 @@ use Rattle.hwdb_core.specs.Sources.{entries_from, text_len}
 use Rattle.hwdb_core.specs.declared.fault.HwdbFault.{HwdbFault}
 use Rattle.hwdb_core.specs.declared.fault.HwdbFault.TheVariants.{TooMany, Memory}
 
--- properties, messages, and how many bytes the matches have that give an entry
+-- properties, messages, and how many bytes the matches that give an entry have
 pub record Found : Type 0 where
   pub properties : List Property
   pub messages : List Message
@@ -34,8 +34,9 @@ unfoldable pub found_in : {X : Type 0} → (X → Found) → List X → Found
 found_in f [] = nothing
 found_in f (x ∷ xs) = join (f x) (found_in f xs)
 
--- What is held while files are read: the modalias that is asked for, if just one is; of the entries that were found those that it fits, or all; how
--- many were found; how many bytes the matches have that give an entry, and the keys and values; the messages.
+-- What is held while files are read: the modalias that is asked for, if just one is; of the entries found those that
+-- it fits, or all; how many were found; how many bytes the matches that give an entry have, and how many the keys and
+-- values; the messages.
 pub record Held : Type 0 where
   pub wanted : Option (List ℕ)
   pub entries : List Entry
@@ -53,7 +54,7 @@ abbrev pub counts : Option (List ℕ) → List Item → Bool
 counts None pattern = true
 counts (Some modalias) pattern = fits pattern modalias
 
--- the entries that count: where one modalias is asked for, those whose pattern it fits
+-- the entries that count: if one modalias is asked for, those whose pattern it fits
 abbrev pub counting : Option (List ℕ) → List Entry → List Entry
 counting None entries = entries
 counting (Some modalias) entries = fitting entries modalias
@@ -88,7 +89,7 @@ abbrev pub FailsAt : Held → Found → HwdbFault → Type 0
 FailsAt before part TooMany = IsKept (onto before part) → ⊥
 FailsAt before part Memory = Unit {0}
 
--- a part was added to what was held before, or was not for a reason
+-- a part was added to what was held before, or was not, for a reason
 abbrev pub Adds : {T : Type 0} → Held → Held → Found → Result T HwdbFault → Type 0
 Adds before now part (Ok _) = now ≡ onto before part
 Adds before now part (Err e) = FailsAt before part e

@@ -15,12 +15,12 @@ use Rattle.hwdb_core.specs.Properties.{Pair, pair_of, property_text}
 abbrev pub about_early : List ℕ → NumberedLine → Message
 about_early file l = message file l.number PropertyWithoutMatch (property_text l)
 
--- matches that no property line follows, told of at the first
+-- matches that no property line follows, reported at the first
 abbrev pub about_bare : List ℕ → List NumberedLine → List NumberedLine → List Message
 about_bare file matches properties =
     if length properties == 0 then map (λ l. message file l.number MatchWithoutProperty l.text) (take 1 matches) else []
 
--- a match that spells no pattern
+-- a match that is not a pattern
 abbrev pub about_spelled : List ℕ → NumberedLine → Result (List Item) GlobFault → List Message
 about_spelled file l (Ok pattern) = []
 about_spelled file l (Err fault) = message file l.number PatternNotSupported l.text ∷ []
@@ -38,11 +38,11 @@ about_pair file l (Err kind) = message file l.number kind (property_text l) ∷ 
 abbrev pub about_property : List ℕ → NumberedLine → List Message
 about_property file l = about_pair file l (pair_of l)
 
--- the lines from the next match on, told of at the first
+-- the lines from the next match on, reported at the first
 abbrev pub about_rest : List ℕ → List NumberedLine → List Message
 about_rest file rest = map (λ l. message file l.number UnindentedLine l.text) (take 1 rest)
 
--- The messages about a paragraph, part by part: so they stand by line, and by code where two are about one line.
+-- The messages about a paragraph, part by part: so they are sorted by line, and by code if two are about one line.
 abbrev pub cut_messages : List ℕ → Cut → List Message
 cut_messages file c =
     map (about_early file) c.early

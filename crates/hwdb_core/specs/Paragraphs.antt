@@ -13,7 +13,7 @@ is_empty_line l = length l.text == 0
 abbrev pub has_lines : List NumberedLine → Bool
 has_lines ls = not (is_empty ls)
 
--- the longest runs of lines that are not empty: what is between the empty lines, where that has lines
+-- the longest runs of lines that are not empty: what is between the empty lines, if that has lines
 abbrev pub paragraphs : List NumberedLine → List (List NumberedLine)
 paragraphs ls = filter has_lines (slice_split is_empty_line ls)
 
@@ -41,8 +41,8 @@ abbrev pub EmptyOrMatch : List NumberedLine → Type 0
 EmptyOrMatch [] = Unit {0}
 EmptyOrMatch (l ∷ ls) = is_match l ≡ true
 
--- Four parts are those of a paragraph where they are its lines in order, each of its own kind. The rest begins with
--- a match. Where there are no matches there are no properties of theirs, and where there are none of these there is no rest.
+-- Four parts are those of a paragraph if they are its lines in order, each of its own kind. The rest begins with a
+-- match. Without matches there are no properties of theirs, and without these there is no rest.
 pub record IsCut (p : List NumberedLine) (c : Cut) : Type 0 where
   pub whole : p ≡ c.early ++ (c.matches ++ (c.properties ++ c.rest))
   pub early_properties : All (λ l. is_property l ≡ true) c.early

@@ -22,7 +22,7 @@ bare_found file matches properties = only_messages (about_bare file matches prop
 abbrev pub pair_found : List ℕ → List Item → NumberedLine → Found
 pair_found file pattern l = record { properties = from_line file pattern l; messages = []; match_bytes = 0 }
 
--- a match adds an entry for each of its properties, its bytes where it has an entry, or a message where it is no pattern
+-- a match adds an entry for each of its properties, its bytes if it has an entry, or a message if it is not a pattern
 abbrev pub match_found : List ℕ → List NumberedLine → NumberedLine → Found
 match_found file properties l = record {
   properties = from_spelled file properties (spell l.text);

@@ -30,7 +30,7 @@ property_text l = unindented l.text
 abbrev pub pair_of : NumberedLine → Result Pair MessageKind
 pair_of l = pair_at (property_text l) (position (λ b. b == equals) (property_text l))
 
--- an entry of the database but for its place among all
+-- an entry of the database except for its place among all
 pub record Property : Type 0 where
   pub pattern : List Item
   pub key : List ℕ
@@ -38,16 +38,16 @@ pub record Property : Type 0 where
   pub file : List ℕ
   pub line : ℕ
 
--- what a pattern is given by what a line of a file says: one property, and none where something is wrong with it
+-- what a line of a file gives a pattern: one property, or none if something is wrong with the line
 abbrev pub from_pair : List ℕ → List Item → ℕ → Result Pair MessageKind → List Property
 from_pair file pattern number (Ok pair) = record { pattern = pattern; key = pair.key; value = pair.value; file = file; line = capped number } ∷ []
 from_pair file pattern number (Err kind) = []
 
--- what a pattern is given by a property of its paragraph
+-- what a property of its paragraph gives a pattern
 abbrev pub from_line : List ℕ → List Item → NumberedLine → List Property
 from_line file pattern l = from_pair file pattern l.number (pair_of l)
 
--- what properties give a match: nothing where it is no pattern
+-- what properties give a match: nothing if it is not a pattern
 abbrev pub from_spelled : List ℕ → List NumberedLine → Result (List Item) GlobFault → List Property
 from_spelled file properties (Ok pattern) = flat_map (from_line file pattern) properties
 from_spelled file properties (Err fault) = []
@@ -60,6 +60,6 @@ cut_properties file c = flat_map (λ l. from_spelled file c.properties (spell l.
 abbrev pub gives_entry : List NumberedLine → NumberedLine → Bool
 gives_entry properties l = is_ok (spell l.text) && list_any (λ q. is_ok (pair_of q)) properties
 
--- how many bytes the matches of a paragraph have that give an entry
+-- how many bytes those matches of a paragraph have that give an entry
 abbrev pub cut_match_bytes : Cut → ℕ
 cut_match_bytes c = sum_by (λ l. if gives_entry c.properties l then length l.text else 0) c.matches

@@ -1,15 +1,16 @@
--- Serves inner proofs only: which matches are seen not to fit a modalias before they are read as patterns.
+-- Serves inner proofs only: which matches are known not to fit a modalias before they are read as patterns.
 use Rattle.std.specs.Prelude.{◌≡◌, ℕ, Bool, true, false, not, ◌==◌, ◌||◌, ◌&&◌, nat_le, if◌then◌else◌, List, [], ◌∷◌, length, Option, Some, None, position, is_none, Ok}
 use Rattle.text_bytes.specs.Names.{open_bracket, question_mark, star}
 use Rattle.text_core.specs.Spell.{max_len, spell}
 use Rattle.text_core.specs.declared.item.Item.{Item}
 use Rattle.hwdb_core.specs.Found.{counts}
 
--- whether a byte of a pattern means something else than itself
+-- whether a byte of a pattern means something other than itself
 abbrev pub is_special : ℕ → Bool
 is_special b = b == star || b == question_mark || b == open_bracket
 
--- whether a match and a modalias differ before the first byte of the match that means something else than itself, or the one ends where the other goes on
+-- whether a match and a modalias differ before the first byte of the match that means something other than itself, or
+-- one ends where the other goes on
 abbrev pub differs_at_front : List ℕ → List ℕ → Bool
 differs_at_front [] [] = false
 differs_at_front [] (c ∷ m) = true
@@ -20,16 +21,16 @@ differs_at_front (b ∷ t) (c ∷ m) = if is_special b then false else if b == c
 abbrev pub is_faultless : List ℕ → Bool
 is_faultless t = nat_le (length t) max_len && is_none (position (λ b. b == open_bracket) t)
 
--- whether a match is seen not to fit
+-- whether a match is known not to fit
 unfoldable pub is_ruled_out : List ℕ → List ℕ → Bool
 is_ruled_out modalias t = differs_at_front t modalias && is_faultless t
 
--- the same, where just one modalias may be asked for
+-- the same, if just one modalias is asked for
 abbrev pub passes_over : Option (List ℕ) → List ℕ → Bool
 passes_over None t = false
 passes_over (Some modalias) t = is_ruled_out modalias t
 
--- what a match spells that is no fault, and whose entries do not count
+-- what a match spells that is not a fault, and whose entries do not count
 pub record IsPassed (wanted : Option (List ℕ)) (t : List ℕ) : Type 0 where
   pub items : List Item
   pub spelled : spell t ≡ Ok items

@@ -38,7 +38,7 @@ entries_of files = entries_from 0 (properties_of files)
 abbrev pub text_len : Property → ℕ
 text_len p = length p.key + length p.value
 
--- how many bytes the matches of all files have that give an entry
+-- how many bytes those matches of all files have that give an entry
 abbrev pub match_bytes_of : List SourceFile → ℕ
 match_bytes_of files = sum_by (λ f. sum_by cut_match_bytes (cuts_of f)) files
 

@@ -1,4 +1,4 @@
-//! The whole of a run's database files.
+//! All the database files of a run.
 
 ghost use Rattle.std.specs.Prelude.{◌≡◌, ◌≤◌, ◌↔◌, IsTrue, IfOk, IfErr, sum_by, length};
 ghost use Rattle.hwdb_lookup.specs.Bounds.{max_name_bytes};
@@ -21,15 +21,15 @@ use text_bytes::{Bytes, Message, SourceFile};
 pub struct Database {
     /// An entry for each match and property; the order of each is its place here.
     pub entries: Vec<Entry>,
-    /// By file, by line, by code.
+    /// Sorted by file, by line, by code.
     pub messages: Vec<Message>,
 }
 
 /// Reads files of the hardware database as hwdb(7) writes them, in the order in which they are given.
 ///
-/// The entries are fit for a database: their orders rise from 0, and no key is empty. A line that is
-/// wrong costs a message, and what it says is ignored. `TooMany` comes exactly where the files hold
-/// more than its bounds, and `Memory` only where an allocation fails.
+/// The entries fit a database: their orders rise from 0, and no key is empty. A line that is wrong costs a message,
+/// and is ignored. `TooMany` comes exactly if the files hold more than its bounds, and `Memory` only if an
+/// allocation fails.
 pub fn read_sources(alloc: Global, files: &[SourceFile]) -> Result<Database, HwdbFault>
     ensures entries { IfOk result (λ d. d.entries.items ≡ entries_of files.now) }
     ensures rising { IfOk result (λ d. Rising d.entries.items) }
@@ -40,9 +40,9 @@ pub fn read_sources(alloc: Global, files: &[SourceFile]) -> Result<Database, Hwd
     read_counting(alloc, files, None)
 }
 
-/// Reads files as `read_sources` does, with the same messages and the same faults, and keeps of their entries just those
-/// whose pattern a modalias fits: what a query for it needs. Each keeps its order among all, and all others take no
-/// memory.
+/// Reads files as `read_sources` does, with the same messages and the same faults, and keeps only those of their
+/// entries whose pattern a modalias fits: what a query for it needs. Each keeps its order among all, and the others
+/// take no memory.
 pub fn read_fitting(
     alloc: Global,
     files: &[SourceFile],

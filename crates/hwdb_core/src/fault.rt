@@ -11,7 +11,7 @@ pub enum HwdbFault {
     /// that give entries, over 2^30 bytes of keys and values over all entries, or over 2^28 bytes of
     /// the names of the files.
     TooMany,
-    /// 2: memory runs out.
+    /// 2: memory ran out.
     Memory,
 }
 

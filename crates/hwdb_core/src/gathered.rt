@@ -1,7 +1,7 @@
 //! What was read so far: entries and messages, and how much of them there is.
 //!
-//! Nothing is kept that passes a bound, so that the bounds hold of each value here. Where just one modalias is asked
-//! for, entries that it does not fit are counted and not kept.
+//! Nothing is kept that exceeds a bound, so that the bounds hold for each value here. If just one modalias is asked
+//! for, entries that it does not fit are counted but not kept.
 
 ghost use Rattle.std.specs.Prelude.{◌≡◌, ◌≤◌, ◌<◌, ◌+◌, ◌⊎◌, ◌∷◌, [], OnOk, OnErr};
 ghost use Rattle.hwdb_lookup.specs.Bounds.{max_entries, max_text_bytes};
@@ -49,7 +49,7 @@ impl Model for Gathered {
 }
 
 impl Gathered {
-    /// Nothing so far; the entries that count are those that a modalias fits, or all.
+    /// Nothing so far; the entries that count are those that the modalias fits, or all if there is none.
     pub fn new(alloc: Global, wanted: Option<Bytes>) -> Gathered
         ensures { result ≡ begun wanted }
     {
@@ -73,7 +73,7 @@ impl Gathered {
         }
     }
 
-    /// Whether a match is seen to be a pattern, and its entries not to count, before it is read.
+    /// Whether a match is known, before it is read, to be a pattern whose entries do not count.
     pub fn passes_over(&self, text: &[u8]) -> bool
         ensures { result ≡ passes_over self.now.wanted text.now }
     {
@@ -110,7 +110,7 @@ impl Gathered {
         Ok(())
     }
 
-    /// Counts an entry, whose key and value have so many bytes.
+    /// Counts an entry, whose key and value together have so many bytes.
     pub fn count_entry(&mut self, len: usize) -> Result<(), HwdbFault>
         ensures counted { OnOk result (self.new ≡ one_more len self.old) }
         ensures too_many { OnErr result ((max_entries ≤ self.old.count) ⊎ (max_text_bytes < self.old.text_bytes + len)) }
@@ -126,7 +126,7 @@ impl Gathered {
         Ok(())
     }
 
-    /// Puts an entry after those that are kept.
+    /// Adds an entry to those that are kept.
     fn keep(&mut self, entry: Entry) -> Result<(), AllocError>
         ensures { OnOk result (self.new ≡ with_entry entry self.old) }
     {

@@ -58,7 +58,7 @@ fn read_paragraph(
     read_rest(alloc, found, file, parts.rest)
 }
 
-/// Tells of the properties that no match comes before.
+/// Reports the properties that no match comes before.
 fn read_early(
     alloc: Global,
     found: &mut Gathered,
@@ -74,7 +74,7 @@ fn read_early(
     Ok(())
 }
 
-/// Tells of matches that no property line follows.
+/// Reports matches that no property line follows.
 fn read_bare(
     alloc: Global,
     found: &mut Gathered,
@@ -109,7 +109,7 @@ fn read_matches(
     Ok(())
 }
 
-/// Reads a match: the entries that it gives, or a message where it is no pattern.
+/// Reads a match: the entries that it gives, or a message if it is not a pattern.
 fn read_match(
     alloc: Global,
     found: &mut Gathered,
@@ -135,7 +135,7 @@ fn read_match(
     }
 }
 
-/// Counts a match whose entries do not count, and these.
+/// Counts a match whose entries do not count, and those entries.
 fn pass_over(
     found: &mut Gathered,
     line: &Line<'_>,
@@ -157,7 +157,8 @@ fn count_pairs(found: &mut Gathered, properties: &[Line<'_>]) -> Result<(), Hwdb
     Ok(())
 }
 
-/// Counts the entry that a property gives a pattern whose entries do not count, where nothing is wrong with the property.
+/// Counts the entry that a property gives a pattern whose entries do not count, if nothing is wrong with the
+/// property.
 fn count_pair(found: &mut Gathered, line: &Line<'_>) -> Result<(), HwdbFault>
     ensures added { (file : List ℕ) (pattern : List Item) → counts found.old.wanted pattern ≡ false → Adds found.old found.new (pair_found file pattern line.now) result }
     ensures wanted { OnOk result (found.new.wanted ≡ found.old.wanted) }
@@ -168,8 +169,8 @@ fn count_pair(found: &mut Gathered, line: &Line<'_>) -> Result<(), HwdbFault>
     }
 }
 
-/// Adds the entries that properties give a pattern. The last one takes it and the others a copy, as mostly there is but
-/// one.
+/// Adds the entries that properties give a pattern. The last one takes the pattern itself and the others copies, as
+/// mostly there is only one.
 fn read_pairs(
     alloc: Global,
     found: &mut Gathered,
@@ -205,7 +206,7 @@ fn read_copies(
     Ok(())
 }
 
-/// Adds the entry that a property gives a pattern, where nothing is wrong with it.
+/// Adds the entry that a property gives a pattern, if nothing is wrong with it.
 fn read_pair(
     alloc: Global,
     found: &mut Gathered,
@@ -221,7 +222,7 @@ fn read_pair(
     }
 }
 
-/// Tells of the properties with which something is wrong.
+/// Reports the properties with which something is wrong.
 fn read_properties(
     alloc: Global,
     found: &mut Gathered,
@@ -236,7 +237,7 @@ fn read_properties(
     Ok(())
 }
 
-/// Tells what is wrong with a property, if something is.
+/// Reports what is wrong with a property, if something is.
 fn read_property(
     alloc: Global,
     found: &mut Gathered,
@@ -251,7 +252,7 @@ fn read_property(
     }
 }
 
-/// Tells of the line after the properties that is not indented.
+/// Reports the line after the properties that is not indented.
 fn read_rest(
     alloc: Global,
     found: &mut Gathered,
@@ -269,7 +270,7 @@ fn read_rest(
     }
 }
 
-/// How many bytes a match has that gives an entry, if it is a pattern.
+/// How many bytes a match counts for if it is a pattern: all of its own if it gives an entry, else none.
 fn used_len(line: &Line<'_>, properties: &[Line<'_>]) -> usize
     ensures { result ≡ (if list_any (λ q. is_ok (pair_of q)) properties.now then length line.now.text else 0) }
 {

@@ -1,5 +1,5 @@
-//! Which matches are seen not to fit a modalias before they are read as patterns: most of a database, for any one
-//! device.
+//! Which matches are known not to fit a modalias before they are read as patterns: for any one device, most of a
+//! database.
 ghost use Rattle.std.specs.Prelude.{◌≡◌};
 ghost use Rattle.hwdb_core.specs.Ruling.{differs_at_front, is_faultless, is_ruled_out, is_special};
 
@@ -8,14 +8,14 @@ use text_bytes::find;
 /// The most bytes of a pattern, as `text_core` reads them.
 const MAX_LEN: usize = 16384;
 
-/// Whether a byte of a pattern means something else than itself.
+/// Whether a byte of a pattern means something other than itself.
 fn is_special(byte: u8) -> bool
     ensures { result ≡ is_special byte }
 {
     byte == b'*' || byte == b'?' || byte == b'['
 }
 
-/// Whether a match and a modalias differ before the first byte of the match that means something else than itself.
+/// Whether a match and a modalias differ before the first byte of the match that means something other than itself.
 fn differs_at_front(text: &[u8], modalias: &[u8]) -> bool
     ensures { result ≡ differs_at_front text.now modalias.now }
 {
@@ -44,7 +44,7 @@ fn is_faultless(text: &[u8]) -> bool
     text.len() <= MAX_LEN && find(b'[', text).is_none()
 }
 
-/// Whether a match is seen not to fit a modalias, and to be a pattern.
+/// Whether a match is known to be a pattern that a modalias does not fit.
 #[tactic(auto, unfolding(crate::specs::Ruling::is_ruled_out))]
 pub(crate) fn is_ruled_out(modalias: &[u8], text: &[u8]) -> bool
     ensures { result ≡ is_ruled_out modalias.now text.now }

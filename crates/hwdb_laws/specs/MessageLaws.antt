@@ -1,10 +1,10 @@
--- In which order the messages about a file stand.
+-- The order of the messages about a file.
 use Rattle.std.specs.Prelude.{◌≡◌, ◌<◌, ◌⊎◌, ℕ}
 use Rattle.text_bytes.specs.declared.Message.{Message}
 use Rattle.text_bytes.specs.declared.MessageKind.{MessageKind}
 use Rattle.text_bytes.specs.declared.MessageKind.TheVariants.{PropertyWithoutMatch, MatchWithoutProperty, UnindentedLine, NoEquals, EmptyKey, PatternNotSupported}
 
--- the number in the code of a message about the database, as 3 in H3; the rest are of rules
+-- the number in the code of a message about the database, such as 3 in H3; the rest are of rules
 abbrev pub code_number : MessageKind → ℕ
 code_number PropertyWithoutMatch = 1
 code_number MatchWithoutProperty = 2

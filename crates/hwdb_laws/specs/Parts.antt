@@ -2,7 +2,7 @@
 use Rattle.std.specs.Prelude.{◌≡◌, ℕ, List, ◌++◌}
 use Rattle.hwdb_lookup.specs.Query.{Origin}
 
--- a text is a part of others' bytes: these are what comes before it, the text, and what follows it
+-- a text is a part of other bytes: these are what comes before it, the text, and what follows it
 pub record IsPartOf (bytes text : List ℕ) : Type 0 where
   pub before : List ℕ
   pub behind : List ℕ

@@ -9,7 +9,7 @@ abbrev pub numbers_bytes : List ℕ → List ℕ
 numbers_bytes [] = []
 numbers_bytes (n ∷ ns) = number_bytes n ++ numbers_bytes ns
 
--- the index of no entry: the root alone
+-- the index of no entries: the root alone
 abbrev pub empty_index : List ℕ
 empty_index =
     codes "devdryhw" ++ numbers_bytes (2 ∷ 1 ∷ 0 ∷ 0 ∷ 0 ∷ 0 ∷ [])
@@ -28,7 +28,7 @@ one_entry_index =
     ++ numbers_bytes (0 ∷ 1 ∷ 1 ∷ 1 ∷ 0 ∷ 2 ∷ 6 ∷ 2 ∷ [])
     ++ codes "KVt.hwdb"
 
--- ` KEY=V` for `a*`, as an index of version 1 has it: with no file and no line
+-- ` KEY=V` for `a*`, as an index of version 1 has it, with no file and no line
 abbrev pub bare_entry : Entry
 bare_entry = record { pattern = Byte 97 ∷ Many ∷ []; key = codes "KEY"; value = codes "V"; order = 7; file = []; line = 0 }
 

@@ -1,4 +1,4 @@
--- What the paths of a tree's nodes are, said without how they are gathered.
+-- What the paths of a tree's nodes are, without saying how they are gathered.
 use Rattle.std.specs.Prelude.{◌≡◌, ◌<◌, ℕ, List, ◌∷◌, [], ◌++◌, Contains}
 use Rattle.text_core.specs.declared.item.Item.{Item}
 use Rattle.trie_nodes.specs.declared.node.Node.{Node}

@@ -1,6 +1,6 @@
--- The index file of version 1, said of it alone: what a file has to be, and what it lists; the names end in 1. The header,
--- the nodes, their shape and how a number is read are those of both versions. Whatever depends on the length of a value,
--- or on what is in one, is said here again.
+-- The index file of version 1, stated for it alone: what a file has to be, and what it lists; the names end in 1. The
+-- header, the nodes, their shape and how a number is read are those of both versions. Whatever depends on the length
+-- of a value, or on what is in one, is said here again.
 use Rattle.std.specs.Prelude.{◌≡◌, ℕ, ◌+◌, ◌*◌, ◌<◌, ◌≤◌, ◌==◌, if◌then◌else◌, List, [], IsTrue, flat_map, length, map, nat_eq, take, drop}
 use Rattle.std.specs.List.{range_with_len, starts_with}
 use Rattle.text_core.specs.declared.item.Item.{Item}
@@ -17,8 +17,8 @@ use Rattle.index_reading.specs.declared.fault.IndexFault.{IndexFault}
 use Rattle.index_reading.specs.declared.fault.IndexFault.TheVariants.{Short, Magic, Version, Size, Shape, Label, Text, Order}
 use Rattle.index_reading.specs.declared.records.NodeRecord.{NodeRecord}
 
--- After a header of 32 bytes stand the nodes, of 24 bytes each, the values, of 20, the sets, of 32, and the text: where
--- value j, set s and the text begin, and how long the file is.
+-- After a header of 32 bytes come the nodes, of 24 bytes each, the values, of 20, the sets, of 32, and the text:
+-- where value j, set s and the text begin, and how long the file is.
 abbrev pub value_start_1 : List ℕ → ℕ → ℕ
 value_start_1 bytes j = 32 + 24 * (header_of bytes).nodes + 20 * j
 
@@ -57,13 +57,13 @@ value_1 bytes j = value_at_1 bytes (value_start_1 bytes j)
 abbrev pub text_1 : List ℕ → ℕ → ℕ → List ℕ
 text_1 bytes place len = take len (drop (text_start_1 bytes + place) bytes)
 
--- a value's key and value lie within a text of some length, and its key is not empty
+-- a value's key and value are within a text of some length, and its key is not empty
 pub record HasTexts1 (len : ℕ) (v : Value1) : Type 0 where
   pub some : 0 < v.key_len
   pub key : v.key_place + v.key_len ≤ len
   pub value : v.value_place + v.value_len ≤ len
 
--- a node at least, not too many of each, and the length that they ask for
+-- at least one node, not too many of each, a reserved field of 0, and the length that follows from these numbers
 pub record HasSize1 (bytes : List ℕ) : Type 0 where
   pub some : 0 < (header_of bytes).nodes
   pub nodes : (header_of bytes).nodes ≤ max_nodes
@@ -76,7 +76,7 @@ pub record HasSize1 (bytes : List ℕ) : Type 0 where
 abbrev pub OrdersRise1 : List ℕ → NodeRecord → Type 0
 OrdersRise1 bytes n = (j : ℕ) → n.first_value ≤ j → j + 1 < n.first_value + n.values → (value_1 bytes j).order < (value_1 bytes (j + 1)).order
 
--- what a check asks for
+-- what a check requires
 abbrev pub Holds1 : IndexFault → List ℕ → Type 0
 Holds1 Short bytes = 32 ≤ length bytes
 Holds1 Magic bytes = IsTrue (starts_with nat_eq bytes magic)
@@ -87,11 +87,11 @@ Holds1 Label bytes = (i : ℕ) → i < (header_of bytes).nodes → IsLabelled (h
 Holds1 Text bytes = (j : ℕ) → j < (header_of bytes).values → HasTexts1 (header_of bytes).text (value_1 bytes j)
 Holds1 Order bytes = (i : ℕ) → i < (header_of bytes).nodes → OrdersRise1 bytes (node bytes i)
 
--- a file is an index of version 1 where each check holds
+-- a file is an index of version 1 if each check holds
 abbrev pub Accepted1 : List ℕ → Type 0
 Accepted1 bytes = (check : IndexFault) → Holds1 check bytes
 
--- the item that leads to a node; the root's is never asked
+-- the item that leads to a node; the root's is never used
 abbrev pub label_1 : List ℕ → NodeRecord → Item
 label_1 bytes n =
     if n.kind == byte_kind then Byte n.byte

@@ -1,4 +1,4 @@
-//! What makes the bounds believable.
+//! The law of the bounds.
 ghost use Rattle.std.specs.Prelude.{List};
 ghost use Rattle.hwdb_core.specs.Sources.{WithinBounds, entries_of};
 ghost use Rattle.text_bytes.specs.declared.SourceFile.{SourceFile};

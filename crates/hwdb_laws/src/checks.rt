@@ -1,9 +1,9 @@
-//! What the definition of a fault comes to.
+//! What the definition of a fault means.
 ghost use Rattle.std.specs.Prelude.{◌≡◌, ℕ, List};
 ghost use Rattle.index_reading.specs.Accepted.{Accepted, FailsFirst};
 ghost use Rattle.index_reading.specs.declared.fault.IndexFault.{IndexFault};
 
-/// The law of faults; it does nothing when it is called.
+/// The law of faults.
 ///
 /// A file has one fault at most, and an index has none.
 pub fn a_file_fails_one_check_first()

@@ -1,6 +1,6 @@
-//! What makes the definition of an image believable.
+//! Laws that show the definition of an image to be right.
 //!
-//! Each function here has no body, and its contract is a fact about the definitions.
+//! Each function here has an empty body, and its contract is a fact about the definitions.
 ghost use Rattle.std.specs.Prelude.{◌≡◌, ◌∷◌, [], List, length, map};
 ghost use Rattle.std.specs.List.Sorted.{IsPermutation};
 ghost use Rattle.hwdb_lookup.specs.Orders.{Rising};
@@ -15,18 +15,18 @@ ghost use Rattle.trie_core.specs.Entries.{AreTyped};
 ghost use Rattle.trie_core.specs.Image.{by_nodes, image};
 ghost use Rattle.hwdb_laws.specs.Rows.{empty_index, one_entry, one_entry_index};
 
-/// The index of no entry, and that of one, byte by byte.
+/// The index of no entries, and that of one, byte by byte.
 pub fn two_images()
     ensures none { image [] ≡ empty_index }
     ensures one { image (one_entry ∷ []) ≡ one_entry_index }
 {}
 
-/// The law of images; it does nothing when it is called.
+/// The law of images.
 ///
-/// Of entries whose orders rise and whose keys are not empty, and that keep the bounds of a trie, the
-/// image is an index of the length that the bounds speak of, and what it lists are the entries, each
-/// once, with its file and line. Its nodes have the paths of the entries, in their order; and node by
-/// node it lists the entries that end there, in theirs: so each text stands where its value says.
+/// For entries whose orders rise and whose keys are not empty, and that keep the bounds of a trie, the image is an
+/// index of the length that the bounds speak of, and what it lists are the entries, each once, with its file and
+/// line. Its nodes have the paths of the entries, in their order; and node by node it lists the entries that end
+/// there, in theirs: so each text is where its value says.
 pub fn images_are_indexes()
     ensures accepted { (es : List Entry) → Rising es → KeepsBounds es → AreTyped es → Accepted (image es) }
     ensures length { (es : List Entry) → Rising es → KeepsBounds es → AreTyped es → length (image es) ≡ index_len es }

@@ -1,6 +1,6 @@
-//! What makes the index of files believable.
+//! Laws that show the definition of the index of files to be right.
 //!
-//! Each function here has no body, and its contract is a fact about the definitions.
+//! Each function here has an empty body, and its contract is a fact about the definitions.
 ghost use Rattle.std.specs.Prelude.{◌≡◌, ◌≤◌, ℕ, List, length};
 ghost use Rattle.std.specs.List.Sorted.{IsPermutation};
 ghost use Rattle.text_bytes.specs.declared.SourceFile.{SourceFile};
@@ -19,11 +19,10 @@ pub fn what_is_read_has_the_types_of_entries()
     ensures { (files : List SourceFile) → WithinBounds files → AreTyped (entries_of files) }
 {}
 
-/// The law of the index of files; it does nothing when it is called.
+/// The law of the index of files.
 ///
-/// Of files that are not too many the image of their entries is an index of at most 2^32 - 1 bytes.
-/// What it lists are the entries, each once, with its file and line, and to every modalias it answers
-/// as they do.
+/// For files that are not too many, the image of their entries is an index of at most 2^32 - 1 bytes. What it lists
+/// are the entries, each once, with its file and line, and it answers every modalias as they do.
 pub fn what_is_read_makes_an_index()
     ensures accepted { (files : List SourceFile) → WithinBounds files → Accepted (image (entries_of files)) }
     ensures length { (files : List SourceFile) → WithinBounds files → length (image (entries_of files)) ≤ max_index_len }

@@ -1,6 +1,6 @@
-//! What makes the definitions believable.
+//! Laws that show the definitions of paths and tries to be right.
 //!
-//! Each function here has no body, and its contract is a fact about the definitions.
+//! Each function here has an empty body, and its contract is a fact about the definitions.
 ghost use Rattle.std.specs.Prelude.{◌≡◌, ◌+◌, ◌<◌, ◌≤◌, ℕ, List, [], ◌∷◌, flat_map, length, sum_by, count_by, take};
 ghost use Rattle.text_core.specs.declared.item.Item.{Item};
 ghost use Rattle.hwdb_lookup.specs.declared.entry.Entry.{Entry};
@@ -30,9 +30,8 @@ pub fn paths_are_a_tree()
     ensures later { (patterns : List (List Item)) (i : ℕ) → i < length (paths_among patterns) → i < 1 + sum_by (λ p. count_by (is_child p) (paths_among patterns)) (take i (paths_among patterns)) }
 {}
 
-/// A trie has at most one node more than its patterns have labels, a pattern that is there twice
-/// counted once; at most as many sets as nodes; and its files' names are no longer than those of the
-/// files that it comes from.
+/// A trie has at most one node more than its patterns have labels, a pattern that is there twice counted once; at
+/// most as many sets as nodes; and its files' names are no longer than those of the files that it comes from.
 pub fn a_trie_is_small()
     ensures nodes { (patterns listed : List (List Item)) → ((p : List Item) → IsIn p patterns → IsIn p listed) → length (paths_among patterns) ≤ 1 + sum_by length listed }
     ensures sets { (entries : List Entry) → length (sets_of entries) ≤ length (paths_of entries) }

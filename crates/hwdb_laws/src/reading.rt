@@ -11,7 +11,7 @@ ghost use Rattle.hwdb_laws.specs.Version1.{Accepted1, Holds1, listed_1, nodes_1}
 ghost use Rattle.hwdb_laws.specs.Parts.{IsPartOf, StandsIn};
 ghost use Rattle.hwdb_laws.specs.Rows.{bare_entry, bare_entry_index};
 
-/// The law of version 1; it does nothing when it is called.
+/// The law of version 1.
 ///
 /// A value of an index of version 1 has no file and no line.
 pub fn values_of_version_1_have_no_file()
@@ -25,11 +25,11 @@ pub fn an_index_of_version_1()
     ensures listed { listed_1 bare_entry_index ≡ bare_entry ∷ [] }
 {}
 
-/// The law of files of version 1; it does nothing when it is called.
+/// The law of files of version 1.
 ///
-/// What is said of version 1 by itself, with no word of version 2, is what the definitions for both say.
-/// A file of version 1 passes the same checks, so that the same files are an index. Such a file has the
-/// same nodes, lists the same entries, each with no file and line 0, and answers as these do.
+/// What is said about version 1 by itself, with no word of version 2, is what the definitions for both say. A file of
+/// version 1 passes the same checks, so that the same files are an index. Such a file has the same nodes, lists the
+/// same entries, each with no file and line 0, and answers as these do.
 pub fn indexes_of_version_1_are_kept()
     ensures checks { (bytes : List ℕ) (check : IndexFault) → (header_of bytes).version ≡ first_version → (Holds1 check bytes ↔ Holds check bytes) }
     ensures accepted { (bytes : List ℕ) → Accepted1 bytes ↔ (Accepted bytes × ((header_of bytes).version ≡ first_version)) }
@@ -39,9 +39,9 @@ pub fn indexes_of_version_1_are_kept()
     ensures sources { (bytes modalias : List ℕ) → Accepted1 bytes → sourced (listed (contents bytes).nodes (contents bytes).values) modalias ≡ sourced (listed_1 bytes) modalias }
 {}
 
-/// The law of the texts of answers; it does nothing when it is called.
+/// The law of the texts of answers.
 ///
-/// Each text of an answer, the names of files too, is in the bytes of the file that was asked.
+/// Each text of an answer, the names of files too, is in the bytes of the file that was queried.
 pub fn answers_stand_in_the_file()
     ensures query { (bytes modalias : List ℕ) → All (λ p. IsPartOf bytes p.0 × IsPartOf bytes p.1) (query (listed (contents bytes).nodes (contents bytes).values) modalias) }
     ensures sources { (bytes modalias : List ℕ) → All (StandsIn bytes) (sourced (listed (contents bytes).nodes (contents bytes).values) modalias) }

@@ -1,4 +1,4 @@
-//! Laws of the definitions that the reading is proved against, as the contracts of empty functions.
+//! Laws of the definitions that the reading is proved against.
 
 ghost use Rattle.std.specs.Prelude.{◌≡◌, ◌↔◌, ◌<◌, ◌-◌, ◌^◌, ◌∷◌, ◌++◌, [], List, All, AllPairs, length};
 ghost use Rattle.text_bytes.specs.declared.SourceFile.{SourceFile};
@@ -12,8 +12,8 @@ pub fn a_paragraph_is_cut_one_way()
     ensures { (p : List NumberedLine) (c : Cut) → IsCut p c ↔ (c ≡ cut p) }
 {}
 
-/// Messages stand by file, in the order of the files, by line and by code. A file whose last lines
-/// have numbers over 2^32 - 1, which are all reported as that one, is left out of the second law.
+/// Messages are sorted by file, in the order of the files, by line and by code. A file whose last lines have
+/// numbers over 2^32 - 1, which are all reported as that number, is left out of the second law.
 pub fn messages_stand_in_order()
     ensures files { (files later : List SourceFile) → messages_of (files ++ later) ≡ messages_of files ++ messages_of later }
     ensures rise { (file : SourceFile) → length file.bytes < 2 ^ 32 - 1 → AllPairs StandsBefore (messages_of (file ∷ [])) }

@@ -1,4 +1,4 @@
-//! What makes the definition of a trie believable.
+//! The law of the definition of a trie.
 ghost use Rattle.std.specs.Prelude.{◌≡◌, ◌<◌, ℕ, length, map};
 ghost use Rattle.trie_nodes.specs.Tree.{numbers, path};
 ghost use Rattle.trie_nodes.specs.Values.{values_of};
@@ -6,7 +6,7 @@ ghost use Rattle.trie_build.specs.Content.{Content, IsTrie, all_values, value_of
 ghost use Rattle.trie_build.specs.Paths.{paths_of};
 ghost use Rattle.trie_core.specs.Image.{ending_at};
 
-/// The law of tries; it does nothing when it is called.
+/// The law of tries.
 ///
 /// The nodes of a trie have the paths of its entries, in their order, and what a node holds are the
 /// entries whose pattern is its path, in theirs.

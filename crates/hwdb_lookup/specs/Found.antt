@@ -1,4 +1,4 @@
--- What was found for a device, as entries whose pattern is left out.
+-- What was found for a device, as entries without their patterns.
 use Rattle.std.specs.Prelude.{[], List, map}
 use Rattle.hwdb_lookup.specs.declared.entry.Entry.{Entry}
 use Rattle.hwdb_lookup.specs.declared.found.Found.{Found}

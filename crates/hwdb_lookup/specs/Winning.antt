@@ -1,4 +1,4 @@
--- Which entries count, said of the list of all entries.
+-- Which entries count, in terms of the list of all entries.
 use Rattle.std.specs.Prelude.{◌≡◌, ◌≤◌, ◌<◌, ℕ, true, List, ◌∷◌, ◌++◌, All, AllPairs, Contains, map}
 use Rattle.std.specs.declared.cmp.Ordering.TheVariants.{Less}
 use Rattle.text_core.specs.Fits.{fits}
@@ -14,8 +14,8 @@ pub record Applies (modalias key : List ℕ) (e : Entry) : Type 0 where
   pub applies : fits e.pattern modalias ≡ true
   pub has_key : e.key ≡ key
 
--- An entry of the list counts for a device: its pattern fits, and of the entries that fit and have
--- its key none has a greater order, and none that is listed later an equal one.
+-- An entry of the list counts for a device: its pattern fits, and of the entries that fit and have its key none has a
+-- greater order, and none listed later an equal one.
 pub record Counts (entries : List Entry) (modalias : List ℕ) (e : Entry) : Type 0 where
   pub before : List Entry
   pub after : List Entry

@@ -6,17 +6,16 @@ use text_core::Pattern;
 /// A property for the devices whose modalias a pattern fits.
 #[derive(Debug, Drop)]
 pub struct Entry {
-    /// The match that it is below.
+    /// The match above it.
     pub pattern: Pattern,
     /// The property's name, never empty.
     pub key: Bytes,
     /// Its value, perhaps empty.
     pub value: Bytes,
-    /// Its place among all entries: of two that fit with the same key the greater wins.
+    /// Its place among all entries: of two entries that fit and have the same key the greater wins.
     pub order: u32,
-    /// The name of the file that has it; empty where that is not known.
+    /// The name of the file that has it; empty if unknown.
     pub file: Bytes,
-    /// The number of the property's line, counted from 1; 0 where it is not known, and a number over
-    /// 2^32 - 1 is given as that one.
+    /// The number of the property's line, counted from 1; 0 if unknown, and at most 2^32 - 1.
     pub line: u32,
 }

@@ -1,7 +1,7 @@
-//! Properties that were found for a device, and which of them count.
+//! Properties found for a device, and which of them count.
 //!
-//! They are gathered as they are listed, then sorted by key without a change among those of one key, so
-//! that it takes one pass more to leave of each key the one that counts.
+//! They are gathered in the order in which they are listed, then sorted stably by key, so that one pass more leaves
+//! for each key the one that counts.
 ghost use Rattle.std.specs.Prelude.{◌≡◌, [], IfOk, OnOk, fold};
 ghost use Rattle.hwdb_lookup.specs.Found.{all_seen, seen, stripped};
 ghost use Rattle.hwdb_lookup.specs.Places.{NoneBehind};
@@ -20,9 +20,9 @@ pub struct Found<'a> {
     pub value: &'a [u8],
     /// Of two with one key the greater counts.
     pub order: u32,
-    /// The name of its file; empty where that is not known.
+    /// The name of its file; empty if unknown.
     pub file: &'a [u8],
-    /// The number of its line there; 0 where it is not known.
+    /// The number of its line there; 0 if unknown.
     pub line: u32,
 }
 
@@ -41,11 +41,10 @@ impl<'a> Found<'a> {
     }
 }
 
-/// Leaves of the properties that were found, in the order in which they are listed, those that count,
-/// sorted by key: of several with one key that of the greatest order, and of equal orders the one
-/// listed last.
+/// Of the properties that were found, in the order in which they are listed, keeps those that count, sorted by key:
+/// of several with one key that of the greatest order, and of equal orders the one listed last.
 ///
-/// Fails only where there is no memory for the answer.
+/// Fails only if there is no memory for the answer.
 pub fn settle<'a>(alloc: Global, mut found: Vec<Found<'a>>) -> Result<Vec<Found<'a>>, AllocError>
     ensures { IfOk result (λ won. all_seen won.items ≡ fold put [] (all_seen found.entry.items)) }
 {
@@ -57,8 +56,8 @@ pub fn settle<'a>(alloc: Global, mut found: Vec<Found<'a>>) -> Result<Vec<Found<
     Ok(won)
 }
 
-/// Puts a property after those that count, none of whose keys comes after its own: it takes the place
-/// of the last one if that has its key, unless that is of a greater order.
+/// Adds a property to those that count, none of whose keys comes after its own: it replaces the last one if that
+/// has its key, unless that is of a greater order.
 fn put_last<'a>(won: &mut Vec<Found<'a>>, found: Found<'a>) -> Result<(), AllocError>
     requires rise { KeysRise (all_seen won.old.items) }
     requires last { NoneBehind (all_seen won.old.items) found.key.now }

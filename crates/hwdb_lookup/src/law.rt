@@ -1,14 +1,14 @@
-//! What the definition of a query comes to, said of the entries and not of how they are gathered.
+//! What is true of the answer to a query, in terms of the entries and not of how they are gathered.
 ghost use Rattle.std.specs.Prelude.{◌≡◌, ◌↔◌, List, ℕ};
 ghost use Rattle.hwdb_lookup.specs.Query.{winners};
 ghost use Rattle.hwdb_lookup.specs.Winning.{IsAnswer};
 ghost use Rattle.hwdb_lookup.specs.declared.entry.Entry.{Entry};
 
-/// The law of a query, for any list of entries and any modalias; it does nothing when it is called.
+/// The law of a query, for any list of entries and any modalias.
 ///
-/// The keys of the answer strictly rise. Each property of it is that of an entry that fits, of the
-/// greatest order among the entries that fit and have its key, and of equal orders the last listed.
-/// And each key of an entry that fits is there. No other list is so.
+/// The keys of the answer strictly rise. Each property of it is that of an entry that fits, of the greatest order
+/// among the entries that fit and have its key, and of equal orders the last listed. And each key of an entry that
+/// fits is there. No other list has all this.
 pub fn winners_are_the_answer()
     ensures { (entries : List Entry) (modalias : List ℕ) (won : List Entry) → IsAnswer entries modalias won ↔ (won ≡ winners entries modalias) }
 {}

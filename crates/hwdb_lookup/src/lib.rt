@@ -1,6 +1,6 @@
 //! The hardware database as entries, and what a lookup among them answers.
 //!
-//! This crate is below the one that reads database files and below those that hold the entries in another form, so that
+//! This crate is below the one that reads database files and those that hold the entries in another form, so that
 //! all of them speak of the same list.
 //!
 //! Functions that allocate return `AllocError` when memory runs out.

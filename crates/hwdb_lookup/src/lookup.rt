@@ -1,7 +1,7 @@
 //! A database, by what it answers for a device.
 //!
-//! A trait, so that rules and the program take the entries in whichever form they come: as a list,
-//! as a trie or as an index file. Each of them answers as the list of its entries does.
+//! A trait, so that rules and the program take the entries in whatever form they come: as a list, as a trie or as
+//! an index file. Each of them answers as the list of its entries does.
 ghost use Rattle.std.specs.Prelude.{◌≡◌, List, map, IfOk};
 ghost use Rattle.hwdb_lookup.specs.Query.{query, shown, sourced, shown_origin};
 ghost use Rattle.hwdb_lookup.specs.declared.entry.Entry.{Entry};
@@ -15,9 +15,9 @@ pub struct Sourced<'a> {
     pub key: &'a [u8],
     /// Its value, perhaps empty.
     pub value: &'a [u8],
-    /// The name of the file that has it; empty where that is not known.
+    /// The name of the file that has it; empty if unknown.
     pub file: &'a [u8],
-    /// The number of its line there, counted from 1; 0 where it is not known.
+    /// The number of its line there, counted from 1; 0 if unknown.
     pub line: u32,
 }
 
@@ -32,13 +32,13 @@ pub trait Lookup {
 
     /// The keys and values of the properties for a modalias, sorted by key, byte by byte.
     ///
-    /// Fails only where there is no memory for the answer.
+    /// Fails only if there is no memory for the answer.
     fn query(&self, alloc: Global, modalias: &[u8]) -> Result<Vec<(&[u8], &[u8])>, AllocError>
         ensures { IfOk result (λ found. shown found.items ≡ query (entries self.now) modalias.now) };
 
-    /// The same properties, each with the file and line of the entry that it was taken from.
+    /// The same properties, each with the file and line of its entry.
     ///
-    /// Fails only where there is no memory for the answer.
+    /// Fails only if there is no memory for the answer.
     fn query_sources(&self, alloc: Global, modalias: &[u8]) -> Result<Vec<Sourced<'_>>, AllocError>
         ensures { IfOk result (λ found. map shown_origin found.items ≡ sourced (entries self.now) modalias.now) };
 }

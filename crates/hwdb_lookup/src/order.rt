@@ -6,8 +6,8 @@ use crate::entry::Entry;
 
 /// Whether the orders of the entries rise strictly and no key is empty; true of the empty list.
 ///
-/// A database is made only of such a list, so this is the test for entries from elsewhere than the
-/// reading of files.
+/// A database is made only of such a list, so this is the test for entries that do not come from the reading of
+/// files.
 pub fn rising(entries: &[Entry]) -> bool
     ensures { IsTrue result ↔ Rising entries.now }
 {

@@ -1,7 +1,7 @@
 //! The database as a plain list of entries.
 //!
-//! A query goes over all of them, so it needs no building and no room of its own: right for one
-//! query, and the measure for the other forms.
+//! A query goes through all of them, so it needs no building and no memory of its own: this is right for one query,
+//! and the reference for the other forms.
 ghost use Rattle.std.specs.Prelude.{◌≡◌};
 ghost use Rattle.hwdb_lookup.specs.Orders.{Rising};
 
@@ -27,9 +27,9 @@ impl Model for PlainDb {
 }
 
 impl PlainDb {
-    /// The database of these entries, without a copy and without taking memory. Their orders have
-    /// to rise strictly, and no key may be empty: as entries that were read from files are, and as
-    /// [`rising`](crate::rising) says about others.
+    /// The database of these entries, without a copy and without allocating. Their orders have to rise strictly,
+    /// and no key may be empty: that is so for entries read from files, and [`rising`](crate::rising) checks it for
+    /// others.
     pub fn new(listed: Vec<Entry>) -> PlainDb
         requires { Rising listed.items }
         ensures { result ≡ listed.items }
@@ -37,7 +37,7 @@ impl PlainDb {
         PlainDb { listed }
     }
 
-    /// Returns the entries, in order, without taking memory.
+    /// Returns the entries, in order, without allocating.
     pub fn into_entries(self) -> Vec<Entry>
         ensures { result.items ≡ self }
     {

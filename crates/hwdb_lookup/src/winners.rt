@@ -1,6 +1,6 @@
 //! The entries that count for a device.
 //!
-//! One pass over all entries gathers those that fit, of which those that count are left.
+//! One pass over all entries gathers those that fit; of these, those that count are kept.
 ghost use Rattle.std.specs.Prelude.{◌≡◌, [], IfOk, fold, map};
 ghost use Rattle.hwdb_lookup.specs.Found.{all_seen, stripped};
 ghost use Rattle.hwdb_lookup.specs.Query.{fitting, put};

@@ -1,4 +1,4 @@
--- Which files are an index: eight conditions, of which a file that is none fails a first.
+-- Which files are an index: eight conditions; any other file fails one of them first.
 use Rattle.std.specs.Prelude.{◌≡◌, ◌≢◌, ◌↔◌, ◌⊎◌, ℕ, ◌+◌, ◌^◌, ◌<◌, ◌≤◌, List, IsTrue, length, map, nat_eq, sum}
 use Rattle.std.specs.List.{range_with_len, starts_with}
 use Rattle.hwdb_lookup.specs.Bounds.{first_version, header_len, second_version}
@@ -21,7 +21,7 @@ max_values = 2 ^ 24
 abbrev pub max_sets : ℕ
 max_sets = 2 ^ 26
 
--- a node at least, not too many of each, and the length that they ask for
+-- at least one node, not too many of each, a reserved field of 0, and the length that follows from these numbers
 pub record HasSize (bytes : List ℕ) : Type 0 where
   pub some : 0 < (header_of bytes).nodes
   pub nodes : (header_of bytes).nodes ≤ max_nodes
@@ -44,13 +44,13 @@ pub record IsInPlace (i children values : ℕ) (n : NodeRecord) : Type 0 where
   pub later : i < n.first
   pub first_value : n.first_value ≡ values
 
--- each node is in its place, and they have all nodes but the root as children, and all values
+-- each node is in its place, their children are all nodes but the root, and their values are all values
 pub record HasShape (bytes : List ℕ) : Type 0 where
   pub each : (i : ℕ) → i < (header_of bytes).nodes → IsInPlace i (children_before bytes i) (values_before bytes i) (node bytes i)
   pub children : 1 + children_before bytes (header_of bytes).nodes ≡ (header_of bytes).nodes
   pub values : values_before bytes (header_of bytes).nodes ≡ (header_of bytes).values
 
--- Node i of an index of some sets is labelled: as the root where it is node 0, and else as one of the items of a
+-- Node i of an index of some sets is labelled: as the root if it is node 0, and else as one of the items of a
 -- pattern. Only a byte is given with a byte, only a set with the number of one.
 pub record IsLabelled (sets i : ℕ) (n : NodeRecord) : Type 0 where
   pub root : (n.kind ≡ root_kind) ↔ (i ≡ 0)
@@ -61,11 +61,11 @@ pub record IsLabelled (sets i : ℕ) (n : NodeRecord) : Type 0 where
   pub no_set : n.kind ≢ among_kind → n.set ≡ 0
   pub a_set : n.kind ≡ among_kind → n.set < sets
 
--- a part lies within a text of some length
+-- a part is within a text of some length
 abbrev pub IsWithin : ℕ → Span → Type 0
 IsWithin len span = span.place + span.len ≤ len
 
--- a value's texts lie within the text, and its key is not empty
+-- a value's texts are within the text, and its key is not empty
 pub record HasTexts (len : ℕ) (v : ValueRecord) : Type 0 where
   pub some : 0 < v.key.len
   pub key : IsWithin len v.key
@@ -76,7 +76,7 @@ pub record HasTexts (len : ℕ) (v : ValueRecord) : Type 0 where
 abbrev pub OrdersRise : List ℕ → NodeRecord → Type 0
 OrdersRise bytes n = (j : ℕ) → n.first_value ≤ j → j + 1 < n.first_value + n.values → (value bytes j).order < (value bytes (j + 1)).order
 
--- what a check asks for
+-- what a check requires
 abbrev pub Holds : IndexFault → List ℕ → Type 0
 Holds Short bytes = header_len ≤ length bytes
 Holds Magic bytes = IsTrue (starts_with nat_eq bytes magic)
@@ -98,7 +98,7 @@ place Label = 5
 place Text = 6
 place Order = 7
 
--- a file is an index where each check holds
+-- a file is an index if each check holds
 abbrev pub Accepted : List ℕ → Type 0
 Accepted bytes = (check : IndexFault) → Holds check bytes
 

@@ -10,7 +10,7 @@ use Rattle.index_reading.specs.Kinds.{byte_kind, many_kind, among_kind}
 use Rattle.index_reading.specs.Records.{node, value, set, text_of}
 use Rattle.index_reading.specs.declared.records.NodeRecord.{NodeRecord}
 
--- the item that leads to a node; the root's is never asked
+-- the item that leads to a node; the root's is never used
 abbrev pub label_of : List ℕ → NodeRecord → Item
 label_of bytes n =
     if n.kind == byte_kind then Byte n.byte

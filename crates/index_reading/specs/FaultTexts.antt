@@ -1,4 +1,4 @@
--- What is said of a file that is no index.
+-- What is said about a file that is not an index.
 use Rattle.std.specs.Prelude.{ℕ, List, codes}
 use Rattle.index_reading.specs.declared.fault.IndexFault.{IndexFault}
 use Rattle.index_reading.specs.declared.fault.IndexFault.TheVariants.{Short, Magic, Version, Size, Shape, Label, Text, Order}

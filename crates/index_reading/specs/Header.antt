@@ -1,4 +1,4 @@
--- The header of an index, field by field, and where the parts after it stand.
+-- The header of an index, field by field, and where the parts after it begin.
 use Rattle.std.specs.Prelude.{ℕ, ◌+◌, ◌*◌, List, ◌++◌, codes}
 use Rattle.hwdb_lookup.specs.Bounds.{header_len, node_len, set_len, value_len}
 use Rattle.index_reading.specs.Numbers.{number_at, number_bytes}
@@ -39,7 +39,7 @@ text_start h = sets_start h + set_len * h.sets
 abbrev pub whole_len : Header → ℕ
 whole_len h = text_start h + h.text
 
--- where the parts stand, and where the last of them ends
+-- where the parts begin, and where the last of them ends
 abbrev pub places_of : Header → Places
 places_of h = record {
   values = values_start h;

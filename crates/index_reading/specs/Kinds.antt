@@ -13,7 +13,7 @@ byte_kind = 1
 abbrev pub one_kind : ℕ
 one_kind = 2
 
--- any bytes, none among them
+-- any number of bytes, also none
 abbrev pub many_kind : ℕ
 many_kind = 3
 

@@ -1,4 +1,4 @@
--- Numbers in the bytes of an index: 32 bits each, the little end first.
+-- Numbers in the bytes of an index: 32 bits each, the least significant byte first.
 use Rattle.std.specs.Prelude.{ℕ, ◌^◌, ◌<◌, List, drop, slice_index}
 use Rattle.byteorder.specs.Endian.{little_bytes, little_number}
 

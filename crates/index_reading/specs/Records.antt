@@ -29,7 +29,7 @@ node_bytes n =
     n.kind ∷ n.byte ∷ n.first_zero ∷ n.second_zero
     ∷ (number_bytes n.set ++ number_bytes n.first ++ number_bytes n.count ++ number_bytes n.first_value ++ number_bytes n.values)
 
--- where a part of the text stands, as it is reported at a place
+-- a part of the text, as the bytes at a place give it
 abbrev pub span_at : List ℕ → ℕ → Span
 span_at bytes at = record { place = number_at bytes at; len = number_at bytes (at + 4) }
 

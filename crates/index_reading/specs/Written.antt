@@ -29,7 +29,7 @@ draft_header d = record {
   reserved = 0;
 }
 
--- what stands from the sets on, from the values on and from the nodes on
+-- the bytes from the sets on, from the values on and from the nodes on
 abbrev pub written_sets : Draft → List ℕ
 written_sets d = flat_map set_bytes d.sets ++ d.text
 

@@ -1,6 +1,6 @@
 //! The records of a file whose header is right, by number.
 //!
-//! Where the parts stand is reckoned once, so that a record is found by one product and one sum.
+//! Where the parts are is computed once, so that a record is found by one product and one sum.
 ghost use Rattle.std.specs.Prelude.{◌≡◌, ◌<◌, ◌↔◌, IsTrue, MatchResult};
 ghost use Rattle.index_reading.specs.Header.{header_of};
 ghost use Rattle.index_reading.specs.Records.{node, set, text_of, value};
@@ -22,7 +22,7 @@ const MAX_VALUES: u32 = 1 << 24;
 /// How many sets there may be.
 const MAX_SETS: u32 = 1 << 26;
 
-/// The records of a file whose header is right, and whose length is the one that the header asks for.
+/// The records of a file whose header is right, and whose length is as the header says.
 #[derive(Debug, Drop)]
 pub struct Records<'a> {
     bytes: &'a [u8],
@@ -41,7 +41,7 @@ impl<'a> Model for Records<'a> {
     ghost invariant = { AreRecords };
 }
 
-/// Whether the counts of a header keep their bounds, and a file has the length that they ask for.
+/// Whether the counts of a header keep their bounds, and a file has the length that follows from them.
 fn has_size(header: &Header, bytes: &[u8]) -> bool
     requires { header.now ≡ header_of bytes.now }
     ensures { IsTrue result ↔ HasSize bytes.now }

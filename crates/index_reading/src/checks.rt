@@ -123,8 +123,8 @@ fn has_orders(records: &Records) -> bool
     true
 }
 
-/// Checks a file: its records where it is an index, else the first check that it fails. It takes no
-/// memory, and goes through the file once for each check.
+/// Checks a file: its records if it is an index, else the first check that it fails. It allocates nothing, and goes
+/// through the file once for each check.
 pub fn check(bytes: &[u8]) -> Result<Records<'_>, IndexFault>
     ensures { MatchResult result (λ records. (records ≡ bytes.now) × Accepted bytes.now) (λ fault. FailsFirst bytes.now fault) }
 {

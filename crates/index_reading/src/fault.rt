@@ -1,4 +1,4 @@
-//! Why a file is no index.
+//! Why a file is not an index.
 
 use std::error::Error;
 use std::fmt;
@@ -12,14 +12,14 @@ pub enum IndexFault {
     Magic,
     /// 3: its version is neither 1 nor 2.
     Version,
-    /// 4: it has no node, or more than 2^26 nodes, 2^24 values or 2^26 sets, the last field of its header
-    /// is not 0, or its length is not the one that the header asks for.
+    /// 4: it has no node, or more than 2^26 nodes, 2^24 values or 2^26 sets, the last field of its header is not 0,
+    /// or its length is not what the header says.
     Size,
     /// 5: the children or the values of its nodes do not follow one another.
     Shape,
-    /// 6: a node's label is none.
+    /// 6: a node has an invalid label.
     Label,
-    /// 7: a key, a value or a file's name leaves the text, or a key is empty.
+    /// 7: a key, a value or a file's name is not within the text, or a key is empty.
     Text,
     /// 8: the orders of a node's values do not rise.
     Order,

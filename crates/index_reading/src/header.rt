@@ -1,4 +1,4 @@
-//! The header of an index, which says how many records there are, and so where each part stands.
+//! The header of an index, which says how many records there are, and so where each part begins.
 ghost use Rattle.std.specs.Prelude.{◌≡◌, ◌≤◌, ◌<◌, ◌*◌, ◌^◌, ◌++◌, OnOk, OnErr, length};
 ghost use Rattle.hwdb_lookup.specs.Bounds.{header_len, value_len};
 ghost use Rattle.index_reading.specs.Header.{header_bytes, header_of, places_of};
@@ -9,7 +9,7 @@ use std::alloc::AllocError;
 /// What each index begins with.
 pub const MAGIC: &[u8; 8] = b"devdryhw";
 
-/// The version that is written. Version 1 can be read, too: its values have no file and no line.
+/// The version that is written. Version 1 can also be read: its values have no file and no line.
 pub const VERSION: u32 = 2;
 
 /// How many bytes a header has.
@@ -38,7 +38,7 @@ pub struct Header {
     pub reserved: u32,
 }
 
-/// Where the parts of an index stand: the nodes come directly after the header.
+/// Where the parts of an index begin: the nodes come directly after the header.
 #[derive(Clone, Copy, Debug, PartialEq, Eq)]
 pub struct Places {
     /// Where the values begin.
@@ -67,8 +67,8 @@ impl Header {
         }
     }
 
-    /// Adds the header to an index that is being written. Fails only where there is no memory for
-    /// it; what was written then stays as it is.
+    /// Adds the header to an index that is being written. Fails only if there is no memory for it; what was written
+    /// then stays as it is.
     pub fn write(&self, out: &mut Vec<u8>) -> Result<(), AllocError>
         ensures header { OnOk result (out.new.items ≡ out.old.items ++ header_bytes self.now) }
         ensures refused { OnErr result (out.new.items ≡ out.old.items) }
@@ -102,7 +102,7 @@ impl Header {
         }
     }
 
-    /// Where the parts stand.
+    /// Where the parts begin.
     pub fn places(&self) -> Places
         ensures value { result ≡ places_of self.now }
         ensures bound { result.end < 2 ^ 41 }

@@ -1,4 +1,4 @@
-//! An index file that was checked.
+//! A checked index file.
 ghost use Rattle.std.specs.Prelude.{◌≡◌, ◌*◌, ◌+◌, ◌≤◌, IfOk, MatchResult, length};
 ghost use Rattle.trie_nodes.specs.Tree.{active_after, count};
 ghost use Rattle.index_reading.specs.Accepted.{Accepted, FailsFirst};
@@ -28,8 +28,8 @@ impl<'a> Model for Index<'a> {
 }
 
 impl<'a> Index<'a> {
-    /// Opens an index of version 1 or 2, or tells the first check that its bytes fail. It takes no
-    /// memory, and time that grows with the file.
+    /// Opens an index of version 1 or 2, or returns the first check that its bytes fail. It allocates nothing, and
+    /// takes time that grows with the file.
     pub fn open(bytes: &'a [u8]) -> Result<Index<'a>, IndexFault>
         ensures accepted { MatchResult result (λ _. Accepted bytes.now) (λ fault. FailsFirst bytes.now fault) }
         ensures value { IfOk result (λ index. index ≡ contents bytes.now) }
@@ -38,8 +38,8 @@ impl<'a> Index<'a> {
         Ok(Index { records })
     }
 
-    /// The nodes that are active at the end of a modalias, rising, and how many are active after each
-    /// length of it from 0 on, summed. Fails only where there is no memory for the lists.
+    /// The nodes that are active at the end of a modalias, rising, and how many are active after each length of it
+    /// from 0 on, summed. Fails only if there is no memory for the lists.
     pub fn visits(&self, alloc: Global, modalias: &[u8]) -> Result<(Vec<u32>, u128), AllocError>
         ensures nodes { IfOk result (λ r. r.0.items ≡ active_after self.now.nodes modalias.now) }
         ensures count { IfOk result (λ r. r.1 ≡ count self.now.nodes modalias.now) }

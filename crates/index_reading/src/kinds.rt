@@ -9,7 +9,7 @@ pub const BYTE: u8 = 1;
 /// A node that any byte leads to.
 pub const ONE: u8 = 2;
 
-/// A node that any bytes lead to, none among them.
+/// A node that any number of bytes lead to, also none.
 pub const MANY: u8 = 3;
 
 /// A node that a byte of a set leads to, the last of the kinds.

@@ -1,4 +1,4 @@
-//! Numbers in an index: 32 bits each, the little end first.
+//! Numbers in an index: 32 bits each, the least significant byte first.
 ghost use Rattle.std.specs.Prelude.{◌≡◌, ◌+◌, ◌*◌, ◌≤◌, flat_map, length};
 ghost use Rattle.index_reading.specs.Numbers.{number_at, number_bytes};
 
@@ -13,7 +13,7 @@ pub(crate) fn number_at(bytes: &[u8], at: usize) -> u32
     LittleEndian::read_u32(&bytes[at..])
 }
 
-/// Puts numbers into bytes, one after another.
+/// Writes numbers into bytes, one after another.
 pub(crate) fn put_numbers(bytes: &mut [u8], numbers: &[u32])
     requires { length bytes.old ≡ 4 * length numbers.now }
     ensures { bytes.new ≡ flat_map number_bytes numbers.now }

@@ -17,13 +17,13 @@ const VALUE_LEN: usize = 32;
 pub struct NodeRecord {
     /// Its kind, one of [`kinds`](crate::kinds).
     pub kind: u8,
-    /// The byte that leads to it; 0 where none does.
+    /// The byte that leads to it; 0 if none does.
     pub byte: u8,
     /// A byte that has to be 0.
     pub first_zero: u8,
     /// Another one.
     pub second_zero: u8,
-    /// The number of the set that leads to it; 0 where none does.
+    /// The number of the set that leads to it; 0 if none does.
     pub set: u32,
     /// The number of its first child; the others follow.
     pub first: u32,
@@ -53,9 +53,9 @@ pub struct ValueRecord {
     pub value: Span,
     /// Its place among all properties.
     pub order: u32,
-    /// The name of its file; of length 0 where that is not known, as in version 1.
+    /// The name of its file; of length 0 if unknown, as in version 1.
     pub file: Span,
-    /// The number of its line; 0 where that is not known, as in version 1.
+    /// The number of its line; 0 if unknown, as in version 1.
     pub line: u32,
 }
 
@@ -78,8 +78,8 @@ impl NodeRecord {
         }
     }
 
-    /// Adds the node to an index that is being written. Fails only where there is no memory for it;
-    /// what was written then stays as it is.
+    /// Adds the node to an index that is being written. Fails only if there is no memory for it; what was written
+    /// then stays as it is.
     pub fn write(&self, out: &mut Vec<u8>) -> Result<(), AllocError>
         ensures node { OnOk result (out.new.items ≡ out.old.items ++ node_bytes self.now) }
         ensures refused { OnErr result (out.new.items ≡ out.old.items) }
@@ -101,7 +101,7 @@ impl NodeRecord {
 }
 
 impl Span {
-    /// Reads where a part of the text stands.
+    /// Reads where a part of the text is.
     fn read(bytes: &[u8], at: usize) -> Span
         requires { at + 8 ≤ length bytes.now }
         ensures { result ≡ span_at bytes.now at }
@@ -142,8 +142,8 @@ impl ValueRecord {
         }
     }
 
-    /// Adds the value to an index of version 2 that is being written. Fails only where there is no
-    /// memory for it; what was written then stays as it is.
+    /// Adds the value to an index of version 2 that is being written. Fails only if there is no memory for it; what
+    /// was written then stays as it is.
     pub fn write(&self, out: &mut Vec<u8>) -> Result<(), AllocError>
         ensures value { OnOk result (out.new.items ≡ out.old.items ++ value_bytes self.now) }
         ensures refused { OnErr result (out.new.items ≡ out.old.items) }

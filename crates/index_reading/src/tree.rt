@@ -16,7 +16,7 @@ impl<'a> Nodes for Index<'a> {
     }
 
     fn root(&self) -> u32 {
-        // The look at the field tells the proof what holds of an index.
+        // From the look at the field the proof learns what holds for an index.
         let _ = &self.records;
         0
     }

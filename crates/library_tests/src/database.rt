@@ -1,4 +1,4 @@
-//! Entries in a list, in a trie and in an index: what their calls answer beside the properties that are found.
+//! Entries in a list, in a trie and in an index: what their calls return besides the properties that are found.
 use hwdb_lookup::{Entry, Lookup, PlainDb, Sourced, rising};
 use index_reading::{Header, NodeRecord, Places, Span, ValueRecord, check, kinds};
 use std::alloc::{AllocError, Global};
@@ -41,7 +41,7 @@ fn entry(alloc: Global, property: Property<'_>, order: u32) -> Result<Entry, Fai
     })
 }
 
-/// The entries of some properties, of which each has the next order.
+/// The entries of some properties, each with the next order.
 fn entries(alloc: Global, properties: &[Property<'_>]) -> Result<Vec<Entry>, Fail> {
     let mut listed = Vec::new(alloc);
     let mut order = 0u32;
@@ -70,7 +70,7 @@ fn trie_of(alloc: Global, properties: &[Property<'_>]) -> Result<Trie, Fail> {
     Ok(Trie::build(alloc, listed)?)
 }
 
-/// Two records, of which the later has another A for abc.
+/// Two records, the later of which has another A for abc.
 const RECORDS: [Property<'static>; 3] = [
     (b"ab*", b"A", b"1"),
     (b"ab*", b"B", b"2"),
@@ -168,7 +168,7 @@ fn same_answer(alloc: Global, trie: &Trie, list: &PlainDb, modalias: &[u8]) -> R
     Ok(found.as_slice() == wanted.as_slice())
 }
 
-/// Patterns of each kind of label, some of them twice or with one beginning.
+/// Patterns of each kind of label, some of them twice or with the same beginning.
 const PATTERNS: [Property<'static>; 10] = [
     (b"ab*", b"A", b"0"),
     (b"*[bc]", b"A", b"1"),
@@ -200,8 +200,8 @@ fn a_trie_answers_as_a_list(rt: HostRuntime) -> Result<(), Fail> {
     Ok(())
 }
 
-/// The longest pattern: of ten bytes it has the root active at first and never again, and each of its other
-/// 16,384 nodes at each of the eleven lengths: 1 + 11 * 16,384 = 180,225.
+/// The longest pattern: for ten bytes it has the root active at first and never again, and each of its other 16,384
+/// nodes at each of the eleven lengths: 1 + 11 * 16,384 = 180,225.
 fn stars(alloc: Global) -> Result<Vec<u8>, AllocError> {
     vec![in alloc; b'*'; 16_384]
 }
@@ -245,7 +245,7 @@ fn push_numbers(bytes: &mut Vec<u8>, numbers: &[u32]) -> Result<(), AllocError> 
     Ok(())
 }
 
-/// The index, in version 1, of nodes one below another, each but the root after `a` and with `K=V`.
+/// The index, in version 1, of nodes one below another, each except the root after `a` and with `K=V`.
 fn chain(alloc: Global) -> Result<Vec<u8>, AllocError> {
     let mut bytes = Vec::from_slice(alloc, b"devdryhw")?;
     push_numbers(&mut bytes, &[1, LAST + 1, LAST, 0, 2, 0])?;
@@ -262,8 +262,8 @@ fn chain(alloc: Global) -> Result<Vec<u8>, AllocError> {
     Ok(bytes)
 }
 
-/// A thousand queries, which have to end within the minute that a test has: whoever compares pattern by pattern
-/// takes 128,008,000,000 steps for them.
+/// A thousand queries, which have to end within the minute that a test has: comparing pattern by pattern would take
+/// 128,008,000,000 steps for them.
 #[test]
 fn a_chain_is_walked_a_thousand_times(rt: HostRuntime) -> Result<(), Fail> {
     let alloc = rt.alloc();

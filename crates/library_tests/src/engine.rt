@@ -45,7 +45,7 @@ fn takes(
     }
 }
 
-/// Whether there is this answer, or none where none is wanted.
+/// Whether there is this answer, or none if none is wanted.
 fn is_answer(answer: &Option<Bytes>, wanted: Option<&[u8]>) -> bool {
     match (answer, wanted) {
         (Some(answer), Some(wanted)) => answer.as_slice() == wanted,
@@ -54,7 +54,7 @@ fn is_answer(answer: &Option<Bytes>, wanted: Option<&[u8]>) -> bool {
     }
 }
 
-/// A turn. All tests come here: a function that calls `turn` itself is slow to check, by its long
+/// A turn. All tests use this one: a function that calls `turn` itself is slow to check, because of its long
 /// contract.
 fn one_turn(
     alloc: Global,

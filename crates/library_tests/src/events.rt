@@ -1,5 +1,5 @@
-//! Blocks as a caller cuts and reads them, what is known of an event before any rule has run, and what is
-//! told of one when all have run.
+//! Blocks as a caller cuts and reads them, what is known about an event before any rule has run, and what is
+//! reported for one when all have run.
 use device_core::{BlockFaultKind, Event, ProgramAnswer, SplitFault, Splitter, Taken, read_block};
 use eval_rules::{Command, Commands};
 use eval_state::{Note, NoteKind, Notes, State};
@@ -118,7 +118,7 @@ fn nothing_comes_after_the_end(rt: HostRuntime) -> Result<(), Fail> {
     Ok(())
 }
 
-/// Whether a block is refused for want of an action in its first line.
+/// Whether a block is refused because its first line has no action.
 fn has_no_action(alloc: Global, block: &[u8]) -> bool {
     match read_block(alloc, block) {
         Ok(_) => false,
@@ -131,7 +131,7 @@ fn an_empty_text_is_no_block(rt: HostRuntime) {
     assert!(rt; has_no_action(rt.alloc(), b""));
 }
 
-/// A block with a constant, two programs and a parent that has one attribute alone.
+/// A block with a constant, two programs and a parent that has only one attribute.
 const BLOCK: &[u8] = b"C: change
 K: arch=x86-64
 P: /devices/x/cciss!c0d1
@@ -153,14 +153,14 @@ fn has_answer(answer: Option<&ProgramAnswer<'_>>, status: u8, text: &[u8]) -> bo
     }
 }
 
-/// Whether an event lends the answers of the block's programs, with the status of each.
+/// Whether an event has the answers of the block's programs, with the status of each.
 fn has_its_answers(event: &Event<'_>) -> bool {
     event.programs().as_map().len() == 2
         && has_answer(event.programs().get(b"blkid -o x"), 0, b"TYPE=ext4 ")
         && has_answer(event.programs().get(b"false"), 255, b"")
 }
 
-/// Whether an event lends its two devices, and of the parent no more than the block says.
+/// Whether an event has its two devices, and for the parent no more than the block says.
 fn has_its_devices(event: &Event<'_>) -> bool {
     match event.device_at(1) {
         Some(parent) => {
@@ -176,7 +176,7 @@ fn has_its_devices(event: &Event<'_>) -> bool {
     }
 }
 
-/// Whether the block is read so.
+/// Whether the block is read like this.
 fn is_read(alloc: Global) -> bool {
     match read_block(alloc, BLOCK) {
         Ok(event) => has_its_answers(&event) && has_its_devices(&event),
@@ -206,7 +206,7 @@ fn is_cleared(state: &State<'_>) -> bool {
         && state.event.kernel() == b"cciss/c0d1".as_slice()
 }
 
-/// Whether both hold, one after the other, of what is known of an event.
+/// Whether both hold, one after the other, for what is known about an event.
 fn begins_and_clears(alloc: Global, event: &Event<'_>) -> bool {
     let Ok(mut state) = State::new(alloc, event) else {
         return false;
@@ -218,7 +218,7 @@ fn begins_and_clears(alloc: Global, event: &Event<'_>) -> bool {
     is_begun && is_cleared
 }
 
-/// Whether both hold of the block's event.
+/// Whether both hold for the block's event.
 fn block_begins_and_clears(alloc: Global) -> bool {
     let Ok(event) = read_block(alloc, BLOCK) else {
         return false;

@@ -12,7 +12,7 @@ use std::test::Fail;
 use text_core::GlobFault;
 use trie_build::TrieFault;
 
-/// Whether a fault is printed so.
+/// Whether a fault is printed as this text.
 fn says<F: Error>(alloc: Global, fault: &F, wanted: &str) -> Result<bool, AllocError> {
     Ok(fault.to_string(alloc)?.as_str() == wanted)
 }

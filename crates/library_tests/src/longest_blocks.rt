@@ -1,4 +1,4 @@
-//! The longest block that is read, and one of a byte more.
+//! The longest block that is read, and one with a byte more.
 use device_core::{BlockFaultKind, read_block};
 use std::alloc::{AllocError, Global};
 use std::test::Fail;

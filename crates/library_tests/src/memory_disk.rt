@@ -52,7 +52,7 @@ const PLACES: [MemoryPlace; 5] = [
 
 const DISK: MemoryDisk = MemoryDisk { places: &PLACES };
 
-// The files that a check of all rules below a root reads of the disk.
+// The files that a check of all rules below a root reads from the disk.
 fn read(alloc: Global, root: &str) -> Result<Vec<SourceFile>, ReadFault> {
     let line = Line {
         verb: Verb::Verify,

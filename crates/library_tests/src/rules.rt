@@ -1,4 +1,4 @@
-//! What tokens, templates and rules tell a caller alone.
+//! What tokens, templates and rules show only to a caller.
 use rule_core::{Rule, RuleSet, read_rules};
 use rule_templates::{Piece, Template, TemplateFault};
 use rule_tokens::{Operator, Quote, Span, TokenFault, TokenFaultKind, Tokens, unquote};
@@ -20,8 +20,8 @@ fn ending(line: &[u8]) -> (u32, Option<TokenFault>) {
     (count, fault)
 }
 
-/// How many bytes of a line its tokens take up, each cut from the line by its span; a number that no line
-/// reaches where a span leaves the line.
+/// How many bytes of a line its tokens take up, each cut from the line by its span; if a span leaves the line, a
+/// number that no line reaches.
 fn token_bytes(line: &[u8]) -> usize {
     let mut count: usize = 0;
     for item in Tokens::new(line) {

@@ -6,7 +6,7 @@ use std::fs::{Files, Metadata, OpenFile, OpenOptions};
 use std::io::{self, Empty, Read, Seek, SeekFrom, Write};
 use std::test::Fail;
 
-// What a disk is never asked for where it reads a file.
+// What is never asked for when a disk reads a file.
 fn unsupported<T>() -> io::Result<T> {
     Err(io::Error::from(io::ErrorKind::Unsupported))
 }
@@ -73,7 +73,7 @@ impl OpenFile for SlowFile {
     }
 }
 
-// Has such a file of 100,000 bytes at each path.
+// A runtime with such a file of 100,000 bytes at each path.
 #[derive(Clone, Copy)]
 struct SlowFiles {
     fails: bool,

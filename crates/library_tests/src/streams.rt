@@ -16,7 +16,7 @@ struct Failing {
 }
 
 impl Failing {
-    /// One call more, at a slice of this length.
+    /// One more call, with a slice of this length.
     fn call(&mut self, len: usize) -> io::Result<usize>
         ensures { IfOk result (λ n. n ≤ len) }
     {

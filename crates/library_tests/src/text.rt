@@ -1,4 +1,4 @@
-//! What texts, patterns and tables tell a caller alone.
+//! What texts, patterns and tables show only to a caller.
 use indexmap::{IndexMap, IndexSet};
 use std::alloc::{AllocError, Global};
 use std::test::Fail;
@@ -88,7 +88,7 @@ fn a_choice_lends_its_parts(rt: HostRuntime) -> Result<(), Fail> {
     Ok(())
 }
 
-/// What stands once b, a and b again are added.
+/// What is there once b, a and b again are added.
 fn added_texts<'a>(alloc: Global) -> Result<Texts<'a>, AllocError> {
     let mut texts = Texts::new(alloc);
     for text in [b"b".as_slice(), b"a", b"b"] {
@@ -107,7 +107,7 @@ fn a_set_of_texts_is_given_and_taken(rt: HostRuntime) -> Result<(), Fail> {
     Ok(())
 }
 
-/// What stands once b has the value 1, a has 2 and b has 3.
+/// What is there once b has the value 1, a has 2 and b has 3.
 fn added_pairs<'a>(alloc: Global) -> Result<Pairs<'a>, AllocError> {
     let mut pairs = Pairs::new(alloc);
     for (name, value) in [
@@ -120,7 +120,7 @@ fn added_pairs<'a>(alloc: Global) -> Result<Pairs<'a>, AllocError> {
     Ok(pairs)
 }
 
-/// Whether a value is there and is this one.
+/// Whether there is a value, and it is this one.
 fn is_value(found: Option<&[u8]>, wanted: &[u8]) -> bool {
     match found {
         Some(value) => value == wanted,
@@ -140,7 +140,7 @@ fn a_map_of_names_is_given_and_taken(rt: HostRuntime) -> Result<(), Fail> {
     Ok(())
 }
 
-/// What stands once b has the value 1 and then 2.
+/// What is there once b has the value 1 and then 2.
 fn added_values<'a>(alloc: Global) -> Result<Table<'a, u8>, AllocError> {
     let mut table = Table::new(alloc);
     for value in [1u8, 2] {

@@ -23,7 +23,8 @@ use Rattle.rule_core.specs.Effects.{lacks_effect}
 use Rattle.rule_core.specs.Style.{style_findings}
 use Rattle.rule_core.specs.Turns.{acts_by_turn, assignments_by_turn}
 
--- a rule as its line alone tells it: its names for jumps, its parts in the order of evaluation, and what is to be said of it all the same
+-- a rule as its line alone gives it: its names for jumps, its parts in the order of evaluation, and the findings
+-- about it
 pub record Draft : Type 0 where
   pub label : Option (List ℕ)
   pub goto : Option (List ℕ)
@@ -34,7 +35,7 @@ pub record Draft : Type 0 where
   pub sets : List Assignment
   pub findings : List Finding
 
--- the place in a line where its tokens begin: udev passes over commas and blanks in front
+-- the place in a line where its tokens begin: udev skips commas and blanks in front
 abbrev pub first_place : Profile → List ℕ → ℕ
 first_place Manual line = 0
 first_place Udev line = prefix_len is_gap_byte line
@@ -43,7 +44,7 @@ first_place Udev line = prefix_len is_gap_byte line
 abbrev pub items_as : Profile → List ℕ → List Item
 items_as by line = items_from (first_place by line) line
 
--- a part of a line, from its first byte on, that is no token
+-- what is wrong with a part of a line, given from its first byte on, that is not a token
 abbrev pub token_finding : TokenFaultKind → List ℕ → Finding
 token_finding Syntax text = finding BadSyntax text
 token_finding Prefix text = finding BadPrefix (letters_at text)
@@ -59,7 +60,7 @@ with_part (Ok p) (Ok parts) = Ok (p ∷ parts)
 with_part (Ok p) (Err wrong) = Err wrong
 with_part (Err wrong) rest = Err wrong
 
--- the parts of the items of a line, or what is wrong with the first item that is none
+-- the parts of the items of a line, or what is wrong with the first item that is not one
 abbrev pub parts_of : Profile → List ℕ → List Item → Result (List Part) Finding
 parts_of by line [] = Ok []
 parts_of by line (i ∷ items) = with_part (part_of_item by line i) (parts_of by line items)
@@ -125,7 +126,7 @@ abbrev pub lost_name : Option (List ℕ) → List Finding
 lost_name None = []
 lost_name (Some name) = finding GivenTwice name ∷ []
 
--- a label, after those that were given before it: told is the one that does not count
+-- a label, after those that were given before it: the one that does not count is reported
 abbrev pub label_again : Profile → List (List ℕ) → List ℕ → List Finding
 label_again Manual names name = given_again names name
 label_again Udev names name = lost_name (last names)

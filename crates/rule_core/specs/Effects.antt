@@ -10,7 +10,7 @@ use Rattle.rule_types.specs.declared.keys.Key.TheVariants as key
 use Rattle.rule_parts.specs.Options.{is_known_option}
 use Rattle.rule_parts.specs.Parts.{meaning_of}
 
--- whether a key does something also where it is compared: it runs a command, or takes properties
+-- whether a key does something even when it is compared: it runs a command, or takes properties
 abbrev pub acts_compared : Option Key → Bool
 acts_compared (Some key.Program) = true
 acts_compared (Some key.Import) = true
@@ -25,11 +25,12 @@ is_options _ = false
 abbrev pub is_unknown_option : Placed → Bool
 is_unknown_option t = is_options (key_of t.parts.head.key) && not (is_known_option (meaning_of t))
 
--- whether a token does more than compare: it assigns anything but an option that is not known, or its key does something where it is compared
+-- whether a token does more than compare: it assigns something other than an option that is not known, or its key
+-- does something when it is compared
 unfoldable pub has_effect : Placed → Bool
 has_effect t = if compares t.parts.head.operator then acts_compared (key_of t.parts.head.key) else not (is_unknown_option t)
 
--- whether none of these tokens has an effect, for which udev drops a rule
+-- whether a rule is dropped because none of its tokens has an effect: for udev it is, by the manual it stays
 abbrev pub lacks_effect : Profile → List Placed → Bool
 lacks_effect Manual tokens = false
 lacks_effect Udev tokens = not (list_any has_effect tokens)

@@ -17,7 +17,8 @@ abbrev pub more_size : ℕ → List ℕ → ℕ
 more_size other [] = 0
 more_size other (b ∷ text) = if b == other then 1 + nul_size text else nul_size (b ∷ text)
 
--- the size of the end of a line with which a text begins, 0 where it begins with none: a newline or a carriage return with what goes on with it, or one NUL
+-- the size of the end of a line with which a text begins, 0 if it begins with none: a newline or a carriage return
+-- with what goes on with it, or one NUL
 abbrev pub end_size : List ℕ → ℕ
 end_size [] = 0
 end_size (b ∷ text) =
@@ -42,7 +43,7 @@ abbrev pub file_as_read : Profile → SourceFile → SourceFile
 file_as_read Manual file = file
 file_as_read Udev file = record file { bytes = as_read file.bytes }
 
--- whether a line has more bytes than udev reads of one: 16,384 or more
+-- whether a line has more bytes than udev reads: 16,384 or more
 abbrev pub is_too_long : List ℕ → Bool
 is_too_long text = nat_le 16384 (length text)
 
@@ -51,7 +52,7 @@ abbrev pub first_too_long : List NumberedLine → Option ℕ
 first_too_long [] = None
 first_too_long (l ∷ ls) = if is_too_long l.text then Some (capped l.number) else first_too_long ls
 
--- the number of the line for which udev gives a file up, which is the first that is too long
+-- the number of the line because of which udev gives a file up, which is the first that is too long
 abbrev pub given_up : Profile → List ℕ → Option ℕ
 given_up Manual bytes = None
 given_up Udev bytes = first_too_long (numbered_lines bytes)

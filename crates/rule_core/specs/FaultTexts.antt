@@ -1,4 +1,4 @@
--- What is said of rules files that give no rules.
+-- What is said about rules files that give no rules.
 use Rattle.std.specs.Prelude.{ℕ, List, codes}
 use Rattle.rule_core.specs.declared.fault.RulesFault.{RulesFault}
 use Rattle.rule_core.specs.declared.fault.RulesFault.TheVariants.{TooMany, Memory}

@@ -1,4 +1,5 @@
--- What sorting the parts of a rule keeps, in which order they then stand, which names are given twice, and how a line is written of which nothing is to be said.
+-- What sorting the parts of a rule keeps, in which order they are then, which names are given twice, and how a line
+-- is written about which there is no finding.
 use Rattle.std.specs.Prelude.{◌≡◌, ℕ, ◌+◌, ◌<◌, ◌≤◌, false, List, [], ◌∷◌, ◌++◌, ⊤, drop, filter_map, length}
 use Rattle.text_bytes.specs.Names.{comma, is_blank}
 use Rattle.text_bytes.specs.declared.message.MessageKind.TheVariants.{GivenTwice}
@@ -18,7 +19,7 @@ abbrev pub RisesFrom : {X : Type 0} → (X → ℕ) → ℕ → List X → Type 
 RisesFrom turn t [] = ⊤
 RisesFrom turn t (x ∷ xs) = (t ≤ turn x) × RisesFrom turn (turn x) xs
 
--- Sorted are those that were written: those of each turn in written order, and turn by turn.
+-- The sorted ones are those that were written: those of each turn in written order, and turn by turn.
 pub record IsInOrder {X : Type 0} (turn : X → ℕ) (written sorted : List X) : Type 0 where
   pub each : (t : ℕ) → of_turn turn sorted t ≡ of_turn turn written t
   pub rises : RisesFrom turn 0 sorted
@@ -40,7 +41,7 @@ GivesAgain (part.Label earlier) (part.Label later) name = later ≡ name
 GivesAgain (part.Goto earlier) (part.Goto later) name = later ≡ name
 GivesAgain _ _ _ = ⊥
 
--- among the parts stands one of this part's key, and this part gives the name
+-- one of the parts has this part's key, and this part gives the name
 pub record IsGivenAmong (parts : List Part) (p : Part) (name : List ℕ) : Type 0 where
   pub before : List Part
   pub earlier : Part
@@ -48,7 +49,8 @@ pub record IsGivenAmong (parts : List Part) (p : Part) (name : List ℕ) : Type 
   pub cut : parts ≡ before ++ earlier ∷ behind
   pub again : GivesAgain earlier p name
 
--- After parts a part is reported by the manual as one given twice exactly where one of its key stands among them, and else nothing is said.
+-- By the manual, a part after others is reported as one given twice exactly if one with its key is among these, and
+-- otherwise nothing is said.
 pub record IsToldWhereAgain (parts : List Part) (p : Part) : Type 0 where
   pub again : (name : List ℕ) → IsGivenAmong parts p name → given_again_behind Manual [] (parts ++ p ∷ []) ≡ given_again_behind Manual [] parts ++ finding GivenTwice name ∷ []
   pub once : ((name : List ℕ) → IsGivenAmong parts p name → ⊥) → given_again_behind Manual [] (parts ++ p ∷ []) ≡ given_again_behind Manual [] parts
@@ -67,7 +69,7 @@ abbrev pub IsPlainBehind : List ℕ → ℕ → List Placed → Type 0
 IsPlainBehind line place [] = AllAre is_blank (drop place line)
 IsPlainBehind line place (t ∷ tokens) = IsPlainGap (between place t.span.start line) × (is_read_as_assign t ≡ false) × IsPlainBehind line t.span.end tokens
 
--- a line is written as it is meant to be
+-- a line is written as it should be
 abbrev pub IsPlain : List ℕ → List Placed → Type 0
 IsPlain line [] = ⊤
 IsPlain line (t ∷ tokens) = (is_read_as_assign t ≡ false) × IsPlainBehind line t.span.end tokens

@@ -13,7 +13,7 @@ pub use Rattle.text_bytes.specs.Lines.{NumberedLine, lines, numbered_from}
 abbrev pub unindented : NumberedLine → NumberedLine
 unindented l = record { number = l.number; text = text_unindented l.text }
 
--- whether a line is a comment, where the blanks at its start are gone
+-- whether a line without the blanks at its start is a comment
 abbrev pub is_comment : NumberedLine → Bool
 is_comment l = begins_with hash l.text
 
@@ -31,12 +31,12 @@ pub record Piece : Type 0 where
 abbrev pub piece_of : NumberedLine → Piece
 piece_of l = record { number = l.number; text = if ends_in backslash l.text then take (length l.text - 1) l.text else l.text; continues = ends_in backslash l.text }
 
--- the longest runs of pieces of which all but the last continue
+-- the longest runs of pieces in which all but the last continue
 abbrev pub runs : List Piece → List (List Piece)
 runs [] = []
 runs (p ∷ ps) = if p.continues then onto_first p (runs ps) else (p ∷ []) ∷ runs ps
 
--- whether all pieces of a run continue, so that it is open where the file ends
+-- whether all pieces of a run continue, so that it is open when the file ends
 abbrev pub is_open : List Piece → Bool
 is_open [] = true
 is_open (p ∷ ps) = p.continues && is_open ps
@@ -57,7 +57,7 @@ last_number [] = 0
 last_number (p ∷ []) = p.number
 last_number (p ∷ q ∷ ps) = last_number (q ∷ ps)
 
--- the number by which a run is reported: that of its first line, for udev that of its last
+-- the number with which a run is reported: that of its first line, for udev that of its last
 abbrev pub run_number : Profile → List Piece → ℕ
 run_number Manual run = first_number run
 run_number Udev run = last_number run
@@ -67,7 +67,8 @@ abbrev pub lines_of_runs : Profile → List (List Piece) → List NumberedLine
 lines_of_runs by [] = []
 lines_of_runs by (r ∷ rs) = if is_open r then lines_of_runs by rs else (if is_empty (run_text r) then lines_of_runs by rs else record { number = capped (run_number by r); text = run_text r } ∷ lines_of_runs by rs)
 
--- the number by which a run is told that is open at the end: that of its first line, for udev that of the file's last
+-- the number with which a run that is open at the end is reported: that of its first line, for udev that of the
+-- file's last
 abbrev pub open_number : Profile → ℕ → List Piece → ℕ
 open_number Manual last run = first_number run
 open_number Udev last run = last

@@ -1,4 +1,4 @@
--- Serves the proofs of this crate alone: what is to be said where a token ends before, and where none does.
+-- Serves inner proofs only: the findings if a token ends before, and if none does.
 use Rattle.std.specs.Prelude.{ℕ, List, [], ◌∷◌, ⊤, drop, Option, Some, None}
 use Rattle.text_bytes.specs.declared.profile.Profile.{Profile}
 use Rattle.rule_tokens.specs.Grammar.{AllAre, Placed, is_gap_byte}

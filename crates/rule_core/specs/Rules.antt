@@ -32,7 +32,7 @@ reading_of by l = record { line = l.number; read = draft_of by l.text }
 abbrev pub readings_of : Profile → SourceFile → List Reading
 readings_of by file = map (reading_of by) (joined_lines by file.bytes).lines
 
--- the names for jumps of a line; one that is no rule has none
+-- the names for jumps of a line; one that is not a rule has none
 abbrev pub names_of : Result Draft Finding → Names
 names_of (Ok d) = record { label = d.label; goto = d.goto }
 names_of (Err wrong) = record { label = None; goto = None }
@@ -41,12 +41,12 @@ names_of (Err wrong) = record { label = None; goto = None }
 abbrev pub landed : List Reading → List (Reading × Landing)
 landed readings = zip readings (landings (map (λ r. names_of r.read) readings))
 
--- a name, empty where there is none
+-- a name, empty if there is none
 abbrev pub name_in : Option (List ℕ) → List ℕ
 name_in None = []
 name_in (Some name) = name
 
--- what is to be said of a rule: first of its jump, and of its label last
+-- the findings about a rule: first about its jump, and about its label last
 abbrev pub findings_of : Draft → Landing → List Finding
 findings_of d l =
     (if l.lost then finding NoLaterLabel (name_in d.goto) ∷ [] else [])
@@ -62,7 +62,7 @@ abbrev pub line_messages : List ℕ → ℕ → Result Draft Finding → Landing
 line_messages name line (Ok d) l = map (message_at name line) (findings_of d l)
 line_messages name line (Err wrong) l = message_at name line wrong ∷ []
 
--- a rule, its jump dropped where no later rule has the label
+-- a rule, its jump dropped if no later rule has the label
 abbrev pub rule_at : List ℕ → ℕ → Draft → Landing → Rule
 rule_at name line d l = record {
   file = name;
@@ -86,7 +86,7 @@ abbrev pub open_messages : List ℕ → Option ℕ → List Message
 open_messages name None = []
 open_messages name (Some line) = message_at name line (finding OpenAtEnd []) ∷ []
 
--- the rules of a file in order, none where it is given up for a line
+-- the rules of a file in order, none if it is given up because of a line
 abbrev pub rules_unless : Profile → SourceFile → Option ℕ → List Rule
 rules_unless by f (Some line) = []
 rules_unless by f None = flat_map (λ x. line_rules f.name x.0.line x.0.read x.1) (landed (readings_of by f))
@@ -95,7 +95,7 @@ rules_unless by f None = flat_map (λ x. line_rules f.name x.0.line x.0.read x.1
 abbrev pub file_rules : Profile → SourceFile → List Rule
 file_rules by f = rules_unless by f (given_up by f.bytes)
 
--- the messages about a file by line, one alone where it is given up for a line
+-- the messages about a file by line, only one if it is given up because of a line
 abbrev pub messages_unless : Profile → SourceFile → Option ℕ → List Message
 messages_unless by f (Some line) = message_at f.name line (finding FileGivenUp []) ∷ []
 messages_unless by f None =

@@ -1,4 +1,4 @@
--- Serves the inner proofs only: joining line by line, what the lines so far have given and what one more makes of it.
+-- Serves inner proofs only: joining line by line; what the lines so far have given, and what one more makes of it.
 use Rattle.std.specs.Prelude.{ℕ, if◌then◌else◌, List, [], ◌∷◌, ◌++◌, Option, Some, None}
 use Rattle.rule_core.specs.Lines.{NumberedLine, Piece, Joined, is_empty, joined_as}
 use Rattle.text_bytes.specs.Messages.{capped}
@@ -14,7 +14,7 @@ pub record SoFar : Type 0 where
 abbrev pub sofar : List NumberedLine → Option Piece → SoFar
 sofar ls o = record { lines = ls; pending = o }
 
--- the number by which two pieces in a row are reported together
+-- the number with which two pieces in a row are reported together
 abbrev pub number_of_both : Profile → ℕ → ℕ → ℕ
 number_of_both Manual earlier later = earlier
 number_of_both Udev earlier later = later
@@ -24,24 +24,24 @@ abbrev pub onto : Profile → Option Piece → Piece → Piece
 onto by None p = p
 onto by (Some q) p = record { number = number_of_both by q.number p.number; text = q.text ++ p.text; continues = p.continues }
 
--- a piece as a joined line, or as none where it is empty
+-- a piece as a joined line, or as none if it is empty
 abbrev pub line_of : Piece → List NumberedLine
 line_of p = if is_empty p.text then [] else record { number = capped p.number; text = p.text } ∷ []
 
--- one piece more: it continues the open one or begins another, and where it is not continued itself, it ends it
+-- one more piece: it continues the open one or begins another, and ends it unless it is itself continued
 abbrev pub after : Profile → SoFar → Piece → SoFar
 after by s p = if p.continues then sofar s.lines (Some (onto by s.pending p)) else sofar (s.lines ++ line_of (onto by s.pending p)) None
 
--- the number by which an open piece is reported where the last line of its file has this one
+-- the number with which an open piece is reported if the last line of its file has this number
 abbrev pub told_open : Profile → ℕ → ℕ → ℕ
 told_open Manual last number = number
 told_open Udev last number = last
 
--- the number by which the open piece is reported, if there is one
+-- the number with which the open piece is reported, if there is one
 abbrev pub open_at : Profile → ℕ → Option Piece → Option ℕ
 open_at by last None = None
 open_at by last (Some p) = Some (capped (told_open by last p.number))
 
--- no piece more, in a file whose last line has this number
+-- no more pieces, in a file whose last line has this number
 abbrev pub ended : Profile → ℕ → SoFar → Joined
 ended by last s = joined_as s.lines (open_at by last s.pending)

@@ -27,12 +27,12 @@ abbrev pub has_blank_before_comma : List ℕ → Bool
 has_blank_before_comma [] = false
 has_blank_before_comma (b ∷ gap) = is_blank b && not (commas gap == 0)
 
--- a gap before a token, and that token's key: udev also says about blanks before a comma
+-- a gap before a token, and that token's key: udev also reports blanks before a comma
 abbrev pub gap_findings : Profile → List ℕ → List ℕ → List Finding
 gap_findings Manual gap key = comma_findings gap key
 gap_findings Udev gap key = comma_findings gap key ++ (if has_blank_before_comma gap then finding BlankBeforeComma key ∷ [] else [])
 
--- the gap before the first token, which udev passes over
+-- the gap before the first token, which udev skips
 abbrev pub front_findings : Profile → List ℕ → List Finding
 front_findings Manual gap = []
 front_findings Udev gap = if commas gap == 0 then [] else finding LeadingComma [] ∷ []

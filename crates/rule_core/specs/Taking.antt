@@ -1,4 +1,4 @@
--- Serves the proofs of this crate alone: the parts of a rule taken one by one.
+-- Serves inner proofs only: the parts of a rule taken one by one.
 use Rattle.std.specs.Prelude.{ℕ, List, [], ◌∷◌, ◌++◌, Option, Some, None, filter_map}
 use Rattle.text_bytes.specs.declared.profile.Profile.{Profile}
 use Rattle.text_bytes.specs.declared.profile.Profile.TheVariants.{Manual, Udev}
@@ -27,22 +27,22 @@ abbrev pub first_given : Option (List ℕ) → List ℕ → Option (List ℕ)
 first_given (Some name) later = Some name
 first_given None name = Some name
 
--- what is to be said of a name, by the one that was given before it
+-- the findings about a name, by the one that was given before it
 abbrev pub again : Option (List ℕ) → List ℕ → List Finding
 again None name = []
 again (Some name) later = finding GivenTwice later ∷ []
 
--- the label that counts of one and a later one
+-- of a label and a later one, the one that counts
 abbrev pub label_given : Profile → Option (List ℕ) → List ℕ → Option (List ℕ)
 label_given Manual earlier name = first_given earlier name
 label_given Udev earlier name = Some name
 
--- what is to be said of a label, by the one that counts of those before it
+-- the findings about a label, by the one that counts of those before it
 abbrev pub label_said : Profile → Option (List ℕ) → List ℕ → List Finding
 label_said Manual earlier name = again earlier name
 label_said Udev earlier name = lost_name earlier
 
--- one part more
+-- one more part
 abbrev pub with_part : Profile → Draft → Part → Draft
 with_part by d (part.Plain m) = record d { plain = d.plain ++ m ∷ [] }
 with_part by d (part.Up m) = record d { up = d.up ++ m ∷ [] }

@@ -1,4 +1,4 @@
--- Serves the inner proofs only: the bytes of a text, however they are held.
+-- Serves inner proofs only: the bytes of a text, however they are held.
 use Rattle.std.specs.Prelude.{ℕ, List}
 use Rattle.rule_core.specs.declared.text.Held.{Held}
 use Rattle.rule_core.specs.declared.text.Held.TheVariants as held

@@ -1,4 +1,4 @@
--- In which order the parts of a rule are evaluated that act, and those that assign.
+-- The order in which the parts of a rule that act are evaluated, and those that assign.
 use Rattle.std.specs.Prelude.{ℕ, zero, suc, ◌+◌, ◌==◌, List, [], ◌∷◌, filter, flat_map, Option, Some}
 use Rattle.text_bytes.specs.declared.profile.Profile.{Profile}
 use Rattle.text_bytes.specs.declared.profile.Profile.TheVariants.{Manual, Udev}

@@ -14,7 +14,7 @@ use std::alloc::{AllocError, Global};
 use std::marker::Model;
 use text_bytes::{Bytes, MessageKind, Profile};
 
-/// A rule as its line alone tells it.
+/// A rule as its line alone gives it.
 #[derive(Debug, Drop)]
 pub struct Draft {
     /// The name of its LABEL that counts: the first, for udev the last.
@@ -31,7 +31,7 @@ pub struct Draft {
     pub results: Vec<Comparison>,
     /// The assignments, by their kind; those of one kind in written order. udev has more kinds.
     pub sets: Vec<Assignment>,
-    /// What is to be said of the rule, in the order of messages.
+    /// The findings about the rule, in the order of messages.
     pub findings: Vec<Finding>,
 }
 
@@ -81,7 +81,7 @@ impl Draft {
         }
     }
 
-    /// Takes one part more.
+    /// Takes one more part.
     fn take(&mut self, alloc: Global, profile: Profile, part: Part) -> Result<(), AllocError>
         ensures { OnOk result (self.new ≡ with_part profile self.old part) }
     {
@@ -100,7 +100,7 @@ impl Draft {
     }
 }
 
-/// Gives a label, and says about the one that does not count where one was given before.
+/// Sets the label, and reports the one that does not count if one was given before.
 fn give_label(
     alloc: Global,
     profile: Profile,
@@ -117,7 +117,7 @@ fn give_label(
     }
 }
 
-/// Gives a name in place of one that was given before, which is reported.
+/// Sets a name, and reports the one that was given before, if there was one.
 fn give_last(
     alloc: Global,
     given: &mut Option<Bytes>,
@@ -134,7 +134,7 @@ fn give_last(
     Ok(())
 }
 
-/// Gives a name, or tells that one was given before.
+/// Sets a name, or reports it if one was given before.
 fn give(
     alloc: Global,
     given: &mut Option<Bytes>,

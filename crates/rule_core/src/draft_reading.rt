@@ -16,9 +16,9 @@ use text_bytes::{MessageKind, Profile};
 
 /// Reads a joined line as a rule, as udev(7) or udev itself has it.
 ///
-/// What is wrong is that the line has more than 16,384 bytes, or else it is the fault of the first
-/// token that has one. For udev a line of 16,384 bytes is too long, and one that is right is wrong
-/// where no token has an effect. `Memory` comes only where an allocation fails.
+/// What is wrong is that the line has more than 16,384 bytes, or else it is the fault of the first token that has
+/// one. For udev a line of 16,384 bytes is also too long, and a line without such a fault is wrong if no token has
+/// an effect. `Memory` comes only if an allocation fails.
 pub fn read_draft(alloc: Global, profile: Profile, line: &[u8]) -> Result<Draft, PartFault>
     ensures { MatchResult result (λ d. draft_of profile line.now ≡ Ok d) (λ f. FaultOf f (draft_of profile line.now)) }
 {
@@ -63,7 +63,7 @@ fn read_parts(alloc: Global, profile: Profile, line: &[u8]) -> Result<Vec<Part>,
     Ok(parts)
 }
 
-/// What is wrong with a part of a line, from its first byte on, that is no token.
+/// What is wrong with a part of a line, given from its first byte on, that is not a token.
 fn token_finding(alloc: Global, kind: TokenFaultKind, text: &[u8]) -> Result<Finding, AllocError>
     ensures { IfOk result (λ found. found ≡ token_finding kind text.now) }
 {

@@ -13,7 +13,7 @@ use rule_types::{Key, key_of};
 use std::alloc::{AllocError, Global};
 use text_bytes::Profile;
 
-/// Whether no token of a line has an effect, for which udev drops the rule; the manual keeps it.
+/// Whether a rule is dropped because no token of its line has an effect: udev does so, and by the manual it stays.
 pub fn lacks_effect(alloc: Global, profile: Profile, line: &[u8]) -> Result<bool, AllocError>
     ensures { IfOk result (λ lacks. lacks ≡ lacks_effect profile (tokens_of (items_as profile line.now))) }
 {
@@ -37,8 +37,8 @@ fn some_has_effect(alloc: Global, line: &[u8]) -> Result<bool, AllocError>
     Ok(false)
 }
 
-/// Whether a token does more than compare: it assigns anything but an option that udev does not
-/// know, runs a command or takes properties.
+/// Whether a token does more than compare: it assigns something other than an option that udev does not know, runs
+/// a command or takes properties.
 #[tactic(auto, unfolding(crate::specs::Effects::has_effect))]
 pub fn has_effect(alloc: Global, token: &Token<'_>) -> Result<bool, AllocError>
     ensures { IfOk result (λ has. has ≡ has_effect token.now) }
@@ -50,7 +50,7 @@ pub fn has_effect(alloc: Global, token: &Token<'_>) -> Result<bool, AllocError>
     }
 }
 
-/// Whether a key does something also where it is compared.
+/// Whether a key does something even when it is compared.
 fn acts_compared(key: &[u8]) -> bool
     ensures { result ≡ acts_compared (key_of key.now) }
 {

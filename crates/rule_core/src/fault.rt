@@ -9,7 +9,7 @@ use std::fmt;
 pub enum RulesFault {
     /// 1: more than 2^24 tokens are left in their rules.
     TooMany,
-    /// 2: memory runs out.
+    /// 2: memory ran out.
     Memory,
 }
 

@@ -1,6 +1,6 @@
 //! The rules so far, and how many tokens are left in them.
 //!
-//! No rule is kept with which there are too many, so that the bound holds of each value here.
+//! A rule that would make the tokens too many is not kept, so that the bound holds for each value here.
 ghost use Rattle.std.specs.Prelude.{◌≡◌, ◌∷◌, ◌-◌, ◌^◌, ◌≤◌, [], min};
 ghost use Rattle.rule_core.specs.Gathering.{Adds};
 ghost use Rattle.rule_types.specs.Rules.{name_count, rule_tokens, tokens_in};
@@ -44,8 +44,7 @@ impl Gathered {
         }
     }
 
-    /// Adds a rule. `TooMany` comes where more than 2^24 tokens are left with it, `Memory` where a
-    /// allocation fails.
+    /// Adds a rule. `TooMany` comes if more than 2^24 tokens are left with it, `Memory` if an allocation fails.
     pub fn add(&mut self, rule: Rule) -> Result<(), RulesFault>
         ensures { Adds self.old self.new (rule ∷ []) result }
     {
@@ -68,7 +67,7 @@ impl Gathered {
     }
 }
 
-/// How many tokens are left in a rule, or 2^64 - 1 where that is less.
+/// How many tokens are left in a rule, or 2^64 - 1 if that is less.
 fn tokens_of(rule: &Rule) -> usize
     ensures { result ≡ min (rule_tokens rule.now) (2 ^ 64 - 1) }
 {

@@ -23,7 +23,7 @@ impl<'a> Model for JoinedLine<'a> {
 }
 
 impl<'a> JoinedLine<'a> {
-    /// The joined line of a text that is reported by the line of this number.
+    /// The joined line of a text that is reported with the line of this number.
     pub(crate) fn new(number: usize, text: Text<'a>) -> JoinedLine<'a>
         ensures { result ≡ record { number = capped number; text = text.entry } }
     {
@@ -33,9 +33,8 @@ impl<'a> JoinedLine<'a> {
         }
     }
 
-    /// The number of the first line of the file that is part of this one, and for udev of the last,
-    /// counted from 1; a number over 2^32 - 1 is given as that one. A comment before or after it is
-    /// no part of it.
+    /// The number of the first line of the file that is part of this one, or for udev of the last, counted from 1
+    /// and at most 2^32 - 1. A comment before or after it is not part of it.
     pub fn number(&self) -> u32
         ensures { result ≡ self.now.number }
     {
@@ -66,7 +65,7 @@ impl<'a> Model for JoinedLines<'a> {
 }
 
 impl<'a> JoinedLines<'a> {
-    /// The joined lines, and the number by which an open one is reported.
+    /// The joined lines, and the number with which an open one is reported.
     pub(crate) fn new(lines: Vec<JoinedLine<'a>>, open_at: Option<u32>) -> JoinedLines<'a>
         ensures { result ≡ joined_as lines.entry.items open_at }
     {
@@ -80,9 +79,9 @@ impl<'a> JoinedLines<'a> {
         &self.lines
     }
 
-    /// The number of the first line of a joined line that is still open where the file ends: the
-    /// last line that is kept ends in a backslash. For udev it is the number of the file's last line.
-    /// Such a line is no rule. It is given also where nothing but backslashes is in it.
+    /// The number of the first line of a joined line that is still open at the end of the file, since the last line
+    /// that is kept ends in a backslash. For udev it is the number of the file's last line. Such a line is not a
+    /// rule. The number is given even if there is nothing but backslashes in the line.
     pub fn open_at(&self) -> Option<u32>
         ensures { result ≡ self.now.open_at }
     {

@@ -1,7 +1,7 @@
 //! Joining the lines of a rules file, as udev(7) says: a line that ends in a backslash is continued
-//! by the next, and comments are skipped wherever they stand.
+//! by the next, and comments are skipped wherever they are.
 //!
-//! A continued line is reported by the number of its first line, and for udev by that of its last.
+//! A continued line is reported with the number of its first line, and for udev with that of its last.
 ghost use Rattle.std.specs.Prelude.{◌≡◌, [], None, IfOk, OnOk, length};
 ghost use Rattle.rule_core.specs.Lines.{joined_lines, lines};
 ghost use Rattle.rule_core.specs.Steps.{after, ended, number_of_both, sofar, told_open};
@@ -74,7 +74,7 @@ impl<'a> Joining<'a> {
         Ok(())
     }
 
-    /// The joined lines of a file, where no line follows.
+    /// The joined lines of a file, once no line follows.
     fn ended(self, profile: Profile, bytes: &[u8]) -> JoinedLines<'a>
         ensures { result ≡ ended profile (length (lines bytes.now)) self.entry }
     {
@@ -86,7 +86,7 @@ impl<'a> Joining<'a> {
     }
 }
 
-/// The number by which two lines in a row are reported together.
+/// The number with which two lines in a row are reported together.
 fn number_of_both(profile: Profile, earlier: usize, later: usize) -> usize
     ensures { result ≡ number_of_both profile earlier later }
 {
@@ -96,8 +96,8 @@ fn number_of_both(profile: Profile, earlier: usize, later: usize) -> usize
     }
 }
 
-/// The number by which a line of a file is told that is open at its end, of which the manual's is
-/// this one.
+/// The number with which a line that is open at the end of its file is reported; the one given is that of the
+/// manual.
 fn told_open(profile: Profile, number: usize, bytes: &[u8]) -> usize
     ensures { result ≡ told_open profile (length (lines bytes.now)) number }
 {
@@ -124,7 +124,7 @@ fn line_count(bytes: &[u8]) -> usize
 /// line around it. A line that ends in `\` loses it and is joined with the next line that is kept.
 /// What is then empty is dropped.
 ///
-/// A line that is continued by no other borrows the file's bytes.
+/// A line that no other continues borrows the file's bytes.
 pub fn joined_lines<'a>(
     alloc: Global,
     profile: Profile,

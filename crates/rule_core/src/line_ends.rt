@@ -7,7 +7,7 @@ ghost use Rattle.text_bytes.specs.Lines.{numbered_lines};
 use std::alloc::{AllocError, Global};
 use text_bytes::{Bytes, Lines, Profile, SourceFile, capped};
 
-/// The fewest bytes of a line for which udev gives its file up.
+/// The fewest bytes of a line because of which udev gives its file up.
 const TOO_MANY_BYTES: usize = 16_384;
 
 /// Files as they are read: for udev with the ends of their lines as `read_ends` has them, by the
@@ -57,8 +57,8 @@ fn file_by_udev(alloc: Global, file: SourceFile) -> Result<SourceFile, AllocErro
 
 /// The bytes of a file with each end of a line written as one newline, as udev reads it.
 ///
-/// An end is a newline, a carriage return or both in either order, each perhaps with one NUL after, or one NUL alone;
-/// where several are at a place, the longest counts. A file that was so read is left as it is.
+/// An end is a newline, a carriage return or both in either order, each perhaps with one NUL after it, or one NUL
+/// alone; of several that fit at a place, the longest counts. A file that was read in this way is left as it is.
 #[tactic(auto, using(crate::proofs::Passing::at_start, crate::proofs::Passing::passed_one, crate::proofs::Passing::byte_read, crate::proofs::Passing::all_read))]
 pub fn read_ends(alloc: Global, bytes: &[u8]) -> Result<Vec<u8>, AllocError>
     ensures { IfOk result (λ read. read.items ≡ as_read bytes.now) }
@@ -79,7 +79,7 @@ pub fn read_ends(alloc: Global, bytes: &[u8]) -> Result<Vec<u8>, AllocError>
     Ok(read)
 }
 
-/// The size of the end of a line with which a text begins, 0 where it begins with none.
+/// The size of the end of a line with which a text begins, 0 if it begins with none.
 fn end_size(text: &[u8]) -> usize
     ensures { result ≡ end_size text.now }
 {
@@ -103,7 +103,7 @@ fn more_size(other: u8, text: &[u8]) -> usize
     }
 }
 
-/// How many bytes of a NUL a text begins with.
+/// How many bytes of a NUL a text begins with: 1 or none.
 fn nul_size(text: &[u8]) -> usize
     ensures value { result ≡ nul_size text.now }
     ensures small { result ≤ 1 }
@@ -114,8 +114,8 @@ fn nul_size(text: &[u8]) -> usize
     }
 }
 
-/// The number of the line for which udev gives a file up: the first of 16,384 bytes or more, of which the line's end is
-/// none. By the manual no file is given up.
+/// The number of the line because of which udev gives a file up: the first of 16,384 bytes or more, its end not
+/// counted. By the manual no file is given up.
 pub fn given_up_at(profile: Profile, bytes: &[u8]) -> Option<u32>
     ensures { result ≡ given_up profile bytes.now }
 {

@@ -1,4 +1,4 @@
-//! What is found of the lines of a file, as messages.
+//! What is found in the lines of a file, as messages.
 ghost use Rattle.std.specs.Prelude.{◌≡◌, ◌∷◌, ◌++◌, [], if◌then◌else◌, OnOk, map};
 ghost use Rattle.text_bytes.specs.declared.message.MessageKind.TheVariants.{FileGivenUp, OpenAtEnd};
 ghost use Rattle.rule_parts.specs.Values.{finding};
@@ -17,7 +17,7 @@ pub struct Place<'a> {
     pub line: u32,
 }
 
-/// Puts a message about a line after others.
+/// Adds a message about a line.
 pub fn tell(
     alloc: Global,
     messages: &mut Vec<Message>,
@@ -35,7 +35,7 @@ pub fn tell(
     Ok(())
 }
 
-/// Puts a message about a line after others for each of its findings.
+/// Adds a message about a line for each of its findings.
 pub fn tell_all(
     alloc: Global,
     messages: &mut Vec<Message>,
@@ -50,7 +50,7 @@ pub fn tell_all(
     Ok(())
 }
 
-/// Puts a message about a name of a line after others, if something is wrong with it.
+/// Adds a message about a name of a line, if something is wrong with it.
 pub fn tell_if(
     alloc: Global,
     messages: &mut Vec<Message>,
@@ -72,8 +72,7 @@ pub fn tell_if(
     Ok(())
 }
 
-/// Puts a message about a line that is still open at its file's end after others, if there is such
-/// a line.
+/// Adds a message about a line that is still open at its file's end, if there is such a line.
 pub fn tell_open(
     alloc: Global,
     messages: &mut Vec<Message>,
@@ -91,7 +90,7 @@ pub fn tell_open(
     }
 }
 
-/// Puts the message about a file that is given up for a line after others.
+/// Adds the message about a file that is given up because of a line.
 pub fn tell_given_up(
     alloc: Global,
     messages: &mut Vec<Message>,
@@ -105,7 +104,7 @@ pub fn tell_given_up(
     tell(alloc, messages, place, found)
 }
 
-/// A name, which is empty where there is none.
+/// A name, or the empty one if there is none.
 fn text_of(name: &Option<Bytes>) -> &[u8]
     ensures { result.now ≡ name_in name.now }
 {

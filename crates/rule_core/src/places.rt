@@ -8,8 +8,7 @@ ghost use Rattle.rule_core.specs.Style.{between};
 use rule_tokens::Tokens;
 use text_bytes::Profile;
 
-/// The place in a line where its tokens begin, in bytes from its start: udev passes over commas and
-/// blanks in front.
+/// The place in a line where its tokens begin, in bytes from its start: udev skips commas and blanks in front.
 pub fn first_place(profile: Profile, line: &[u8]) -> usize
     ensures value { result ≡ first_place profile line.now }
     ensures within { result ≤ length line.now }
@@ -42,7 +41,7 @@ pub fn line_tokens(profile: Profile, line: &[u8]) -> Tokens<'_>
     Tokens::from_place(line, first_place(profile, line))
 }
 
-/// The bytes of a line from a place on, none where it ends before that.
+/// The bytes of a line from a place on, none if it ends before that.
 pub fn behind(place: usize, line: &[u8]) -> &[u8]
     ensures { result.now ≡ drop place line.now }
 {

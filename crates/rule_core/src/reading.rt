@@ -20,8 +20,8 @@ use text_bytes::{Bytes, Message, MessageKind, Profile, SourceFile};
 
 /// Reads rules files as udev(7) writes them, in the order in which they are given.
 ///
-/// A line that is wrong costs a message and is no rule. `TooMany` comes exactly where more than 2^24
-/// tokens are left in the rules, and `Memory` only where an allocation fails.
+/// A line that is wrong costs a message and is not a rule. `TooMany` comes exactly if more than 2^24 tokens are
+/// left in the rules, and `Memory` only if an allocation fails.
 pub fn read_rules(alloc: Global, files: &[SourceFile]) -> Result<RuleSet, RulesFault>
     ensures set { IfOk result (λ s. s ≡ set_of files.now) }
     ensures within { IfOk result (λ s. tokens_in (set_of files.now).rules ≤ 2 ^ 24) }
@@ -30,8 +30,8 @@ pub fn read_rules(alloc: Global, files: &[SourceFile]) -> Result<RuleSet, RulesF
     read_rules_as(alloc, Profile::Manual, files)
 }
 
-/// Reads rules files as `read_rules` does, or as udev itself reads them, where the ends of their lines
-/// are written as `files_as_read` gives them. A file that udev gives up costs a message and has no rule.
+/// Reads rules files as `read_rules` does, or as udev itself reads them, with the ends of their lines as
+/// `files_as_read` writes them. A file that udev gives up costs a message and has no rules.
 pub fn read_rules_as(
     alloc: Global,
     profile: Profile,
@@ -125,7 +125,7 @@ fn add_lines(
     Ok(())
 }
 
-/// Adds a line: a rule, or a message about one that is none.
+/// Adds a line: a rule, or a message about one that is not a rule.
 fn add_line(
     alloc: Global,
     rules: &mut Gathered,
@@ -148,7 +148,7 @@ fn add_line(
     }
 }
 
-/// Adds a rule, and the messages about it: first of its jump, and of its label last.
+/// Adds a rule, and the messages about it: first about its jump, and about its label last.
 fn add_draft(
     alloc: Global,
     rules: &mut Gathered,
@@ -188,7 +188,7 @@ fn add_draft(
     })
 }
 
-/// A rule's jump, which is dropped where it is lost.
+/// A rule's jump, which is dropped if it is lost.
 fn kept_jump(goto: Option<Bytes>, lost: bool) -> Option<Bytes>
     ensures { result ≡ (if lost then None else goto) }
 {

@@ -1,6 +1,6 @@
 //! The joined lines of a file, each read as a rule.
 //!
-//! A line that is none stays here with what is wrong with it, so that the lines, what is said of them
+//! A line that is not a rule is kept here with what is wrong with it, so that the lines, what is said about them
 //! and their jumps stay side by side.
 ghost use Rattle.std.specs.Prelude.{◌≡◌, IfOk, map, option_map};
 ghost use Rattle.rule_jumps.specs.Jumps.{landings};
@@ -20,7 +20,7 @@ use text_bytes::{Bytes, Profile};
 pub struct Reading {
     /// The number of the line of the file in which it begins.
     pub line: u32,
-    /// The rule as its line alone tells it, or what is wrong with it.
+    /// The rule as its line alone gives it, or what is wrong with it.
     pub read: Result<Draft, Finding>,
 }
 
@@ -33,7 +33,7 @@ impl Model for Reading {
 }
 
 impl Reading {
-    /// Its names for jumps, of which a line that is no rule has none.
+    /// Its names for jumps; a line that is not a rule has none.
     pub fn jump(&self) -> Jump<'_>
         ensures { result ≡ names_of self.now.read }
     {

@@ -1,7 +1,7 @@
 //! The rules of all files together.
 //!
-//! That they have not too many tokens is known of each value, so that what is made of rules can be
-//! counted without a case for more.
+//! Each value is known to have not too many tokens, so that what is made from rules can be counted without a case
+//! for too many.
 ghost use Rattle.std.specs.Prelude.{◌≡◌, ◌^◌, ◌≤◌};
 ghost use Rattle.rule_types.specs.Rules.{tokens_in};
 
@@ -10,7 +10,7 @@ use std::marker::Model;
 use text_bytes::Message;
 
 /// The rules of files, of which at most 2^24 tokens are left, and the messages about them.
-/// `read_rules` and `read_rules_as` alone make it.
+/// Only `read_rules` and `read_rules_as` make it.
 #[derive(Debug, Drop)]
 pub struct RuleSet {
     pub(crate) rules: Vec<Rule>,
@@ -38,15 +38,15 @@ impl RuleSet {
         &self.rules
     }
 
-    /// Returns the messages: by file, then by line; of one line the V by number and place, then the S
-    /// by place and number, S4 last. For udev V24 stands among the S, by its place.
+    /// Returns the messages: by file, then by line; of one line the V by number and place, then the S by place and
+    /// number, S4 last. For udev V24 is among the S, by its place.
     pub fn messages(&self) -> &[Message]
         ensures { result.now ≡ self.now.messages }
     {
         &self.messages
     }
 
-    /// Gives up the messages for the rules.
+    /// Returns the rules and drops the messages.
     pub fn into_rules(self) -> Vec<Rule>
         ensures given { result.items ≡ self.rules }
         ensures within { tokens_in self.rules ≤ 2 ^ 24 }
@@ -55,7 +55,7 @@ impl RuleSet {
         rules
     }
 
-    /// Gives up the rules for the messages.
+    /// Returns the messages and drops the rules.
     pub fn into_messages(self) -> Vec<Message>
         ensures { result.items ≡ self.messages }
     {

@@ -1,7 +1,6 @@
 //! How a rule is written: commas and blanks between its tokens, and operators that are read as `=`.
 //!
-//! Nothing of this keeps a rule from being one, so that it is looked at only where no token has a
-//! fault.
+//! None of this keeps a line from being a rule, so it is looked at only if no token has a fault.
 ghost use Rattle.std.specs.Prelude.{◌≡◌, ◌++◌, OnOk};
 ghost use Rattle.text_bytes.specs.Names.{comma};
 ghost use Rattle.rule_tokens.specs.Values.{ends_in};
@@ -16,7 +15,7 @@ use rule_tokens::Token;
 use std::alloc::{AllocError, Global};
 use text_bytes::{MessageKind, Profile};
 
-/// Adds what is to be said of how a line is written, by the places of its tokens.
+/// Adds the findings about how a line is written, by the places of its tokens.
 pub(crate) fn add_style(
     alloc: Global,
     profile: Profile,
@@ -35,8 +34,8 @@ pub(crate) fn add_style(
     add_end(alloc, findings, line, place)
 }
 
-/// Adds what is to be said of a token and of the gap before it, which begins at a place, or where the
-/// line does before the first token.
+/// Adds the findings about a token and the gap before it, which begins at a place, or for the first token at
+/// the start of the line.
 fn add_token(
     alloc: Global,
     profile: Profile,
@@ -58,7 +57,7 @@ fn add_token(
     add_operator(alloc, profile, findings, token)
 }
 
-/// Adds what is to be said of the gap before the first token, which udev alone passes over.
+/// Adds the findings about the gap before the first token, which only udev skips.
 fn add_front(
     alloc: Global,
     profile: Profile,
@@ -78,7 +77,7 @@ fn add_front(
     Ok(())
 }
 
-/// Adds what is to be said of the gap before a token with this key.
+/// Adds the findings about the gap before a token with this key.
 fn add_gap(
     alloc: Global,
     profile: Profile,
@@ -100,7 +99,7 @@ fn add_gap(
     Ok(())
 }
 
-/// Adds what is to be said of the commas of the gap before a token with this key.
+/// Adds the findings about the commas of the gap before a token with this key.
 fn add_commas(
     alloc: Global,
     findings: &mut Vec<Finding>,
@@ -118,7 +117,7 @@ fn add_commas(
     Ok(())
 }
 
-/// Adds what is to be said of a token's operator.
+/// Adds the finding about a token's operator, if there is one.
 fn add_operator(
     alloc: Global,
     profile: Profile,
@@ -143,7 +142,7 @@ pub fn read_as_assign_kind(profile: Profile) -> MessageKind
     }
 }
 
-/// Adds what is to be said of the gap after the last token, which begins at a place.
+/// Adds the findings about the gap after the last token, which begins at a place.
 fn add_end(
     alloc: Global,
     findings: &mut Vec<Finding>,

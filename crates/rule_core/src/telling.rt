@@ -1,4 +1,4 @@
-//! What is to be said of a rule.
+//! The findings about a rule.
 ghost use Rattle.std.specs.Prelude.{◌≡◌, ◌++◌, ◌∷◌, [], OnOk};
 ghost use Rattle.rule_parts.specs.Values.{finding};
 
@@ -6,7 +6,7 @@ use rule_parts::Finding;
 use std::alloc::{AllocError, Global};
 use text_bytes::MessageKind;
 
-/// Adds what is to be said to what was said before.
+/// Adds a finding to those before it.
 pub(crate) fn tell(
     alloc: Global,
     findings: &mut Vec<Finding>,

@@ -1,4 +1,4 @@
-//! In which order the parts of a rule are evaluated that act, and those that assign.
+//! The order in which the parts of a rule that act are evaluated, and those that assign.
 //!
 //! Each part has a number, its turn, so that a stable sort by turns gives the order.
 ghost use Rattle.std.specs.Prelude.{◌≡◌, ◌≤◌, OnOk};

@@ -18,7 +18,8 @@ is_named name (Some other) = pointwise nat_eq name other
 abbrev pub has_label : List ℕ → List Names → Bool
 has_label name rules = list_any (λ r. is_named name r.label) rules
 
--- whether a rule above jumps to a label of this name here, the rules above from the nearest on: the search ends at the next label of the name, whose own rule may jump here
+-- whether a rule above jumps to a label of this name here, the rules above from the nearest on: the search ends at
+-- the next label of the name, whose own rule may jump here
 abbrev pub is_awaited : List ℕ → List Names → Bool
 is_awaited name [] = false
 is_awaited name (r ∷ farther) = if is_named name r.goto then true else (if is_named name r.label then false else is_awaited name farther)
@@ -33,7 +34,7 @@ abbrev pub is_unused : Option (List ℕ) → List Names → Bool
 is_unused None above = false
 is_unused (Some name) above = not (is_awaited name above)
 
--- what becomes of the jumps of rules, below those above, from the nearest on
+-- what becomes of the jumps of rules, which are below others, given from the nearest on
 abbrev pub landings_below : List Names → List Names → List Landing
 landings_below above [] = []
 landings_below above (r ∷ below) = record { lost = is_lost r.goto below; unused = is_unused r.label above } ∷ landings_below (r ∷ above) below

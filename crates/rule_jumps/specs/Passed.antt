@@ -1,16 +1,16 @@
--- Serves inner proofs only: how many rules each jump passes over.
+-- Serves inner proofs only: how many rules each jump skips.
 use Rattle.std.specs.Prelude.{ℕ, not, List, [], ◌∷◌, Option, Some, None}
 use Rattle.std.specs.List.{prefix_len}
 use Rattle.text_tables.specs.Texts.{Text}
 use Rattle.rule_jumps.specs.Jumps.{is_named}
 use Rattle.rule_types.specs.Rules.{Rule}
 
--- how many rules a jump passes over, of those below it: those before the first with the label; no jump passes none over
+-- how many of the rules below it a jump skips: those before the first with the label; no jump skips none
 abbrev pub over : Option Text → List Rule → ℕ
 over None below = 0
 over (Some name) below = prefix_len (λ r. not (is_named name r.label)) below
 
--- how many rules the jump of each rule passes over
+-- how many rules the jump of each rule skips
 abbrev pub passed_over : List Rule → List ℕ
 passed_over [] = []
 passed_over (r ∷ below) = over r.goto below ∷ passed_over below

@@ -1,4 +1,4 @@
--- Serves the proofs of this crate alone: what the passes over the rules of a file keep.
+-- Serves inner proofs only: what the passes over the rules of a file keep.
 use Rattle.std.specs.Prelude.{ℕ, Bool, false, not, unwrap_or, List, [], ◌∷◌, Option, Some, None}
 use Rattle.text_tables.specs.Texts.{is_among, with_text}
 use Rattle.text_tables.specs.Pairs.{value_of, with_value}
@@ -10,7 +10,7 @@ abbrev pub lost_flags : List Names → List Bool
 lost_flags [] = []
 lost_flags (r ∷ below) = is_lost r.goto below ∷ lost_flags below
 
--- whether each rule has a label that no rule above it jumps to, below these above, from the nearest on
+-- whether each rule has a label that no rule above it jumps to, given those above, from the nearest on
 abbrev pub unused_flags : List Names → List Names → List Bool
 unused_flags above [] = []
 unused_flags above (r ∷ below) = is_unused r.label above ∷ unused_flags (r ∷ above) below
@@ -19,7 +19,7 @@ unused_flags above (r ∷ below) = is_unused r.label above ∷ unused_flags (r �
 abbrev pub joined : Bool × Bool → Landing
 joined p = record { lost = p.0; unused = p.1 }
 
--- whether there is a name that is none of these
+-- whether there is a name, and it is not one of these
 abbrev pub misses : List (List ℕ) → Option (List ℕ) → Bool
 misses names None = false
 misses names (Some name) = not (is_among names name)
@@ -29,16 +29,16 @@ abbrev pub with_name : List (List ℕ) → Option (List ℕ) → List (List ℕ)
 with_name names None = names
 with_name names (Some name) = with_text names name
 
--- whether a jump waits for the next label of a name; where nothing is noted of it, none does
+-- whether a jump waits for the next label of a name; if nothing is recorded about it, none does
 abbrev pub is_waited_for : List (List ℕ × Bool) → List ℕ → Bool
 is_waited_for waiting name = unwrap_or (value_of waiting name) false
 
--- whether there is a label for which no jump waits
+-- whether there is a label, and no jump waits for it
 abbrev pub leaves_unused : List (List ℕ × Bool) → Option (List ℕ) → Bool
 leaves_unused waiting None = false
 leaves_unused waiting (Some name) = not (is_waited_for waiting name)
 
--- what is noted, with whether a jump waits for the next label of a name, if there is one
+-- what is recorded, and also whether a jump waits for the next label of a name, if there is one
 abbrev pub with_note : List (List ℕ × Bool) → Option (List ℕ) → Bool → List (List ℕ × Bool)
 with_note waiting None waits = waiting
 with_note waiting (Some name) waits = with_value waiting name waits

@@ -1,4 +1,4 @@
-//! What a rule says of jumps, and what is found of it.
+//! The names that a rule has for jumps, and what is found about them.
 ghost use Rattle.std.specs.Prelude.{◌≡◌, option_map};
 
 use std::marker::Model;

@@ -7,9 +7,8 @@ use rule_types::Rule;
 use std::alloc::{AllocError, Global};
 use text_tables::Table;
 
-/// How many rules the jump of each rule passes over, as udev(7) has it: those between the rule and the
-/// next one with the label. A rule without a jump passes none over, and one whose label no later rule
-/// has all of them.
+/// How many rules the jump of each rule skips, as udev(7) has it: those between the rule and the next one with the
+/// label. A rule without a jump skips none, and one whose label no later rule has skips all later rules.
 pub fn passed_over(alloc: Global, rules: &[Rule]) -> Result<Vec<usize>, AllocError>
     ensures { IfOk result (λ counts. counts.items ≡ passed_over rules.now) }
 {
@@ -24,8 +23,8 @@ pub fn passed_over(alloc: Global, rules: &[Rule]) -> Result<Vec<usize>, AllocErr
     Ok(counts)
 }
 
-/// How many of the rules below a jump passes over, where the labels of these are known, each by how
-/// many rules are below the first rule that has it.
+/// How many of the rules below a jump it skips, given the labels of these, each with how many rules are below the
+/// first rule that has it.
 fn over(labels: &Table<'_, usize>, goto: Option<&[u8]>, below: usize) -> usize
     ensures { result ≡ over_met labels.now (option_map (λ t. t.now) goto.entry) below }
 {
@@ -38,7 +37,7 @@ fn over(labels: &Table<'_, usize>, goto: Option<&[u8]>, below: usize) -> usize
     }
 }
 
-/// Notes how many rules are below one with a label.
+/// Records how many rules are below one with a label.
 fn note<'a>(
     labels: &mut Table<'a, usize>,
     label: Option<&'a [u8]>,

@@ -8,8 +8,8 @@ use crate::jumps::{Jump, Landing};
 use std::alloc::{AllocError, Global};
 use text_tables::{Table, Texts};
 
-/// What becomes of the jumps of a file's rules, in order, as udev(7) has it: a GOTO jumps to the next
-/// label of its name, in a later rule of the file. A label is used where such a jump ends at it.
+/// What becomes of the jumps of a file's rules, in order, as udev(7) has it: a GOTO jumps to the next label of its
+/// name, in a later rule of the file. A label is used if such a jump ends at it.
 pub fn landings(alloc: Global, rules: &[Jump<'_>]) -> Result<Vec<Landing>, AllocError>
     ensures { IfOk result (λ found. found.items ≡ landings rules.now) }
 {
@@ -32,7 +32,7 @@ fn lost_flags(alloc: Global, rules: &[Jump<'_>]) -> Result<Vec<bool>, AllocError
     Ok(flags)
 }
 
-/// Whether there is a name that is none of these.
+/// Whether there is a name, and it is not one of these.
 fn misses(names: &Texts<'_>, name: Option<&[u8]>) -> bool
     ensures { result ≡ misses names.now (option_map (λ t. t.now) name.entry) }
 {
@@ -66,7 +66,7 @@ fn unused_flags(alloc: Global, rules: &[Jump<'_>]) -> Result<Vec<bool>, AllocErr
     Ok(flags)
 }
 
-/// Whether there is a label for which no jump waits.
+/// Whether there is a label, and no jump waits for it.
 fn leaves_unused(waiting: &Table<'_, bool>, label: Option<&[u8]>) -> bool
     ensures { result ≡ leaves_unused waiting.now (option_map (λ t. t.now) label.entry) }
 {
@@ -76,7 +76,7 @@ fn leaves_unused(waiting: &Table<'_, bool>, label: Option<&[u8]>) -> bool
     }
 }
 
-/// Notes for a name, if there is one, whether a jump waits for its next label.
+/// Records for a name, if there is one, whether a jump waits for its next label.
 fn note<'a>(
     waiting: &mut Table<'a, bool>,
     name: Option<&'a [u8]>,

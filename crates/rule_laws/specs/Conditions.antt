@@ -1,4 +1,4 @@
--- What may be wrong with a token by the manual, as one list: each condition with the fault that it is.
+-- What may be wrong with a token by the manual, as one list: each condition with its fault.
 use Rattle.std.specs.Prelude.{◌≡◌, ℕ, Bool, true, false, not, ◌&&◌, if◌then◌else◌, List, [], ◌∷◌, Option, Some, None, is_none, Result, Ok, Err}
 use Rattle.std.specs.Option.{option_and_then}
 use Rattle.text_bytes.specs.declared.message.MessageKind.TheVariants.{UnknownKey, OperatorNotAllowed, WrongAttribute, BadValue, BadSubstitution, SetNotSupported}
@@ -28,7 +28,7 @@ topic_in t = option_and_then (λ key. topic_of Manual key t.parts.head.attribute
 abbrev pub role_in : Placed → Option Role
 role_in t = option_and_then (λ key. option_and_then (λ about. role_of about (read_as key t.parts.head.operator)) (topic_of Manual key t.parts.head.attribute)) (key_of t.parts.head.key)
 
--- whether there is a role, and it is so
+-- whether there is a role, and it passes a test
 abbrev pub some_role : (Role → Bool) → Option Role → Bool
 some_role test None = false
 some_role test (Some r) = test r
@@ -66,15 +66,15 @@ is_class _ = false
 abbrev pub has_class : Bool → List ℕ → Role → Bool
 has_class blind text r = takes_patterns r && is_class (if blind then choice_blind text else choice text)
 
--- the text has a substitution that is none, if it is read with them
+-- the text has an invalid substitution, if it is read with substitutions
 abbrev pub has_bad_substitution : List ℕ → Role → Bool
 has_bad_substitution text r = takes_substitutions r && is_wrong (templates.pieces_of text)
 
--- the value asks for its case to be ignored where it is no match's
+-- the value asks for its case to be ignored, though it is not that of a match
 abbrev pub ignores_in_vain : Bool → Role → Bool
 ignores_in_vain blind r = blind && not (is_match r)
 
--- the text is no value of the role
+-- the text is not a value of the role
 abbrev pub is_no_value : Bool → List ℕ → Role → Bool
 is_no_value blind text r = is_wrong (part_by Manual r blind text)
 
@@ -100,6 +100,6 @@ abbrev pub fault_in : {A : Type 0} → Result A Finding → Option Finding
 fault_in (Ok x) = None
 fault_in (Err fault) = Some fault
 
--- a token is a part where no condition holds, else its fault is that of the first that does
+-- a token is a part if no condition holds, and otherwise its fault is that of the first that does
 abbrev pub FirstFaultCounts : Type 0
 FirstFaultCounts = (t : Placed) → fault_in (part_of Manual t) ≡ first_of (conditions t)

@@ -6,7 +6,8 @@ use Rattle.rule_types.specs.Rules.{Rule}
 use Rattle.text_bytes.specs.declared.profile.Profile.TheVariants.{Manual}
 use Rattle.rule_core.specs.Rules.{file_rules, set_of}
 
--- Of all rules, those above a rule and those below it, the next below that bears a label is in the rule's own file: the files are those before it, this one and those after it, and so are the rules.
+-- Of all rules, those above a rule and those below it, the next below that has a label is in the rule's own file: the
+-- files are those before it, this one and those after it, and so are the rules.
 pub record LandsInItsFile (files : List SourceFile) (above : List Rule) (r : Rule) (below : List Rule) (name : List ℕ) : Type 0 where
   pub files_before : List SourceFile
   pub file : SourceFile

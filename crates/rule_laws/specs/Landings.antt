@@ -51,7 +51,7 @@ pub record IsLanding (before : List Names) (rule : Names) (behind : List Names) 
   pub lost : IsTrue found.lost ↔ IsLost rule behind
   pub unused : IsTrue found.unused ↔ IsUnused before rule
 
--- at the place of each rule stands what becomes of it, and there is no more
+-- what becomes of each rule is at its place, and there is no more
 pub record AreLandings (rules : List Names) (found : List Landing) : Type 0 where
   pub one_each : length found ≡ length rules
   pub each : (before : List Names) (rule : Names) (behind : List Names) → rules ≡ before ++ rule ∷ behind → (l : Landing) × (slice_get found (length before) ≡ Some l) × IsLanding before rule behind l

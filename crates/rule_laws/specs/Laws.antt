@@ -1,4 +1,4 @@
--- What the rules of files come to, whatever is in the files.
+-- What is true of the rules of files, whatever is in the files.
 use Rattle.std.specs.Prelude.{◌≡◌, ◌⊎◌, ℕ, true, false, List, [], map, All, Any, Contains, None, Ok}
 use Rattle.std.specs.List.{AllZip}
 use Rattle.text_bytes.specs.declared.source_file.SourceFile.{SourceFile}
@@ -10,11 +10,11 @@ use Rattle.rule_jumps.specs.declared.jumps.Landing.{Landing}
 use Rattle.rule_types.specs.Rules.{Rule}
 use Rattle.rule_core.specs.Rules.{file_rules, rule_at}
 
--- neither a jump without its label nor a label that no jump ends at
+-- neither a jump without its label nor a label at which no jump ends
 abbrev pub well_landed : Landing
 well_landed = record { lost = false; unused = false }
 
--- a rule is a joined line just as it is written, its jump and its label included, and nothing is to be said of it
+-- a rule is a joined line just as it is written, its jump and its label included, and there is no finding about it
 pub record IsWritten (by : Profile) (file : List ℕ) (l : NumberedLine) (r : Rule) : Type 0 where
   pub draft : Draft
   pub reads : draft_of by l.text ≡ Ok draft
@@ -29,7 +29,7 @@ written_lines f = numbered_from 1 (lines f.bytes)
 abbrev pub runs_of : SourceFile → List (List Piece)
 runs_of f = runs (map piece_of (kept (written_lines f)))
 
--- lines that are joined are empty, or one of these rules, at the number by which they are reported
+-- lines that are joined are empty, or one of these rules, with the number by which they are reported
 abbrev pub IsEmptyOrRule : Profile → List Rule → List Piece → Type 0
 IsEmptyOrRule by rules run = (run_text run ≡ []) ⊎ Contains (map (λ r. r.line) rules) (capped (run_number by run))
 
@@ -37,7 +37,8 @@ IsEmptyOrRule by rules run = (run_text run ≡ []) ⊎ Contains (map (λ r. r.li
 abbrev pub IsKnown : Profile → SourceFile → NumberedLine → Type 0
 IsKnown by f l = (is_comment (unindented l) ≡ true) ⊎ Any (λ run. Contains run (piece_of (unindented l)) × IsEmptyOrRule by (file_rules by f) run) (runs_of f)
 
--- All that is in a file is understood: its joined lines are its rules, none is open at its end, and each physical line is a rule or part of one, empty, or a comment.
+-- All that is in a file is understood: its joined lines are its rules, none is open at its end, and each physical
+-- line is a rule or part of one, empty, or a comment.
 pub record IsUnderstood (by : Profile) (f : SourceFile) : Type 0 where
   pub rules : AllZip (IsWritten by f.name) (joined_lines by f.bytes).lines (file_rules by f)
   pub closed : (joined_lines by f.bytes).open_at ≡ None

@@ -4,7 +4,8 @@ use Rattle.std.specs.List.{list_all}
 use Rattle.text_bytes.specs.Names.{carriage_return, newline, nul}
 use Rattle.rule_core.specs.Ends.{as_read, end_size}
 
--- an end of a line: a newline or a carriage return, perhaps paired with the other one, and perhaps with a NUL after; or one NUL
+-- an end of a line: a newline or a carriage return, perhaps paired with the other, and perhaps with a NUL after that;
+-- or one NUL
 pub data End : Type 0 where
   newline_first : Bool → Bool → End
   return_first : Bool → Bool → End
@@ -20,7 +21,7 @@ spelled (newline_first paired with_nul) = newline ∷ byte_if paired carriage_re
 spelled (return_first paired with_nul) = carriage_return ∷ byte_if paired newline ++ byte_if with_nul nul
 spelled nul_alone = nul ∷ []
 
--- Of the ends of lines with which a text may begin the longest is taken, and none where it begins with none.
+-- Of the ends of lines with which a text may begin the longest is taken, and none if it begins with none.
 pub record TakesLongestEnd (text : List ℕ) : Type 0 where
   pub stands : 0 < end_size text → (e : End) × (take (end_size text) text ≡ spelled e)
   pub longest : (e : End) (rest : List ℕ) → text ≡ spelled e ++ rest → length (spelled e) ≤ end_size text

@@ -4,7 +4,8 @@ use Rattle.text_bytes.specs.declared.message.Message.{Message}
 use Rattle.text_bytes.specs.declared.message.MessageKind.{MessageKind}
 use Rattle.text_bytes.specs.declared.message.MessageKind.TheVariants as kind
 
--- where a message stands among those about one line, by its kind: the V by number, then S1 to S3, and S4 last; none of the database is among them
+-- the position of a message among those about one line, by its kind: the V by number, then S1 to S3, and S4 last;
+-- none of the database is among them
 abbrev pub rank : MessageKind → ℕ
 rank kind.BadSyntax = 1
 rank kind.UnknownKey = 2
@@ -24,17 +25,18 @@ rank kind.ReadAsAssign = 13
 rank kind.LabelUnused = 14
 rank other = 0
 
--- a message stands rightly before another: its line is not after the other's, and about one line its kind is not; lines over the greatest number that is reported can't be told apart
+-- a message may come before another: its line is not after the other's, and for the same line its kind is not; lines
+-- over the greatest number that is reported can't be distinguished
 pub record StandsBefore (m n : Message) : Type 0 where
   pub line : m.line ≤ n.line
   pub rank : m.line ≡ n.line → m.line < 2 ^ 32 - 1 → rank m.kind ≤ rank n.kind
 
--- a message stands rightly before the first of these, if there is one
+-- a message may come before the first of these, if there is one
 abbrev pub StandsBeforeAny : Message → List Message → Type 0
 StandsBeforeAny m [] = ⊤
 StandsBeforeAny m (n ∷ messages) = StandsBefore m n
 
--- each message stands rightly before the next
+-- each message may come before the next
 abbrev pub AreInOrder : List Message → Type 0
 AreInOrder [] = ⊤
 AreInOrder (m ∷ messages) = StandsBeforeAny m messages × AreInOrder messages

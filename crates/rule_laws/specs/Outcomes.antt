@@ -1,4 +1,4 @@
--- What each joined line of a file comes to, its jump reported by the rules after it.
+-- What becomes of each joined line of a file, with its jump decided by the rules after it.
 use Rattle.std.specs.Prelude.{◌≡◌, ◌↔◌, ℕ, List, [], ◌∷◌, ◌++◌, ⊤, map, flat_map, Any, Some, Ok, Err}
 use Rattle.text_bytes.specs.declared.message.Message.{Message}
 use Rattle.text_bytes.specs.declared.source_file.SourceFile.{SourceFile}
@@ -12,7 +12,7 @@ use Rattle.rule_jumps.specs.declared.jumps.Landing.{Landing}
 use Rattle.rule_types.specs.Rules.{Rule}
 use Rattle.rule_core.specs.Rules.{file_messages, file_rules, findings_of, message_at, open_messages, rule_at}
 
--- what a joined line comes to: one rule and the messages about it, or no rule and one message
+-- what becomes of a joined line: one rule and the messages about it, or no rule and one message
 pub data Outcome : Type 0 where
   one_rule : Rule → List Message → Outcome
   one_message : Message → Outcome
@@ -27,11 +27,11 @@ abbrev pub messages_in : Outcome → List Message
 messages_in (one_rule r messages) = messages
 messages_in (one_message m) = m ∷ []
 
--- one of these rules bears the label
+-- one of these rules has the label
 abbrev pub HasLabel : List ℕ → List Rule → Type 0
 HasLabel name rules = Any (λ r. r.label ≡ Some name) rules
 
--- a line is read as a rule, which has its jump exactly where a rule after it bears the label
+-- a line is read as a rule, which has its jump if and only if a rule after it has the label
 pub record IsRule (by : Profile) (file : List ℕ) (l : NumberedLine) (r : Rule) (messages : List Message) (behind : List Rule) : Type 0 where
   pub draft : Draft
   pub landing : Landing
@@ -40,32 +40,33 @@ pub record IsRule (by : Profile) (file : List ℕ) (l : NumberedLine) (r : Rule)
   pub told : messages ≡ map (message_at file l.number) (findings_of draft landing)
   pub jump : (name : List ℕ) → (r.goto ≡ Some name) ↔ ((draft.goto ≡ Some name) × HasLabel name behind)
 
--- a line is no rule, and the message says why
+-- a line is not a rule, and the message says why
 pub record IsNoRule (by : Profile) (file : List ℕ) (l : NumberedLine) (m : Message) : Type 0 where
   pub wrong : Finding
   pub reads : draft_of by l.text ≡ Err wrong
   pub is : m ≡ message_at file l.number wrong
 
--- a line comes to this, before these rules
+-- this becomes of a line that is before these rules
 abbrev pub ComesTo : Profile → List ℕ → NumberedLine → Outcome → List Rule → Type 0
 ComesTo by file l (one_rule r messages) behind = IsRule by file l r messages behind
 ComesTo by file l (one_message m) behind = IsNoRule by file l m
 
--- lines come to these, line by line
+-- these become of lines, line by line
 abbrev pub AllComeTo : Profile → List ℕ → List NumberedLine → List Outcome → Type 0
 AllComeTo by file [] [] = ⊤
 AllComeTo by file [] (o ∷ outcomes) = ⊥
 AllComeTo by file (l ∷ lines) [] = ⊥
 AllComeTo by file (l ∷ lines) (o ∷ outcomes) = ComesTo by file l o (flat_map rules_in outcomes) × AllComeTo by file lines outcomes
 
--- The rules and messages of a file that is not given up are those of its joined lines: each is one rule, or no rule and one message. What is still open at the end has a message of its own.
+-- The rules and messages of a file that is not given up are those of its joined lines: each is one rule, or no rule
+-- and one message. What is still open at the end has a message of its own.
 pub record IsReadByLine (by : Profile) (f : SourceFile) : Type 0 where
   pub outcomes : List Outcome
   pub each : AllComeTo by f.name (joined_lines by f.bytes).lines outcomes
   pub rules : file_rules by f ≡ flat_map rules_in outcomes
   pub messages : file_messages by f ≡ flat_map messages_in outcomes ++ open_messages f.name (joined_lines by f.bytes).open_at
 
--- A file that is given up for a line has no rule, and one message.
+-- A file that is given up because of a line has no rule, and one message.
 pub record IsGivenUp (by : Profile) (f : SourceFile) (line : ℕ) : Type 0 where
   pub rules : file_rules by f ≡ []
   pub messages : file_messages by f ≡ message_at f.name line (finding FileGivenUp []) ∷ []

@@ -11,7 +11,7 @@ pub record IsClosed (run : List Piece) : Type 0 where
   pub continued : All (λ p. p.continues ≡ true) before
   pub ended : last.continues ≡ false
 
--- The pieces that are left as one run more, if any are.
+-- The pieces that are left as one more run, if there are any.
 abbrev pub open_run : List Piece → List (List Piece)
 open_run [] = []
 open_run (p ∷ ps) = (p ∷ ps) ∷ []
@@ -29,6 +29,7 @@ pub record AreRuns (ps : List Piece) (rs : List (List Piece)) : Type 0 where
 abbrev pub OneWay : Type 0
 OneWay = (ps : List Piece) (rs : List (List Piece)) → AreRuns ps rs ↔ (rs ≡ runs ps)
 
--- The texts of all runs together are the texts of all pieces, so that of the kept lines nothing is lost but the `\` at their ends.
+-- The texts of all runs together are the texts of all pieces, so that nothing of the kept lines is lost but the `\`
+-- at their ends.
 abbrev pub NoTextLost : Type 0
 NoTextLost = (ps : List Piece) → flat_map run_text (runs ps) ≡ flat_map (λ p. p.text) ps

@@ -1,4 +1,4 @@
--- What udev reads otherwise of a line.
+-- What udev reads otherwise in a line.
 use Rattle.std.specs.Prelude.{◌≡◌, ℕ, List, [], ◌∷◌, ◌++◌, take, drop, Some}
 use Rattle.text_bytes.specs.declared.profile.Profile.TheVariants.{Udev}
 use Rattle.rule_tokens.specs.Grammar.{AllAre, BeginsOther, is_gap_byte}
@@ -11,7 +11,7 @@ pub record IsFirstPlace (line : List ℕ) (place : ℕ) : Type 0 where
   pub before : AllAre is_gap_byte (take place line)
   pub there : BeginsOther is_gap_byte (drop place line)
 
--- after parts a label of this name counts, and the one that counted before is reported as lost
+-- after other parts a label of this name counts, and the one that counted before is reported as lost
 pub record CountsInPlace (line : List ℕ) (parts : List Part) (name : List ℕ) : Type 0 where
   pub counts : (draft Udev line (parts ++ part.Label name ∷ [])).label ≡ Some name
   pub told : given_again_behind Udev [] (parts ++ part.Label name ∷ []) ≡ given_again_behind Udev [] parts ++ lost_name (draft Udev line parts).label

@@ -1,4 +1,4 @@
-//! Laws of drafts, each the contract of a function that does nothing.
+//! Laws of drafts, each the contract of a function with an empty body.
 ghost use Rattle.std.specs.Prelude.{◌≡◌, ◌↔◌, [], None, List, ℕ};
 ghost use Rattle.text_bytes.specs.declared.profile.Profile.{Profile};
 ghost use Rattle.text_bytes.specs.declared.profile.Profile.TheVariants.{Manual};
@@ -19,15 +19,15 @@ pub fn no_part_is_lost()
     ensures { (parts : List Part) → NoneIsLost parts }
 {}
 
-/// By the manual a LABEL is reported as given twice exactly where one comes before it in the line, and so is a
+/// By the manual a LABEL is reported as given twice if and only if one comes before it in the line, and so is a
 /// GOTO.
 pub fn names_given_again_are_told()
     ensures { (parts : List Part) (p : Part) → IsToldWhereAgain parts p }
 {}
 
-/// By the manual, of a line that is tokens to its end, nothing is to be said of how it is written exactly where each
-/// gap between tokens is blanks, one comma and blanks, at least one of them, where only blanks stand
-/// at the end, and where no operator is read as `=`.
+/// By the manual, for a line that is tokens to its end, there is no finding about how it is written if and only
+/// if each gap between tokens is blanks, one comma and blanks, at least one of them, only blanks are at the end,
+/// and no operator is read as `=`.
 pub fn plain_lines_are_passed()
     ensures { (line : List ℕ) (tokens : List Placed) → items_of line ≡ answers tokens None → (style_findings Manual line tokens ≡ []) ↔ IsPlain line tokens }
 {}

@@ -1,4 +1,4 @@
-//! Laws of the language of lines, each the contract of a function that does nothing.
+//! Laws of the language of lines, each the contract of a function with an empty body.
 
 ghost use Rattle.rule_tokens.specs.Grammar.{SomeAnswer, OneAnswer};
 ghost use Rattle.rule_tokens.specs.Values.{OneMeaning, NoNul};
@@ -17,7 +17,7 @@ pub fn value_has_one_meaning()
     ensures { OneMeaning }
 {}
 
-/// No value contains a NUL, and none means one.
+/// No value has a NUL, and none means one.
 pub fn value_has_no_nul()
     ensures { NoNul }
 {}
@@ -30,8 +30,8 @@ pub fn parts_lie_in_line()
     ensures rising { AllRise }
 {}
 
-/// Rules are defined by `items_of` and `unquoted`, and these stand on the grammar: the items of a
-/// line are its tokens and its end, and the value of each token means what is unquoted of it.
+/// Rules are defined by `items_of` and `unquoted`, and these agree with the grammar: the items of a line are its
+/// tokens and its end, and the value of each token means what is unquoted from it.
 #[tactic(auto, using(crate::proofs::Standing::items_are_lexed))]
 pub fn rules_stand_on_the_grammar()
     ensures items { ItemsAreLexed }

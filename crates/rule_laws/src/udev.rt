@@ -1,4 +1,4 @@
-//! Laws of what udev reads otherwise than the manual has it, each the contract of a function that does nothing.
+//! Laws of what udev reads otherwise than the manual says, each the contract of a function with an empty body.
 ghost use Rattle.std.specs.Prelude.{List, ℕ};
 ghost use Rattle.text_bytes.specs.declared.profile.Profile.TheVariants.{Udev};
 ghost use Rattle.rule_types.specs.declared.part.Part.{Part};
@@ -6,12 +6,12 @@ ghost use Rattle.rule_core.specs.Drafts.{first_place};
 ghost use Rattle.rule_laws.specs.LineEnds.{StaysAsRead, TakesLongestEnd};
 ghost use Rattle.rule_laws.specs.Udev.{CountsInPlace, IsFirstPlace};
 
-/// Of the ends of lines that udev knows the longest is taken with which a text begins.
+/// Of the ends of lines that udev knows, the longest with which a text begins is taken.
 pub fn ends_are_the_longest()
     ensures { (text : List ℕ) → TakesLongestEnd text }
 {}
 
-/// A file as udev read it has no carriage return and no NUL, and stays as it is where it is read again.
+/// A file as udev read it has no carriage return and no NUL, and stays as it is when it is read again.
 pub fn read_files_stay()
     ensures { (text : List ℕ) → StaysAsRead text }
 {}
@@ -21,7 +21,7 @@ pub fn first_tokens_stand_behind_gaps()
     ensures { (line : List ℕ) → IsFirstPlace line (first_place Udev line) }
 {}
 
-/// A label after others counts in place of the one that counted before it, which is reported.
+/// A label after others counts instead of the one that counted before it, which is reported.
 pub fn last_label_counts()
     ensures { (line : List ℕ) (parts : List Part) (name : List ℕ) → CountsInPlace line parts name }
 {}

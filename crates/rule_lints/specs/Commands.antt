@@ -1,4 +1,4 @@
--- The commands of a rule, and what of them is for a shell.
+-- The commands of a rule, and what in them is meant for a shell.
 use Rattle.std.specs.Prelude.{ℕ, Bool, true, false, not, ◌&&◌, ◌||◌, ◌==◌, if◌then◌else◌, List, [], ◌∷◌, Option, Some, None, is_none, take, codes}
 use Rattle.std.specs.List.{prefix_len}
 use Rattle.std.specs.Option.{option_and_then}
@@ -50,7 +50,7 @@ command_of _ = None
 abbrev pub is_quote : ℕ → Bool
 is_quote b = b == single_quote || b == double_quote
 
--- the quote that is open after a byte, by that which is open before it
+-- the quote that is open after a byte, given the one that is open before it
 abbrev pub open_behind : Option ℕ → ℕ → Option ℕ
 open_behind None b = if is_quote b then Some b else None
 open_behind (Some quote) b = if b == quote then None else Some quote
@@ -60,15 +60,16 @@ abbrev pub is_word_end : List ℕ → Bool
 is_word_end [] = true
 is_word_end (b ∷ text) = is_blank b
 
--- whether a text goes on as one after a `>` of the shell: with the end of a word, a path, a `&` or one more `>`
+-- whether a text goes on like one after a `>` of the shell: with the end of a word, a path, a `&` or another `>`
 abbrev pub is_redirected : List ℕ → Bool
 is_redirected text = (is_word_end text || begins_with slash text) || (begins_with ampersand text || begins_with greater text)
 
--- whether a byte is a sign of the shell before this text: `|` or `;` at the end of a word, `>` before where it leads to, or `&` and one more of it
+-- whether a byte is a sign of the shell before this text: `|` or `;` at the end of a word, `>` before its target, or
+-- `&` and another `&`
 abbrev pub is_shell_sign : ℕ → List ℕ → Bool
 is_shell_sign b text = ((b == bar || b == semicolon) && is_word_end text) || ((b == greater && is_redirected text) || (b == ampersand && begins_with ampersand text))
 
--- whether a text has a sign of the shell outside of quotes, where this quote is open before it
+-- whether a text has a sign of the shell outside of quotes, if this quote is open before it
 abbrev pub has_sign_behind : Option ℕ → List ℕ → Bool
 has_sign_behind opened [] = false
 has_sign_behind opened (b ∷ text) = (is_none opened && is_shell_sign b text) || has_sign_behind (open_behind opened b) text
@@ -89,11 +90,11 @@ program_name command = behind_last slash (first_word command)
 abbrev pub shells : List (List ℕ)
 shells = codes "sh" ∷ codes "ash" ∷ codes "bash" ∷ codes "dash" ∷ codes "ksh" ∷ codes "zsh" ∷ []
 
--- a command with a sign of the shell that no shell runs
+-- a command, if it has a sign of the shell and no shell runs it
 abbrev pub lacks_shell : List ℕ → Option (List ℕ)
 lacks_shell command = if has_shell_sign command && not (is_among shells (program_name command)) then Some command else None
 
--- the value that W2 is reported
+-- the value with which W2 is reported
 abbrev pub shell_command : Part → Option (List ℕ)
 shell_command p = option_and_then lacks_shell (command_of p)
 
@@ -106,10 +107,10 @@ commands_elsewhere =
     ∷ codes "rmmod" ∷ codes "setfacl" ∷ codes "sh" ∷ codes "sleep" ∷ codes "su" ∷ codes "sudo" ∷ codes "systemctl"
     ∷ codes "systemd-run" ∷ codes "sysctl" ∷ codes "tee" ∷ codes "touch" ∷ codes "udevadm" ∷ codes "umount" ∷ []
 
--- a command whose first word is the name of one that stands elsewhere
+-- a command, if its first word is the name of one that is elsewhere
 abbrev pub lacks_path : List ℕ → Option (List ℕ)
 lacks_path command = if is_among commands_elsewhere (first_word command) then Some command else None
 
--- the value that W3 is reported
+-- the value with which W3 is reported
 abbrev pub relative_program : Part → Option (List ℕ)
 relative_program p = option_and_then lacks_path (option_and_then run_command (change_of p))

@@ -1,4 +1,4 @@
--- Values that rules compare, and assignments of them where a comparison was most likely meant.
+-- Values that rules compare, and assignments of them for which a comparison was most likely meant.
 use Rattle.std.specs.Prelude.{if◌then◌else◌, List, [], ◌∷◌, ◌++◌, filter_map, flat_map, Option, Some, None, option_map}
 use Rattle.std.specs.List.{list_any}
 use Rattle.text_bytes.specs.Names.{open_brace, close_brace}
@@ -54,12 +54,12 @@ changed (target.Env name) value = Some (valued key.Env name value)
 changed (target.Attr name) value = Some (valued key.Attr name value)
 changed _ value = None
 
--- the same of a change
+-- the same for a change
 abbrev pub changed_by : Change → Option Valued
 changed_by (change.Text t text) = changed t text.written
 changed_by _ = None
 
--- where the operator is `=`
+-- what is assigned, if the operator is `=`
 abbrev pub by_assign : AssignOperator → Option Valued → Option Valued
 by_assign assign.Assign v = v
 by_assign _ v = None
@@ -77,12 +77,12 @@ compared_by tokens = filter_map (λ w. option_map text_of (compared_in w.part)) 
 abbrev pub compared_texts : List LandedRule → List Text
 compared_texts rules = flat_map (λ r. compared_by r.rule.tokens) rules
 
--- an assignment, where what it gives is compared
+-- an assignment, if what it gives is compared
 abbrev pub meant_spots : List Text → WrittenPart → Option Valued → List LintSpot
 meant_spots compared w None = []
 meant_spots compared w (Some v) = if is_among compared (text_of v) then key_spot MeantToCompare v.name w.token ∷ [] else []
 
--- the assignments among tokens after which a match stands, where what they give is compared
+-- the assignments among tokens that a match follows, if what they give is compared
 abbrev pub meant_to_compare : List Text → List WrittenPart → List LintSpot
 meant_to_compare compared [] = []
 meant_to_compare compared (w ∷ tokens) =

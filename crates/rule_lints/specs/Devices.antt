@@ -1,4 +1,4 @@
--- W5: the attributes that a rule asks of one device are those of different devices.
+-- W5: the attributes that a rule asks one device for are those of different devices.
 use Rattle.std.specs.Prelude.{ℕ, Bool, true, false, not, if◌then◌else◌, List, [], ◌∷◌, Option, Some, None, codes}
 use Rattle.std.specs.Option.{option_and_then}
 use Rattle.rule_types.specs.declared.part.Part.{Part}
@@ -32,7 +32,7 @@ input_names = codes "id/vendor" ∷ codes "id/product" ∷ codes "id/version" �
 abbrev pub pci_names : List (List ℕ)
 pci_names = codes "subsystem_vendor" ∷ codes "subsystem_device" ∷ []
 
--- the devices that alone have an attribute, where that is known
+-- the kind of devices that alone has an attribute, if that is known
 abbrev pub group_named : List ℕ → Option Group
 group_named name =
     if is_among usb_device_names name then Some UsbDevice
@@ -40,7 +40,7 @@ group_named name =
     else (if is_among input_names name then Some Input
     else (if is_among pci_names name then Some Pci else None)))
 
--- whether two groups are one
+-- whether two groups are the same
 abbrev pub is_same : Group → Group → Bool
 is_same UsbDevice UsbDevice = true
 is_same UsbInterface UsbInterface = true
@@ -58,21 +58,22 @@ abbrev pub asked_name : Part → Option (List ℕ)
 asked_name (part.Up m) = asked_by m.key m.wanted.operator
 asked_name _ = None
 
--- the devices that alone have the attribute that a token asks for
+-- the kind of devices that alone has the attribute that a token asks for
 abbrev pub group_of : WrittenPart → Option Group
 group_of w = option_and_then group_named (asked_name w.part)
 
--- whether there is a group, and it is another than this
+-- whether there is a group, and it is not this one
 abbrev pub is_other : Group → Option Group → Bool
 is_other group None = false
 is_other group (Some found) = not (is_same group found)
 
--- The first token of another group than that of the first token of a group. With a group given, that is the group of the first.
+-- The first token of another group than that of the first token of a group. If a group is given, that is the group of
+-- the first.
 abbrev pub stranger_by : Option Group → List WrittenPart → Option WrittenPart
 stranger_by first [] = None
 stranger_by None (w ∷ tokens) = stranger_by (group_of w) tokens
 stranger_by (Some group) (w ∷ tokens) = if is_other group (group_of w) then Some w else stranger_by (Some group) tokens
 
--- the token that W5 is reported
+-- the token with which W5 is reported
 abbrev pub stranger : List WrittenPart → Option WrittenPart
 stranger tokens = stranger_by None tokens

@@ -1,4 +1,4 @@
--- What the lints of a file come to.
+-- What is true of the lints of a file.
 use Rattle.std.specs.Prelude.{◌≡◌, Bool, true, false, List, [], ◌∷◌, ◌++◌, reverse, Result, Ok, Err}
 use Rattle.std.specs.List.{list_any}
 use Rattle.text_tables.specs.Texts.{Text}
@@ -20,7 +20,8 @@ abbrev pub is_read : Result Draft Finding → Bool
 is_read (Ok d) = true
 is_read (Err wrong) = false
 
--- where a match is reported in a rule below others, the nearest first, its property is imported by this rule or further down, and neither given nor perhaps given by one of the others
+-- if a match is reported in a rule below others, the nearest first, its property is imported by this rule or further
+-- down, and neither given nor perhaps given by one of the others
 pub record IsImportedBelow (above : List LandedRule) (r : LandedRule) (below : List LandedRule) (name : Text) : Type 0 where
   pub here : has_property (imported_names (r ∷ below)) name ≡ true
   pub before : is_given (given_names above) name ≡ false
@@ -34,7 +35,7 @@ ImportsFurtherDown =
 abbrev pub NoneBehindMatches : Type 0
 NoneBehindMatches = (compared : List Text) (tokens : List WrittenPart) → list_any (λ w. is_match w.part) tokens ≡ false → meant_to_compare compared tokens ≡ []
 
--- where no rule compares, nothing is reported
+-- if no rule compares, nothing is reported
 abbrev pub NoneUncompared : Type 0
 NoneUncompared = (tokens : List WrittenPart) → meant_to_compare [] tokens ≡ []
 

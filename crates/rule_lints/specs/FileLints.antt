@@ -15,7 +15,8 @@ use Rattle.rule_lints.specs.declared.file_lints.FileSpot.{FileSpot}
 use Rattle.rule_lints.specs.declared.placed_lint.PlacedLint.{PlacedLint}
 use Rattle.rule_lints.specs.declared.spot.LintSpot.{LintSpot}
 
--- the lints of a rule among all rules of its file, by what they import and compare, by what is given before it, and by where the rule above jumps
+-- the lints of a rule among all rules of its file, by what they import and compare, what is given before it, and
+-- where the rule above jumps
 abbrev pub spots_by : List Text → List Text → List Text → Option Text → LandedRule → List LintSpot
 spots_by imported compared given left_for r =
     rule_lints r.rule.tokens
@@ -23,7 +24,7 @@ spots_by imported compared given left_for r =
     ++ (meant_to_compare compared r.rule.tokens
     ++ never_reached left_for r))
 
--- the lints of a rule among all of its file, below those above, from the nearest on
+-- the lints of a rule among all of its file, given those above it, from the nearest on
 abbrev pub spots_of : List LandedRule → List LandedRule → LandedRule → List LintSpot
 spots_of all above r = spots_by (imported_names all) (compared_texts all) (given_names above) (jumps_above above) r
 
@@ -31,7 +32,7 @@ spots_of all above r = spots_by (imported_names all) (compared_texts all) (given
 abbrev pub file_spot : FileRule → LintSpot → FileSpot
 file_spot r s = record { number = r.number; start = r.start; spot = s }
 
--- the lints of rules among all of a file, below those above, from the nearest on
+-- the lints of rules among all of a file, given those above them, from the nearest on
 abbrev pub spots_below : List LandedRule → List LandedRule → List LandedRule → List FileSpot
 spots_below all above [] = []
 spots_below all above (r ∷ below) = map (file_spot r.rule) (spots_of all above r) ++ spots_below all (r ∷ above) below

@@ -49,7 +49,7 @@ abbrev pub rules_from : Profile → ℕ → List NumberedLine → List FileRule
 rules_from by start [] = []
 rules_from by start (l ∷ ls) = rule_before (rule_at by start l) (rules_from by (start + length l.text) ls)
 
--- the rules of a file, of which there are none where it is given up for the line of a number
+-- the rules of a file, of which there are none if it is given up because of a line
 abbrev pub rules_unless : Profile → List ℕ → Option ℕ → List FileRule
 rules_unless by bytes None = rules_from by 0 (joined_lines by bytes).lines
 rules_unless by bytes (Some number) = []
@@ -78,7 +78,7 @@ pub record LandedRule : Type 0 where
   pub rule : FileRule
   pub landing : Landing
 
--- the same, of both
+-- the same, from both
 abbrev pub landed_rule : FileRule × Landing → LandedRule
 landed_rule x = record { rule = x.0; landing = x.1 }
 

@@ -25,7 +25,8 @@ use Rattle.rule_lints.specs.Spots.{key_spot}
 use Rattle.rule_lints.specs.Written.{WrittenPart}
 use Rattle.rule_lints.specs.declared.spot.LintSpot.{LintSpot}
 
--- builtins, each with a family of properties that it imports: a family is written as what its names begin with and a `*` after
+-- builtins, each with a family of properties that it imports: a family is written as what its names begin with, and
+-- then a `*`
 abbrev pub families : List (Text × Text)
 families =
     (codes "blkid", codes "ID_FS_*")
@@ -50,7 +51,7 @@ names_in_import (import.Builtin t) = families_in families (first_word t.written)
 names_in_import (import.Cmdline name) = name ∷ []
 names_in_import _ = []
 
--- what stands for each property, where a rule may import any
+-- this stands for every property, if a rule may import any
 abbrev pub any_property : Text
 any_property = codes "*"
 
@@ -58,12 +59,13 @@ any_property = codes "*"
 abbrev pub names_several : Text → Bool
 names_several value = list_any (λ b. b == star || (b == question_mark || (b == open_bracket || b == bar))) value
 
--- each property, where there are no families
+-- every property, if there are no families
 abbrev pub else_any : List Text → List Text
 else_any [] = any_property ∷ []
 else_any (family ∷ families) = []
 
--- what an IMPORT may import, which udev alone knows: of the database or of the parent the property that it names, or each one, as by a program, a file, or a builtin without a family here
+-- what an IMPORT may import, which only udev knows: from the database the property that it names, from the parent
+-- that property or every one, and every one by a program, a file, or a builtin without a family here
 abbrev pub names_perhaps : Import → List Text
 names_perhaps (import.Program t) = any_property ∷ []
 names_perhaps (import.File t) = any_property ∷ []
@@ -102,7 +104,7 @@ abbrev pub name_in_change : Change → List Text
 name_in_change (change.Text t text) = name_in_target t
 name_in_change _ = []
 
--- the property that a part of a rule assigns, by whichever operator
+-- the property that a part of a rule assigns, by any operator
 abbrev pub assigned_in : Part → List Text
 assigned_in (part.Set a) = name_in_change a.change
 assigned_in _ = []
@@ -123,19 +125,19 @@ imported_names rules = flat_map (λ r. imported_by r.rule.tokens) rules
 abbrev pub given_names : List LandedRule → List Text
 given_names rules = flat_map (λ r. given_by r.rule.tokens) rules
 
--- whether names have a family of a property
+-- whether a family of a property is among names
 abbrev pub has_family : List Text → List (Text × Text) → Text → Bool
 has_family names rows name = list_any (λ row. is_of row.1 name && is_among names row.1) rows
 
--- whether names have a property, or a family of it
+-- whether a property, or a family of it, is among names
 abbrev pub has_property : List Text → Text → Bool
 has_property names name = is_among names name || has_family names families name
 
--- whether names that are given have a property, a family of it, or each property
+-- whether a property, a family of it, or every property is among the names that are given
 abbrev pub is_given : List Text → Text → Bool
 is_given names name = is_among names any_property || has_property names name
 
--- the property that patterns are compared with, where none of them fits the empty text
+-- the property that patterns are compared with, if none of them fits the empty text
 abbrev pub asked_for : PlainKey → List (List Item) → Option Text
 asked_for (plain.Env name) choice = if choice_fits choice [] then None else Some name
 asked_for _ choice = None
@@ -145,11 +147,11 @@ abbrev pub wanted_in : Part → Option Text
 wanted_in (part.Plain m) = by_equal m.wanted.operator (asked_for m.key m.wanted.choice)
 wanted_in _ = None
 
--- a property that is asked for, of those that a file imports where these are given before
+-- a match that asks for a property, if the file imports this and it is not given before
 abbrev pub below_spots : List Text → List Text → WrittenPart → Option Text → List LintSpot
 below_spots imported given w None = []
 below_spots imported given w (Some name) = if has_property imported name && not (is_given given name) then key_spot ImportedBelow name w.token ∷ [] else []
 
--- the match of a property that the file imports, where those that are given before lack it
+-- a match that asks for a property that the file imports, if it is not given before
 abbrev pub imported_below : List Text → List Text → WrittenPart → List LintSpot
 imported_below imported given w = below_spots imported given w (wanted_in w.part)

@@ -1,4 +1,4 @@
--- What the lints of one rule come to, said of texts and not of how they are read.
+-- What is true of the lints of one rule, in terms of texts and not of how they are read.
 use Rattle.std.specs.Prelude.{◌≡◌, ◌<◌, ◌≤◌, ◌^◌, ℕ, ◌+◌, ◌*◌, Bool, true, false, ◌&&◌, ◌||◌, nat_eq, nat_le, List, [], ◌∷◌, ◌++◌, length, map, flat_map, take, drop, codes, Result, Ok, Err, is_some}
 use Rattle.std.specs.List.{AllByRecursion, list_any, slice_split, starts_with}
 use Rattle.text_bytes.specs.Names.{close_brace, comma, digit_zero, open_brace}
@@ -15,7 +15,7 @@ use Rattle.rule_lints.specs.Written.{WrittenPart}
 use Rattle.rule_lints.specs.declared.devices.Group.{Group}
 use Rattle.rule_lints.specs.declared.letter_case.Writing.{Writing}
 
--- the number that octal digits write, each by its place
+-- the number that octal digits write, each by its position
 abbrev pub by_places : List ℕ → ℕ
 by_places [] = 0
 by_places (d ∷ digits) = d * 8 ^ length digits + by_places digits
@@ -33,17 +33,17 @@ pub data Piece : Type 0 where
   bare : ℕ → Piece
   quoted : ℕ → List ℕ → Piece
 
--- how a piece is written: what is quoted is between two of its quote
+-- how a piece is written: what is quoted is between two of the same quote
 abbrev pub written : Piece → List ℕ
 written (bare b) = b ∷ []
 written (quoted quote within) = quote ∷ (within ++ quote ∷ [])
 
--- a byte outside of quotes is none, and within quotes the quote does not stand
+-- a byte outside of quotes is not a quote, and the quoted text does not have its own quote
 abbrev pub IsPiece : Piece → Type 0
 IsPiece (bare b) = is_quote b ≡ false
 IsPiece (quoted quote within) = (is_quote quote ≡ true) × (has_byte quote within ≡ false)
 
--- A command is some pieces, and after them a sign of the shell, whatever follows.
+-- A command is some pieces, then a sign of the shell, and then whatever follows.
 pub record HasSignOutside (command : List ℕ) : Type 0 where
   pub before : List Piece
   pub pieces : AllByRecursion IsPiece before
@@ -60,7 +60,8 @@ has_capital text = list_any (λ b. nat_le 65 b && nat_le b 90) text
 abbrev pub has_small : ℕ → ℕ → List ℕ → Bool
 has_small start size text = list_any (λ b. nat_le 97 b && nat_le b 102) (take size (drop start text))
 
--- whether a text is the alias of a USB or PCI device, with a small digit in the number of its vendor or of its product
+-- whether a text is the alias of a USB or PCI device, with a lower case digit in the number of its vendor or of its
+-- product
 abbrev pub is_small_text : List ℕ → Bool
 is_small_text text =
     (starts_with nat_eq text (codes "usb:v") && (has_small 5 4 text || has_small 10 4 text))
@@ -71,24 +72,26 @@ abbrev pub some_pattern : (List Item → Bool) → Result (List (List Item)) Glo
 some_pattern test (Ok patterns) = list_any test patterns
 some_pattern test (Err fault) = false
 
--- whether W4 is reported for a text with which something is compared that the kernel writes so
+-- whether W4 is reported for a text that is compared with something that the kernel writes so
 abbrev pub is_told_as : Writing → List ℕ → Bool
 is_told_as writing text = some_pattern (is_miswritten writing) (choice text)
 
--- whether W11 is reported for a text with which something is compared
+-- whether W11 is reported for a text that something is compared with
 abbrev pub is_told_as_expression : List ℕ → Bool
 is_told_as_expression text = are_expressions (slice_split is_bar text)
 
--- whether W12 is reported for a text with which something is compared that is always there
+-- whether W12 is reported for a text that something that is always there is compared with
 abbrev pub is_told_to_hold : List ℕ → Bool
 is_told_to_hold text = some_pattern take_all (choice text)
 
--- The attributes that a rule asks one device for are not those of different devices: there are devices of which no token's attribute is another's.
+-- The attributes that a rule asks one device for are not those of different devices: there is a kind of devices, and
+-- no token's attribute is that of another kind.
 pub record AreOfOneGroup (tokens : List WrittenPart) : Type 0 where
   pub group : Group
   pub none_other : AllByRecursion (λ w. is_other group (group_of w) ≡ false) tokens
 
--- A token is the first whose attribute is of other devices than one before it: tokens come before it, of which some ask for an attribute of a group, and none for one of another group, while it does.
+-- A token is the first whose attribute is of other devices than one before it: tokens come before it, of which some
+-- ask for an attribute of a group, and none for one of another group, while it does.
 pub record IsStranger (tokens : List WrittenPart) (w : WrittenPart) : Type 0 where
   pub group : Group
   pub before : List WrittenPart
@@ -106,7 +109,7 @@ pub record HasBraces (text : List ℕ) : Type 0 where
   pub behind : List ℕ
   pub whole : text ≡ before ++ open_brace ∷ (first ++ comma ∷ (second ++ close_brace ∷ behind))
 
--- A text has a `(` after which no `)` stands.
+-- A text has a `(` that no `)` follows.
 pub record HasOpenParenthesis (text : List ℕ) : Type 0 where
   pub before : List ℕ
   pub behind : List ℕ

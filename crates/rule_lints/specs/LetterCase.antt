@@ -1,4 +1,4 @@
--- W4: a letter has the case that the kernel does not write.
+-- W4: a letter has a case in which the kernel does not write it.
 use Rattle.std.specs.Prelude.{ℕ, Bool, true, false, not, ◌&&◌, ◌||◌, nat_eq, nat_le, if◌then◌else◌, List, [], ◌∷◌, Option, Some, None, take, drop, length, codes}
 use Rattle.std.specs.Cmp.Lexicographic.{pointwise}
 use Rattle.std.specs.List.{list_all, list_any, prefix_len, zip}
@@ -17,7 +17,7 @@ use Rattle.rule_lints.specs.Parts.{comparison_of}
 use Rattle.rule_lints.specs.declared.letter_case.Writing.{Writing}
 use Rattle.rule_lints.specs.declared.letter_case.Writing.TheVariants.{Lower, Prefixed, Alias}
 
--- attributes in which the kernel writes hexadecimal digits in small letters
+-- attributes in which the kernel writes hexadecimal digits in lower case letters
 abbrev pub lower_names : List (List ℕ)
 lower_names =
     codes "idVendor" ∷ codes "idProduct" ∷ codes "bcdDevice"
@@ -27,11 +27,11 @@ lower_names =
     ∷ codes "subsystem_vendor" ∷ codes "subsystem_device"
     ∷ []
 
--- attributes that several subsystems have, and that are such digits where `0x` comes before them
+-- attributes that several subsystems have, and that are such digits if `0x` comes before them
 abbrev pub prefixed_names : List (List ℕ)
 prefixed_names = codes "vendor" ∷ codes "device" ∷ codes "class" ∷ []
 
--- how the kernel writes an attribute, where that is known
+-- how the kernel writes an attribute, if that is known
 abbrev pub writing_named : List ℕ → Option Writing
 writing_named name =
     if is_among lower_names name then Some Lower
@@ -72,7 +72,7 @@ is_small_digit item = is_byte_in 97 102 item
 abbrev pub begin_with : List ℕ → List Item → Bool
 begin_with text items = nat_le (length text) (length items) && list_all (λ pair. is_byte_in pair.0 pair.0 pair.1) (zip text items)
 
--- whether a small digit is among so many items after the first so many
+-- whether a lower case digit is among so many items after the first so many
 abbrev pub has_small_digit : ℕ → ℕ → List Item → Bool
 has_small_digit start size items = list_any is_small_digit (take size (drop start items))
 
@@ -85,7 +85,8 @@ is_many _ = false
 abbrev pub items_in_place : List Item → List Item
 items_in_place items = take (prefix_len (λ item. not (is_many item)) items) items
 
--- Whether an alias has a small digit where the kernel writes capital ones: the numbers of the vendor and of the product after `usb:v` and `p`, four digits each, and after `pci:v` and `d`, eight digits each.
+-- Whether an alias has a lower case digit where the kernel writes capital ones: in the numbers of the vendor and of
+-- the product after `usb:v` and `p`, four digits each, and after `pci:v` and `d`, eight digits each.
 abbrev pub is_small_alias : List Item → Bool
 is_small_alias items =
     (begin_with (codes "usb:v") items && (has_small_digit 5 4 items || has_small_digit 10 4 items))
@@ -97,10 +98,10 @@ is_miswritten Lower items = list_any is_capital items
 is_miswritten Prefixed items = (begin_with (codes "0x") items || begin_with (codes "0X") items) && list_any is_capital items
 is_miswritten Alias items = is_small_alias (items_in_place items)
 
--- the value of a comparison that counts case, of which an alternative has such a letter
+-- the value of a comparison, if case counts in it and an alternative has such a letter
 abbrev pub miswritten : Writing → Comparison → Option (List ℕ)
 miswritten writing wanted = if not wanted.blind && list_any (is_miswritten writing) wanted.choice then Some wanted.written else None
 
--- the value that W4 is reported
+-- the value with which W4 is reported
 abbrev pub wrong_case : Part → Option (List ℕ)
 wrong_case p = option_and_then (λ writing. option_and_then (miswritten writing) (comparison_of p)) (writing_of p)

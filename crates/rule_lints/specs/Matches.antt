@@ -17,7 +17,7 @@ abbrev pub may_end_at : Part → Bool
 may_end_at (part.Act a) = true
 may_end_at p = is_match p
 
--- what is compared, where the operator is `==`
+-- what is compared, if the operator is `==`
 abbrev pub by_equal : {X : Type 0} → MatchOperator → Option X → Option X
 by_equal Equal x = x
 by_equal NotEqual x = None

@@ -1,4 +1,4 @@
--- W1: MODE is no octal number.
+-- W1: MODE is not an octal number.
 use Rattle.std.specs.Prelude.{ℕ, Bool, not, ◌&&◌, ◌||◌, ◌==◌, nat_lt, nat_le, if◌then◌else◌, List, Option, Some, None}
 use Rattle.std.specs.Char.{digit_value}
 use Rattle.std.specs.List.{list_all, list_any}
@@ -24,7 +24,7 @@ is_mode text = not (is_empty text) && (list_all (λ b. nat_lt (digit_value b) 8)
 abbrev pub has_sign : List ℕ → Bool
 has_sign text = list_any (λ b. b == dollar || b == percent) text
 
--- a text that gives no mode, whatever the device is
+-- a text, if it is not a mode whatever the device is
 abbrev pub no_mode : List ℕ → Option (List ℕ)
 no_mode text = if has_sign text || is_mode text then None else Some text
 
@@ -33,6 +33,6 @@ abbrev pub mode_in : Change → Option (List ℕ)
 mode_in (change.Text target.Mode t) = Some t.written
 mode_in _ = None
 
--- the value that W1 is reported
+-- the value with which W1 is reported
 abbrev pub wrong_mode : Part → Option (List ℕ)
 wrong_mode p = option_and_then no_mode (option_and_then mode_in (change_of p))

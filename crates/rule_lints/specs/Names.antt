@@ -17,7 +17,7 @@ use Rattle.rule_lints.specs.Parts.{change_of, is_equal}
 use Rattle.rule_lints.specs.Texts.{has_byte}
 use Rattle.rule_lints.specs.Written.{WrittenPart}
 
--- whether a text meets a comparison
+-- whether a comparison holds for a text
 abbrev pub meets : List ℕ → Comparison → Bool
 meets text wanted = if is_equal wanted.operator then choice_fits wanted.choice text else not (choice_fits wanted.choice text)
 
@@ -26,12 +26,12 @@ abbrev pub is_subsystem : PlainKey → Bool
 is_subsystem plain.Subsystem = true
 is_subsystem _ = false
 
--- whether a part is a match of SUBSYSTEM that `net` does not meet
+-- whether a part is a match of SUBSYSTEM that does not hold for `net`
 abbrev pub excludes_net : Part → Bool
 excludes_net (part.Plain m) = is_subsystem m.key && not (meets (codes "net") m.wanted)
 excludes_net _ = false
 
--- whether a rule is for no network device
+-- whether a rule holds for no network device
 abbrev pub is_outside_net : List WrittenPart → Bool
 is_outside_net tokens = list_any (λ w. excludes_net w.part) tokens
 
@@ -40,7 +40,7 @@ abbrev pub name_in : Change → Option (List ℕ)
 name_in (change.Text target.Name t) = Some t.written
 name_in _ = None
 
--- the value that W8 is reported, in a rule that is for no network device
+-- the value with which W8 is reported, in a rule that holds for no network device
 abbrev pub name_given : Part → Option (List ℕ)
 name_given p = option_and_then name_in (change_of p)
 
@@ -49,18 +49,18 @@ abbrev pub links_in : Change → Option (List ℕ)
 links_in (change.Text target.Symlink t) = Some t.written
 links_in _ = None
 
--- links of which one begins with `/dev/`
+-- links, if one of them begins with `/dev/`
 abbrev pub links_with_dev : List ℕ → Option (List ℕ)
 links_with_dev links = if list_any (λ link. starts_with nat_eq link (codes "/dev/")) (slice_split is_blank links) then Some links else None
 
--- the value that W9 is reported
+-- the value with which W9 is reported
 abbrev pub dev_link : Part → Option (List ℕ)
 dev_link p = option_and_then links_with_dev (option_and_then links_in (change_of p))
 
--- a text that has a `"`
+-- a text, if it has a `"`
 abbrev pub with_quote : List ℕ → Option (List ℕ)
 with_quote text = if has_byte double_quote text then Some text else None
 
--- the text in braces that W10 is reported
+-- the text in braces with which W10 is reported
 abbrev pub quoted_name : Placed → Option (List ℕ)
 quoted_name t = option_and_then with_quote t.parts.head.attribute

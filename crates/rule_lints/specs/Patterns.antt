@@ -37,11 +37,11 @@ abbrev pub has_class : List ℕ → Bool
 has_class [] = false
 has_class (b ∷ text) = (b == backslash && begins_with_class text) || has_class text
 
--- whether a `(` after which no `)` stands is in a text: one after the last `)`
+-- whether a text has a `(` that no `)` follows: one after the last `)`
 abbrev pub has_open_parenthesis : List ℕ → Bool
 has_open_parenthesis text = has_byte open_parenthesis (behind_last close_parenthesis text)
 
--- whether a `)` before which no `(` stands is in a text: one before the first `(`
+-- whether a text has a `)` that no `(` precedes: one before the first `(`
 abbrev pub has_close_parenthesis : List ℕ → Bool
 has_close_parenthesis text = has_byte close_parenthesis (before_first open_parenthesis text)
 
@@ -53,21 +53,21 @@ are_of_group texts = list_any has_open_parenthesis texts && list_any has_close_p
 abbrev pub has_braces : List ℕ → Bool
 has_braces text = has_byte close_brace (behind_first comma (behind_first open_brace text))
 
--- whether a text is written as a regular expression or with braces, which are none of a pattern's signs
+-- whether a text is written as a regular expression or with braces, which are not signs of a pattern
 abbrev pub is_expression : List ℕ → Bool
 is_expression text =
     (begins_with caret text || (starts_with nat_eq text (codes ".*") || ends_in dollar text))
     || (has_class text || has_braces text)
 
--- whether one of the texts between bars is so written, or they are those of a group
+-- whether one of the texts between bars is written so, or they are those of a group
 abbrev pub are_expressions : List (List ℕ) → Bool
 are_expressions texts = list_any is_expression texts || are_of_group texts
 
--- the value of a comparison of which the alternatives, as texts between bars, are so written
+-- the value of a comparison, if its alternatives, as texts between bars, are written so
 abbrev pub expression_in : Comparison → Option (List ℕ)
 expression_in wanted = if are_expressions (slice_split is_bar wanted.written) then Some wanted.written else None
 
--- the value that W11 is reported
+-- the value with which W11 is reported
 abbrev pub expression : Part → Option (List ℕ)
 expression p = option_and_then expression_in (comparison_of p)
 
@@ -85,16 +85,17 @@ is_always_there plain.Driver = true
 is_always_there (plain.Env name) = true
 is_always_there _ = false
 
--- whether a part looks at what is always there; a match of one device of the chain is none, as it selects that device for substitutions
+-- whether a part looks at what is always there; a match of one device of the chain does not, as it selects that
+-- device for substitutions
 abbrev pub looks_at_all : Part → Bool
 looks_at_all (part.Plain m) = is_always_there m.key
 looks_at_all _ = false
 
--- whether a comparison by `==` holds of any text
+-- whether a comparison is by `==` and holds for any text
 abbrev pub is_met_by_all : Comparison → Bool
 is_met_by_all wanted = is_equal wanted.operator && list_any take_all wanted.choice
 
--- whether a comparison is there, and is met by any text
+-- whether there is a comparison, and it holds for any text
 abbrev pub some_met_by_all : Option Comparison → Bool
 some_met_by_all None = false
 some_met_by_all (Some wanted) = is_met_by_all wanted

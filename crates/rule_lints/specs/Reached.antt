@@ -1,4 +1,4 @@
--- Rules that none leads to, since the rule above jumps away wherever it is reached.
+-- Rules that no rule leads to, since the rule above jumps away whenever it is reached.
 use Rattle.std.specs.Prelude.{Bool, ◌||◌, if◌then◌else◌, List, [], ◌∷◌, Option, Some, None, is_some}
 use Rattle.std.specs.List.{list_any}
 use Rattle.text_tables.specs.Texts.{Text}
@@ -23,7 +23,7 @@ abbrev pub jumps_above : List LandedRule → Option Text
 jumps_above [] = None
 jumps_above (r ∷ farther) = jumps_to r
 
--- whether a rule has a label; of one that no jump leads to S4 tells
+-- whether a rule has a label; S4 reports one that no jump leads to
 abbrev pub is_labelled : LandedRule → Bool
 is_labelled r = list_any (λ w. is_some (label_in w.part)) r.rule.tokens
 
@@ -32,7 +32,7 @@ abbrev pub first_spot : Text → List WrittenPart → List LintSpot
 first_spot name [] = []
 first_spot name (w ∷ tokens) = key_spot NeverReached name w.token ∷ []
 
--- a rule without a label, after one that jumps to a label, if it does
+-- the first token of a rule without a label, if the rule above jumps to a label
 abbrev pub never_reached : Option Text → LandedRule → List LintSpot
 never_reached None r = []
 never_reached (Some name) r = if is_labelled r then [] else first_spot name r.rule.tokens

@@ -14,7 +14,7 @@ use Rattle.rule_lints.specs.Spots.{key_spot, value_spot}
 use Rattle.rule_lints.specs.Written.{WrittenPart}
 use Rattle.rule_lints.specs.declared.spot.LintSpot.{LintSpot}
 
--- the text that a lint of one token is reported for this one with, if it is reported
+-- the text with which a lint of single tokens is reported for this one, if it is reported
 abbrev pub word_of : Lint → WrittenPart → Option (List ℕ)
 word_of ModeNotOctal w = wrong_mode w.part
 word_of SignOfShell w = shell_command w.part
@@ -39,24 +39,24 @@ is_of_key _ = false
 abbrev pub spot_of : Lint → Placed → List ℕ → LintSpot
 spot_of lint t word = if is_of_key lint then key_spot lint word t else value_spot lint word t
 
--- what a lint of one token says about this one
+-- what a lint of single tokens finds in this one
 abbrev pub told_of : Lint → WrittenPart → Option LintSpot
 told_of lint w = option_map (spot_of lint w.token) (word_of lint w)
 
--- what a lint of one token says about these, in written order
+-- what a lint of single tokens finds in these, in written order
 abbrev pub told : Lint → List WrittenPart → List LintSpot
 told lint tokens = filter_map (told_of lint) tokens
 
--- what a lint of one token says about the token that there may be
+-- what a lint of single tokens finds in the token that there may be
 abbrev pub told_if_there : Lint → Option WrittenPart → List LintSpot
 told_if_there lint None = []
 told_if_there lint (Some w) = told lint (w ∷ [])
 
--- what W8 says about a rule's tokens
+-- each W8 of a rule's tokens
 abbrev pub names_told : List WrittenPart → List LintSpot
 names_told tokens = if is_outside_net tokens then told NameOutsideNet tokens else []
 
--- what is reported for a rule's tokens: the lints in the order of their codes, those of one code in written order
+-- what is reported for a rule's tokens: the lints in the order of their codes, and those of one code in written order
 unfoldable pub rule_lints : List WrittenPart → List LintSpot
 rule_lints tokens =
     ((((((((told ModeNotOctal tokens

@@ -1,4 +1,4 @@
--- Serves the proofs of this crate alone: what its functions keep.
+-- Serves inner proofs only: what its functions keep.
 use Rattle.std.specs.Prelude.{ℕ, ◌-◌, nat_lt, if◌then◌else◌, List, [], Option, Some, None, Result, Ok, Err}
 use Rattle.text_tables.specs.Texts.{Text, with_texts}
 use Rattle.rule_types.specs.declared.part.Part.{Part}
@@ -30,7 +30,7 @@ pub record RulesAbove : Type 0 where
 abbrev pub nothing_above : RulesAbove
 nothing_above = record { given = []; jump = None }
 
--- one rule more above, which is the nearest then
+-- one more rule above, which is then the nearest
 abbrev pub with_rule : RulesAbove → LandedRule → RulesAbove
 with_rule a r = record { given = with_texts a.given (given_by r.rule.tokens); jump = jumps_to r }
 
@@ -38,6 +38,6 @@ with_rule a r = record { given = with_texts a.given (given_by r.rule.tokens); ju
 abbrev pub left_behind : ℕ → WrittenPart → ℕ
 left_behind matches w = if is_match w.part then matches - 1 else matches
 
--- an assignment after which so many matches stand, where what it gives is compared
+-- an assignment that so many matches follow, if there are any and what it gives is compared
 abbrev pub before_matches : ℕ → List Text → WrittenPart → List LintSpot
 before_matches matches compared w = if nat_lt 0 matches then meant_spots compared w (assigned_value w.part) else []

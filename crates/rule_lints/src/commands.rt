@@ -1,4 +1,4 @@
-//! W2 and W3: the commands of a rule, and what of them is for a shell.
+//! W2 and W3: the commands of a rule, and what in them is meant for a shell.
 ghost use Rattle.std.specs.Prelude.{◌≡◌, ◌≤◌, length, not, option_map};
 ghost use Rattle.std.specs.List.{prefix_len};
 ghost use Rattle.text_bytes.specs.Names.{is_blank};
@@ -52,15 +52,15 @@ const COMMANDS: [&[u8]; 35] = [
     b"umount",
 ];
 
-/// The value that W2 is reported: a command with a sign of the shell that no shell runs.
+/// The value with which W2 is reported: a command with a sign of the shell that no shell runs.
 pub(crate) fn shell_command(part: &Part) -> Option<&[u8]>
     ensures { option_map (λ text. text.now) result ≡ shell_command part.now }
 {
     lacks_shell(command_of(part)?)
 }
 
-/// The value that W3 is reported: a command of RUN whose program stands elsewhere than where udev looks
-/// for one without a path.
+/// The value with which W3 is reported: a command of RUN whose program is not where udev looks for one without a
+/// path.
 pub(crate) fn relative_program(part: &Part) -> Option<&[u8]>
     ensures { option_map (λ text. text.now) result ≡ relative_program part.now }
 {
@@ -127,7 +127,7 @@ fn has_shell_sign(command: &[u8]) -> bool
     false
 }
 
-/// The quote that is open after a byte, by that which is open before it.
+/// The quote that is open after a byte, given the one that is open before it.
 fn open_behind(opened: Option<u8>, byte: u8) -> Option<u8>
     ensures { result ≡ open_behind opened byte }
 {
@@ -155,7 +155,7 @@ fn is_shell_sign(byte: u8, behind: &[u8]) -> bool
         || (byte == b'&' && begins_with(b'&', behind))
 }
 
-/// Whether a text goes on as one after a `>` of the shell.
+/// Whether a text goes on like one after a `>` of the shell.
 fn is_redirected(behind: &[u8]) -> bool
     ensures { result ≡ is_redirected behind.now }
 {
@@ -191,7 +191,7 @@ pub(crate) fn first_word(command: &[u8]) -> &[u8]
     word
 }
 
-/// How many bytes that are no blanks a text begins with.
+/// How many bytes that are not blanks a text begins with.
 fn word_length(text: &[u8]) -> usize
     ensures value { result ≡ prefix_len (λ b. not (is_blank b)) text.now }
     ensures within { result ≤ length text.now }
@@ -199,7 +199,7 @@ fn word_length(text: &[u8]) -> usize
     text.iter().take_while(|byte| !is_blank(**byte)).count()
 }
 
-/// A command whose first word is the name of one that stands elsewhere.
+/// A command whose first word is the name of one that is elsewhere.
 fn lacks_path(command: &[u8]) -> Option<&[u8]>
     ensures { option_map (λ text. text.now) result ≡ lacks_path command.now }
 {

@@ -1,4 +1,4 @@
-//! W5: the attributes that a rule asks of one device are those of different devices.
+//! W5: the attributes that a rule asks one device for are those of different devices.
 ghost use Rattle.std.specs.Prelude.{◌≡◌, option_map};
 ghost use Rattle.rule_lints.specs.Devices.{asked_by, asked_name, group_named, group_of, is_other, is_same, stranger};
 
@@ -6,7 +6,7 @@ use crate::parts::is_among;
 use crate::written::WrittenPart;
 use rule_types::{MatchOperator, Part, UpKey};
 
-/// The devices that alone have an attribute.
+/// The kind of devices that alone has an attribute.
 #[derive(Clone, Copy, Debug, PartialEq, Eq)]
 pub enum Group {
     /// USB devices.
@@ -49,8 +49,8 @@ const INPUT_NAMES: [&[u8]; 4] = [b"id/vendor", b"id/product", b"id/version", b"i
 /// Attributes of a PCI device.
 const PCI_NAMES: [&[u8]; 2] = [b"subsystem_vendor", b"subsystem_device"];
 
-/// The token that W5 is reported: the first whose attribute is of other devices than that of the first
-/// such token.
+/// The token with which W5 is reported: the first whose attribute is of other devices than that of the first token
+/// with an attribute of a group.
 pub(crate) fn stranger<'w, 'a>(tokens: &'w [WrittenPart<'a>]) -> Option<&'w WrittenPart<'a>>
     ensures { option_map (λ w. w.now) result ≡ stranger tokens.now }
 {
@@ -89,14 +89,14 @@ fn asked_by(key: &UpKey, operator: MatchOperator) -> Option<&[u8]>
     }
 }
 
-/// The devices that alone have the attribute that a token asks for.
+/// The kind of devices that alone has the attribute that a token asks for.
 fn group_of(written: &WrittenPart<'_>) -> Option<Group>
     ensures { result ≡ group_of written.now }
 {
     group_named(asked_name(&written.part)?)
 }
 
-/// The devices that alone have an attribute.
+/// The kind of devices that alone has an attribute.
 fn group_named(name: &[u8]) -> Option<Group>
     ensures { result ≡ group_named name.now }
 {
@@ -113,7 +113,7 @@ fn group_named(name: &[u8]) -> Option<Group>
     }
 }
 
-/// Whether there is a group, and it is another than this.
+/// Whether there is a group, and it is not this one.
 fn is_other(group: Group, found: Option<Group>) -> bool
     ensures { result ≡ is_other group found }
 {
@@ -123,7 +123,7 @@ fn is_other(group: Group, found: Option<Group>) -> bool
     }
 }
 
-/// Whether two groups are one.
+/// Whether two groups are the same.
 fn is_same(group: Group, other: Group) -> bool
     ensures { result ≡ is_same group other }
 {

@@ -1,4 +1,4 @@
-//! Laws of the lints of a file, each the contract of a function that does nothing.
+//! Laws of the lints of a file, each the contract of a function with an empty body.
 ghost use Rattle.std.specs.Prelude.{◌≡◌, [], List, Some, ℕ, is_some, map};
 ghost use Rattle.text_bytes.specs.declared.profile.Profile as profiles;
 ghost use Rattle.text_bytes.specs.declared.source_file.SourceFile as files;
@@ -8,28 +8,27 @@ ghost use Rattle.rule_lints.specs.FileLaws.{FirstIsReached, ImportsFurtherDown, 
 ghost use Rattle.rule_lints.specs.FileLints.{file_spots, placed_lints};
 ghost use Rattle.rule_lints.specs.FileRules.{file_rules, landed_rules, tokens_of_rule};
 
-/// A joined line is a rule for lints just where `rule_core` reads it as one.
+/// A joined line is a rule for lints if and only if `rule_core` reads it as one.
 #[tactic(auto, using(crate::proofs::FileLemmas::lines_read))]
 pub fn lines_are_rules_where_they_are_read()
     ensures { (by : profiles.Profile) (line : List ℕ) → is_some (tokens_of_rule by line) ≡ is_read (draft_of by line) }
 {}
 
-/// W6 says about properties that the rule or one further down imports, and that no rule before it imports, assigns or
-/// may
-/// import.
+/// W6 is reported for properties that the rule or one further down imports, and that no rule before it imports,
+/// assigns or may import.
 pub fn imports_stand_further_down()
     ensures { ImportsFurtherDown }
 {}
 
-/// W7 says about no assignment after all matches of its rule, and of none where nothing is compared.
+/// W7 is reported for no assignment after all matches of its rule, and for none if nothing is compared.
 #[tactic(auto, using(crate::proofs::FileLemmas::none_behind, crate::proofs::FileLemmas::none_uncompared))]
 pub fn assignments_stand_before_matches()
     ensures behind { NoneBehindMatches }
     ensures uncompared { NoneUncompared }
 {}
 
-/// W13 tells neither of the first rule of a file, nor of one after a rule that may end or whose jump has no later
-/// label, nor of one with a label.
+/// W13 is reported neither for the first rule of a file, nor for one after a rule that may end or whose jump has no
+/// later label, nor for one with a label.
 #[tactic(auto, using(crate::proofs::FileLemmas::behind_matches, crate::proofs::FileLemmas::behind_lost, crate::proofs::FileLemmas::by_labels))]
 pub fn rules_that_are_reached_are_not_told_of()
     ensures first { FirstIsReached }
@@ -44,7 +43,7 @@ pub fn lints_are_those_of_the_rules()
     ensures { (by : profiles.Profile) (file : files.SourceFile) → map told_in (placed_lints by file) ≡ map told_of (file_spots (landed_rules by (file_rules by file.bytes))) }
 {}
 
-/// Of a file that is given up no lint is reported.
+/// No lint is reported for a file that is given up.
 #[tactic(auto, using(crate::proofs::FileLemmas::none_given_up))]
 pub fn files_that_are_given_up_have_no_lints()
     ensures { (by : profiles.Profile) (file : files.SourceFile) (number : ℕ) → given_up by file.bytes ≡ Some number → placed_lints by file ≡ [] }

@@ -35,12 +35,12 @@ struct FileNames<'a> {
     compared: OwnedTexts,
 }
 
-/// What the rules above a rule leave for it.
+/// What a rule needs to know about the rules above it.
 #[derive(Drop)]
 struct RulesAbove<'a> {
     /// What they import or assign.
     given: Texts<'a>,
-    /// The label to which the nearest of them jumps for every device.
+    /// The label to which the nearest of them jumps for every device, if it does.
     jump: Option<&'a [u8]>,
 }
 
@@ -140,7 +140,7 @@ impl<'a> RulesAbove<'a> {
         }
     }
 
-    /// Takes one rule more, which is the nearest then.
+    /// Takes one more rule, which is then the nearest.
     fn take(&mut self, rule: &'a LandedRule<'_>) -> Result<(), AllocError>
         ensures { OnOk result (self.new ≡ with_rule self.old rule.now) }
     {

@@ -9,7 +9,7 @@ use rule_types::{Change, Deed, Import, Part, Target};
 use std::alloc::AllocError;
 use text_tables::Texts;
 
-/// Builtins, each with a family of properties that it imports: what their names begin with, and a `*` after.
+/// Builtins, each with a family of properties that it imports: what their names begin with, and then a `*`.
 const FAMILIES: [(&[u8], &[u8]); 6] = [
     (b"blkid", b"ID_FS_*"),
     (b"blkid", b"ID_PART_*"),
@@ -19,7 +19,7 @@ const FAMILIES: [(&[u8], &[u8]); 6] = [
     (b"usb_id", b"ID_USB_*"),
 ];
 
-/// What stands for each property, where a rule may import any.
+/// This stands for every property, if a rule may import any.
 const ANY_PROPERTY: &[u8] = b"*";
 
 /// Adds what the tokens of a rule import.
@@ -119,7 +119,7 @@ fn add_perhaps_by<'a>(names: &mut Texts<'a>, deed: &'a Deed) -> Result<(), Alloc
     }
 }
 
-/// Adds the property that an IMPORT names of the database or of the parent, or each one.
+/// Adds the property that an IMPORT names in the database or in the parent, or every property.
 fn add_named<'a>(names: &mut Texts<'a>, import: &'a Import) -> Result<(), AllocError>
     ensures { OnOk result (names.new ≡ with_texts names.old (names_perhaps import.now)) }
 {
@@ -139,7 +139,7 @@ fn add_named<'a>(names: &mut Texts<'a>, import: &'a Import) -> Result<(), AllocE
     Ok(())
 }
 
-/// Adds each property where a builtin has no family here.
+/// Adds every property if a builtin has no family here.
 fn add_unless_known(names: &mut Texts<'_>, builtin: &[u8]) -> Result<(), AllocError>
     ensures { OnOk result (names.new ≡ with_texts names.old (else_any (families_in families builtin.now))) }
 {
@@ -161,7 +161,7 @@ fn has_families(rows: &[(&[u8], &[u8])], builtin: &[u8]) -> bool
     false
 }
 
-/// The property that is imported from the parent, or each one.
+/// The property that is imported from the parent, or every property.
 fn named_of_parent(value: &[u8]) -> &[u8]
     ensures { result.now ≡ (if names_several value.now then any_property else value.now) }
 {
@@ -198,14 +198,14 @@ pub fn has_property(names: &Texts<'_>, name: &[u8]) -> bool
     names.contains(name) || has_family(names, &FAMILIES, name)
 }
 
-/// Whether names that are given have a property, a family of it, or each property.
+/// Whether names that are given have a property, a family of it, or every property.
 pub fn is_given(names: &Texts<'_>, name: &[u8]) -> bool
     ensures { result ≡ is_given names.now name.now }
 {
     names.contains(ANY_PROPERTY) || has_property(names, name)
 }
 
-/// Whether names have a family of a property.
+/// Whether a family of a property is among names.
 fn has_family(names: &Texts<'_>, rows: &[(&[u8], &[u8])], name: &[u8]) -> bool
     ensures { result ≡ has_family names.now (map (λ row. (row.0.now, row.1.now)) rows.now) name.now }
 {

@@ -10,7 +10,7 @@ use std::alloc::{AllocError, Global};
 use text_core::Choice;
 use text_tables::Texts;
 
-/// Adds the matches of a rule that ask for properties that its file imports, where these are not given before.
+/// Adds the matches of a rule that ask for properties that its file imports, if these are not given before.
 pub fn add_imported_below(
     alloc: Global,
     spots: &mut Vec<LintSpot>,
@@ -26,7 +26,7 @@ pub fn add_imported_below(
     Ok(())
 }
 
-/// Adds a match that asks for a property that the file imports, where it is not given before.
+/// Adds a match that asks for a property that the file imports, if it is not given before.
 fn add_token(
     alloc: Global,
     spots: &mut Vec<LintSpot>,
@@ -44,7 +44,7 @@ fn add_token(
     Ok(())
 }
 
-/// The property without which a part of a rule holds for no device.
+/// The property without which a part of a rule holds for no device, if there is one.
 fn wanted_in(part: &Part) -> Option<&[u8]>
     ensures { option_map (λ name. name.now) result ≡ wanted_in part.now }
 {
@@ -57,7 +57,7 @@ fn wanted_in(part: &Part) -> Option<&[u8]>
     }
 }
 
-/// The property that patterns are compared with, where none of them fits the empty text.
+/// The property that patterns are compared with, if none of them fits the empty text.
 fn asked_for<'a>(key: &'a PlainKey, choice: &Choice) -> Option<&'a [u8]>
     ensures { option_map (λ name. name.now) result ≡ asked_for key.now choice.now }
 {

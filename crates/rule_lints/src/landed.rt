@@ -55,7 +55,7 @@ fn landings_of(
     landings(alloc, &jumps)
 }
 
-/// The name of the LABEL of a rule that counts: of its first, and for udev of its last.
+/// The name of the LABEL of a rule that counts: its first, or for udev its last.
 fn label_of<'a>(profile: Profile, tokens: &'a [WrittenPart<'_>]) -> Option<&'a [u8]>
     ensures { option_map (λ t. t.now) result ≡ label_of profile tokens.now }
 {

@@ -1,4 +1,4 @@
-//! Laws of the lints of one rule, each the contract of a function that does nothing.
+//! Laws of the lints of one rule, each the contract of a function with an empty body.
 ghost use Rattle.std.specs.Prelude.{◌≡◌, ◌↔◌, ℕ, List, None, Some, true, false, codes};
 ghost use Rattle.std.specs.List.{list_any};
 ghost use Rattle.text_core.specs.Fits.{fits};
@@ -13,60 +13,57 @@ ghost use Rattle.rule_lints.specs.Patterns.{has_braces, has_open_parenthesis, is
 ghost use Rattle.rule_lints.specs.declared.letter_case.Writing.TheVariants.{Alias, Lower, Prefixed};
 ghost use Rattle.rule_lints.specs.Written.{WrittenPart};
 
-/// A text gives a mode exactly where it is one octal digit or more, and nothing else, of a number of at
-/// most 7777.
+/// A text gives a mode if and only if it is one octal digit or more, and nothing else, of a number of at most 7777.
 #[tactic(auto, using(crate::proofs::ModeLaw::modes_written))]
 pub fn modes_are_octal_numbers()
     ensures { (text : List ℕ) → (is_mode text ≡ true) ↔ WritesMode text }
 {}
 
-/// A sign of the shell is reported exactly where it follows bytes and whole quoted parts, so
-/// outside of quotes.
+/// A sign of the shell is reported if and only if it follows bytes and whole quoted parts, so outside of quotes.
 #[tactic(auto, using(crate::proofs::SignLaw::signs_outside))]
 pub fn signs_stand_outside_of_quotes()
     ensures { (command : List ℕ) → (has_shell_sign command ≡ true) ↔ HasSignOutside command }
 {}
 
-/// A pattern that is reported for its capital letters fits no text without one, so nothing that the
-/// kernel writes in small letters.
+/// A pattern that is reported for its capital letters fits no text without one, so nothing that the kernel writes
+/// in lower case letters.
 #[tactic(auto, using(crate::proofs::FitLaws::capital_kept))]
 pub fn capital_letters_are_never_written()
     ensures { (items : List Item) (text : List ℕ) → list_any is_capital items ≡ true → fits items text ≡ true → has_capital text ≡ true }
 {}
 
-/// A pattern of an alias that is reported for fits aliases alone that have a small digit in a number of
-/// their device, which the kernel writes with capital ones.
+/// A pattern of an alias that is reported for its lower case digits fits only aliases that have a lower case digit
+/// in a number of their device, which the kernel writes in capital ones.
 #[tactic(auto, using(crate::proofs::AliasLaw::aliases_kept))]
 pub fn small_digits_of_aliases_are_never_written()
     ensures { (items : List Item) (text : List ℕ) → is_small_alias (items_in_place items) ≡ true → fits items text ≡ true → is_small_text text ≡ true }
 {}
 
-/// No token is reported for its device exactly where no two attributes of the rule are of different
-/// groups.
+/// No token is reported because of its device if and only if no two attributes of the rule are of different groups.
 #[tactic(auto, using(crate::proofs::DeviceLaw::strangers))]
 pub fn strangers_are_of_two_groups()
     ensures { (tokens : List WrittenPart) → (stranger tokens ≡ None) ↔ AreOfOneGroup tokens }
 {}
 
-/// The token that is reported for its device is the first of another group than one before it.
+/// The token that is reported because of its device is the first of another group than one before it.
 #[tactic(auto, using(crate::proofs::DeviceLaw::stranger_found))]
 pub fn the_first_stranger_is_told()
     ensures { (tokens : List WrittenPart) (told : WrittenPart) → stranger tokens ≡ Some told → IsStranger tokens told }
 {}
 
-/// Braces are reported exactly where a comma is between them.
+/// Braces are reported if and only if a comma is between them.
 #[tactic(auto, using(crate::proofs::BraceLaw::braces))]
 pub fn braces_have_a_comma()
     ensures { (text : List ℕ) → (has_braces text ≡ true) ↔ HasBraces text }
 {}
 
-/// A parenthesis that is open is reported exactly where none that closes follows it.
+/// An open parenthesis is reported if and only if no closing one follows it.
 #[tactic(auto, using(crate::proofs::ParenthesisLaw::parentheses))]
 pub fn open_parentheses_are_not_closed()
     ensures { (text : List ℕ) → (has_open_parenthesis text ≡ true) ↔ HasOpenParenthesis text }
 {}
 
-/// A match is reported as one that always holds exactly where each text fits it.
+/// A match is reported as one that always holds if and only if each text fits it.
 #[tactic(auto, using(crate::proofs::FitLaws::any_text_fits))]
 pub fn what_always_holds_fits_each_text()
     ensures { (items : List Item) → (take_all items ≡ true) ↔ ((text : List ℕ) → fits items text ≡ true) }

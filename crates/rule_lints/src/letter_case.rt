@@ -1,4 +1,4 @@
-//! W4: a letter has the case that the kernel does not write.
+//! W4: a letter has a case in which the kernel does not write it.
 ghost use Rattle.std.specs.Prelude.{◌≡◌, ◌≤◌, length, not, option_map};
 ghost use Rattle.std.specs.List.{list_all, list_any, prefix_len, zip};
 ghost use Rattle.rule_lints.specs.LetterCase.{begin_with, has_small_digit, is_byte_in, is_capital, is_many, is_miswritten, is_small_alias, items_in_place, miswritten, writing_named, writing_of, writing_of_plain, writing_of_up, wrong_case};
@@ -10,15 +10,15 @@ use text_core::{Item, Pattern};
 /// How the kernel writes a value.
 #[derive(Clone, Copy, Debug, PartialEq, Eq)]
 pub enum Writing {
-    /// Hexadecimal digits in small letters.
+    /// Hexadecimal digits in lower case letters.
     Lower,
-    /// The same where `0x` comes before them; else it may be any text.
+    /// The same if `0x` comes before them; otherwise any text.
     Prefixed,
     /// A device's alias, with the numbers of vendor and product in capital letters.
     Alias,
 }
 
-/// Attributes that are hexadecimal digits in small letters.
+/// Attributes that are hexadecimal digits in lower case letters.
 const LOWER_NAMES: [&[u8]; 17] = [
     b"idVendor",
     b"idProduct",
@@ -39,10 +39,10 @@ const LOWER_NAMES: [&[u8]; 17] = [
     b"subsystem_device",
 ];
 
-/// Attributes that several subsystems have, and that are such digits where `0x` comes before them.
+/// Attributes that several subsystems have, and that are such digits if `0x` comes before them.
 const PREFIXED_NAMES: [&[u8]; 3] = [b"vendor", b"device", b"class"];
 
-/// The value that W4 is reported.
+/// The value with which W4 is reported.
 pub(crate) fn wrong_case(part: &Part) -> Option<&[u8]>
     ensures { option_map (λ text. text.now) result ≡ wrong_case part.now }
 {
@@ -50,7 +50,7 @@ pub(crate) fn wrong_case(part: &Part) -> Option<&[u8]>
     miswritten(writing, comparison_of(part)?)
 }
 
-/// How the kernel writes what a part looks at, where that is known.
+/// How the kernel writes what a part looks at, if that is known.
 fn writing_of(part: &Part) -> Option<Writing>
     ensures { result ≡ writing_of part.now }
 {
@@ -97,8 +97,8 @@ fn writing_named(name: &[u8]) -> Option<Writing>
     }
 }
 
-/// The value of a comparison that counts case, of which an alternative has a letter that the kernel
-/// does not write so.
+/// The value of a comparison in which case counts, and of which an alternative has a letter that the kernel does
+/// not write so.
 fn miswritten(writing: Writing, wanted: &Comparison) -> Option<&[u8]>
     ensures { option_map (λ text. text.now) result ≡ miswritten writing wanted.now }
 {
@@ -154,7 +154,7 @@ fn begin_with(text: &[u8], items: &[Item]) -> bool
     text.len() <= items.len() && all_stand(text, items)
 }
 
-/// Whether each item is the byte of its place, as far as there are both.
+/// Whether each item is the byte at its place, as far as there are both.
 fn all_stand(text: &[u8], items: &[Item]) -> bool
     ensures { result ≡ list_all (λ pair. is_byte_in pair.0 pair.0 pair.1) (zip text.now items.now) }
 {
@@ -186,7 +186,7 @@ pub(crate) fn is_many(item: &Item) -> bool
     matches!(item, Item::Many)
 }
 
-/// Whether an alias has a small digit where the kernel writes capital ones.
+/// Whether an alias has a lower case digit where the kernel writes capital ones.
 fn is_small_alias(items: &[Item]) -> bool
     ensures { result ≡ is_small_alias items.now }
 {

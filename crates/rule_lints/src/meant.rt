@@ -1,4 +1,4 @@
-//! Assignments of values that rules compare, where a comparison was most likely meant.
+//! Assignments of values that rules compare, for which a comparison was most likely meant.
 ghost use Rattle.std.specs.Prelude.{◌≡◌, ◌++◌, OnOk};
 ghost use Rattle.std.specs.List.{count_by};
 ghost use Rattle.text_tables.specs.Texts.{with_texts};
@@ -30,7 +30,7 @@ pub fn add_compared(
     Ok(())
 }
 
-/// Adds the assignments of a rule after which a match stands, where what they give is compared.
+/// Adds the assignments of a rule that a match follows, if what they give is compared.
 pub fn add_meant(
     alloc: Global,
     spots: &mut Vec<LintSpot>,
@@ -59,7 +59,7 @@ fn left_behind(matches: usize, token: &WrittenPart<'_>) -> usize
     }
 }
 
-/// Adds an assignment after which so many matches stand, where what it gives is compared.
+/// Adds an assignment that so many matches follow, if there are any and what it gives is compared.
 fn add_before(
     alloc: Global,
     spots: &mut Vec<LintSpot>,
@@ -82,7 +82,7 @@ fn matches_in(tokens: &[WrittenPart<'_>]) -> usize
     tokens.iter().filter(|token| is_match(&token.part)).count()
 }
 
-/// Adds an assignment, where what it gives is compared.
+/// Adds an assignment, if what it gives is compared.
 fn add_token(
     alloc: Global,
     spots: &mut Vec<LintSpot>,

@@ -1,4 +1,4 @@
-//! W1: MODE is no octal number.
+//! W1: MODE is not an octal number.
 ghost use Rattle.std.specs.Prelude.{◌≡◌, option_map};
 ghost use Rattle.rule_lints.specs.Modes.{has_sign, is_mode, mode_in, no_mode, wrong_mode};
 
@@ -8,7 +8,7 @@ use rule_types::{Change, Part, Target};
 /// The greatest mode of a file.
 const GREATEST_MODE: u32 = 0o7777;
 
-/// The value that W1 is reported: one that a part gives to MODE, and that gives none.
+/// The value with which W1 is reported: one that a part gives to MODE, and that is not a mode.
 pub(crate) fn wrong_mode(part: &Part) -> Option<&[u8]>
     ensures { option_map (λ text. text.now) result ≡ wrong_mode part.now }
 {
@@ -25,7 +25,7 @@ fn mode_in(change: &Change) -> Option<&[u8]>
     }
 }
 
-/// A text that gives no mode, whatever the device is.
+/// A text that is not a mode, whatever the device is.
 fn no_mode(text: &[u8]) -> Option<&[u8]>
     ensures { option_map (λ text. text.now) result ≡ no_mode text.now }
 {

@@ -11,14 +11,14 @@ use rule_tokens::Token;
 use rule_types::{Change, Comparison, MatchOperator, Part, PlainKey, Target};
 use text_bytes::is_blank;
 
-/// Whether a rule is for no network device.
+/// Whether a rule holds for no network device.
 pub(crate) fn is_outside_net(tokens: &[WrittenPart<'_>]) -> bool
     ensures { result ≡ is_outside_net tokens.now }
 {
     tokens.iter().any(|written| excludes_net(&written.part))
 }
 
-/// Whether a part is a match of SUBSYSTEM that `net` does not meet.
+/// Whether a part is a match of SUBSYSTEM that does not hold for `net`.
 fn excludes_net(part: &Part) -> bool
     ensures { result ≡ excludes_net part.now }
 {
@@ -35,7 +35,7 @@ fn is_subsystem(key: &PlainKey) -> bool
     matches!(key, PlainKey::Subsystem)
 }
 
-/// Whether a text meets a comparison.
+/// Whether a comparison holds for a text.
 fn meets(text: &[u8], wanted: &Comparison) -> bool
     ensures { result ≡ meets text.now wanted.now }
 {
@@ -46,7 +46,7 @@ fn meets(text: &[u8], wanted: &Comparison) -> bool
     }
 }
 
-/// The value that W8 is reported, in a rule that is for no network device.
+/// The value with which W8 is reported, in a rule that holds for no network device.
 pub(crate) fn name_given(part: &Part) -> Option<&[u8]>
     ensures { option_map (λ text. text.now) result ≡ name_given part.now }
 {
@@ -63,7 +63,7 @@ fn name_in(change: &Change) -> Option<&[u8]>
     }
 }
 
-/// The value that W9 is reported: links of which one begins with `/dev/`.
+/// The value with which W9 is reported: links, one of which begins with `/dev/`.
 pub(crate) fn dev_link(part: &Part) -> Option<&[u8]>
     ensures { option_map (λ text. text.now) result ≡ dev_link part.now }
 {
@@ -80,7 +80,7 @@ fn links_in(change: &Change) -> Option<&[u8]>
     }
 }
 
-/// Links of which one begins with `/dev/`.
+/// Links, if one of them begins with `/dev/`.
 fn links_with_dev(links: &[u8]) -> Option<&[u8]>
     ensures { option_map (λ text. text.now) result ≡ links_with_dev links.now }
 {
@@ -96,14 +96,14 @@ fn has_dev(links: &[u8]) -> bool
         .any(|link| link.starts_with(b"/dev/"))
 }
 
-/// The text in braces that W10 is reported.
+/// The text in braces with which W10 is reported.
 pub(crate) fn quoted_name<'a>(token: &Token<'a>) -> Option<&'a [u8]>
     ensures { option_map (λ text. text.now) result ≡ quoted_name token.now }
 {
     with_quote(token.attribute()?)
 }
 
-/// A text that has a `"`.
+/// A text, if it has a `"`.
 fn with_quote(text: &[u8]) -> Option<&[u8]>
     ensures { option_map (λ text. text.now) result ≡ with_quote text.now }
 {

@@ -12,15 +12,15 @@ use rule_types::{Comparison, Part, PlainKey};
 use text_bytes::{begins_with, ends_in};
 use text_core::{Item, Pattern};
 
-/// The value that W11 is reported.
+/// The value with which W11 is reported.
 pub(crate) fn expression(part: &Part) -> Option<&[u8]>
     ensures { option_map (λ text. text.now) result ≡ expression part.now }
 {
     expression_in(comparison_of(part)?)
 }
 
-/// The value of a comparison of which the alternatives, as texts between bars, are written as regular
-/// expressions or with braces.
+/// The value of a comparison, if its alternatives, as texts between bars, are written as regular expressions or
+/// with braces.
 fn expression_in(wanted: &Comparison) -> Option<&[u8]>
     ensures { option_map (λ text. text.now) result ≡ expression_in wanted.now }
 {
@@ -101,14 +101,14 @@ fn begins_with_class(text: &[u8]) -> bool
     }
 }
 
-/// Whether a `(` after which no `)` stands is in a text.
+/// Whether a text has a `(` that no `)` follows.
 fn has_open_parenthesis(text: &[u8]) -> bool
     ensures { result ≡ has_open_parenthesis text.now }
 {
     has_byte(b'(', behind_last(b')', text))
 }
 
-/// Whether a `)` before which no `(` stands is in a text.
+/// Whether a text has a `)` that no `(` precedes.
 fn has_close_parenthesis(text: &[u8]) -> bool
     ensures { result ≡ has_close_parenthesis text.now }
 {
@@ -122,7 +122,7 @@ fn has_braces(text: &[u8]) -> bool
     has_byte(b'}', behind_first(b',', behind_first(b'{', text)))
 }
 
-/// Whether W12 is reported for a part: a match that holds of any text.
+/// Whether W12 is reported for a part: a match that holds for any text.
 pub(crate) fn always_holds(part: &Part) -> bool
     ensures { result ≡ always_holds part.now }
 {
@@ -154,7 +154,7 @@ fn is_always_there(key: &PlainKey) -> bool
     )
 }
 
-/// Whether a comparison is there, and is met by any text.
+/// Whether there is a comparison, and it holds for any text.
 fn some_met_by_all(wanted: Option<&Comparison>) -> bool
     ensures { result ≡ some_met_by_all (option_map (λ c. c.now) wanted.entry) }
 {
@@ -164,7 +164,7 @@ fn some_met_by_all(wanted: Option<&Comparison>) -> bool
     }
 }
 
-/// Whether a comparison by `==` holds of any text.
+/// Whether a comparison is by `==` and holds for any text.
 fn is_met_by_all(wanted: &Comparison) -> bool
     ensures { result ≡ is_met_by_all wanted.now }
 {

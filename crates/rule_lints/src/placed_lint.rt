@@ -3,10 +3,10 @@
 use rule_types::Lint;
 use text_bytes::Bytes;
 
-/// What is reported for a rule beside its faults, with where in the file it is reported.
+/// What is reported for a rule besides its faults, with the place in the file that it is about.
 #[derive(Debug, Drop)]
 pub struct PlacedLint {
-    /// The number of the first line of the rule, counted from 1.
+    /// The line number with which the rule is reported, counted from 1.
     pub begins: u32,
     /// The number of the line in which the place begins, counted from 1.
     pub line: u32,

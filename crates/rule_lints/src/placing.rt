@@ -13,12 +13,12 @@ use rule_places::KeptLines;
 use std::alloc::{AllocError, Global};
 use text_bytes::{Profile, SourceFile};
 
-/// The lints of a rules file in the order of its rules, each with the physical line and the columns that it is about.
-/// Of a line that is no rule none is reported, and none of a file that is given up.
+/// The lints of a rules file in the order of its rules, each with the physical line and the columns that it is
+/// about. There are none for a line that is not a rule, or for a file that is given up.
 ///
-/// Of one rule first those come that are found of it by itself, then W6 and W7, each in written order, and W13 last. A
-/// place in several physical lines is reported as far as it is in the first of them. A number of a line or of a column
-/// over 2^32 - 1 is given as that one.
+/// The lints that are found in a rule by itself come first, then W6 and W7, each in written order, and W13 last. A
+/// place in several physical lines is reported as far as it is in the first of them. The number of a line or a
+/// column is at most 2^32 - 1.
 pub fn placed_lints(
     alloc: Global,
     profile: Profile,

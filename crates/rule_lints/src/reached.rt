@@ -1,4 +1,4 @@
-//! Rules that none leads to.
+//! Rules that no rule leads to.
 ghost use Rattle.std.specs.Prelude.{◌≡◌, ◌++◌, OnOk, is_some, option_map};
 ghost use Rattle.std.specs.List.{list_any};
 ghost use Rattle.rule_core.specs.Drafts.{label_in};
@@ -39,7 +39,7 @@ fn may_end(tokens: &[WrittenPart<'_>]) -> bool
     tokens.iter().any(|token| may_end_at(&token.part))
 }
 
-/// Adds a rule without a label, after one that jumps to a label for every device, if there is such a label.
+/// Adds a rule without a label, if the rule above jumps to a label for every device.
 pub fn add_never_reached(
     alloc: Global,
     spots: &mut Vec<LintSpot>,

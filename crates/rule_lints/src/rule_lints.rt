@@ -16,7 +16,7 @@ use rule_tokens::Token;
 use rule_types::Lint;
 use std::alloc::{AllocError, Global};
 
-/// What is reported for a rule's tokens: the lints of a rule by itself in the order of their codes, those of
+/// What is reported for a rule's tokens: the lints of a rule by itself in the order of their codes, and those of
 /// one code in written order.
 #[tactic(auto, unfolding(crate::specs::RuleLints::rule_lints))]
 pub(crate) fn rule_lints(
@@ -39,7 +39,7 @@ pub(crate) fn rule_lints(
     Ok(spots)
 }
 
-/// Adds what W5 says about a rule's tokens.
+/// Adds the W5 of a rule's tokens, if any.
 fn add_stranger(
     alloc: Global,
     spots: &mut Vec<LintSpot>,
@@ -53,7 +53,7 @@ fn add_stranger(
     }
 }
 
-/// Adds what W8 says about a rule's tokens.
+/// Adds each W8 of a rule's tokens.
 fn add_names(
     alloc: Global,
     spots: &mut Vec<LintSpot>,
@@ -68,7 +68,7 @@ fn add_names(
     }
 }
 
-/// Adds what a lint of one token says about these.
+/// Adds what a lint of single tokens finds in these.
 fn add(
     alloc: Global,
     spots: &mut Vec<LintSpot>,
@@ -83,7 +83,7 @@ fn add(
     Ok(())
 }
 
-/// Adds what a lint of one token says about this one.
+/// Adds what a lint of single tokens finds in this one.
 fn add_one(
     alloc: Global,
     spots: &mut Vec<LintSpot>,
@@ -115,7 +115,7 @@ fn spot_of(
     }
 }
 
-/// The text that a lint of one token is reported for this one with, if it is reported.
+/// The text with which a lint of single tokens is reported for this one, if it is reported.
 fn word_of<'w>(lint: Lint, written: &'w WrittenPart<'_>) -> Option<&'w [u8]>
     ensures { option_map (λ word. word.now) result ≡ word_of lint written.now }
 {
@@ -134,7 +134,7 @@ fn word_of<'w>(lint: Lint, written: &'w WrittenPart<'_>) -> Option<&'w [u8]>
     }
 }
 
-/// The key of a token that is a match that always holds.
+/// The key of a token, if it is a match that always holds.
 fn holding_key<'w>(written: &'w WrittenPart<'_>) -> Option<&'w [u8]>
     ensures { option_map (λ word. word.now) result ≡ word_of AlwaysHolds written.now }
 {

@@ -3,8 +3,7 @@ ghost use Rattle.std.specs.Prelude.{◌≡◌, ◌+◌, IfOk};
 
 use std::alloc::AllocError;
 
-/// The sum of two places. The error stands for one over 2^64 - 1, which no file that is held in
-/// memory has.
+/// The sum of two places. Fails if it is over 2^64 - 1, which no place of a file held in memory is.
 pub fn sum_of(place: usize, more: usize) -> Result<usize, AllocError>
     ensures { IfOk result (λ sum. sum ≡ place + more) }
 {

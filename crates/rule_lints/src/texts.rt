@@ -10,7 +10,7 @@ pub(crate) fn has_byte(byte: u8, text: &[u8]) -> bool
     text.iter().any(|other| *other == byte)
 }
 
-/// What follows the first such byte of a text, nothing where it has none.
+/// What follows the first such byte of a text, nothing if it has none.
 #[tactic(auto, using(std::proofs::lemmas::List::drop_min))]
 pub(crate) fn behind_first(byte: u8, text: &[u8]) -> &[u8]
     ensures { result.now ≡ behind_first byte text.now }
@@ -20,7 +20,7 @@ pub(crate) fn behind_first(byte: u8, text: &[u8]) -> &[u8]
     behind
 }
 
-/// What comes before the first such byte of a text, all of it where it has none.
+/// What comes before the first such byte of a text, all of it if it has none.
 pub(crate) fn before_first(byte: u8, text: &[u8]) -> &[u8]
     ensures { result.now ≡ before_first byte text.now }
 {
@@ -36,7 +36,7 @@ fn length_before(byte: u8, text: &[u8]) -> usize
     text.iter().take_while(|other| **other != byte).count()
 }
 
-/// What follows the last such byte of a text, all of it where it has none.
+/// What follows the last such byte of a text, all of it if it has none.
 pub(crate) fn behind_last(byte: u8, text: &[u8]) -> &[u8]
     ensures { result.now ≡ behind_last byte text.now }
 {

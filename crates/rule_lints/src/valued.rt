@@ -6,7 +6,7 @@ use rule_types::{AssignOperator, Change, Key, MatchOperator, Part, PlainKey, Tar
 use std::alloc::{AllocError, Global};
 use std::marker::Model;
 
-/// A property or an attribute with a value, which it borrows.
+/// A property or an attribute with a value, both borrowed.
 #[derive(Debug, Drop)]
 pub struct Valued<'a> {
     /// The key, which is ENV or ATTR.

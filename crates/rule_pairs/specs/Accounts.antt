@@ -11,12 +11,12 @@ use Rattle.rule_pairs.specs.declared.accounts.AccountKind.TheVariants.{User, Gro
 use Rattle.rule_pairs.specs.declared.accounts.Given.{Given}
 use Rattle.rule_pairs.specs.declared.accounts.Given.TheVariants.{Number, Unknown, Text}
 
--- what is known of users and of groups; none where there is no list
+-- what is known about users and groups; none if there is no list
 pub record Accounts : Type 0 where
   pub users : Option (List Account)
   pub groups : Option (List Account)
 
--- no list of either is there
+-- there is no list of either
 abbrev pub nobody : Accounts
 nobody = record { users = None; groups = None }
 
@@ -38,7 +38,7 @@ identity_in (Some n) = if is_identity n then Some n else None
 abbrev pub is_padded : List ℕ → Bool
 is_padded text = begins_with digit_zero text && nat_lt 1 (length text)
 
--- the number of a user or a group that a text writes in decimal digits, with no zero before them
+-- the number of a user or a group that a text writes in decimal digits, without a leading zero
 abbrev pub written_identity : List ℕ → Option ℕ
 written_identity text = if is_padded text then None else identity_in (decimal_below (2 ^ 32) text)
 

@@ -1,4 +1,4 @@
--- How a token compares its value, by what is written in it.
+-- How a token compares its value, by what the value is.
 use Rattle.std.specs.Prelude.{ℕ, Bool, true, false, not, ◌&&◌, ◌||◌, ◌==◌, if◌then◌else◌, List, length, codes}
 use Rattle.std.specs.List.{list_any, slice_split}
 use Rattle.text_bytes.specs.Names.{open_bracket, question_mark, star}
@@ -31,7 +31,7 @@ is_subsystem _ = false
 abbrev pub any_subsystem : List ℕ → Bool
 any_subsystem text = same_text text (codes "subsystem") || (same_text text (codes "bus") || same_text text (codes "class"))
 
--- the pattern that each text but the empty one fits
+-- the pattern that every text but the empty one fits
 abbrev pub is_something : List ℕ → Bool
 is_something text = same_text text (codes "?*")
 

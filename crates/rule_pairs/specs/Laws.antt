@@ -1,4 +1,4 @@
--- Tokens of rules as they are written, and what is reported for them where nothing is known of users and groups.
+-- Tokens of rules as they are written, and what is reported for them if nothing is known about users and groups.
 use Rattle.std.specs.Prelude.{ℕ, List, Option, Some, None}
 use Rattle.rule_tokens.specs.Grammar.{Placed}
 use Rattle.rule_tokens.specs.declared.kinds.Operator.{Operator}
@@ -40,6 +40,6 @@ asks_not_of key name value = token key (Some name) NotEqual Plain value
 abbrev pub gives_of : List ℕ → List ℕ → List ℕ → Placed
 gives_of key name value = token key (Some name) Assign Plain value
 
--- what is reported for tokens where no list of users or of groups is there
+-- what is reported for tokens if there is no list of users or groups
 abbrev pub told : List Placed → List PairFinding
 told tokens = pair_findings nobody tokens

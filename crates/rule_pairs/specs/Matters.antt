@@ -1,4 +1,4 @@
--- What a token is about, beside its key: what is in its braces, and what its value names.
+-- What a token is about, besides its key: what is in its braces, and what its value names.
 use Rattle.std.specs.Prelude.{ℕ, ℤ, pos, negsuc, List, [], Option, Some, None, option_map, codes}
 use Rattle.std.specs.Option.{option_and_then, unwrap_or}
 use Rattle.text_bytes.specs.declared.profile.Profile.TheVariants.{Udev}
@@ -22,10 +22,10 @@ use Rattle.rule_pairs.specs.declared.accounts.Given.TheVariants as given
 
 -- what a token is about: which kind of its key, a name, a number, and the text that it compares with or assigns
 pub record Matter : Type 0 where
-  pub kind : List ℕ  -- the type of IMPORT or RUN, or the option; empty where the key has one kind
-  pub name : List ℕ  -- the attribute or the builtin; empty where there is none
-  pub number : Option ℤ  -- what the value or the mode of TEST comes to, where it is a number
-  pub text : Option (List ℕ)  -- none where the number or the kind is all that the value says
+  pub kind : List ℕ  -- the type of IMPORT or RUN, or the option; empty if the key has only one kind
+  pub name : List ℕ  -- the attribute or the builtin; empty if there is none
+  pub number : Option ℤ  -- the number of the value or of the mode of TEST, if it has one
+  pub text : Option (List ℕ)  -- none if the number or the kind is all that the value says
 
 -- a text, and nothing more
 abbrev pub only_text : List ℕ → Matter
@@ -39,13 +39,13 @@ only_number n = record { kind = []; name = []; number = Some n; text = None }
 abbrev pub of_name : Option (List ℕ) → List ℕ → Matter
 of_name name text = record { kind = []; name = unwrap_or name []; number = None; text = Some text }
 
--- what a user or a group is: of those that are not known each is -1
+-- what a user or group is: an unknown one is -1
 abbrev pub of_account : List ℕ → Given → Matter
 of_account text (given.Number n) = only_number (pos n)
 of_account text given.Unknown = only_number (negsuc 0)
 of_account text given.Text = only_text text
 
--- a mode, where a text gives one
+-- a mode, if a text gives one
 abbrev pub of_mode : List ℕ → Option ℕ → Matter
 of_mode text (Some mode) = only_number (pos mode)
 of_mode text None = only_text text
@@ -62,7 +62,7 @@ of_test braces text = record { kind = []; name = []; number = mode_in braces; te
 abbrev pub of_kind : List ℕ → List ℕ → Matter
 of_kind kind text = record { kind = kind; name = []; number = None; text = Some text }
 
--- a text that is taken as a builtin where it is one, and else is of a kind
+-- a text that is taken as a builtin if it is one, and otherwise is of a kind
 abbrev pub of_builtin : List ℕ → List ℕ → Option Builtin → Matter
 of_builtin kind text (Some known) = record { kind = run_name run_of.Builtin; name = builtin_name known; number = None; text = Some text }
 of_builtin kind text None = of_kind kind text
@@ -96,7 +96,7 @@ abbrev pub node_or_level : List ℕ → Option (List ℕ) → Option Matter
 node_or_level text (Some node) = Some (of_kind (codes "static_node") node)
 node_or_level text None = option_and_then log_level (behind (codes "log_level=") text)
 
--- an option that changes nothing here; none where it is no option
+-- an option that changes nothing here; none if it is not an option
 abbrev pub other_option : List ℕ → Option Matter
 other_option text = node_or_level text (behind (codes "static_node=") text)
 
@@ -111,7 +111,8 @@ of_option text (Some option.NoWatch) = Some (numbered (codes "watch") (pos 0))
 of_option text (Some option.DbPersist) = Some (bare_option (codes "db_persist"))
 of_option text (Some option.Ignored) = other_option text
 
--- what a token of a key with an attribute and a value is about; none for LABEL, GOTO and what is no option, which are not compared with others
+-- what a token of a key with an attribute and a value is about; none for LABEL, GOTO and what is not an option, which
+-- are not compared with others
 unfoldable pub matter_of : Accounts → Key → Option (List ℕ) → List ℕ → Option Matter
 matter_of accounts key.Owner attribute text = Some (of_account text (given_in accounts User text))
 matter_of accounts key.Group attribute text = Some (of_account text (given_in accounts Group text))

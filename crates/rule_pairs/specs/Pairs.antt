@@ -16,13 +16,14 @@ abbrev pub message_of : PairKind → MessageKind
 message_of Same = SaidTwice
 message_of Against = MatchesExclude
 
--- whether two kinds are one
+-- whether two kinds are the same
 abbrev pub same_kind : PairKind → PairKind → Bool
 same_kind Same Same = true
 same_kind Against Against = true
 same_kind _ _ = false
 
--- two tokens of a rule, and the place of the later one among its tokens; what is not compared with others is none
+-- two tokens of a rule, and the place of the later one among its tokens; None for a token that is not compared with
+-- others
 pub record Pair : Type 0 where
   pub earlier : Option Said
   pub later : Option Said
@@ -43,7 +44,7 @@ abbrev pub are_related : PairKind → Said → Said → Bool
 are_related Same a b = is_same a b
 are_related Against a b = is_against a b
 
--- the same of tokens that are perhaps not compared
+-- the same for tokens that may not be compared
 abbrev pub are_of_kind : PairKind → Option Said → Option Said → Bool
 are_of_kind kind (Some a) (Some b) = are_related kind a b
 are_of_kind kind None b = false
@@ -65,14 +66,14 @@ is_told kind told = list_any (λ f. same_kind kind f.kind) told
 abbrev pub with_kind : PairKind → List PairFinding → Pair → List PairFinding
 with_kind kind told p = if not (is_told kind told) && is_of_kind kind p then told ++ finding kind p ∷ [] else told
 
--- the same of both kinds
+-- the same for both kinds
 abbrev pub with_pair : List PairFinding → Pair → List PairFinding
 with_pair told p = with_kind Against (with_kind Same told p) p
 
--- what is reported for pairs, one after another, beside what is reported already
+-- what is reported for pairs, one after another, added to what is reported already
 abbrev pub told_of : List PairFinding → List Pair → List PairFinding
 told_of told pairs = fold with_pair told pairs
 
--- what is reported for the tokens of a rule: of each kind its first pair, in the order in which the pairs are written
+-- what is reported for the tokens of a rule: the first pair of each kind, in the order in which the pairs are written
 unfoldable pub pair_findings : Accounts → List Placed → List PairFinding
 pair_findings accounts tokens = told_of [] (pairs_from 0 (map (said_of accounts) tokens))

@@ -11,7 +11,7 @@ use Rattle.rule_pairs.specs.Said.{Said}
 use Rattle.rule_pairs.specs.declared.form.Form.{Form}
 use Rattle.rule_pairs.specs.declared.form.Form.TheVariants as form
 
--- whether two operators are one
+-- whether two operators are the same
 abbrev pub same_operator : Operator → Operator → Bool
 same_operator op.Equal op.Equal = true
 same_operator op.NotEqual op.NotEqual = true
@@ -27,7 +27,7 @@ are_opposite op.Equal op.NotEqual = true
 are_opposite op.NotEqual op.Equal = true
 are_opposite _ _ = false
 
--- whether two forms are one
+-- whether two forms are the same
 abbrev pub same_form : Form → Form → Bool
 same_form form.AnySubsystem form.AnySubsystem = true
 same_form form.Empty form.Empty = true
@@ -38,16 +38,16 @@ same_form form.PatternOrEmpty form.PatternOrEmpty = true
 same_form form.Whole form.Whole = true
 same_form _ _ = false
 
--- whether two answers are one
+-- whether two answers are the same
 abbrev pub same_bool : Bool → Bool → Bool
 same_bool true b = b
 same_bool false b = not b
 
--- whether two tokens are of one kind and about one matter
+-- whether two tokens are of the same kind and about the same matter
 abbrev pub same_matter : Said → Said → Bool
 same_matter a b = same_text a.key b.key && (same_text a.kind b.kind && (same_text a.name b.name && option_eq int_eq a.number b.number))
 
--- whether two tokens compare in one way
+-- whether two tokens compare in the same way
 abbrev pub same_way : Said → Said → Bool
 same_way a b = same_form a.form b.form && (same_bool a.blind b.blind && same_bool a.trims b.trims)
 
@@ -81,15 +81,15 @@ part_ways x y = (not (is_empty x) && not (is_empty y)) && (not (starts_with nat_
 abbrev pub share_a_word : List Text → List Text → Bool
 share_a_word ws vs = list_any (is_among vs) ws
 
--- whether a beginning parts ways with those of these patterns
+-- whether a beginning parts ways with those of all these patterns
 unfoldable pub parts_from_all : Text → List Text → Bool
 parts_from_all front vs = list_all (λ v. part_ways front (beginning v)) vs
 
--- whether the beginnings of each two patterns part ways, one of each list
+-- whether the beginnings of any two patterns part ways, one from each list
 abbrev pub all_part_ways : List Text → List Text → Bool
 all_part_ways ws vs = list_all (λ w. parts_from_all (beginning w) vs) ws
 
--- whether no text is one of both lists of words, by their form
+-- whether no value can satisfy both lists of words, by their form
 abbrev pub leave_nothing : Form → List Text → List Text → Bool
 leave_nothing form.Plain ws vs = not (share_a_word ws vs)
 leave_nothing form.Pattern ws vs = all_part_ways ws vs
@@ -99,7 +99,7 @@ leave_nothing _ ws vs = false
 abbrev pub is_strict : Said → Bool
 is_strict a = same_operator a.operator op.Equal && (not a.blind && not a.trims)
 
--- whether no value is one of those that two tokens ask for by `==`
+-- whether two tokens of one matter compare by `==` so that no value can satisfy both
 abbrev pub are_disjoint : Said → Said → Bool
 are_disjoint a b = (same_matter a b && same_way a b) && ((is_strict a && is_strict b) && leave_nothing a.form a.words b.words)
 

@@ -19,9 +19,9 @@ use Rattle.rule_pairs.specs.declared.form.Form.{Form}
 -- a token as it is compared with others
 pub record Said : Type 0 where
   pub key : List ℕ  -- the name of its key
-  pub kind : List ℕ  -- which kind of the key, as its matter tells
+  pub kind : List ℕ  -- which kind of the key, by its matter
   pub name : List ℕ  -- the attribute or the builtin
-  pub number : Option ℤ  -- what its value comes to, where that is a number
+  pub number : Option ℤ  -- the number of its value, if it has one
   pub operator : Operator  -- as it is read
   pub form : Form  -- how its value is compared
   pub words : List (List ℕ)  -- what it compares with or assigns, each word once
@@ -36,20 +36,20 @@ as_equal o = if compares o then o else op.Equal
 abbrev pub as_assign : Operator → Operator
 as_assign o = if is_add o then op.Assign else o
 
--- the operator as which one is read after a key
+-- the operator as which an operator is compared after a key
 abbrev pub operator_of : Key → Operator → Operator
 operator_of key.Program o = as_equal o
 operator_of key.Import o = as_equal o
 operator_of key.Options o = as_assign o
 operator_of k o = read_as k o
 
--- the other one of `==` and `!=`
+-- the other of `==` and `!=`
 abbrev pub turned : Operator → Operator
 turned op.Equal = op.NotEqual
 turned op.NotEqual = op.Equal
 turned o = o
 
--- an operator, turned round before the pattern that each text but the empty one fits
+-- an operator, reversed if the value is the pattern that every text but the empty one fits
 abbrev pub turned_by : List ℕ → Operator → Operator
 turned_by text o = if is_something text then turned o else o
 
@@ -59,16 +59,16 @@ is_attribute key.Attr = true
 is_attribute key.Attrs = true
 is_attribute _ = false
 
--- whether there is a byte, and it is no white space
+-- whether there is a byte, and it is not white space
 abbrev pub is_dark : Option ℕ → Bool
 is_dark None = false
 is_dark (Some b) = not (is_whitespace b)
 
--- whether a text ends in a byte that is no white space
+-- whether a text ends in a byte that is not white space
 abbrev pub ends_dark : List ℕ → Bool
 ends_dark text = is_dark (slice_get text (length text - 1))
 
--- whether there is a first word, and it ends in a byte that is no white space
+-- whether there is a first word, and it ends in a byte that is not white space
 abbrev pub first_ends_dark : List (List ℕ) → Bool
 first_ends_dark [] = false
 first_ends_dark (word ∷ words) = ends_dark word
@@ -102,6 +102,6 @@ abbrev pub said_behind : Accounts → Placed → Option Key → Option Said
 said_behind accounts t None = None
 said_behind accounts t (Some k) = said_with accounts t k
 
--- a token as it is compared with others; none for LABEL, GOTO and what is no option
+-- a token as it is compared with others; none for LABEL, GOTO and what is not an option
 unfoldable pub said_of : Accounts → Placed → Option Said
 said_of accounts t = said_behind accounts t (key_of t.parts.head.key)

@@ -7,7 +7,7 @@ ghost use Rattle.rule_pairs.specs.Accounts.{given_among, given_by, given_in, giv
 use std::marker::Model;
 use text_bytes::{Bytes, begins_with, decimal_below};
 
-/// -1 in 16 bits, which is no number of a user or a group.
+/// -1 in 16 bits, which is not a number of a user or group.
 const NONE_IN_16_BITS: u32 = 0xFFFF;
 
 /// The number of the user and of the group that stand for nobody.
@@ -29,10 +29,10 @@ pub enum AccountKind {
     Group,
 }
 
-/// What is known of users and of groups.
+/// What is known about users and groups.
 #[derive(Debug, Drop)]
 pub struct Accounts {
-    /// The users, of which the first of a name counts. Without a list only `root` is known.
+    /// The users; of those with one name the first counts. Without a list only `root` is known.
     pub users: Option<Vec<Account>>,
     /// The groups, likewise.
     pub groups: Option<Vec<Account>>,
@@ -45,7 +45,7 @@ pub enum Given {
     Number(u32),
     /// A name that no user or group has.
     Unknown,
-    /// A text with substitutions, or a name where no list is there.
+    /// A text with substitutions, or a name if there is no list.
     Text,
 }
 
@@ -59,7 +59,7 @@ impl Model for Accounts {
 }
 
 impl Accounts {
-    /// No list of users or of groups.
+    /// No list of users, and none of groups.
     pub fn nobody() -> Accounts
         ensures { result ≡ nobody }
     {
@@ -90,8 +90,8 @@ fn lent(list: &Option<Vec<Account>>) -> Option<&[Account]>
     }
 }
 
-/// What a value of OWNER or GROUP gives: the number that it writes; else it is a text with
-/// substitutions, or a name, whose number is given if it is known.
+/// What a value of OWNER or GROUP gives: the number that it writes; or else it is a text with substitutions, or a
+/// name, whose number is given if it is known.
 #[tactic(auto, unfolding(crate::specs::Accounts::given_in))]
 pub fn given_in(accounts: &Accounts, kind: AccountKind, text: &[u8]) -> Given
     ensures { result ≡ given_in accounts.now kind text.now }
@@ -102,7 +102,7 @@ pub fn given_in(accounts: &Accounts, kind: AccountKind, text: &[u8]) -> Given
     }
 }
 
-/// The number of a user or a group that a text writes in decimal digits, with no zero before them.
+/// The number of a user or a group that a text writes in decimal digits, without a leading zero.
 fn written_identity(text: &[u8]) -> Option<u32>
     ensures { result ≡ written_identity text.now }
 {

@@ -1,4 +1,4 @@
-//! Tokens of rules, of which some are reported.
+//! Examples of the tokens of rules, with the pairs that are reported.
 ghost use Rattle.std.specs.Prelude.{◌≡◌, ◌∷◌, [], codes};
 ghost use Rattle.rule_pairs.specs.Laws.{asks, asks_not, asks_not_of, asks_of, gives, gives_of, told};
 ghost use Rattle.rule_pairs.specs.declared.pair_finding.PairKind.TheVariants.{Same, Against};

@@ -1,4 +1,4 @@
-//! How a token compares its value, by what is written in it.
+//! How a token compares its value, by what the value is.
 ghost use Rattle.std.specs.Prelude.{◌≡◌};
 ghost use Rattle.rule_pairs.specs.Forms.{any_subsystem, compared_form, form_of, has_empty_part, is_choice, is_deed, is_pattern, is_sign, is_something, is_subsystem, parts_form};
 
@@ -9,7 +9,7 @@ use rule_types::{Key, Operator};
 pub(crate) enum Form {
     /// SUBSYSTEM with `subsystem`, `bus` or `class`, of which each means all three.
     AnySubsystem,
-    /// With the empty text, or with what each other text fits.
+    /// With the empty text, or with the pattern that every text but this fits.
     Empty,
     /// With texts between bars.
     Plain,
@@ -19,7 +19,7 @@ pub(crate) enum Form {
     PlainOrEmpty,
     /// With patterns between bars, of which one is empty.
     PatternOrEmpty,
-    /// With one text, bars and signs in it, or not at all, as an assignment.
+    /// With one text, bars and signs included, or not at all, as for an assignment.
     Whole,
 }
 
@@ -42,7 +42,7 @@ pub(crate) fn is_choice(key: Key, operator: Operator) -> bool
     operator.compares() && !is_deed(key)
 }
 
-/// Whether a value is the pattern that each text but the empty one fits.
+/// Whether a value is the pattern that every text but the empty one fits.
 pub(crate) fn is_something(text: &[u8]) -> bool
     ensures { result ≡ is_something text.now }
 {

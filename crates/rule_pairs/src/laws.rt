@@ -1,4 +1,4 @@
-//! Laws of pairs of tokens, each the contract of a function that does nothing.
+//! Laws of pairs of tokens, each the contract of a function with an empty body.
 ghost use Rattle.std.specs.Prelude.{◌≡◌, ◌≤◌, ◌↔◌, ◌&&◌, [], not, true, false, nat_eq, List, filter, length, option_map};
 ghost use Rattle.std.specs.List.{find, slice_split, starts_with};
 ghost use Rattle.text_core.specs.Choices.{is_bar};
@@ -11,7 +11,7 @@ ghost use Rattle.rule_pairs.specs.Words.{parts_of};
 ghost use Rattle.rule_pairs.specs.declared.pair_finding.PairKind.{PairKind};
 ghost use Rattle.rule_pairs.specs.declared.pair_finding.PairKind.TheVariants.{Same, Against};
 
-/// Which of two tokens is written first makes no difference for whether they are alike.
+/// Whether two tokens are alike does not depend on which is written first.
 #[tactic(auto, using(crate::proofs::Likeness::alike_turned))]
 pub fn likeness_has_no_order()
     ensures { (a b : Said) → are_alike a b ≡ are_alike b a }
@@ -23,7 +23,7 @@ pub fn no_pair_is_of_both_kinds()
     ensures { (a b : Said) → is_same a b ≡ true → is_against a b ≡ false }
 {}
 
-/// Of each kind the first pair is reported, and no other.
+/// The first pair of each kind is reported, and no other.
 pub fn the_first_pair_of_a_kind_is_told()
     ensures first { (kind : PairKind) (pairs : List Pair) → find (λ f. same_kind kind f.kind) (told_of [] pairs) ≡ option_map (finding kind) (find (is_of_kind kind) pairs) }
     ensures once { (kind : PairKind) (pairs : List Pair) → length (filter (λ f. same_kind kind f.kind) (told_of [] pairs)) ≤ 1 }
@@ -35,7 +35,7 @@ pub fn words_are_the_parts_between_bars()
     ensures { (text word : Text) → is_among (parts_of text) word ≡ (not (is_empty word) && is_among (slice_split is_bar text) word) }
 {}
 
-/// Two lists have the same words just where the same words are among them.
+/// Two lists have the same words if and only if the same words are among them.
 #[tactic(auto, using(crate::proofs::WordSets::one_set))]
 pub fn same_words_are_one_set()
     ensures { (words others : List Text) → (same_words words others ≡ true) ↔ ((word : Text) → is_among words word ≡ is_among others word) }

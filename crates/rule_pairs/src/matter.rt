@@ -1,4 +1,4 @@
-//! What a token is about, beside its key: what is in its braces, and what its value names.
+//! What a token is about, besides its key: what is in its braces, and what its value names.
 ghost use Rattle.std.specs.Prelude.{◌≡◌, option_map};
 ghost use Rattle.std.specs.Option.{option_and_then};
 ghost use Rattle.rule_types.specs.Names.{import_type_of, run_type_of};
@@ -11,16 +11,16 @@ use rule_types::{ImportType, Key, RuleOption, RunType, import_type_of, mode_of, 
 use std::marker::Model;
 use text_bytes::Profile;
 
-/// What a token is about, beside its key.
+/// What a token is about, besides its key.
 #[derive(Debug, Drop)]
 pub(crate) struct Matter<'a> {
-    /// The type of IMPORT or RUN, or the option; empty where the key has one kind.
+    /// The type of IMPORT or RUN, or the option; empty if the key has only one kind.
     pub(crate) kind: &'static [u8],
-    /// The attribute or the builtin; empty where there is none.
+    /// The attribute or the builtin; empty if there is none.
     pub(crate) name: &'a [u8],
-    /// What the value or the mode of TEST comes to, where it is a number.
+    /// The number of the value, or of the mode of TEST, if it has one.
     pub(crate) number: Option<i64>,
-    /// The text that is compared with or assigned; `None` where the value says no more.
+    /// The text that is compared with or assigned; `None` if the value says no more.
     pub(crate) text: Option<&'a [u8]>,
 }
 
@@ -33,8 +33,8 @@ impl<'a> Model for Matter<'a> {
     ghost view = { λ m. record { kind = m.kind.now; name = m.name.now; number = m.number; text = option_map (λ text. text.now) m.text } };
 }
 
-/// What a token of a key with an attribute and a value is about. `None` for LABEL, for GOTO and for
-/// what is no option, which are not compared with others.
+/// What a token of a key with an attribute and a value is about. `None` for LABEL, for GOTO and for what is not an
+/// option, which are not compared with others.
 #[tactic(auto, unfolding(crate::specs::Matters::matter_of))]
 pub(crate) fn matter_of<'a>(
     accounts: &Accounts,
@@ -110,7 +110,7 @@ fn of_name<'a>(attribute: Option<&'a [u8]>, text: &'a [u8]) -> Matter<'a>
     }
 }
 
-/// A user or a group; each that is not known is -1.
+/// A user or a group; an unknown one is -1.
 fn of_account(text: &[u8], given: Given) -> Matter<'_>
     ensures { result ≡ of_account text.now given }
 {
@@ -121,7 +121,7 @@ fn of_account(text: &[u8], given: Given) -> Matter<'_>
     }
 }
 
-/// A mode of a file, where a text gives one.
+/// A mode of a file, if a text gives one.
 fn of_mode(text: &[u8], mode: Option<u32>) -> Matter<'_>
     ensures { result ≡ of_mode text.now mode }
 {
@@ -163,7 +163,7 @@ fn of_kind<'a>(kind: &'static [u8], text: &'a [u8]) -> Matter<'a>
     }
 }
 
-/// A text that is taken as a builtin where it is one, and else is of a kind.
+/// A text that is taken as a builtin if it is one, and otherwise is of a kind.
 fn of_builtin<'a>(kind: &'static [u8], text: &'a [u8]) -> Matter<'a>
     ensures { result ≡ of_builtin kind.now text.now (builtin_of text.now) }
 {

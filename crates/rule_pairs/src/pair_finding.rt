@@ -23,7 +23,7 @@ pub struct PairFinding {
 }
 
 impl PairKind {
-    /// The kind of the message that says about it.
+    /// The kind of the message that reports it.
     pub fn message_kind(self) -> MessageKind
         ensures { result ≡ message_of self }
     {

@@ -10,10 +10,10 @@ use crate::said::{Said, said_of};
 use rule_tokens::Token;
 use std::alloc::{AllocError, Global};
 
-/// What is reported for the tokens of one rule: of the pairs of tokens that say the same the first, and of
-/// those that exclude each other, in the order in which the pairs are written.
+/// What is reported for the tokens of one rule: the first pair of tokens that say the same, and the first pair that
+/// exclude each other, in the order in which the pairs are written.
 ///
-/// It takes time by the square of the number of tokens, as long as neither is found.
+/// The time grows with the square of the number of tokens, as long as neither is found.
 #[tactic(auto, unfolding(crate::specs::Pairs::pair_findings))]
 pub fn pair_findings(
     alloc: Global,
@@ -87,7 +87,7 @@ fn tell_pair(
     tell_kind(told, PairKind::Against, earlier, later, place)
 }
 
-/// Adds two tokens if they are of a kind that is not reported yet.
+/// Adds two tokens if they are a pair of a kind that is not reported yet.
 fn tell_kind(
     told: &mut Vec<PairFinding>,
     kind: PairKind,
@@ -110,7 +110,7 @@ fn is_told(kind: PairKind, told: &[PairFinding]) -> bool
     told.iter().any(|finding| same_kind(kind, finding.kind))
 }
 
-/// Whether two kinds are one.
+/// Whether two kinds are the same.
 fn same_kind(kind: PairKind, other: PairKind) -> bool
     ensures { result ≡ same_kind kind other }
 {

@@ -37,7 +37,7 @@ fn are_alike(a: &Said, b: &Said) -> bool
     same_matter(a, b) && same_way(a, b) && (lacks_words(a) || same_words(&a.words, &b.words))
 }
 
-/// Whether no value is one of those that two tokens ask for by `==`.
+/// Whether two tokens of one matter compare by `==` so that no value can satisfy both.
 fn are_disjoint(a: &Said, b: &Said) -> bool
     ensures { result ≡ are_disjoint a.now b.now }
 {
@@ -48,7 +48,7 @@ fn are_disjoint(a: &Said, b: &Said) -> bool
         && leave_nothing(a.form, &a.words, &b.words)
 }
 
-/// Whether two tokens are of one kind and about one matter.
+/// Whether two tokens are of the same kind and about the same matter.
 fn same_matter(a: &Said, b: &Said) -> bool
     ensures { result ≡ same_matter a.now b.now }
 {
@@ -58,7 +58,7 @@ fn same_matter(a: &Said, b: &Said) -> bool
         && a.number == b.number
 }
 
-/// Whether two tokens compare in one way.
+/// Whether two tokens compare in the same way.
 fn same_way(a: &Said, b: &Said) -> bool
     ensures { result ≡ same_way a.now b.now }
 {
@@ -79,7 +79,7 @@ fn is_strict(a: &Said) -> bool
     same_operator(a.operator, Operator::Equal) && !a.blind && !a.trims
 }
 
-/// Whether no text is one of both words, by their form.
+/// Whether no value can satisfy both lists of words, by their form.
 fn leave_nothing(form: Form, words: &OwnedTexts, others: &OwnedTexts) -> bool
     ensures { result ≡ leave_nothing form words.now others.now }
 {
@@ -97,7 +97,7 @@ fn same_text(a: &[u8], b: &[u8]) -> bool
     a == b
 }
 
-/// Whether two operators are one.
+/// Whether two operators are the same.
 fn same_operator(a: Operator, b: Operator) -> bool
     ensures { result ≡ same_operator a b }
 {
@@ -115,14 +115,14 @@ fn are_opposite(a: Operator, b: Operator) -> bool
     }
 }
 
-/// Whether two forms are one.
+/// Whether two forms are the same.
 fn same_form(a: Form, b: Form) -> bool
     ensures { result ≡ same_form a b }
 {
     a == b
 }
 
-/// Whether two answers are one.
+/// Whether two answers are the same.
 fn same_bool(a: bool, b: bool) -> bool
     ensures { result ≡ same_bool a b }
 {
@@ -167,7 +167,7 @@ fn has_any(texts: &OwnedTexts, words: &[Vec<u8>]) -> bool
     false
 }
 
-/// Whether the beginnings of each two patterns part ways, one of each.
+/// Whether the beginnings of any two patterns part ways, one from each list.
 fn all_part_ways(words: &[Vec<u8>], others: &[Vec<u8>]) -> bool
     ensures { result ≡ all_part_ways (map (λ word. word.items) words.now) (map (λ word. word.items) others.now) }
 {
@@ -179,7 +179,7 @@ fn all_part_ways(words: &[Vec<u8>], others: &[Vec<u8>]) -> bool
     true
 }
 
-/// Whether a beginning parts ways with those of these patterns.
+/// Whether a beginning parts ways with those of all these patterns.
 #[tactic(auto, unfolding(crate::specs::Relations::parts_from_all))]
 fn parts_from_all(front: &[u8], others: &[Vec<u8>]) -> bool
     ensures { result ≡ parts_from_all front.now (map (λ word. word.items) others.now) }

@@ -18,11 +18,11 @@ use text_tables::OwnedTexts;
 pub(crate) struct Said {
     /// The name of its key.
     pub(crate) key: &'static [u8],
-    /// Which kind of the key, as its matter tells.
+    /// Which kind of the key, by its matter.
     pub(crate) kind: &'static [u8],
     /// The attribute or the builtin.
     pub(crate) name: Bytes,
-    /// What its value comes to, where that is a number.
+    /// The number of its value, if it has one.
     pub(crate) number: Option<i64>,
     /// The operator as it is read.
     pub(crate) operator: Operator,
@@ -54,7 +54,7 @@ impl Model for Said {
     } };
 }
 
-/// A token as it is compared with others. `None` for LABEL, for GOTO and for what is no option.
+/// A token as it is compared with others. `None` for LABEL, for GOTO and for what is not an option.
 #[tactic(auto, unfolding(crate::specs::Said::said_of))]
 pub(crate) fn said_of(
     alloc: Global,
@@ -115,7 +115,7 @@ fn said_by(
     })
 }
 
-/// The operator as which one is read after a key.
+/// The operator as which an operator is compared after a key.
 fn operator_of(key: Key, operator: Operator) -> Operator
     ensures { result ≡ operator_of key operator }
 {
@@ -147,7 +147,7 @@ fn as_assign(operator: Operator) -> Operator
     }
 }
 
-/// An operator, turned round before the pattern that each text but the empty one fits.
+/// An operator, reversed if the value is the pattern that every text but the empty one fits.
 fn turned_by(text: &[u8], operator: Operator) -> Operator
     ensures { result ≡ turned_by text.now operator }
 {
@@ -158,7 +158,7 @@ fn turned_by(text: &[u8], operator: Operator) -> Operator
     }
 }
 
-/// The other one of `==` and `!=`.
+/// The other of `==` and `!=`.
 fn turned(operator: Operator) -> Operator
     ensures { result ≡ turned operator }
 {
@@ -176,7 +176,7 @@ fn trims(key: Key, operator: Operator, words: &OwnedTexts) -> bool
     is_attribute(key) && operator.compares() && first_ends_dark(words.as_slice())
 }
 
-/// Whether there is a first word, and it ends in a byte that is no white space.
+/// Whether there is a first word, and it ends in a byte that is not white space.
 fn first_ends_dark(words: &[Vec<u8>]) -> bool
     ensures { result ≡ first_ends_dark (map (λ word. word.items) words.now) }
 {
@@ -193,7 +193,7 @@ fn is_attribute(key: Key) -> bool
     matches!(key, Key::Attr | Key::Attrs)
 }
 
-/// Whether a text ends in a byte that is no white space.
+/// Whether a text ends in a byte that is not white space.
 fn ends_dark(text: &[u8]) -> bool
     ensures { result ≡ ends_dark text.now }
 {

@@ -27,7 +27,7 @@ builtins =
     builtin.Blkid ∷ builtin.Btrfs ∷ builtin.Hwdb ∷ builtin.InputId ∷ builtin.Keyboard ∷ builtin.Kmod
     ∷ builtin.NetDriver ∷ builtin.NetId ∷ builtin.NetSetupLink ∷ builtin.PathId ∷ builtin.UsbId ∷ builtin.Uaccess ∷ []
 
--- the first word of a text, empty where the text has none
+-- the first word of a text, empty if the text has none
 abbrev pub first_word : List ℕ → List ℕ
 first_word text = let words = skip_while is_separator text in take (prefix_len (λ b. not (is_separator b)) words) words
 

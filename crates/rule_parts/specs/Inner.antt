@@ -1,4 +1,4 @@
--- For contracts of inner functions only: what they answer, beside what reading gives.
+-- For contracts of inner functions only: what they return, compared with what reading gives.
 use Rattle.std.specs.Prelude.{◌≡◌, ℕ, List, Result, Ok, Err}
 use Rattle.text_bytes.specs.declared.message.MessageKind.{MessageKind}
 use Rattle.text_core.specs.declared.glob_fault.GlobFault.{GlobFault}
@@ -9,18 +9,18 @@ use Rattle.rule_parts.specs.declared.finding.Finding.{Finding}
 use Rattle.rule_parts.specs.declared.finding.PartFault.{PartFault}
 use Rattle.rule_parts.specs.declared.finding.PartFault.TheVariants.{Wrong, Memory}
 
--- A finding is of this kind and tells this word; of out of memory nothing is said.
+-- A finding has this kind and this word; about out of memory nothing is said.
 abbrev pub Tells : MessageKind → List ℕ → PartFault → Type 0
 Tells kind word (Wrong found) = found ≡ finding kind word
 Tells kind word Memory = Unit {0}
 
--- A finding tells why a text spells no choice; out of memory stays that.
+-- A finding says why a text is not a choice; out of memory stays out of memory.
 abbrev pub TellsOf : GlobFault → List ℕ → PartFault → Type 0
 TellsOf (glob.Class at) text answered = Tells (choice_fault (glob.Class at)) text answered
 TellsOf glob.TooLong text answered = Tells (choice_fault glob.TooLong) text answered
 TellsOf glob.Memory text answered = answered ≡ Memory
 
--- What was answered is what reading gives, or a fault of it.
+-- What was returned is what reading gives, or a fault that agrees with it.
 abbrev pub Gives : {A : Type 0} → Result A PartFault → Result A Finding → Type 0
 Gives (Ok x) read = read ≡ Ok x
 Gives (Err fault) read = FaultOf fault read

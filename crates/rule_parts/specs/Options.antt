@@ -49,7 +49,7 @@ number_of text = number_by text (behind (codes "-") text)
 abbrev pub is_ignored : List ℕ → Bool
 is_ignored text = is_some (behind (codes "static_node=") text) || is_some (behind (codes "log_level=") text)
 
--- the option of a text that is no priority
+-- the option of a text that is not a priority
 abbrev pub other_option : List ℕ → Option RuleOption
 other_option text = if is_ignored text then Some Ignored else beside words text
 
@@ -58,7 +58,7 @@ abbrev pub option_by : List ℕ → Option (List ℕ) → Option RuleOption
 option_by text (Some number) = option_map LinkPriority (number_of number)
 option_by text None = other_option text
 
--- an integer as a priority of links, which has 32 signed bits
+-- an integer as a priority of links, if it has 32 signed bits
 abbrev pub as_priority : ℤ → Option ℤ
 as_priority n = if int_le (neg_ℤ (pos (2 ^ 31))) n && int_lt n (pos (2 ^ 31)) then Some n else None
 
@@ -97,7 +97,8 @@ level_of text = level_by text (beside levels text)
 abbrev pub is_known_option : List ℕ → Bool
 is_known_option text = is_some (behind (codes "link_priority=") text) || is_some (other_option text)
 
--- the option of a text that is no priority, by what is in it after `log_level=`; one that udev does not know changes nothing
+-- the option of a text that is not a priority, by what is in it after `log_level=`; one that udev does not know
+-- changes nothing
 abbrev pub udev_other : List ℕ → Option (List ℕ) → Option RuleOption
 udev_other text (Some level) = option_map (λ n. Ignored) (level_of level)
 udev_other text None = Some (unwrap_or (other_option text) Ignored)

@@ -32,12 +32,12 @@ use Rattle.rule_types.specs.declared.part.Change.TheVariants as change
 use Rattle.rule_types.specs.declared.part.Part.{Part}
 use Rattle.rule_types.specs.declared.part.Part.TheVariants as part
 
--- what is made of a thing that was read
+-- what is made from a thing that was read
 abbrev pub made : {A B : Type 0} → (A → B) → Result A Finding → Result B Finding
 made f (Ok x) = Ok (f x)
 made f (Err fault) = Err fault
 
--- what comes of a thing that is there; where it is not, what is wrong
+-- what comes next for a thing that is there; if it is not, what is wrong
 abbrev pub if_found : {A B : Type 0} → Finding → (A → Result B Finding) → Option A → Result B Finding
 if_found wrong next None = Err wrong
 if_found wrong next (Some x) = next x
@@ -87,17 +87,17 @@ is_match (role.Up key o) = true
 is_match (role.Result o) = true
 is_match _ = false
 
--- the type of an IMPORT as which udev reads it: a program that is a builtin is of the type of builtins
+-- the type as which udev reads an IMPORT of a type: a program that is a builtin is of the type of builtins
 abbrev pub type_as : ImportType → List ℕ → ImportType
 type_as import_of.Program text = if is_some (builtin_of text) then import_of.Builtin else import_of.Program
 type_as type text = type
 
--- a role as which udev reads it
+-- the role as which udev reads a role
 abbrev pub udev_role : Role → List ℕ → Role
 udev_role (role.Import type o) text = role.Import (type_as type text) o
 udev_role r text = r
 
--- a role as which it is read
+-- the role as which a role is read
 abbrev pub role_as : Profile → Role → List ℕ → Role
 role_as profile.Manual r text = r
 role_as profile.Udev r text = udev_role r text
@@ -107,7 +107,7 @@ abbrev pub unless_refused : Option Finding → Result Part Finding → Result Pa
 unless_refused None read = read
 unless_refused (Some found) read = Err found
 
--- the part of a role with a value; matches alone take one that asks for its case to be ignored
+-- the part of a role with a value; only matches take one that asks for its case to be ignored
 unfoldable pub value_part : Profile → Role → Bool → List ℕ → Result Part Finding
 value_part by r blind text = if blind && not (is_match r) then Err (finding BadValue text) else unless_refused (refusal_by by r text) (part_by by (role_as by r text) blind text)
 
@@ -137,7 +137,7 @@ IsReadAs key.Test written read = (written ≡ Some []) × (read ≡ None)
 IsReadAs key.Import written read = (written ≡ Some (import_name import_of.Program)) × (read ≡ Some (import_name import_of.Builtin))
 IsReadAs _ written read = ⊥
 
--- a part has the attribute of its token, or that as which udev reads it
+-- a part has the attribute of its token, or the one as which udev reads that
 abbrev pub IsWritten : Profile → Option (List ℕ) → Part → Type 0
 IsWritten profile.Manual attribute p = attribute_of_part p ≡ attribute
 IsWritten profile.Udev attribute p = (attribute_of_part p ≡ attribute) ⊎ IsReadAs (key_of_part p) attribute (attribute_of_part p)

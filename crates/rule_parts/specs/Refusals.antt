@@ -1,4 +1,4 @@
--- What udev refuses of a token whose key, attribute and operator are taken.
+-- What udev refuses in a token whose key, attribute and operator are taken.
 use Rattle.std.specs.Prelude.{ℕ, Bool, ◌||◌, List, [], ◌∷◌, Option, Some, None, is_some, nat_eq, codes, if◌then◌else◌}
 use Rattle.std.specs.Cmp.Lexicographic.{pointwise}
 use Rattle.std.specs.List.{list_any}
@@ -28,31 +28,31 @@ reserved =
 abbrev pub is_reserved : List ℕ → Bool
 is_reserved property = list_any (λ name. pointwise nat_eq name property) reserved
 
--- whether a name leaves a device with the one that it has: none, or the name of the kernel
+-- whether a name leaves a device with the one that it has: the empty name, or that of the kernel
 abbrev pub is_no_name : List ℕ → Bool
 is_no_name text = is_empty text || pointwise nat_eq text (codes "%k")
 
--- what udev refuses of an assignment of a text
+-- what udev refuses in an assignment of a text
 abbrev pub refused_text : Target → List ℕ → Option Finding
 refused_text (target.Env property) text = if is_reserved property then Some (finding ReservedProperty property) else None
 refused_text target.Name text = if is_no_name text then Some (finding NameWithoutEffect text) else None
 refused_text _ text = None
 
--- what udev refuses of a text that is to ask for a builtin
+-- what udev refuses in a text that has to ask for a builtin
 abbrev pub refused_builtin : List ℕ → Option Finding
 refused_builtin text = if is_some (builtin_of text) then None else Some (finding UnknownBuiltin text)
 
--- what udev refuses of a command by its type
+-- what udev refuses in a command, by its type
 abbrev pub refused_run : Option RunType → List ℕ → Option Finding
 refused_run (Some run_of.Builtin) text = refused_builtin text
 refused_run _ text = None
 
--- what udev refuses of an import by its type
+-- what udev refuses in an import, by its type
 abbrev pub refused_import : ImportType → List ℕ → Option Finding
 refused_import import_of.Builtin text = refused_builtin text
 refused_import _ text = None
 
--- what udev refuses of a role with a value
+-- what udev refuses in a role with a value
 unfoldable pub refusal_of : Role → List ℕ → Option Finding
 refusal_of (role.Set about o) text = refused_text about text
 refusal_of (role.Run type o) text = refused_run type text

@@ -24,7 +24,7 @@ use Rattle.rule_types.specs.declared.rule_option.RuleOption.{RuleOption}
 abbrev pub finding : MessageKind → List ℕ → Finding
 finding kind text = record { kind = kind; word = word_of text }
 
--- what is wrong with a value that spells no choice of patterns
+-- what is wrong with a value that is not a choice of patterns
 abbrev pub choice_fault : GlobFault → MessageKind
 choice_fault (glob.Class at) = SetNotSupported
 choice_fault _ = BadValue
@@ -71,7 +71,7 @@ abbrev pub some_name : List ℕ → Result (List ℕ) Finding
 some_name [] = Err (finding BadValue [])
 some_name (b ∷ rest) = Ok (b ∷ rest)
 
--- a name to jump to: udev takes an empty one, too
+-- a name to jump to: udev also takes an empty one
 unfoldable pub read_name : Profile → List ℕ → Result (List ℕ) Finding
 read_name profile.Manual text = some_name text
 read_name profile.Udev text = Ok text

@@ -63,7 +63,7 @@ impl Builtin {
     }
 }
 
-/// The builtin that a value of RUN{builtin} or IMPORT{builtin} asks for, if it is one: the first one
+/// The builtin that a value of RUN{builtin} or IMPORT{builtin} asks for, if there is one: the first
 /// whose name begins with the value's first word. Spaces, tabs and ends of lines separate words; the
 /// empty word is the beginning of each name.
 #[tactic(auto, unfolding(crate::specs::Builtins::builtin_of))]
@@ -78,7 +78,7 @@ pub fn builtin_of(text: &[u8]) -> Option<Builtin>
         .find(|known| known.name().starts_with(word))
 }
 
-/// The first word of a text, empty where the text has none.
+/// The first word of a text, empty if the text has none.
 fn first_word(text: &[u8]) -> &[u8]
     ensures { result.now ≡ first_word text.now }
 {
@@ -87,7 +87,7 @@ fn first_word(text: &[u8]) -> &[u8]
     word
 }
 
-/// How many bytes that separate no words a text begins with.
+/// How many bytes that don't separate words a text begins with.
 fn word_length(text: &[u8]) -> usize
     ensures value { result ≡ prefix_len (λ b. not (is_separator b)) text.now }
     ensures within { result ≤ length text.now }

@@ -6,7 +6,7 @@ ghost use Rattle.rule_parts.specs.Inner.{Tells};
 use std::alloc::{AllocError, AllocFailed, Global};
 use text_bytes::{Bytes, MessageKind, word_of};
 
-/// What is wrong with a part of a rule, before it is reported where the rule stands.
+/// What is wrong with a part of a rule, before it is reported with the place of the rule.
 #[derive(Debug, Drop)]
 pub struct Finding {
     /// What is wrong.
@@ -15,12 +15,12 @@ pub struct Finding {
     pub word: Bytes,
 }
 
-/// Why a text gave no part of a rule.
+/// Why a text is not a part of a rule.
 #[derive(Debug, Drop)]
 pub enum PartFault {
-    /// 1: it is none, for this reason.
+    /// 1: it is not one, for this reason.
     Wrong(Finding),
-    /// 2: memory runs out.
+    /// 2: memory ran out.
     Memory,
 }
 
@@ -58,7 +58,7 @@ impl Finding {
     }
 }
 
-/// What is wrong with a part of a rule, told of a text.
+/// What is wrong with a part of a rule, reported with a text.
 pub(crate) fn wrong(alloc: Global, kind: MessageKind, text: &[u8]) -> PartFault
     ensures { Tells kind text.now result }
 {

@@ -6,10 +6,10 @@ use rule_templates::{integer_of, natural_of};
 use rule_types::RuleOption;
 use text_bytes::{Profile, decimal_below};
 
-/// What the size of a number above zero is below; one below zero may have this size.
+/// A number above zero is below this, and one below zero may be this far from zero.
 const MAX_SIZE: u64 = 1 << 31;
 
-/// What a priority of links is below; the least one is as far below zero.
+/// A priority of links is below this, and the least is this far below zero.
 const PRIORITIES: i64 = 1 << 31;
 
 /// Each option that is one word, by its name.
@@ -34,7 +34,7 @@ const LEVELS: [(&[u8], i32); 9] = [
     (b"debug", 7),
 ];
 
-/// What is beside a name.
+/// What a table has beside a name.
 fn beside<X: Copy>(rows: &[(&[u8], X)], text: &[u8]) -> Option<X>
     ensures { result ≡ beside (map (λ row. (row.0.now, row.1)) rows.now) text.now }
 {
@@ -81,7 +81,7 @@ fn is_ignored(text: &[u8]) -> bool
     text.strip_prefix(b"static_node=").is_some() || text.strip_prefix(b"log_level=").is_some()
 }
 
-/// The option of a text that is no priority.
+/// The option of a text that is not a priority.
 fn other_option(text: &[u8]) -> Option<RuleOption>
     ensures { result ≡ other_option text.now }
 {
@@ -92,8 +92,8 @@ fn other_option(text: &[u8]) -> Option<RuleOption>
     }
 }
 
-/// The option of a text by a profile, if it is one. An option that udev does not know is one that
-/// changes nothing.
+/// The option of a text by a profile, if it is one. For udev an option that it does not know is one that changes
+/// nothing.
 #[tactic(auto, unfolding(crate::specs::Options::option_of))]
 pub fn option_of(profile: Profile, text: &[u8]) -> Option<RuleOption>
     ensures { result ≡ option_of profile text.now }
@@ -124,7 +124,7 @@ fn udev_option(text: &[u8]) -> Option<RuleOption>
     }
 }
 
-/// The option for udev of a text that is no priority.
+/// The option for udev of a text that is not a priority.
 fn udev_other(text: &[u8]) -> Option<RuleOption>
     ensures { result ≡ udev_other text.now (behind (codes "log_level=") text.now) }
 {
@@ -179,7 +179,7 @@ fn as_level(number: u64) -> Option<i32>
 #[tactic(auto, using(crate::proofs::Ignoring::unknown_is_ignored))]
 pub fn is_known_option(text: &[u8]) -> bool
     ensures known { result ≡ is_known_option text.now }
-    // One that udev does not know changes nothing.
+    // For udev one that it does not know changes nothing.
     ensures ignored { result ≡ false → option_of Profile.Udev text.now ≡ Some RuleOption.Ignored }
 {
     text.strip_prefix(b"link_priority=").is_some() || other_option(text).is_some()

@@ -21,11 +21,10 @@ use text_bytes::{Bytes, MessageKind, Profile};
 
 /// Reads a token as a part of a rule, by the tables of udev(7).
 ///
-/// What is wrong is the first of: an unknown key; an attribute that the key lacks or does not take;
-/// an operator that it does not take; a value that is none for it. udev takes each value with
-/// substitutions or patterns, each name of a jump and each option that it does not know; it refuses
-/// a property that it sets by itself, a name without effect and a builtin that it does not have.
-/// `Memory` comes only where an allocation fails.
+/// What is wrong is the first of: an unknown key; an attribute that the key lacks or does not take; an operator
+/// that it does not take; a value that is not valid for it. udev takes every value with substitutions or patterns,
+/// every name of a jump and every option that it does not know; it refuses a property that it sets by itself, a
+/// name without effect and a builtin that it does not have. `Memory` comes only if an allocation fails.
 #[tactic(auto, unfolding(crate::specs::Parts::part_of))]
 pub fn read_part(alloc: Global, profile: Profile, token: &Token<'_>) -> Result<Part, PartFault>
     ensures part { MatchResult result (λ p. part_of profile token.now ≡ Ok p) (λ f. FaultOf f (part_of profile token.now)) }
@@ -65,8 +64,8 @@ fn ignores_case(quote: Quote) -> bool
     }
 }
 
-/// The part of a role with this value, unless it is refused. `blind` says that the value asks for
-/// its case to be ignored, which matches alone take.
+/// The part of a role with this value, unless it is refused. `blind` says that the value asks for its case to be
+/// ignored, which only matches take.
 #[tactic(auto, unfolding(crate::specs::Parts::value_part))]
 fn value_part(
     alloc: Global,
@@ -90,8 +89,7 @@ fn value_part(
     }
 }
 
-/// A role as which it is read: for udev an IMPORT{program} of a builtin is one of the type of
-/// builtins.
+/// The role as which a role is read: for udev an IMPORT{program} of a builtin is an IMPORT{builtin}.
 fn role_as(profile: Profile, role: Role, text: &[u8]) -> Role
     ensures role { result ≡ role_as profile role text.now }
     ensures key { key_of_role result ≡ key_of_role role }
@@ -102,7 +100,7 @@ fn role_as(profile: Profile, role: Role, text: &[u8]) -> Role
     }
 }
 
-/// A role as which udev reads it.
+/// The role as which udev reads a role.
 fn udev_role(role: Role, text: &[u8]) -> Role
     ensures role { result ≡ udev_role role text.now }
     ensures key { key_of_role result ≡ key_of_role role }
@@ -113,7 +111,7 @@ fn udev_role(role: Role, text: &[u8]) -> Role
     }
 }
 
-/// The type of an IMPORT as which udev reads it.
+/// The type as which udev reads an IMPORT of a type.
 fn type_as(known: ImportType, text: &[u8]) -> ImportType
     ensures { result ≡ type_as known text.now }
 {
@@ -130,7 +128,7 @@ fn is_match(role: &Role) -> bool
     matches!(role, Role::Plain(_, _) | Role::Up(_, _) | Role::Result(_))
 }
 
-/// Reads the value of a role, and makes the part.
+/// Reads the value of a role, and makes the part of it.
 #[tactic(auto, unfolding(crate::specs::Parts::part_by))]
 fn part_by(
     alloc: Global,

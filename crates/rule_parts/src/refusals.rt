@@ -1,4 +1,4 @@
-//! What udev refuses of a token whose key, attribute and operator are taken.
+//! What udev refuses in a token whose key, attribute and operator are taken.
 ghost use Rattle.std.specs.Prelude.{◌≡◌, map, nat_eq, option_map};
 ghost use Rattle.std.specs.Cmp.Lexicographic.{pointwise};
 ghost use Rattle.std.specs.List.{list_any};
@@ -25,8 +25,8 @@ const RESERVED: [&[u8]; 12] = [
     b"TAGS",
 ];
 
-/// Why a role with this value is refused, and the text that this is reported. The manual refuses
-/// nothing here.
+/// Why a role with this value is refused, and the text with which this is reported. The manual refuses nothing
+/// here.
 pub(crate) fn refusal_by<'a>(
     profile: Profile,
     role: &'a Role,
@@ -40,7 +40,7 @@ pub(crate) fn refusal_by<'a>(
     }
 }
 
-/// Why udev refuses a role with this value, and the text that this is reported.
+/// Why udev refuses a role with this value, and the text with which this is reported.
 #[tactic(auto, unfolding(crate::specs::Refusals::refusal_of))]
 fn refusal_of<'a>(role: &'a Role, text: &'a [u8]) -> Option<(MessageKind, &'a [u8])>
     ensures { option_map (λ x. finding x.0 x.1.now) result ≡ refusal_of role.now text.now }
@@ -85,7 +85,7 @@ fn is_among(names: &[&[u8]], text: &[u8]) -> bool
     false
 }
 
-/// Whether a name leaves a device with the one that it has.
+/// Whether a name leaves a device with the name that it has.
 fn is_no_name(text: &[u8]) -> bool
     ensures { result ≡ is_no_name text.now }
 {
@@ -112,7 +112,7 @@ fn refused_import(known: ImportType, text: &[u8]) -> Option<(MessageKind, &[u8])
     }
 }
 
-/// Why udev refuses a text that is to ask for a builtin.
+/// Why udev refuses a text that has to ask for a builtin.
 fn refused_builtin(text: &[u8]) -> Option<(MessageKind, &[u8])>
     ensures { option_map (λ x. finding x.0 x.1.now) result ≡ refused_builtin text.now }
 {

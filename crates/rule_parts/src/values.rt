@@ -1,4 +1,4 @@
-//! Reading the value of a token, once its escapes are read.
+//! Reading the value of a token after its escapes.
 ghost use Rattle.std.specs.Prelude.{◌≡◌};
 ghost use Rattle.text_core.specs.Choices.{choice, choice_blind};
 ghost use Rattle.text_core.specs.Fnmatch.{fnmatch_choice};
@@ -81,7 +81,7 @@ fn blind_choice(alloc: Global, text: &[u8]) -> Result<Choice, PartFault>
     }
 }
 
-/// Why a text that spells no choice is none.
+/// Why a text is not a choice.
 fn choice_fault(alloc: Global, fault: GlobFault, text: &[u8]) -> PartFault
     ensures { TellsOf fault text.now result }
 {

@@ -23,12 +23,12 @@ use Rattle.rule_places.specs.declared.placed_finding.PlacedFinding.{PlacedFindin
 use Rattle.rule_places.specs.declared.readings.PlacedReading.{PlacedReading}
 use Rattle.rule_places.specs.declared.spot.Spot.{Spot}
 
--- joined lines that are read, after so many bytes of others
+-- readings of joined lines, after so many bytes of others
 abbrev pub readings_from : Profile → ℕ → List NumberedLine → List PlacedReading
 readings_from by start [] = []
 readings_from by start (l ∷ ls) = record { number = l.number; start = start; read = reading_of by l.text } ∷ readings_from by (start + length l.text) ls
 
--- the names for jumps of a line; one that is no rule has none
+-- the names for jumps of a line; one that is not a rule has none
 abbrev pub names_of : LineReading → Names
 names_of (Rule r) = record { label = option_map (λ n. n.name) r.label; goto = option_map (λ n. n.name) r.goto }
 names_of (Wrong found) = record { label = None; goto = None }
@@ -37,19 +37,19 @@ names_of (Wrong found) = record { label = None; goto = None }
 abbrev pub landed : List PlacedReading → List (PlacedReading × Landing)
 landed readings = zip readings (landings (map (λ r. names_of r.read) readings))
 
--- a name at its value, empty where there is none
+-- a name at its value, empty if there is none
 abbrev pub name_spot : MessageKind → Option NamePlace → Spot
 name_spot kind None = spot kind [] 0 0
 name_spot kind (Some n) = spot kind n.name n.start n.size
 
--- what is to be said of a rule: first of its jump, and of its label last
+-- the findings about a rule: first about its jump, and about its label last
 abbrev pub rule_spots : RulePlaces → Landing → List Spot
 rule_spots r l =
     (if l.lost then name_spot NoLaterLabel r.goto ∷ [] else [])
     ++ (r.spots
     ++ (if l.unused then name_spot LabelUnused r.label ∷ [] else []))
 
--- what is to be said of a line
+-- the findings about a line
 abbrev pub spots_of : LineReading → Landing → List Spot
 spots_of (Rule r) l = rule_spots r l
 spots_of (Wrong found) l = found ∷ []
@@ -69,7 +69,7 @@ findings_of_lines by bytes =
     flat_map (λ x. line_findings (kept_lines bytes) x.0 x.1) (landed (readings_from by 0 (joined_lines by bytes).lines))
     ++ open_findings (kept_lines bytes) (joined_lines by bytes).open_at
 
--- the findings of a file that is given up for the line of a number, or those of its lines
+-- the findings of a file that is given up because of the line with a number, or those of its lines
 abbrev pub findings_unless : Profile → List ℕ → Option ℕ → List PlacedFinding
 findings_unless by bytes None = findings_of_lines by bytes
 findings_unless by bytes (Some number) = given_up_findings bytes number

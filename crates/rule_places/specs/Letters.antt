@@ -1,15 +1,15 @@
--- Where the letters of a wrong prefix stand.
+-- Where the letters of a wrong prefix are.
 use Rattle.std.specs.Prelude.{ℕ, ◌-◌, if◌then◌else◌, List, [], length, Option, Some, None}
 use Rattle.text_bytes.specs.Names.{double_quote, open_brace, close_brace}
 use Rattle.text_bytes.specs.Texts.{begins_with, skip_while, split_once}
 use Rattle.rule_tokens.specs.Grammar.{is_key_byte}
 
--- what follows a cut of a text, nothing where it is not cut
+-- what follows a cut of a text, nothing if it is not cut
 abbrev pub behind_cut : Option (List ℕ × List ℕ) → List ℕ
 behind_cut None = []
 behind_cut (Some x) = x.1
 
--- what follows the first such byte of a text, nothing where it has none
+-- what follows the first such byte of a text, nothing if it has none
 abbrev pub behind_byte : ℕ → List ℕ → List ℕ
 behind_byte byte text = behind_cut (split_once byte text)
 
@@ -21,6 +21,7 @@ behind_key text = skip_while is_key_byte text
 abbrev pub behind_braces : List ℕ → List ℕ
 behind_braces text = if begins_with open_brace (behind_key text) then behind_byte close_brace (behind_key text) else behind_key text
 
--- The place in a line of letters that come directly before a quote: the first one after the key, and the braces, of the text at the line's end.
+-- The place in a line of letters directly before a quote: the first one after the key, and the braces, of the text at
+-- the line's end.
 abbrev pub start_before_quote : List ℕ → List ℕ → List ℕ → ℕ
 start_before_quote line text letters = length line - length (behind_byte double_quote (behind_braces text)) - 1 - length letters

@@ -1,4 +1,4 @@
--- A joined line, read for what is to be said of it and where.
+-- A joined line, read for the findings about it and their places.
 use Rattle.std.specs.Prelude.{ℕ, nat_lt, if◌then◌else◌, List, [], ◌∷◌, ◌++◌, length, Option, Some, None, Result, Ok, Err}
 use Rattle.text_bytes.specs.declared.message.MessageKind.TheVariants.{LineTooLong, GivenTwice, RuleWithoutEffect}
 use Rattle.text_bytes.specs.declared.profile.Profile.{Profile}
@@ -18,7 +18,7 @@ use Rattle.rule_places.specs.declared.line_reading.LineReading.TheVariants.{Rule
 use Rattle.rule_places.specs.declared.found.NamePlace.{NamePlace}
 use Rattle.rule_places.specs.declared.spot.Spot.{Spot}
 
--- a name, with where the value of its token stands
+-- a name, with the place of its token's value
 abbrev pub name_place : List ℕ → Placed → NamePlace
 name_place name t = record { name = name; start = value_start t; size = length t.parts.value }
 
@@ -32,23 +32,23 @@ abbrev pub again : Option NamePlace → List ℕ → Placed → List Spot
 again None name t = []
 again (Some place) name t = value_spot GivenTwice name t ∷ []
 
--- a name for which another one counts is reported at its own value
+-- a name instead of which another one counts is reported at its own value
 abbrev pub lost : Option NamePlace → List Spot
 lost None = []
 lost (Some place) = spot GivenTwice place.name place.start place.size ∷ []
 
--- a rule with one label more: by the manual the first counts, for udev the last
+-- a rule with one more label: by the manual the first counts, for udev the last
 abbrev pub with_label : Profile → RulePlaces → Placed → List ℕ → RulePlaces
 with_label Manual r t name = record { label = first_name r.label (name_place name t); goto = r.goto; spots = r.spots ++ again r.label name t }
 with_label Udev r t name = record { label = Some (name_place name t); goto = r.goto; spots = r.spots ++ lost r.label }
 
--- a rule with one token more, which is this part: of several jumps the first counts
+-- a rule with one more token, which is this part: of several jumps the first counts
 abbrev pub with_part : Profile → RulePlaces → Placed → Part → RulePlaces
 with_part by r t (part.Label name) = with_label by r t name
 with_part by r t (part.Goto name) = record { label = r.label; goto = first_name r.goto (name_place name t); spots = r.spots ++ again r.goto name t }
 with_part by r t _ = r
 
--- a token, read as a part of a rule, or what is to be said of it
+-- a token, read as a part of a rule, or the finding about it
 abbrev pub told : Placed → Result Part Finding → Result Part Spot
 told t (Ok p) = Ok p
 told t (Err found) = Err (part_spot found.kind t)
@@ -56,24 +56,25 @@ told t (Err found) = Err (part_spot found.kind t)
 abbrev pub part_told : Profile → Placed → Result Part Spot
 part_told by t = told t (part_of by t)
 
--- a rule goes on with a part, and ends where a token is none
+-- a rule goes on with a part, and ends if a token is not one
 abbrev pub goes_on : Profile → RulePlaces → Placed → (RulePlaces → LineReading) → Result Part Spot → LineReading
 goes_on by r t next (Ok p) = next (with_part by r t p)
 goes_on by r t next (Err found) = Wrong found
 
--- a rule with the tokens of these items, or what is to be said of the first item that is no part of a rule
+-- a rule with the tokens of these items, or the finding about the first item that is not a part of a rule
 abbrev pub taken : Profile → List ℕ → RulePlaces → List Item → LineReading
 taken by line r [] = Rule r
 taken by line r (Ok t ∷ items) = goes_on by r t (λ s. taken by line s items) (part_told by t)
 taken by line r (Err fault ∷ items) = Wrong (token_spot fault.kind fault.at line)
 
--- a rule, and after what is to be said of it how its line is written; of one without an effect that alone is said
+-- a rule, and after the findings about it those about how its line is written; about one without an effect there is
+-- only that finding
 abbrev pub finished : Profile → List ℕ → LineReading → LineReading
 finished by line (Rule r) =
     if lacks_effect by (tokens_of (items_as by line)) then Wrong (spot RuleWithoutEffect [] 0 (length line))
     else Rule (record { label = r.label; goto = r.goto; spots = r.spots ++ style_spots by line (tokens_of (items_as by line)) })
 finished by line (Wrong found) = Wrong found
 
--- a joined line, read as a rule; of what is wrong with it first its length
+-- a joined line, read as a rule; of what is wrong with it, its length comes first
 unfoldable pub reading_of : Profile → List ℕ → LineReading
 reading_of by line = if nat_lt (most_bytes by) (length line) then Wrong (spot LineTooLong [] 0 (length line)) else finished by line (taken by line no_places (items_as by line))

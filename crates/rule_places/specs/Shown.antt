@@ -1,4 +1,4 @@
--- What the places of kept lines show of a file.
+-- What the places of kept lines show in a file.
 use Rattle.std.specs.Prelude.{◌≡◌, ◌<◌, ◌≤◌, ℕ, ◌+◌, ◌-◌, ◌⊎◌, List, [], ◌∷◌, ◌++◌, take, drop, length, map, flat_map, Some}
 use Rattle.text_bytes.specs.Lines.{NumberedLine, numbered_lines}
 use Rattle.text_bytes.specs.declared.profile.Profile.{Profile}
@@ -15,7 +15,9 @@ abbrev pub IsAmong : NumberedLine → List NumberedLine → Type 0
 IsAmong l [] = ⊥
 IsAmong l (x ∷ xs) = (l ≡ x) ⊎ IsAmong l xs
 
--- Among lines, of which these are the kept ones with this text after so many bytes of others, one has the byte of a place: from its column on the bytes of that line are those of the text, as many as the line has left up to the `\` at its end, if it has one.
+-- Among lines, of which these are the kept ones with this text after so many bytes of others, one has the byte of a
+-- place: from its column on the bytes of that line are those of the text, as many as the line has left up to the `\`
+-- at its end, if it has one.
 pub record Shows (kept : List KeptLine) (text : List ℕ) (ls : List NumberedLine) (start at : ℕ) : Type 0 where
   pub line : NumberedLine
   pub place : KeptLine
@@ -32,6 +34,7 @@ pub record Shows (kept : List KeptLine) (text : List ℕ) (ls : List NumberedLin
 abbrev pub IsShown : List ℕ → ℕ → Type 0
 IsShown bytes at = Shows (kept_from 0 (numbered_lines bytes)) (kept_text (numbered_lines bytes)) (numbered_lines bytes) 0 at
 
--- the joined lines of a file are what its kept lines give, one after another; after them only what is in an open line is left
+-- the joined lines of a file are what its kept lines give, one after another; after these only the bytes of an open
+-- line are left
 abbrev pub AreJoined : Profile → List ℕ → Type 0
 AreJoined by bytes = (left : List ℕ) × (kept_text (numbered_lines bytes) ≡ flat_map (λ l. l.text) (joined_lines by bytes).lines ++ left)

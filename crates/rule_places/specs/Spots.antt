@@ -1,4 +1,4 @@
--- What is to be said of parts of a joined line, with where these parts are in it.
+-- Findings about parts of a joined line, with the places of these parts in it.
 use Rattle.std.specs.Prelude.{ℕ, ◌+◌, ◌-◌, Bool, true, false, if◌then◌else◌, List, length, drop}
 use Rattle.text_bytes.specs.declared.message.MessageKind.{MessageKind}
 use Rattle.text_bytes.specs.declared.message.MessageKind.TheVariants.{BadSyntax, BadPrefix, UnknownKey, OperatorNotAllowed, WrongAttribute, ReservedProperty}
@@ -10,7 +10,8 @@ use Rattle.rule_parts.specs.Parts.{meaning_of}
 use Rattle.rule_places.specs.Letters.{start_before_quote}
 use Rattle.rule_places.specs.declared.spot.Spot.{Spot}
 
--- what is to be said of a part of a line, reported with a text: the place of its first byte, and how many bytes it has
+-- a finding about a part of a line, reported with a text: the place of its first byte, and how many bytes it
+-- has
 abbrev pub spot : MessageKind → List ℕ → ℕ → ℕ → Spot
 spot kind word start size = record { kind = kind; word = word; start = start; size = size }
 
@@ -42,11 +43,11 @@ abbrev pub is_of_attribute : MessageKind → Bool
 is_of_attribute ReservedProperty = true
 is_of_attribute _ = false
 
--- a token that is no part of a rule: its key, its attribute, or its value with what that means
+-- a token that is not a part of a rule: its key, its attribute, or its value with what that means
 abbrev pub part_spot : MessageKind → Placed → Spot
 part_spot kind t = if is_of_key kind then key_spot kind t else (if is_of_attribute kind then attribute_spot kind t else value_spot kind (meaning_of t) t)
 
--- a part of a line, from a place on, that is no token: all up to the line's end, or the letters before the quote
+-- a part of a line, from a place on, that is not a token: all up to the line's end, or the letters before the quote
 abbrev pub token_spot : TokenFaultKind → ℕ → List ℕ → Spot
 token_spot Syntax at line = spot BadSyntax (drop at line) at (length (drop at line))
 token_spot Prefix at line = spot BadPrefix (letters_at (drop at line)) (start_before_quote line (drop at line) (letters_at (drop at line))) (length (letters_at (drop at line)))

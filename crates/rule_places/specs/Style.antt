@@ -1,4 +1,4 @@
--- How a rule is written, with where its tokens and gaps stand.
+-- How a rule is written, with the places of its tokens and gaps.
 use Rattle.std.specs.Prelude.{ℕ, ◌==◌, if◌then◌else◌, List, [], ◌∷◌, ◌++◌, drop, length, Option, Some, None}
 use Rattle.text_bytes.specs.Names.{comma}
 use Rattle.text_bytes.specs.declared.message.MessageKind.{MessageKind}
@@ -12,11 +12,11 @@ use Rattle.rule_core.specs.Style.{between, commas, has_blank_before_comma, read_
 use Rattle.rule_places.specs.Spots.{key_spot, spot}
 use Rattle.rule_places.specs.declared.spot.Spot.{Spot}
 
--- a whole gap, which begins at a place, where it has a comma
+-- a whole gap, which begins at a place, if it has a comma
 abbrev pub whole_gap : MessageKind → ℕ → List ℕ → List Spot
 whole_gap kind place gap = if commas gap == 0 then [] else spot kind [] place (length gap) ∷ []
 
--- the gap before the first token, which udev passes over
+-- the gap before the first token, which only udev skips
 abbrev pub front_spots : Profile → List ℕ → List Spot
 front_spots Manual gap = []
 front_spots Udev gap = whole_gap LeadingComma 0 gap
@@ -27,7 +27,7 @@ comma_spots gap t =
     (if commas gap == 1 then [] else key_spot CommaExpected t ∷ [])
     ++ (if ends_in comma gap then key_spot BlankExpected t ∷ [] else [])
 
--- a gap before a token: that token's key; udev also says about blanks before a comma
+-- a gap before a token: that token's key; udev also reports blanks before a comma
 abbrev pub gap_spots : Profile → List ℕ → Placed → List Spot
 gap_spots Manual gap t = comma_spots gap t
 gap_spots Udev gap t = comma_spots gap t ++ (if has_blank_before_comma gap then key_spot BlankBeforeComma t ∷ [] else [])

@@ -15,18 +15,16 @@ use rule_jumps::Landing;
 use std::alloc::{AllocError, Global};
 use text_bytes::{Bytes, MessageKind, Profile, SourceFile};
 
-/// The findings of a rules file in the order of its messages, each with the physical line, the
-/// columns and the whole text that it is about. Each message that `read_rules` gives of the file
-/// stands for one of them.
+/// The findings of a rules file in the order of its messages, each with the physical line, the columns and the
+/// whole text that it is about. Each finding corresponds to one message that `read_rules_as` gives for the file.
 ///
-/// Places, by codes: of V1 all from the fault to the rule's end; of V10 the letters; of V2, V3, V4,
-/// V24, S1, S2, S3 and S6 the key of the token, or for S1 the gap after the last token; of V13 the
-/// attribute between its braces; of V5, V6, V11, V14 and V15 the value between its quotes, of V8 that
-/// of the name that does not count, of V7 that of the GOTO and of S4 that of the LABEL that counts; of
-/// S5 the gap before the first token; of V9 and V18 the whole rule; of V12 the backslash at the end of
-/// the last line; of V26 the whole line that is too long. A place in several physical lines is reported as
-/// far as it is in the first of them. A number of a line or of a column over 2^32 - 1 is given as
-/// that one.
+/// Places, by code: for V1 all from the fault to the rule's end; for V10 the letters; for V2, V3, V4, V24, S1, S2,
+/// S3 and S6 the key of the token, or for S1 the gap after the last token; for V13 the attribute between its
+/// braces; for V5, V6, V11, V14 and V15 the value between its quotes, for V8 that of the name that does not count,
+/// for V7 that of the GOTO and for S4 that of the LABEL that counts; for S5 the gap before the first token; for V9
+/// and V18 the whole rule; for V12 the backslash at the end of the last line; for V26 the whole line that is too
+/// long. A place in several physical lines is reported as far as it is in the first of them. The number of a line
+/// or a column is at most 2^32 - 1.
 pub fn placed_findings(
     alloc: Global,
     profile: Profile,
@@ -94,7 +92,7 @@ fn place_line(
     place_spots(found, kept, number, start, spots)
 }
 
-/// All that is to be said of a line.
+/// All findings about a line.
 fn spots_of(alloc: Global, read: LineReading, landing: Landing) -> Result<Vec<Spot>, AllocError>
     ensures { IfOk result (λ spots. spots.items ≡ spots_of read landing) }
 {
@@ -108,7 +106,7 @@ fn spots_of(alloc: Global, read: LineReading, landing: Landing) -> Result<Vec<Sp
     }
 }
 
-/// All that is to be said of a rule: first of its jump, and of its label last.
+/// All findings about a rule: first about its jump, and about its label last.
 fn rule_spots(alloc: Global, places: RulePlaces, landing: Landing) -> Result<Vec<Spot>, AllocError>
     ensures { IfOk result (λ spots. spots.items ≡ rule_spots places landing) }
 {
@@ -133,7 +131,7 @@ fn rule_spots(alloc: Global, places: RulePlaces, landing: Landing) -> Result<Vec
     Ok(all)
 }
 
-/// Adds what is to be said of a name, if something is.
+/// Adds a finding about a name, if anything is wrong with it.
 fn tell_name(
     alloc: Global,
     spots: &mut Vec<Spot>,
@@ -149,7 +147,7 @@ fn tell_name(
     Ok(())
 }
 
-/// What is to be said of a name, which is empty where there is none.
+/// A finding about a name, which is empty if there is none.
 fn name_spot(alloc: Global, kind: MessageKind, given: Option<NamePlace>) -> Spot
     ensures { result ≡ name_spot kind given }
 {

@@ -1,10 +1,10 @@
-//! What is found of a rule by its line alone.
+//! What is found about a rule from its line alone.
 
 use crate::spot::Spot;
 use std::marker::Model;
 use text_bytes::Bytes;
 
-/// A name, with where the value stands that gives it.
+/// A name, with the place of the value that gives it.
 #[derive(Debug, Drop)]
 pub struct NamePlace {
     /// The name.
@@ -15,14 +15,14 @@ pub struct NamePlace {
     pub size: usize,
 }
 
-/// What is found of a rule by its line alone.
+/// What is found about a rule from its line alone.
 #[derive(Debug, Drop)]
 pub struct RulePlaces {
     /// The name of the LABEL that counts: its first, or for udev its last.
     pub label: Option<NamePlace>,
     /// The name of its first GOTO.
     pub goto: Option<NamePlace>,
-    /// What is to be said of it, in the order of messages.
+    /// The findings about it, in the order of messages.
     pub spots: Vec<Spot>,
 }
 

@@ -1,4 +1,4 @@
-//! A file that is given up for a line that is too long.
+//! A file that is given up because of a line that is too long.
 ghost use Rattle.std.specs.Prelude.{◌≡◌, IfOk};
 ghost use Rattle.text_bytes.specs.Lines.{numbered_lines};
 ghost use Rattle.rule_places.specs.GivenUp.{given_up_findings, long_place, whole_line};
@@ -8,10 +8,10 @@ use crate::placed_finding::PlacedFinding;
 use std::alloc::{AllocError, Global};
 use text_bytes::{Bytes, Line, Lines, MessageKind, capped};
 
-/// The fewest bytes of a line for which a file is given up.
+/// The fewest bytes of a line because of which a file is given up.
 const TOO_MANY_BYTES: usize = 16_384;
 
-/// What is found of a file that is given up for the line of a number: this, of the whole line.
+/// What is found in a file that is given up because of the line with a number: only this, about the whole line.
 pub fn given_up_findings(
     alloc: Global,
     bytes: &[u8],
@@ -32,7 +32,7 @@ pub fn given_up_findings(
     Ok(found)
 }
 
-/// The first line that is too long, or the start of the file where none is.
+/// The first line that is too long, or the start of the file if there is none.
 fn long_place(bytes: &[u8]) -> Place
     ensures { result ≡ long_place (numbered_lines bytes.now) }
 {

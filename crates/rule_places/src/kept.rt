@@ -15,7 +15,7 @@ use text_bytes::{Line, Lines, begins_with, capped, ends_in, unindented};
 pub struct KeptLine {
     /// Its number in the file, counted from 1.
     pub number: usize,
-    /// The column of its first byte that is no blank, counted from 1.
+    /// The column of its first byte that is not a blank, counted from 1.
     pub column: usize,
     /// How many bytes of kept lines come before its own.
     pub start: usize,
@@ -61,8 +61,7 @@ impl KeptLines {
         Ok(KeptLines { lines })
     }
 
-    /// Where so many bytes stand from a place among the bytes of kept lines on, as far as they stand
-    /// in one line.
+    /// Where so many bytes are, from a place among the bytes of kept lines on, as far as they are in one line.
     pub fn place_in(&self, at: usize, size: usize) -> Place
         ensures { result ≡ place_in self.now at size }
     {
@@ -75,14 +74,14 @@ impl KeptLines {
         }
     }
 
-    /// The line in which a byte stands: the last that begins at it or before it.
+    /// The line that a byte is in: the last that begins at it or before it.
     fn line_at(&self, at: usize) -> Option<KeptLine>
         ensures { result ≡ line_at self.now at }
     {
         line_of(&self.lines, begun_at(&self.lines, at).saturating_sub(1))
     }
 
-    /// Where the backslash stands that the last line ends in.
+    /// Where the backslash at the end of the last line is.
     pub fn place_of_backslash(&self) -> Place
         ensures { result ≡ place_of_backslash self.now }
     {

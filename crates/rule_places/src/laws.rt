@@ -1,4 +1,4 @@
-//! Laws of places, each the contract of a function that does nothing.
+//! Laws of places, each the contract of a function with an empty body.
 ghost use Rattle.std.specs.Prelude.{◌≡◌, ◌<◌, ◌-◌, ◌^◌, ◌∷◌, [], List, None, Some, ℕ, drop, length, map, take};
 ghost use Rattle.std.specs.List.{AllByRecursion};
 ghost use Rattle.text_bytes.specs.Lines.{numbered_lines};
@@ -23,39 +23,39 @@ pub fn findings_are_the_messages()
     ensures { (by : profiles.Profile) (file : files.SourceFile) → map (as_message file.name) (placed_findings by file) ≡ file_messages by file }
 {}
 
-/// What is said of a key, of an attribute, of the letters before a quote, or of a part of a line that is no token, is
+/// What is said about a key, an attribute, the letters before a quote, or a part of a line that is not a token, is
 /// reported with the bytes that are in the joined line at the place.
 #[tactic(auto, using(crate::proofs::Standing::all_stand))]
 pub fn words_stand_at_their_places()
     ensures { (by : profiles.Profile) (line : List ℕ) (landing : jumps.Landing) → AllByRecursion (StandsThere line) (spots_of (reading_of by line) landing) }
 {}
 
-/// What is said of a value is said of bytes of the joined line between two quotes, with no quote among
-/// them that ends a value. Of a jump this is said where the rule has a name for it.
+/// What is said about a value is said about bytes of the joined line between two quotes, with no quote among them
+/// that ends a value. For a jump this holds if the rule has a name for it.
 #[tactic(auto, using(crate::proofs::Standing::all_quoted))]
 pub fn values_stand_between_quotes()
     ensures { (by : profiles.Profile) (line : List ℕ) (landing : jumps.Landing) → AllByRecursion (StandsQuoted line) (spots_of (reading_of by line) landing) }
 {}
 
-/// What is said of commas with no key is said of all that follows the last token.
+/// What is said about commas with no key is said about all that follows the last token.
 #[tactic(auto, using(crate::proofs::Standing::all_behind))]
 pub fn last_commas_stand_behind_tokens()
     ensures { (by : profiles.Profile) (line : List ℕ) (landing : jumps.Landing) → AllByRecursion (StandsBehind line) (spots_of (reading_of by line) landing) }
 {}
 
-/// What is said of commas before the first token is said of the whole gap there.
+/// What is said about commas before the first token is said about the whole gap there.
 #[tactic(auto, using(crate::proofs::Standing::all_in_front))]
 pub fn first_commas_stand_before_tokens()
     ensures { (by : profiles.Profile) (line : List ℕ) (landing : jumps.Landing) → AllByRecursion (StandsInFront line) (spots_of (reading_of by line) landing) }
 {}
 
-/// What is said of a rule as a whole is said of its whole line.
+/// What is said about a rule as a whole is said about its whole line.
 #[tactic(auto, using(crate::proofs::Standing::all_whole))]
 pub fn rules_are_told_as_a_whole()
     ensures { (by : profiles.Profile) (line : List ℕ) (landing : jumps.Landing) → AllByRecursion (StandsWhole line) (spots_of (reading_of by line) landing) }
 {}
 
-/// Of a line that is too long nothing else is said, and it is said of the whole line.
+/// About a line that is too long nothing else is said, and this is said about the whole line.
 #[tactic(auto, using(crate::proofs::Lengths::told_whole))]
 pub fn long_lines_are_told_as_a_whole()
     ensures { (by : profiles.Profile) (line : List ℕ) (landing : jumps.Landing) → most_bytes by < length line → spots_of (reading_of by line) landing ≡ spot LineTooLong [] 0 (length line) ∷ [] }
@@ -68,37 +68,37 @@ pub fn joined_lines_are_kept_lines()
     ensures { (by : profiles.Profile) (bytes : List ℕ) → AreJoined by bytes }
 {}
 
-/// The line of the file that is found for a byte of the kept lines has that byte at the column that
-/// is reported, and after it the bytes that follow.
+/// The line of the file that is found for a byte of the kept lines has that byte at the column that is reported,
+/// and after it the bytes that follow.
 #[tactic(auto, using(crate::proofs::Showing::all_shown))]
 pub fn places_show_their_bytes()
     ensures { (bytes : List ℕ) (at : ℕ) → at < length (kept_text (numbered_lines bytes)) → IsShown bytes at }
 {}
 
-/// So many bytes of the kept lines, from a byte on, are in the file at the place that is reported
-/// them, up to the end of the line in which the first of them stands.
+/// So many bytes of the kept lines, from a byte on, are in the file at the place that is reported for them, up to
+/// the end of the line that has the first of them.
 #[tactic(auto, using(crate::proofs::Placing::all_placed))]
 pub fn places_stand_in_their_lines()
     ensures { (bytes : List ℕ) (at size : ℕ) → length bytes < 2 ^ 32 - 1 → at < length (kept_text (numbered_lines bytes)) → 0 < size → StandsIn bytes (take size (drop at (kept_text (numbered_lines bytes)))) (place_in (kept_lines bytes) at size) }
 {}
 
-/// A finding that is reported with a text of its file, which is a key, the letters before a quote or what
-/// is no token, is there: the line of its number has the text at its columns, all of it unless
-/// the rule goes on in another line.
+/// A finding that is reported with a text of its file (a key, the letters before a quote, or what is not a token)
+/// is there: the line with its number has the text at its columns, all of it unless the rule goes on in another
+/// line.
 #[tactic(auto, using(crate::proofs::FileStanding::all_in_file))]
 pub fn findings_stand_in_their_lines()
     ensures { (by : profiles.Profile) (file : files.SourceFile) → length file.bytes < 2 ^ 32 - 1 → AllByRecursion (StandsInFile file.bytes) (placed_findings by file) }
 {}
 
-/// Where a line is still open at its file's end, that is the last finding, and it is at the `\\`
-/// that the last line ends in which is no comment.
+/// If a line is still open at its file's end, that is the last finding, and it is at the `\\` at the end of the
+/// last line that is not a comment.
 #[tactic(auto, using(crate::proofs::Opening::all_open))]
 pub fn open_lines_are_told_at_their_backslash()
     ensures { (by : profiles.Profile) (file : files.SourceFile) (number : ℕ) → length file.bytes < 2 ^ 32 - 1 → given_up by file.bytes ≡ None → (joined_lines by file.bytes).open_at ≡ Some number → EndsOpen file.bytes (placed_findings by file) }
 {}
 
-/// Of a file that is given up nothing else is said, and it is said of the whole of the first line that
-/// is too long.
+/// About a file that is given up nothing else is said, and this is said about the whole of the first line that is
+/// too long.
 #[tactic(auto, using(crate::proofs::GivenUp::all_told))]
 pub fn files_that_are_given_up_are_told_of_one_line()
     ensures { (by : profiles.Profile) (file : files.SourceFile) (number : ℕ) → length file.bytes < 2 ^ 32 - 1 → given_up by file.bytes ≡ Some number → IsToldOfOneLine file.bytes (placed_findings by file) }

@@ -1,4 +1,4 @@
-//! Where the letters of a wrong prefix stand.
+//! Where the letters of a wrong prefix are.
 ghost use Rattle.std.specs.Prelude.{◌≡◌, ◌≤◌, ◌-◌, length};
 ghost use Rattle.std.specs.List.{prefix_len};
 ghost use Rattle.rule_tokens.specs.Grammar.{is_key_byte};
@@ -6,8 +6,8 @@ ghost use Rattle.rule_places.specs.Letters.{behind_braces, behind_byte, behind_k
 
 use text_bytes::{begins_with, split_once};
 
-/// The place in a line of the letters that come directly before the first quote after the key, and
-/// the braces, with which the text at the line's end begins.
+/// The place in a line of the letters directly before the first quote after the key, and the braces, with which the
+/// text at the line's end begins.
 pub fn letters_start(line: &[u8], text: &[u8], letters: &[u8]) -> usize
     ensures { result ≡ start_before_quote line.now text.now letters.now }
 {
@@ -52,7 +52,7 @@ fn is_key_byte(byte: u8) -> bool
     byte.is_ascii_alphanumeric() || byte == b'_'
 }
 
-/// What follows the first such byte of a text, nothing where it has none.
+/// What follows the first such byte of a text, nothing if it has none.
 fn behind_byte(byte: u8, text: &[u8]) -> &[u8]
     ensures { result.now ≡ behind_byte byte text.now }
 {

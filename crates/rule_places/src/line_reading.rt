@@ -1,4 +1,4 @@
-//! Reading a joined line for what is to be said of it.
+//! Reading a joined line for the findings about it.
 ghost use Rattle.std.specs.Prelude.{◌≡◌, [], IfOk, length};
 ghost use Rattle.rule_core.specs.Drafts.{items_as};
 ghost use Rattle.rule_places.specs.Found.{no_places};
@@ -15,12 +15,12 @@ use rule_types::Part;
 use std::alloc::{AllocError, Global};
 use text_bytes::{Bytes, MessageKind, Profile};
 
-/// What is found of a joined line.
+/// What is found about a joined line.
 #[derive(Debug, Drop)]
 pub enum LineReading {
     /// It is a rule.
     Rule(RulePlaces),
-    /// It is none, for this reason.
+    /// It is not a rule, for this reason.
     Wrong(Spot),
 }
 
@@ -35,7 +35,7 @@ pub fn reading_of(alloc: Global, profile: Profile, line: &[u8]) -> Result<LineRe
     finished(alloc, profile, line, taken)
 }
 
-/// What is to be said of a line as a whole.
+/// A finding about a line as a whole.
 fn whole_spot(alloc: Global, kind: MessageKind, line: &[u8]) -> Spot
     ensures { result ≡ spot kind [] 0 (length line.now) }
 {
@@ -47,7 +47,7 @@ fn whole_spot(alloc: Global, kind: MessageKind, line: &[u8]) -> Spot
     }
 }
 
-/// Adds what is to be said of how a line is written, where it is a rule that has an effect.
+/// Adds the findings about how a line is written, if it is a rule that has an effect.
 fn finished(
     alloc: Global,
     profile: Profile,
@@ -73,7 +73,7 @@ fn finished(
     }
 }
 
-/// Takes the tokens of a line, up to the first with a fault, which is then what is to be said.
+/// Takes the tokens of a line, up to the first with a fault, which is then the finding.
 #[tactic(auto, using(crate::proofs::Taken::token_taken, crate::proofs::Taken::token_wrong, crate::proofs::Taken::text_wrong))]
 fn read_tokens(alloc: Global, profile: Profile, line: &[u8]) -> Result<LineReading, AllocError>
     ensures { IfOk result (λ read. read ≡ taken profile line.now no_places (items_as profile line.now)) }
@@ -91,7 +91,7 @@ fn read_tokens(alloc: Global, profile: Profile, line: &[u8]) -> Result<LineReadi
     Ok(LineReading::Rule(places))
 }
 
-/// The part of a rule that a token is, or what is to be said of it.
+/// The part of a rule that a token is, or the finding about it.
 fn part_told(
     alloc: Global,
     profile: Profile,

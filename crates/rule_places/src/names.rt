@@ -55,7 +55,7 @@ impl RulePlaces {
     }
 }
 
-/// Gives a name, or tells that one was given before.
+/// Sets a name, or reports it if one was given before.
 fn give(
     given: &mut Option<NamePlace>,
     spots: &mut Vec<Spot>,
@@ -72,7 +72,7 @@ fn give(
     Ok(())
 }
 
-/// Gives a name in place of the one that was given before, if one was, and says about that one.
+/// Sets a name, and reports the one that was given before, if there was one.
 fn give_last(
     given: &mut Option<NamePlace>,
     spots: &mut Vec<Spot>,
@@ -93,7 +93,7 @@ fn give_last(
     Ok(())
 }
 
-/// A name, with where the value of its token stands.
+/// A name, with the place of its token's value.
 fn name_place(name: Bytes, token: &Token<'_>) -> NamePlace
     ensures { result ≡ name_place name token.now }
 {

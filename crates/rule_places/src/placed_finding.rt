@@ -2,10 +2,11 @@
 
 use text_bytes::{Bytes, MessageKind};
 
-/// What is to be said of a rules file, with where in the file it is said.
+/// A finding about a rules file, with the place in the file that it is about.
 #[derive(Debug, Drop)]
 pub struct PlacedFinding {
-    /// The number that the message tells: that of the first line of the rule, counted from 1.
+    /// The line number that the message gives, counted from 1: that of the rule's first line, or for udev of its
+    /// last.
     pub begins: u32,
     /// The number of the line in which the place begins, counted from 1.
     pub line: u32,
@@ -13,8 +14,8 @@ pub struct PlacedFinding {
     pub column: u32,
     /// The column after the last byte of the place that is in that same line.
     pub end: u32,
-    /// What is to be said.
+    /// What is found.
     pub kind: MessageKind,
-    /// The whole text of which the message tells the first 32 bytes.
+    /// The whole text of which the message gives the first 32 bytes.
     pub word: Bytes,
 }

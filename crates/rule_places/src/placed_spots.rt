@@ -1,4 +1,4 @@
-//! What is to be said of parts of lines, as findings of their file.
+//! Findings about parts of lines, as findings of their file.
 ghost use Rattle.std.specs.Prelude.{◌≡◌, ◌++◌, IfOk, OnOk, map};
 ghost use Rattle.rule_places.specs.Placed.{placed};
 
@@ -8,8 +8,8 @@ use crate::spot::Spot;
 use crate::sums::sum_of;
 use std::alloc::AllocError;
 
-/// Adds what is to be said of parts of a joined line, which follows so many bytes of other
-/// joined lines, as findings of the file with the number that the line's messages tell.
+/// Adds the findings about parts of a joined line, which follows so many bytes of other joined lines, as
+/// findings of the file with the number that the line's messages give.
 pub fn place_spots(
     found: &mut Vec<PlacedFinding>,
     kept: &KeptLines,
@@ -25,7 +25,7 @@ pub fn place_spots(
     Ok(())
 }
 
-/// What is to be said of a part of a line, as a finding of the file.
+/// A finding about a part of a line, as a finding of the file.
 fn placed(
     kept: &KeptLines,
     number: u32,

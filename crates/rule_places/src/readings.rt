@@ -1,4 +1,4 @@
-//! The joined lines of a file, each read for what is to be said of it.
+//! The joined lines of a file, each read for the findings about it.
 ghost use Rattle.std.specs.Prelude.{◌≡◌, IfOk, map, option_map};
 ghost use Rattle.rule_jumps.specs.Jumps.{landings};
 ghost use Rattle.rule_places.specs.Files.{names_of, readings_from};
@@ -11,14 +11,14 @@ use rule_jumps::{Jump, Landing, landings};
 use std::alloc::{AllocError, Global};
 use text_bytes::Profile;
 
-/// What is found of a joined line of a file.
+/// What is found about a joined line of a file.
 #[derive(Debug, Drop)]
 pub struct PlacedReading {
     /// The number of the line of the file in which it begins.
     pub number: u32,
     /// How many bytes of joined lines come before it.
     pub start: usize,
-    /// What is found of it.
+    /// What is found about it.
     pub read: LineReading,
 }
 
@@ -55,7 +55,7 @@ pub fn landings_of(alloc: Global, readings: &[PlacedReading]) -> Result<Vec<Land
     landings(alloc, &jumps)
 }
 
-/// The names for jumps of a line, of which one that is no rule has none.
+/// The names for jumps of a line; one that is not a rule has none.
 fn jump_of(read: &LineReading) -> Jump<'_>
     ensures { result ≡ names_of read.now }
 {

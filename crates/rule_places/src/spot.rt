@@ -1,4 +1,4 @@
-//! What is to be said of a part of a joined line.
+//! Findings about parts of a joined line.
 ghost use Rattle.std.specs.Prelude.{◌≡◌, IfOk, length, drop};
 ghost use Rattle.rule_tokens.specs.Grammar.{attribute_bytes};
 ghost use Rattle.rule_places.specs.Spots.{attribute_spot, key_spot, part_spot, token_spot, value_spot};
@@ -10,10 +10,10 @@ use rule_tokens::{Token, TokenFault, TokenFaultKind, letters_before_quote, unquo
 use std::alloc::{AllocError, Global};
 use text_bytes::{Bytes, MessageKind};
 
-/// What is to be said of a part of a joined line.
+/// A finding about a part of a joined line.
 #[derive(Debug, Drop)]
 pub struct Spot {
-    /// What is to be said.
+    /// What is found.
     pub kind: MessageKind,
     /// The whole text that it is about.
     pub word: Bytes,
@@ -23,7 +23,7 @@ pub struct Spot {
     pub size: usize,
 }
 
-/// What is to be said of a token's key.
+/// A finding about a token's key.
 pub fn key_spot(alloc: Global, kind: MessageKind, token: &Token<'_>) -> Result<Spot, AllocError>
     ensures { IfOk result (λ found. found ≡ key_spot kind token.now) }
 {
@@ -36,8 +36,8 @@ pub fn key_spot(alloc: Global, kind: MessageKind, token: &Token<'_>) -> Result<S
     })
 }
 
-/// What is to be said of a token's attribute between its braces. The error comes where memory runs
-/// out, or where the attribute would follow 2^64 - 1 bytes.
+/// A finding about a token's attribute between its braces. Fails if memory runs out, or if the place of
+/// the attribute would be over 2^64 - 1.
 pub fn attribute_spot(
     alloc: Global,
     kind: MessageKind,
@@ -55,7 +55,7 @@ pub fn attribute_spot(
     })
 }
 
-/// The bytes of a token's attribute, none where it has no attribute.
+/// The bytes of a token's attribute, none if it has no attribute.
 fn attribute_bytes<'a>(token: &Token<'a>) -> &'a [u8]
     ensures { result.now ≡ attribute_bytes token.now.parts.head.attribute }
 {
@@ -65,7 +65,7 @@ fn attribute_bytes<'a>(token: &Token<'a>) -> &'a [u8]
     }
 }
 
-/// What is to be said of a token's value between its quotes, reported with this text.
+/// A finding about a token's value between its quotes, reported with this text.
 pub fn value_spot(kind: MessageKind, word: Bytes, token: &Token<'_>) -> Spot
     ensures { result ≡ value_spot kind word token.now }
 {
@@ -78,8 +78,8 @@ pub fn value_spot(kind: MessageKind, word: Bytes, token: &Token<'_>) -> Spot
     }
 }
 
-/// What is to be said of a token that is no part of a rule: of its key, of its attribute, or of its
-/// value with what that means.
+/// The finding about a token that is not a part of a rule: about its key, its attribute, or its value with
+/// what that means.
 pub fn part_spot(alloc: Global, kind: MessageKind, token: &Token<'_>) -> Result<Spot, AllocError>
     ensures { IfOk result (λ found. found ≡ part_spot kind token.now) }
 {
@@ -94,8 +94,8 @@ pub fn part_spot(alloc: Global, kind: MessageKind, token: &Token<'_>) -> Result<
     }
 }
 
-/// What is to be said of the part of a line, from its first byte on, that is no token: of all up to
-/// the line's end, or of the letters before the quote.
+/// The finding about the part of a line, given from its first byte on, that is not a token: about all up to
+/// the line's end, or about the letters before the quote.
 pub fn token_spot(alloc: Global, fault: TokenFault, line: &[u8]) -> Result<Spot, AllocError>
     ensures { IfOk result (λ found. found ≡ token_spot fault.kind fault.at line.now) }
 {

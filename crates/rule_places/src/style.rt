@@ -1,4 +1,4 @@
-//! How a rule is written, with where its tokens and gaps stand.
+//! How a rule is written, with the places of its tokens and gaps.
 ghost use Rattle.std.specs.Prelude.{◌≡◌, ◌++◌, OnOk};
 ghost use Rattle.rule_core.specs.Drafts.{items_as, tokens_of};
 ghost use Rattle.rule_places.specs.Style.{comma_spots, front_spots, gap_spots, operator_spots, spots_at_end, spots_before, style_spots, whole_gap};
@@ -12,7 +12,7 @@ use rule_tokens::Token;
 use std::alloc::{AllocError, Global};
 use text_bytes::{Bytes, MessageKind, Profile, ends_in};
 
-/// Adds what is to be said of how a line is written, by the places of its tokens.
+/// Adds the findings about how a line is written, by the places of its tokens.
 pub fn add_style(
     alloc: Global,
     profile: Profile,
@@ -31,8 +31,8 @@ pub fn add_style(
     add_end(alloc, spots, line, place)
 }
 
-/// Adds what is to be said of a token and of the gap before it, which begins at a place, or else at
-/// the line's start.
+/// Adds the findings about a token and the gap before it, which begins at a place, or else at the line's
+/// start.
 fn add_token(
     alloc: Global,
     profile: Profile,
@@ -56,7 +56,7 @@ fn add_token(
     add_operator(alloc, profile, spots, token)
 }
 
-/// Adds what is to be said of the gap before the first token.
+/// Adds the findings about the gap before the first token.
 fn add_front(
     alloc: Global,
     profile: Profile,
@@ -71,7 +71,7 @@ fn add_front(
     }
 }
 
-/// Adds what is to be said of the gap before a token.
+/// Adds the findings about the gap before a token.
 fn add_gap(
     alloc: Global,
     profile: Profile,
@@ -93,7 +93,7 @@ fn add_gap(
     Ok(())
 }
 
-/// Adds what is to be said of the commas of the gap before a token.
+/// Adds the findings about the commas of the gap before a token.
 fn add_commas(
     alloc: Global,
     spots: &mut Vec<Spot>,
@@ -111,7 +111,7 @@ fn add_commas(
     Ok(())
 }
 
-/// Adds what is to be said of a token's operator.
+/// Adds the finding about a token's operator, if there is one.
 fn add_operator(
     alloc: Global,
     profile: Profile,
@@ -126,7 +126,7 @@ fn add_operator(
     Ok(())
 }
 
-/// Adds what is to be said of the gap after the last token, which begins at a place.
+/// Adds the findings about the gap after the last token, which begins at a place.
 fn add_end(
     alloc: Global,
     spots: &mut Vec<Spot>,
@@ -147,7 +147,7 @@ fn add_end(
     }
 }
 
-/// Adds this of a whole gap, which begins at a place, where it has a comma.
+/// Adds this about a whole gap, which begins at a place, if it has a comma.
 fn add_whole_gap(
     alloc: Global,
     kind: MessageKind,

@@ -22,16 +22,16 @@ without_plus (b ∷ text) = if b == plus then text else b ∷ text
 abbrev pub field_number : List ℕ → Option ℕ
 field_number text = decimal_below (2 ^ 32) (without_plus (trimmed text))
 
--- what comes before a cut of a text, all of it where it is not cut
+-- what comes before a cut of a text, all of it if it is not cut
 abbrev pub before_cut : List ℕ → Option (List ℕ × List ℕ) → List ℕ
 before_cut text None = text
 before_cut text (Some x) = x.0
 
--- the first field of a text: what comes before the first colon, all of it where there is none
+-- the first field of a text: what comes before the first colon, all of it if there is none
 abbrev pub first_field : List ℕ → List ℕ
 first_field text = before_cut text (split_once colon text)
 
--- the number of a user, where a field with the number of its group follows
+-- the number of a user, if a field with the number of its group follows
 abbrev pub user_number : List ℕ × List ℕ → Option ℕ
 user_number x = if is_some (field_number (first_field x.1)) then field_number x.0 else None
 
@@ -40,15 +40,15 @@ abbrev pub number_in : AccountKind → List ℕ → Option ℕ
 number_in User fields = option_and_then user_number (split_once colon fields)
 number_in Group fields = field_number (first_field fields)
 
--- an account of a name and a number
+-- an account with a name and a number
 abbrev pub account : List ℕ → ℕ → Account
 account name n = record { name = name; number = n }
 
--- an account of a name, by what follows its colon: a password and the other fields
+-- an account with a name, by what follows its colon: a password and the other fields
 abbrev pub account_behind : AccountKind → List ℕ → List ℕ → Option Account
 account_behind kind name fields = option_and_then (λ x. option_map (account name) (number_in kind x.1)) (split_once colon fields)
 
--- whether a line without the white space at its start is a comment, or one that no name is looked up in
+-- whether a line without the white space at its start is a comment, or one in which no name is looked up
 abbrev pub is_passed_over : List ℕ → Bool
 is_passed_over line = begins_with hash line || (begins_with plus line || begins_with minus line)
 

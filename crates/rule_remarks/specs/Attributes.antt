@@ -26,7 +26,7 @@ has_way_up (b ∷ text) = starts_with nat_eq (b ∷ text) (codes "../") || has_w
 abbrev pub leads_elsewhere : List ℕ → Bool
 leads_elsewhere name = starts_with nat_eq name (codes "device/") || has_way_up name
 
--- whether a substitution in the attribute of a key is none
+-- whether the attribute of a key has an invalid substitution
 abbrev pub is_bad_name : Key → List ℕ → Bool
 is_bad_name k name = takes_substitutions k && is_faulty name
 

@@ -1,4 +1,4 @@
--- What the remarks come to.
+-- What is true of the remarks.
 use Rattle.std.specs.Prelude.{◌≡◌, ◌≤◌, ℕ, ◌++◌, true, List, [], ◌∷◌, ⊤, codes}
 use Rattle.text_bytes.specs.Lines.{NumberedLine}
 use Rattle.text_bytes.specs.declared.profile.Profile.TheVariants.{Udev}

@@ -1,4 +1,4 @@
--- What udev says about the tokens of a rule that stays, with where they are in its line.
+-- What udev reports about the tokens of a rule that stays, with their places in its line.
 use Rattle.std.specs.Prelude.{ℕ, Bool, true, false, if◌then◌else◌, List, [], ◌∷◌, ◌++◌, flat_map, filter_map, slice_get, Option, Some, None, option_map, codes}
 use Rattle.std.specs.List.{find}
 use Rattle.text_bytes.specs.declared.message.MessageKind.{MessageKind}
@@ -23,7 +23,7 @@ attribute_remarks k t (Some name) =
     (if is_bad_name k name then attribute_spot BadAttributeSubstitution t ∷ [] else [])
     ++ (if is_elsewhere k name then attribute_spot AttributeElsewhere t ∷ [] else [])
 
--- whether what is wrong with a value is reported for the key: that it is empty
+-- whether what is wrong with a value is reported at the key: that it is empty
 abbrev pub is_of_key : MessageKind → Bool
 is_of_key EmptyValue = true
 is_of_key _ = false
@@ -37,14 +37,14 @@ abbrev pub value_remarks : Option MessageKind → Placed → List Spot
 value_remarks None t = []
 value_remarks (Some kind) t = fault_spot kind t ∷ []
 
--- what is reported for a token, if its key is one
+-- what is reported for a token, if its key is known
 abbrev pub remarks_by : Accounts → Placed → Option Key → List Spot
 remarks_by accounts t None = []
 remarks_by accounts t (Some k) =
     attribute_remarks k t t.parts.head.attribute
     ++ value_remarks (value_fault accounts k t.parts.head.operator (meaning_of t)) t
 
--- what is reported for a token: of its attribute, then of its value
+-- what is reported for a token: for its attribute, then for its value
 unfoldable pub token_remarks : Accounts → Placed → List Spot
 token_remarks accounts t = remarks_by accounts t (key_of t.parts.head.key)
 
@@ -70,7 +70,8 @@ order_remarks (Some t) = key_spot ResultBeforeProgram t ∷ []
 abbrev pub pair_remark : List Placed → PairFinding → Option Spot
 pair_remark tokens found = option_map (key_spot (message_of found.kind)) (slice_get tokens found.token)
 
--- what is reported for a rule's tokens: of each by itself in written order, then of a RESULT before a PROGRAM, then two by two
+-- what is reported for a rule's tokens: for each by itself in written order, then for a RESULT before a PROGRAM, then
+-- for two tokens
 unfoldable pub rule_remarks : Accounts → List Placed → List Spot
 rule_remarks accounts tokens =
     flat_map (token_remarks accounts) tokens

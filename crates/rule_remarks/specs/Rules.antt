@@ -1,4 +1,4 @@
--- What udev says about the rules of a file that stay, with where that is in the file.
+-- What udev reports about the rules of a file that stay, with the places in the file.
 use Rattle.std.specs.Prelude.{ℕ, ◌+◌, Bool, true, false, if◌then◌else◌, List, [], ◌∷◌, ◌++◌, length, map, Option, Some, None, Result, Ok, Err}
 use Rattle.text_bytes.specs.Lines.{NumberedLine}
 use Rattle.text_bytes.specs.declared.profile.Profile.TheVariants.{Udev}
@@ -19,7 +19,7 @@ abbrev pub is_read : Result Draft Finding → Bool
 is_read (Ok d) = true
 is_read (Err wrong) = false
 
--- what is reported for a joined line, where it is a rule for udev
+-- what is reported for a joined line, if it is a rule for udev
 unfoldable pub line_remarks : Accounts → List ℕ → List Spot
 line_remarks accounts line = if is_read (draft_of Udev line) then rule_remarks accounts (tokens_of (items_as Udev line)) else []
 
@@ -33,7 +33,7 @@ remarks_from accounts kept start (l ∷ ls) =
 abbrev pub remarks_of_lines : Accounts → List ℕ → List PlacedFinding
 remarks_of_lines accounts bytes = remarks_from accounts (kept_lines bytes) 0 (joined_lines Udev bytes).lines
 
--- what is reported for a file, unless it is given up for the line of a number
+-- what is reported for a file, unless it is given up because of a line
 abbrev pub remarks_unless : Accounts → List ℕ → Option ℕ → List PlacedFinding
 remarks_unless accounts bytes None = remarks_of_lines accounts bytes
 remarks_unless accounts bytes (Some number) = []

@@ -16,11 +16,11 @@ use Rattle.rule_pairs.specs.declared.accounts.AccountKind.TheVariants.{User, Gro
 use Rattle.rule_pairs.specs.declared.accounts.Given.{Given}
 use Rattle.rule_pairs.specs.declared.accounts.Given.TheVariants as given
 
--- what is wrong with a text in which substitutions may stand
+-- what is wrong with a text in which substitutions may be
 abbrev pub text_fault : List ℕ → Option MessageKind
 text_fault text = if is_faulty text then Some BadSubstitution else None
 
--- the same of a text that must not be empty
+-- the same for a text that must not be empty
 abbrev pub filled_fault : List ℕ → Option MessageKind
 filled_fault text = if is_empty text then Some EmptyValue else text_fault text
 
@@ -42,7 +42,7 @@ given_fault given.Text text = filled_fault text
 abbrev pub account_fault : Accounts → AccountKind → List ℕ → Option MessageKind
 account_fault accounts kind text = given_fault (given_in accounts kind text) text
 
--- what is wrong with what a key is compared with; matches look for no substitutions
+-- what is wrong with what a key is compared with; substitutions are not looked for in matches
 abbrev pub compared_fault : Key → List ℕ → Option MessageKind
 compared_fault key.Subsystem text = subsystem_fault text
 compared_fault key.Test text = filled_fault text

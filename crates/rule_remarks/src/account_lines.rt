@@ -8,13 +8,14 @@ use rule_pairs::{Account, AccountKind};
 use std::alloc::{AllocError, Global};
 use text_bytes::{Bytes, Lines, begins_with, decimal_below, is_whitespace, split_once};
 
-/// What a number of 32 bits is below.
+/// A number of 32 bits is below this.
 const NUMBERS: u64 = 1 << 32;
 
-/// The users that a file like /etc/passwd lists, or the groups of one like /etc/group, as the C library reads it.
+/// The users that a file like /etc/passwd lists, or the groups that one like /etc/group lists, as the C library
+/// reads it.
 ///
-/// White space before a line counts for nothing. No account is listed by a line that begins with `#`, `+` or `-`, nor
-/// by one without a number within 32 bits of its account, and of a user's group.
+/// White space before a line counts for nothing. A line lists no account if it begins with `#`, `+` or `-`, or if
+/// it has no number within 32 bits for its account, or for a user's group.
 pub fn read_accounts(
     alloc: Global,
     kind: AccountKind,
@@ -68,7 +69,7 @@ fn number_in(kind: AccountKind, fields: &[u8]) -> Option<u32>
     }
 }
 
-/// What comes before the first colon of a text, all of it where there is none.
+/// What comes before the first colon of a text, all of it if there is none.
 fn first_field(text: &[u8]) -> &[u8]
     ensures { result.now ≡ first_field text.now }
 {

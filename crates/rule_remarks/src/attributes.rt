@@ -5,7 +5,7 @@ ghost use Rattle.rule_remarks.specs.Attributes.{has_way_up, is_bad_name, is_else
 use rule_templates::is_faulty;
 use rule_types::Key;
 
-/// Whether a substitution in the attribute of a key is none.
+/// Whether the attribute of a key has an invalid substitution.
 pub(crate) fn is_bad_name(key: Key, name: &[u8]) -> bool
     ensures { result ≡ is_bad_name key name.now }
 {

@@ -9,15 +9,14 @@ use rule_places::{KeptLines, PlacedFinding, place_spots, sum_of};
 use std::alloc::{AllocError, Global};
 use text_bytes::Profile;
 
-/// What udev says about the rules of a file that stay, in the order of their lines, each with the physical line and the
-/// columns that it is about. The file's ends of lines are newlines already.
+/// What udev reports about the rules of a file that stay, in the order of their lines, each with the physical line
+/// and the columns that it is about. The file's ends of lines are already newlines.
 ///
-/// Of a rule first what is wrong with each token comes, in written order: of its attribute, then of its value. After
-/// that V19 comes, and then what is reported for two tokens. V19, V16, V17 and V20 are reported at a key, V21 and V22
-/// at an
-/// attribute between its braces, V5, V6, V23 and V25 at a value between its quotes; each has the text that it is about.
-/// A place in several physical lines is reported as far as it is in the first of them. A number of a line or of a
-/// column over 2^32 - 1 is given as that one. Of a file that udev gives up nothing is reported.
+/// For each rule, first comes what is wrong with each token, in written order: with its attribute, then with its
+/// value. Then comes V19, and then what is reported for two tokens. V19, V16, V17 and V20 are reported at a key,
+/// V21 and V22 at an attribute between its braces, V5, V6, V23 and V25 at a value between its quotes; each has the
+/// text that it is about. A place in several physical lines is reported as far as it is in the first of them. The
+/// number of a line or a column is at most 2^32 - 1. For a file that udev gives up nothing is reported.
 #[tactic(auto, unfolding(crate::specs::Rules::file_remarks))]
 pub fn file_remarks(
     alloc: Global,

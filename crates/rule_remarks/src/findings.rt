@@ -9,10 +9,9 @@ use rule_places::{PlacedFinding, placed_findings};
 use std::alloc::{AllocError, Global};
 use text_bytes::{Profile, SourceFile};
 
-/// What is reported for a rules file, in the order of its lines: by the manual what is found when it is read, by udev
-/// also
-/// what it says about rules that stay, of each line after what reading finds of it. The file's ends of lines are
-/// newlines already.
+/// What is reported for a rules file, in the order of its lines: by the manual what is found when it is read, and
+/// by udev also what it reports about rules that stay, for each line after what reading finds in it. The file's
+/// ends of lines are already newlines.
 #[tactic(auto, unfolding(crate::specs::Findings::findings_as))]
 pub fn file_findings(
     alloc: Global,

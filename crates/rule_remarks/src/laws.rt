@@ -1,4 +1,4 @@
-//! Laws of the remarks, each the contract of a function that does nothing.
+//! Laws of the remarks, each the contract of a function with an empty body.
 ghost use Rattle.std.specs.Prelude.{◌≡◌, ◌↔◌, [], List, None, Some, codes, is_some, true, ℕ};
 ghost use Rattle.std.specs.List.{AllByRecursion};
 ghost use Rattle.text_bytes.specs.declared.profile.Profile.TheVariants.{Manual, Udev};
@@ -18,7 +18,7 @@ ghost use Rattle.rule_remarks.specs.Laws.{HasLateProgram, HasWayUp, IsOfRule, Ri
 ghost use Rattle.rule_remarks.specs.Remarks.{late_program, rule_remarks};
 ghost use Rattle.rule_remarks.specs.Rules.{file_remarks, line_remarks};
 
-/// `../` is found exactly where it is in a text.
+/// `../` is found if and only if it is in a text.
 #[tactic(auto, using(crate::proofs::WayUp::ways_up))]
 pub fn ways_up_stand_in_their_names()
     ensures { (text : List ℕ) → (has_way_up text ≡ true) ↔ HasWayUp text }
@@ -30,22 +30,23 @@ pub fn words_stand_at_their_places()
     ensures { (accounts : Accounts) (line : List ℕ) → AllByRecursion (StandsThere line) (line_remarks accounts line) }
 {}
 
-/// What is reported for a value is reported for bytes of the joined line between two quotes, with no quote among them
-/// that ends
-/// a value.
+/// What is reported for a value is reported for bytes of the joined line between two quotes, with no quote among
+/// them that ends a value.
 #[tactic(auto, using(crate::proofs::Standing::values_stand))]
 pub fn values_stand_between_quotes()
     ensures { (accounts : Accounts) (line : List ℕ) → AllByRecursion (StandsQuoted line) (line_remarks accounts line) }
 {}
 
-/// A PROGRAM is reported for its place only where a RESULT comes before it, and where one does, some PROGRAM is.
+/// A PROGRAM is reported as late only if a RESULT comes before it, and if one does for any PROGRAM, some PROGRAM is
+/// reported.
 #[tactic(auto, using(crate::proofs::Late::late_stands))]
 pub fn late_programs_stand_behind_results()
     ensures stands { (tokens : List Placed) (program : Placed) → late_program tokens ≡ Some program → HasLateProgram tokens program }
     ensures told { (tokens : List Placed) (program : Placed) → HasLateProgram tokens program → is_some (late_program tokens) ≡ true }
 {}
 
-/// Findings whose lines never fall, put among others whose lines never fall, make such ones.
+/// Findings whose lines never fall, merged with others whose lines never fall, make findings whose lines never
+/// fall.
 #[tactic(auto, using(crate::proofs::ByLines::both_rise))]
 pub fn lines_never_fall()
     ensures { (line : ℕ) (found others : List places.PlacedFinding) → RisesFrom (λ p. p.begins) line found → RisesFrom (λ p. p.begins) line others → RisesFrom (λ p. p.begins) line (by_line (λ p. p.begins) found others) }

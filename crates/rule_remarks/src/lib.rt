@@ -1,8 +1,8 @@
 //! What udev reports about rules that it keeps: values, attributes and options that it accepts although something is
 //! wrong with them, and tokens that don't go together.
 //!
-//! A line that is no rule is reported when it is read, and not here. Each report has the place that it is about, so
-//! that it can be sorted among the findings of reading.
+//! A line that is not a rule is reported when it is read, and not here. Each report has the place that it is about,
+//! so that it can be sorted among the findings of reading.
 //!
 //! Functions that allocate return `AllocError` when memory runs out.
 #![tactic(auto)]

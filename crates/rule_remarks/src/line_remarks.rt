@@ -13,7 +13,7 @@ use rule_tokens::Token;
 use std::alloc::{AllocError, Global};
 use text_bytes::Profile;
 
-/// What is reported for a joined line, where it is a rule for udev.
+/// What is reported for a joined line, if it is a rule for udev.
 #[tactic(auto, unfolding(crate::specs::Rules::line_remarks))]
 pub(crate) fn line_remarks(
     alloc: Global,

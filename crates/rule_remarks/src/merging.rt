@@ -1,4 +1,4 @@
-//! Findings that are put among others by the lines that they are reported.
+//! Findings that are merged with others by the lines with which they are reported.
 ghost use Rattle.std.specs.Prelude.{◌≡◌, ◌++◌, nat_lt, take, IfOk, OnOk};
 ghost use Rattle.std.specs.List.{list_any};
 ghost use Rattle.std.specs.Option.{MatchOption};
@@ -9,8 +9,8 @@ use rule_places::PlacedFinding;
 use std::alloc::{AllocError, Global};
 use std::collections::VecDeque;
 
-/// Findings with others put among them, each of the others after all that are reported for its line or of one before
-/// it.
+/// Findings with others merged in by line: each of the others comes after all findings for its line or for one
+/// before it.
 pub(crate) fn by_line(
     alloc: Global,
     found: Vec<PlacedFinding>,
@@ -28,7 +28,7 @@ pub(crate) fn by_line(
     Ok(all)
 }
 
-/// Moves those at the front of findings that are reported for lines before one after others.
+/// Moves the findings at the front that are reported for lines before one, so that they follow others.
 #[tactic(auto, using(crate::proofs::ByLines::one_moved, crate::proofs::ByLines::one_passed, crate::proofs::ByLines::none_passed))]
 fn move_before(
     all: &mut Vec<PlacedFinding>,
@@ -44,7 +44,7 @@ fn move_before(
     Ok(())
 }
 
-/// Takes the first of findings, where it is reported for a line before one.
+/// Takes the first of findings, if it is reported for a line before one.
 #[tactic(auto, using(crate::proofs::ByLines::none_before))]
 fn next_before(rest: &mut VecDeque<PlacedFinding>, line: u32) -> Option<PlacedFinding>
     ensures { MatchOption result (LeavesAll rest.old.items line rest.new.items) (λ f. LeavesRest rest.old.items line f rest.new.items) }
@@ -66,7 +66,7 @@ fn begins_before(rest: &VecDeque<PlacedFinding>, line: u32) -> bool
     }
 }
 
-/// Moves findings after others.
+/// Appends findings to others.
 fn move_all(all: &mut Vec<PlacedFinding>, rest: VecDeque<PlacedFinding>) -> Result<(), AllocError>
     ensures { OnOk result (all.new.items ≡ all.old.items ++ rest.items) }
 {

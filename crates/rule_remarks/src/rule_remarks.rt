@@ -10,9 +10,8 @@ use rule_tokens::Token;
 use std::alloc::{AllocError, Global};
 use text_bytes::MessageKind;
 
-/// What is reported for a rule's tokens: of each by itself in written order, then of a RESULT before a PROGRAM, then
-/// two by
-/// two.
+/// What is reported for a rule's tokens: for each by itself in written order, then for a RESULT before a PROGRAM,
+/// then for two tokens.
 #[tactic(auto, unfolding(crate::specs::Remarks::rule_remarks))]
 pub(crate) fn rule_remarks(
     alloc: Global,

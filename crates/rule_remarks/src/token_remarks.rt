@@ -13,7 +13,7 @@ use rule_types::{Key, key_of};
 use std::alloc::{AllocError, Global};
 use text_bytes::{Bytes, MessageKind};
 
-/// Adds what is reported for a token: of its attribute, then of its value.
+/// Adds what is reported for a token: for its attribute, then for its value.
 #[tactic(auto, unfolding(crate::specs::Remarks::token_remarks))]
 pub(crate) fn add_token(
     alloc: Global,
@@ -83,7 +83,7 @@ fn add_value(
     Ok(())
 }
 
-/// A token's value, reported with what it means; of an empty one the key.
+/// A token's value, reported with what it means; for an empty one the key.
 fn fault_spot(
     alloc: Global,
     kind: MessageKind,

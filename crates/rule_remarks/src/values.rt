@@ -9,7 +9,7 @@ use rule_tokens::Operator;
 use rule_types::Key;
 use text_bytes::MessageKind;
 
-/// What is wrong with a value of a key after an operator, if something is.
+/// What is wrong with a value of a key after an operator, if anything is.
 #[tactic(auto, unfolding(crate::specs::Values::value_fault))]
 pub(crate) fn value_fault(
     accounts: &Accounts,
@@ -52,7 +52,7 @@ fn assigned_fault(accounts: &Accounts, key: Key, text: &[u8]) -> Option<MessageK
     }
 }
 
-/// What is wrong with a text in which substitutions may stand.
+/// What is wrong with a text in which substitutions may be.
 fn text_fault(text: &[u8]) -> Option<MessageKind>
     ensures { result ≡ text_fault text.now }
 {
@@ -63,7 +63,7 @@ fn text_fault(text: &[u8]) -> Option<MessageKind>
     }
 }
 
-/// The same of a text that must not be empty.
+/// The same for a text that must not be empty.
 fn filled_fault(text: &[u8]) -> Option<MessageKind>
     ensures { result ≡ filled_fault text.now }
 {

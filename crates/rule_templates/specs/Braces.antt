@@ -5,7 +5,7 @@ use Rattle.text_bytes.specs.Texts.{is_empty, split_once}
 use Rattle.rule_templates.specs.declared.fault.TemplateFault.{TemplateFault}
 use Rattle.rule_templates.specs.declared.fault.TemplateFault.TheVariants.{Brace}
 
--- what comes before a closing brace, which there has to be and which is not empty, and what is left after the brace
+-- what comes before a closing brace, if there is such a brace and this is not empty, and what is left after the brace
 abbrev pub closed : Option (List ℕ × List ℕ) → Result (List ℕ × List ℕ) TemplateFault
 closed None = Err Brace
 closed (Some x) = if is_empty x.0 then Err Brace else Ok x

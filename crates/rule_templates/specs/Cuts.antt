@@ -1,4 +1,4 @@
--- What a piece that still is in its text becomes.
+-- What a piece that is still in its text becomes.
 use Rattle.rule_templates.specs.declared.cut.Cut.{Cut}
 use Rattle.rule_templates.specs.declared.cut.Cut.TheVariants as cut
 use Rattle.rule_templates.specs.declared.piece.Piece.{Piece}

@@ -1,9 +1,9 @@
--- What is said of a text that is no template.
+-- What is said about a text that is not a template.
 use Rattle.std.specs.Prelude.{ℕ, List, codes}
 use Rattle.rule_templates.specs.declared.fault.TemplateFault.{TemplateFault}
 use Rattle.rule_templates.specs.declared.fault.TemplateFault.TheVariants.{Unknown, Brace, Number, Memory}
 
--- why a text is no template, in words
+-- why a text is not a template, in words
 abbrev pub fault_text : TemplateFault → List ℕ
 fault_text Unknown = codes "unknown substitution"
 fault_text Brace = codes "name in braces expected"

@@ -1,4 +1,4 @@
--- How pieces are written, and what is no piece: said of texts and of what follows them, without a reader.
+-- How pieces are written, and what is not a piece, in terms of texts and what follows them, without a reader.
 use Rattle.std.specs.Prelude.{◌≡◌, ◌≢◌, ◌↔◌, ℕ, ◌<◌, ◌≤◌, ◌⊎◌, false, not, ◌==◌, List, [], ◌∷◌, ◌++◌, length, Option, Some, None, Ok, Err}
 use Rattle.std.specs.List.{AllPass}
 use Rattle.text_bytes.specs.Names.{dollar, percent, plus, open_brace, close_brace}
@@ -18,12 +18,12 @@ abbrev pub HasName : List (List ℕ × Substitution) → List ℕ → Substituti
 HasName [] n s = ⊥
 HasName (row ∷ rows) n s = ((row.0 ≡ n) × (row.1 ≡ s)) ⊎ HasName rows n s
 
--- n is a name of the table that asks for s, and where rest follows it, no longer name of the table is there
+-- n is a name of the table that asks for s, and with rest after it, no longer name of the table is there
 pub record IsName (names : List (List ℕ × Substitution)) (n : List ℕ) (s : Substitution) (rest : List ℕ) : Type 0 where
   pub in_table : HasName names n s
   pub longest : (m behind : List ℕ) (other : Substitution) → HasName names m other → n ++ rest ≡ m ++ behind → length m ≤ length n
 
--- a `$` with a name that asks for s, or a `%` with a letter that does, where rest follows
+-- a `$` with a name that asks for s, or a `%` with a letter that does, followed by rest
 abbrev pub IsSign : Substitution → List ℕ → List ℕ → Type 0
 IsSign s sign rest =
     ((n : List ℕ) × (sign ≡ dollar ∷ n) × IsName long_names n s rest)
@@ -37,7 +37,7 @@ in_braces t = open_brace ∷ (t ++ close_brace ∷ [])
 abbrev pub HasNoClose : List ℕ → Type 0
 HasNoClose t = AllPass (λ b. not (b == close_brace)) t
 
--- a sign that asks for s with this content in braces, where rest follows
+-- a sign that asks for s with this content in braces, followed by rest
 pub record IsSignWith (s : Substitution) (content text rest : List ℕ) : Type 0 where
   pub sign : List ℕ
   pub is_sign : IsSign s sign (in_braces content ++ rest)
@@ -56,14 +56,14 @@ abbrev pub BeginsNotPlain : List ℕ → Type 0
 BeginsNotPlain [] = Unit {0}
 BeginsNotPlain (b ∷ t) = is_plain b ≡ false
 
--- bytes that stand for themselves, as many as do where rest follows
+-- bytes that stand for themselves, as many as do before rest
 pub record IsPlainRun (bytes text rest : List ℕ) : Type 0 where
   pub same : text ≡ bytes
   pub some : bytes ≢ []
   pub plain : AllPass is_plain bytes
   pub longest : BeginsNotPlain rest
 
--- the text is a spelling of the piece, where rest follows it
+-- the text is a spelling of the piece, if rest follows it
 abbrev pub Spells : Piece → List ℕ → List ℕ → Type 0
 Spells (piece.Plain bytes) text rest =
     IsPlainRun bytes text rest
@@ -118,7 +118,7 @@ IsFaulty Number text =
     × IsSignWith name.Result content front rest × IsNoNumber content
 IsFaulty Memory text = ⊥
 
--- The text is these pieces, up to its end or to the first fault.
+-- The text is these pieces, up to its end or the first fault.
 pub data Reads : List ℕ → List Piece → Option TemplateFault → Type 0 where
   -- nothing is left
   done : Reads [] [] None
@@ -133,6 +133,6 @@ pub record IsRead (text : List ℕ) : Type 0 where
   pub pieces : (pieces : List Piece) → (pieces_of text ≡ Ok pieces) ↔ Reads text pieces None
   pub fault : (fault : TemplateFault) → (pieces_of text ≡ Err fault) ↔ ((pieces : List Piece) × Reads text pieces (Some fault))
 
--- No text is two things: its pieces are the same, and where it is faulty, those before the fault, too.
+-- No text is read in two ways: its pieces are the same, and if it is faulty, so are those before the fault.
 abbrev pub OneAnswer : Type 0
 OneAnswer = (text : List ℕ) (some other : List Piece) (end stop : Option TemplateFault) → Reads text some end → Reads text other stop → (some ≡ other) × (end ≡ stop)

@@ -26,7 +26,7 @@ is_separator b = is_blank b || (b == newline || b == carriage_return)
 abbrev pub are_digits : ℕ → List ℕ → Bool
 are_digits base digits = not (is_empty digits) && list_all (λ d. nat_lt (digit_value d) base) digits
 
--- the number that digits of a base write, where it has 32 bits at most
+-- the number that digits of a base write, if it has at most 32 bits
 unfoldable pub size_in : ℕ → List ℕ → Option ℕ
 size_in base digits = if are_digits base digits && nat_lt (digits_value base digits) (2 ^ 32) then Some (digits_value base digits) else None
 
@@ -42,8 +42,8 @@ size_by text (Some digits) binary = size_in 16 digits
 size_by text None (Some digits) = size_in 2 digits
 size_by text None None = size_in (if begins_with digit_zero text then 8 else 10) text
 
--- The number after a sign: where no mark stood before the sign, hexadecimal digits after `0x`, binary ones after `0b`, octal ones
--- from a `0` on, and else decimal ones.
+-- The number after a sign: if no mark came before the sign, hexadecimal digits after `0x`, binary ones after `0b`,
+-- octal ones from a `0` on, and otherwise decimal ones.
 abbrev pub size_of : Base → List ℕ → Option ℕ
 size_of Binary text = size_in 2 (unwrap_or (behind_mark letter_b text) text)
 size_of Octal text = size_in 8 text
@@ -55,7 +55,7 @@ marked_by text (Some rest) octal = (Binary, rest)
 marked_by text None (Some rest) = (Octal, rest)
 marked_by text None None = (Open, text)
 
--- the base that a mark in front tells, and what follows the mark
+-- the base that a mark in front determines, and what follows the mark
 unfoldable pub marked : List ℕ → Base × List ℕ
 marked text = marked_by text (behind_mark letter_b text) (behind_mark letter_o text)
 
@@ -64,11 +64,11 @@ unfoldable pub signed : List ℕ → Bool × List ℕ
 signed [] = (false, [])
 signed (b ∷ text) = if b == minus then (true, text) else if b == plus then (false, text) else (false, b ∷ text)
 
--- a sign and a number, where the digits after the sign write one
+-- a sign and a number, if the digits after the sign write one
 abbrev pub with_size : Bool → Option ℕ → Option (Bool × ℕ)
 with_size negative size = option_map (λ n. (negative, n)) size
 
--- the sign, true for a minus, and the number after it of what follows the mark of a base
+-- the sign, true for a minus, and the number after it, in what follows the mark of a base
 abbrev pub after_mark : Base × List ℕ → Option (Bool × ℕ)
 after_mark start = with_size (signed (skip_while is_whitespace start.1)).0 (size_of start.0 (signed (skip_while is_whitespace start.1)).1)
 
@@ -82,7 +82,7 @@ abbrev pub with_sign : Bool × ℕ → ℤ
 with_sign (true, n) = neg_ℤ (pos n)
 with_sign (false, n) = pos n
 
--- the integer that a text writes, where it has 32 bits at most without its sign
+-- the integer that a text writes, if it has at most 32 bits without its sign
 unfoldable pub integer_of : List ℕ → Option ℤ
 integer_of text = option_map with_sign (signed_size text)
 
@@ -91,6 +91,6 @@ abbrev pub not_below_zero : Option (Bool × ℕ) → Option ℕ
 not_below_zero None = None
 not_below_zero (Some x) = if x.0 && not (x.1 == 0) then None else Some x.1
 
--- the integer that a text writes, where it is not below zero
+-- the integer that a text writes, if it is not below zero
 unfoldable pub natural_of : List ℕ → Option ℕ
 natural_of text = not_below_zero (signed_size text)

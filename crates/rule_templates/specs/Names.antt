@@ -6,7 +6,7 @@ use Rattle.text_bytes.specs.declared.profile.Profile.TheVariants.{Manual, Udev}
 use Rattle.rule_templates.specs.declared.names.Substitution.{Substitution}
 use Rattle.rule_templates.specs.declared.names.Substitution.TheVariants as name
 
--- the names after a `$`, with what each asks for; `sysfs` and `tempnode` are refused, and `$$` is `$`
+-- the names after a `$`, with what each asks for; `sysfs` and `tempnode` are refused, and `$$` means `$`
 abbrev pub long_names : List (List ℕ × Substitution)
 long_names =
     (codes "kernel", name.Kernel)

@@ -27,7 +27,8 @@ word_of content =
 abbrev pub without_plus : List ℕ → List ℕ
 without_plus content = if ends_in plus content then take (length content - 1) content else content
 
--- the number of a word in 16 bits; no result has as many words as the greatest of these, so that it stands for all that are greater
+-- the number of a word in 16 bits; no result has as many words as the greatest of these, so this is used for all that
+-- are greater
 abbrev pub word_number : ℕ → ℕ
 word_number n = if nat_lt n 65535 then n else 65535
 
@@ -35,6 +36,6 @@ word_number n = if nat_lt n 65535 then n else 65535
 abbrev pub numbered_word : Bool → ℕ → Piece
 numbered_word has_plus n = if n == 0 then piece.Result else if has_plus then piece.From (word_number n) else piece.Word (word_number n)
 
--- what the content of the braces asks udev for, where it is a number with a plus after it or without one
+-- what the content of the braces asks udev for, if it is a number, with or without a plus after it
 unfoldable pub udev_word_of : List ℕ → Option Piece
 udev_word_of content = option_map (numbered_word (ends_in plus content)) (natural_of (without_plus content))

@@ -15,7 +15,7 @@ use Rattle.rule_templates.specs.declared.names.Substitution.TheVariants as name
 use Rattle.rule_templates.specs.declared.piece.Piece.{Piece}
 use Rattle.rule_templates.specs.declared.piece.Piece.TheVariants as piece
 
--- a byte that is no sign
+-- a byte that is not a sign
 abbrev pub is_plain : ℕ → Bool
 is_plain b = not (b == dollar) && not (b == percent)
 
@@ -23,12 +23,12 @@ is_plain b = not (b == dollar) && not (b == percent)
 abbrev pub Front : Type 0
 Front = Result (Piece × List ℕ) TemplateFault
 
--- the piece that the content of the braces asks for, where it is a number
+-- the piece that the content of the braces asks for, if it is a number
 abbrev pub numbered : Option Piece → List ℕ → Front
 numbered None rest = Err fault.Number
 numbered (Some p) rest = Ok (p, rest)
 
--- the same of braces that are closed
+-- the same for braces that are closed
 abbrev pub bracketed : Option (List ℕ × List ℕ) → Front
 bracketed None = Err fault.Brace
 bracketed (Some x) = numbered (word_of x.0) x.1
@@ -65,14 +65,15 @@ asked name.Dollar t = Ok (piece.Plain (dollar ∷ []), t)
 asked name.Percent t = Ok (piece.Plain (percent ∷ []), t)
 asked name.Refused t = Err fault.Unknown
 
--- what a substitution asks udev for, by what its braces hold and what is left after them; of one that needs no braces they say nothing
+-- what a substitution asks udev for, by what its braces hold and what is left after them; for one that needs no
+-- braces they mean nothing
 unfoldable pub asked_with : Substitution → List ℕ → List ℕ → Front
 asked_with name.Attr content rest = Ok (piece.Attr content, rest)
 asked_with name.Env content rest = Ok (piece.Env content, rest)
 asked_with name.Result content rest = numbered (udev_word_of content) rest
 asked_with s content rest = asked s rest
 
--- the same of braces that udev takes, which hold 1,023 bytes at most
+-- the same for braces that udev takes, which hold at most 1,023 bytes
 abbrev pub with_braces : Substitution → Result (List ℕ × List ℕ) TemplateFault → Front
 with_braces s (Ok x) = if nat_lt 1023 (length x.0) then Err fault.Brace else asked_with s x.0 x.1
 with_braces s (Err e) = Err e
@@ -148,7 +149,7 @@ pieces_of t = pieces_within (length t) t
 unfoldable pub udev_pieces : List ℕ → Result (List Piece) TemplateFault
 udev_pieces t = pieces_by udev_front (length t) t
 
--- whether udev says about a fault in a text
+-- whether udev reports a fault in a text
 unfoldable pub is_faulty : List ℕ → Bool
 is_faulty t = is_err (udev_pieces t)
 
@@ -164,17 +165,18 @@ abbrev pub with_kept : (List ℕ → List Piece) → Option (Piece × List ℕ) 
 with_kept others None = []
 with_kept others (Some x) = x.0 ∷ others x.1
 
--- the pieces that udev takes of a text that has at most so many
+-- the pieces that udev takes from a text that has at most so many
 abbrev pub left_within : ℕ → List ℕ → List Piece
 left_within zero t = []
 left_within (suc n) [] = []
 left_within (suc n) (b ∷ t) = with_kept (left_within n) (kept b t (udev_front b t))
 
--- the pieces that udev takes of a text, whether it says about a fault or not
+-- the pieces that udev takes from a text, whether or not it reports a fault
 unfoldable pub left_of : List ℕ → List Piece
 left_of t = left_within (length t) t
 
--- the pieces of a text by a profile: the manual refuses a text with a fault, and udev takes what is left of it
+-- the pieces of a text by a profile: the manual refuses a text with a fault, and udev takes what is left of such a
+-- text
 abbrev pub pieces_as : Profile → List ℕ → Result (List Piece) TemplateFault
 pieces_as Manual t = pieces_of t
 pieces_as Udev t = Ok (left_of t)

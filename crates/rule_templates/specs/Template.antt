@@ -1,4 +1,4 @@
--- What a template is seen as.
+-- What a contract sees of a template.
 use Rattle.std.specs.Prelude.{◌≡◌, ℕ, List, Ok}
 use Rattle.text_bytes.specs.declared.profile.Profile.{Profile}
 use Rattle.rule_templates.specs.Reading.{pieces_as}

@@ -8,14 +8,14 @@ use crate::piece::Piece;
 use std::alloc::Global;
 use text_bytes::Bytes;
 
-/// A piece whose bytes still are in the text.
+/// A piece whose bytes are still in the text.
 #[derive(Debug, Drop)]
 pub enum Cut<'a> {
-    /// Bytes as they stand.
+    /// Bytes as they are.
     Plain(&'a [u8]),
-    /// The attribute of that name.
+    /// The attribute with this name.
     Attr(&'a [u8]),
-    /// The property of that name.
+    /// The property with this name.
     Env(&'a [u8]),
     /// Any other piece: one that keeps no bytes.
     Other(Piece),

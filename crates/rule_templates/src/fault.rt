@@ -1,19 +1,19 @@
-//! Why a text is no template.
+//! Why a text is not a template.
 
 use std::alloc::{AllocError, AllocFailed};
 use std::error::Error;
 use std::fmt;
 
-/// Why a text is no template: the first fault from the left.
+/// Why a text is not a template: the first fault from the left.
 #[derive(Clone, Copy, Debug, PartialEq, Eq, Drop)]
 pub enum TemplateFault {
-    /// 1: a `$` or `%` that no name follows, or one of the names that are refused, `$sysfs` and `$tempnode`.
+    /// 1: a `$` or `%` that no name follows, or one of the refused names, `$sysfs` and `$tempnode`.
     Unknown,
     /// 2: no `{name}` after a name that needs one, an empty one, or one that is not closed.
     Brace,
     /// 3: the braces after `$result` or `%c` hold neither N nor N+, with N from 1 to 65535.
     Number,
-    /// 4: memory runs out.
+    /// 4: memory ran out.
     Memory,
 }
 

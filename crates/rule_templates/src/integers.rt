@@ -7,17 +7,17 @@ ghost use Rattle.rule_templates.specs.Integers.{behind_mark, integer_of, is_sepa
 
 use text_bytes::{begins_with, is_blank, is_whitespace};
 
-/// What the numbers that are read are below: none has more than 32 bits.
+/// The numbers that are read are below this: none has more than 32 bits.
 const LIMIT: u64 = 1 << 32;
 
-/// In which base digits are, as far as what comes before their sign tells it.
+/// The base of digits, as far as what comes before their sign determines it.
 #[derive(Clone, Copy, Debug, PartialEq, Eq)]
 pub enum Base {
     /// `0b`: in base 2.
     Binary,
     /// `0o`: in base 8.
     Octal,
-    /// Nothing: the digits begin with what tells it.
+    /// No mark: the beginning of the digits determines it.
     Open,
 }
 
@@ -60,7 +60,7 @@ fn leading_whitespace(text: &[u8]) -> usize
     text.iter().take_while(|byte| is_whitespace(**byte)).count()
 }
 
-/// The number that one digit or more of a base write, where it has 32 bits at most.
+/// The number that one digit or more of a base write, if it has at most 32 bits.
 #[tactic(auto, unfolding(crate::specs::Integers::size_in))]
 fn size_in(base: u32, digits: &[u8]) -> Option<u64>
     requires least { 2 ≤ base }
@@ -101,7 +101,7 @@ fn behind_mark(letter: u8, text: &[u8]) -> Option<&[u8]>
     }
 }
 
-/// The number that digits write whose base is reported by what they begin with.
+/// The number that digits write, in the base that their beginning determines.
 fn open_size(text: &[u8]) -> Option<u64>
     ensures value { result ≡ size_of Base.Open text.now }
     ensures below { IfSome result (λ number. number < 2 ^ 32) }
@@ -131,7 +131,7 @@ fn size_of(base: Base, text: &[u8]) -> Option<u64>
     }
 }
 
-/// The base that a mark in front tells, and what follows the mark.
+/// The base that a mark in front determines, and what follows the mark.
 #[tactic(auto, unfolding(crate::specs::Integers::marked))]
 fn marked(text: &[u8]) -> (Base, &[u8])
     ensures { (result.0, result.1.now) ≡ marked text.now }
@@ -169,11 +169,11 @@ fn signed_size(text: &[u8]) -> Option<(bool, u64)>
     Some((negative, number))
 }
 
-/// The integer that a text writes, as udev reads one, where it has 32 bits at most without its sign.
+/// The integer that a text writes, as udev reads one, if it has at most 32 bits without its sign.
 ///
-/// Spaces, tabs and ends of lines may be in front, and a sign. The digits are hexadecimal ones
-/// after `0x`, binary ones after `0b`, octal ones after `0o` or from a `0` on, and else decimal
-/// ones; `0b` and `0o` may also come before the sign. Nothing may follow the digits.
+/// Spaces, tabs and ends of lines may be in front, and a sign. The digits are hexadecimal after `0x`, binary after
+/// `0b`, octal after `0o` or from a `0` on, and otherwise decimal; `0b` and `0o` may also come before the sign.
+/// Nothing may follow the digits.
 #[tactic(auto, unfolding(crate::specs::Integers::integer_of))]
 pub fn integer_of(text: &[u8]) -> Option<i64>
     ensures { result ≡ integer_of text.now }
@@ -186,7 +186,7 @@ pub fn integer_of(text: &[u8]) -> Option<i64>
     }
 }
 
-/// The integer that a text writes, as `integer_of` reads it, where it is not below zero.
+/// The integer that a text writes, as `integer_of` reads it, if it is not below zero.
 #[tactic(auto, unfolding(crate::specs::Integers::natural_of))]
 pub fn natural_of(text: &[u8]) -> Option<u64>
     ensures value { result ≡ natural_of text.now }

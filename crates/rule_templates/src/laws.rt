@@ -1,4 +1,4 @@
-//! What makes the definitions of udev's reading believable.
+//! Laws that show the definitions of udev's reading to be right.
 //!
 //! Each function here is empty: its contract is a law of the definitions.
 ghost use Rattle.std.specs.Prelude.{◌≡◌, ◌≢◌, ◌↔◌, ◌∷◌, ◌++◌, [], ℕ, pos, false, List, Ok, Some, None, codes};
@@ -13,13 +13,13 @@ ghost use Rattle.rule_templates.specs.declared.names.Substitution.{Substitution}
 ghost use Rattle.rule_templates.specs.declared.piece.Piece.{Piece};
 ghost use Rattle.rule_templates.specs.declared.piece.Piece.TheVariants as piece;
 
-/// udev says about no fault just where each piece of a text can be read, and then takes all of them.
+/// udev reports no fault if and only if each piece of a text can be read, and then takes all of them.
 pub fn a_text_without_a_fault_has_its_pieces()
     ensures faultless { (text : List ℕ) → (is_faulty text ≡ false) ↔ ((pieces : List Piece) × (udev_pieces text ≡ Ok pieces)) }
     ensures whole { (text : List ℕ) (pieces : List Piece) → udev_pieces text ≡ Ok pieces → left_of text ≡ pieces }
 {}
 
-/// A text writes a natural number just where the integer that it writes is not below zero.
+/// A text writes a natural number if and only if the integer that it writes is not below zero.
 pub fn natural_numbers_are_integers()
     ensures { (text : List ℕ) (n : ℕ) → (natural_of text ≡ Some n) ↔ (integer_of text ≡ Some (pos n)) }
 {}
@@ -30,7 +30,7 @@ pub fn an_unknown_sign_is_a_byte()
     ensures percent { (text : List ℕ) → ((n : List ℕ) (s : Substitution) (rest : List ℕ) → HasName (short_names_as Udev) n s → text ≢ n ++ rest) → left_of (percent ∷ text) ≡ piece.Plain (percent ∷ []) ∷ left_of text }
 {}
 
-/// What udev takes of some texts, and what it reads between the braces of `$result`.
+/// What udev takes from some texts, and what it reads between the braces of `$result`.
 pub fn texts_are_taken_as_udev_takes_them()
     ensures braces { left_of (codes "x$kernel{foo}y") ≡ piece.Plain (codes "x") ∷ piece.Kernel ∷ piece.Plain (codes "y") ∷ [] }
     ensures ends { left_of (codes "q$attr r") ≡ piece.Plain (codes "q") ∷ [] }

@@ -7,7 +7,7 @@ ghost use Rattle.rule_templates.specs.Names.{long_names_as, named, short_names_a
 
 use text_bytes::Profile;
 
-/// What a name after a `$` or `%` asks for.
+/// What the name after a `$` or `%` asks for.
 #[derive(Clone, Copy, Debug, PartialEq, Eq)]
 pub enum Substitution {
     Kernel,
@@ -26,7 +26,7 @@ pub enum Substitution {
     Root,
     Sys,
     Devnode,
-    /// A sign written twice, which stands for itself.
+    /// A sign written twice, which stands for one.
     Dollar,
     Percent,
     /// A name of older versions of udev, which the manual refuses.

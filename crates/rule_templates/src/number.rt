@@ -41,7 +41,7 @@ fn without_plus(content: &[u8]) -> &[u8]
     }
 }
 
-/// The number of a word, where 65535 stands for all that are greater: no result has so many words.
+/// The number of a word, 65535 if it is greater than that: no result has so many words.
 fn word_number(number: u64) -> u16
     ensures { result ≡ word_number number }
 {
@@ -65,7 +65,7 @@ fn numbered_word(has_plus: bool, number: u64) -> Piece
     }
 }
 
-/// The result, a word of it, or the words from one on, that the content of the braces asks udev for.
+/// The result, a word of it, or the words from one on, that the content of the braces asks for by udev.
 #[tactic(auto, unfolding(crate::specs::Number::udev_word_of))]
 pub fn udev_word_of(content: &[u8]) -> Option<Piece>
     ensures { result ≡ udev_word_of content.now }

@@ -2,7 +2,7 @@
 
 use text_bytes::Bytes;
 
-/// A piece of a template: bytes as they stand, or what is put in place of a substitution.
+/// A piece of a template: bytes as they are, or what replaces a substitution.
 #[derive(Debug, Drop)]
 pub enum Piece {
     /// These bytes, never none.
@@ -17,9 +17,9 @@ pub enum Piece {
     Id,
     /// `$driver`: the driver of the selected device.
     Driver,
-    /// `$attr{file}`, `%s{file}`: the attribute of that name.
+    /// `$attr{file}`, `%s{file}`: the attribute with this name.
     Attr(Bytes),
-    /// `$env{key}`, `%E{key}`: the property of that name.
+    /// `$env{key}`, `%E{key}`: the property with this name.
     Env(Bytes),
     /// `$major`, `%M`: the major number of the device.
     Major,

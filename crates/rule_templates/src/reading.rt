@@ -1,7 +1,7 @@
 //! The pieces of a text, one at a time.
 //!
-//! Each function reads one part at the front of what is left and gives what is left after it, so
-//! that the reader of the whole has only to put the pieces one after another.
+//! Each function reads one part at the front of what is left and returns it with what is left after it, so that the
+//! reader of the whole has only to put the pieces one after another.
 ghost use Rattle.std.specs.Prelude.{◌≡◌, ◌≤◌, ◌∷◌, IfOk, IfSome, length, option_map};
 ghost use Rattle.std.specs.List.{prefix_len};
 ghost use Rattle.rule_templates.specs.Cuts.{copied};
@@ -159,7 +159,7 @@ fn substituted<'a>(
     }
 }
 
-/// The plain bytes at the front of a text, of which the first byte is given apart, and what is left.
+/// The plain bytes at the front of a text, whose first byte is passed separately, and what is left.
 #[tactic(auto, using(crate::proofs::Pieces::take_more, crate::proofs::Pieces::drop_more))]
 fn plain_piece<'a>(
     text: &'a [u8],
@@ -173,7 +173,7 @@ fn plain_piece<'a>(
     Ok((Cut::Plain(plain), left))
 }
 
-/// The piece at the front of a text, of which the first byte is given apart, and what is left.
+/// The piece at the front of a text, whose first byte is passed separately, and what is left.
 #[tactic(auto, using(crate::proofs::Fronts::front_shorter))]
 fn cut_of<'a>(
     profile: Profile,
@@ -192,8 +192,7 @@ fn cut_of<'a>(
     }
 }
 
-/// The piece at the front of a text by the manual, of which the first byte is given apart, and what
-/// is left.
+/// The piece at the front of a text, by the manual, and what is left; the first byte is passed separately.
 #[tactic(auto, unfolding(crate::specs::Reading::front_at))]
 pub fn front_of<'a>(
     alloc: Global,
@@ -209,8 +208,8 @@ pub fn front_of<'a>(
     Ok((cut.copied(alloc)?, left))
 }
 
-/// What udev takes for the piece at the front of a text, of which the first byte is given apart, and
-/// what it reads on; nothing where it stops.
+/// What udev takes for the piece at the front of a text, whose first byte is passed separately, and what it reads
+/// on; `None` if it stops.
 #[tactic(auto, unfolding(crate::specs::Reading::udev_front))]
 pub fn kept<'a>(text: &'a [u8], byte: u8, after: &'a [u8]) -> Option<(Cut<'a>, &'a [u8])>
     requires { text.now ≡ byte ∷ after.now }
@@ -227,9 +226,8 @@ pub fn kept<'a>(text: &'a [u8], byte: u8, after: &'a [u8]) -> Option<(Cut<'a>, &
     }
 }
 
-/// Whether udev says about a fault in a text: an unknown name or a sign alone, braces that are empty,
-/// open or longer than 1,023 bytes, no name after `$attr`, `$sysfs` or `$env`, or braces after
-/// `$result` that hold no number.
+/// Whether udev reports a fault in a text: an unknown name or a sign alone, braces that are empty, open or longer
+/// than 1,023 bytes, no name after `$attr`, `$sysfs` or `$env`, or braces after `$result` that hold no number.
 #[tactic(auto, unfolding(crate::specs::Reading::udev_front))]
 pub fn is_faulty(text: &[u8]) -> bool
     ensures { result ≡ is_faulty text.now }

@@ -1,4 +1,4 @@
-//! A value with substitutions, read whole.
+//! A value with substitutions, as a whole.
 ghost use Rattle.std.specs.Prelude.{◌≡◌, ◌≢◌, Ok, Err, MatchResult};
 ghost use Rattle.rule_templates.specs.Faults.{Gives};
 ghost use Rattle.rule_templates.specs.Reading.{left_of, pieces_as, pieces_of};
@@ -41,7 +41,7 @@ fn pieces_of(alloc: Global, text: &[u8]) -> Result<Vec<Piece>, TemplateFault>
     Ok(pieces)
 }
 
-/// The pieces that udev takes of a text, whether it says about a fault or not. The fault is `Memory`.
+/// The pieces that udev takes from a text, whether or not it reports a fault. The fault is `Memory`.
 fn left_of(alloc: Global, text: &[u8]) -> Result<Vec<Piece>, TemplateFault>
     ensures { Gives (λ pieces. pieces.items) result (Ok (left_of text.now)) }
 {
@@ -68,8 +68,8 @@ fn pieces_as(alloc: Global, profile: Profile, text: &[u8]) -> Result<Vec<Piece>,
 }
 
 impl Template {
-    /// Reads a value as the manual has it: udev(7), "SUBSTITUTIONS". The fault is the first from the
-    /// left; `Memory` comes only where an allocation fails.
+    /// Reads a value as the manual has it: udev(7), "SUBSTITUTIONS". The fault is the first from the left; `Memory`
+    /// comes only if an allocation fails.
     pub fn read(alloc: Global, text: &[u8]) -> Result<Template, TemplateFault>
         ensures { MatchResult result (λ t. IsReadFrom Profile.Manual text.now t) (λ e. e ≢ Memory → pieces_of text.now ≡ Err e) }
     {
@@ -78,9 +78,8 @@ impl Template {
 
     /// Reads a value by a profile.
     ///
-    /// By the manual the fault is the first from the left. udev reads every text: a sign with an
-    /// unknown name stands for itself, and at any other fault the pieces end. `Memory` comes only
-    /// where an allocation fails.
+    /// By the manual the fault is the first from the left. udev reads every text: a sign with an unknown name
+    /// stands for itself, and at any other fault the pieces end. `Memory` comes only if an allocation fails.
     pub fn read_as(alloc: Global, profile: Profile, text: &[u8]) -> Result<Template, TemplateFault>
         ensures { MatchResult result (λ t. IsReadFrom profile text.now t) (λ e. e ≢ Memory → pieces_as profile text.now ≡ Err e) }
     {

@@ -1,10 +1,10 @@
--- What is said of a part of a line that is no token.
+-- What is said about a part of a line that is not a token.
 use Rattle.std.specs.Prelude.{ℕ, List, ◌++◌, codes, decimal}
 use Rattle.rule_tokens.specs.declared.kinds.TokenFault.{TokenFault}
 use Rattle.rule_tokens.specs.declared.kinds.TokenFaultKind.{TokenFaultKind}
 use Rattle.rule_tokens.specs.declared.kinds.TokenFaultKind.TheVariants.{Syntax, Prefix}
 
--- why a part of a line is no token, in words
+-- why a part of a line is not a token, in words
 abbrev pub kind_text : TokenFaultKind → List ℕ
 kind_text Syntax = codes "bad syntax"
 kind_text Prefix = codes "bad quote prefix"

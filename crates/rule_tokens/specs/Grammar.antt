@@ -53,7 +53,7 @@ abbrev pub attribute_text : Option (List ℕ) → List ℕ
 attribute_text None = []
 attribute_text (Some name) = open_brace ∷ name ++ close_brace ∷ []
 
--- The bytes of an attribute, none where there is no attribute.
+-- The bytes of an attribute, none if there is no attribute.
 abbrev pub attribute_bytes : Option (List ℕ) → List ℕ
 attribute_bytes None = []
 attribute_bytes (Some name) = name
@@ -93,7 +93,7 @@ two_letters o a b =
     if ((a == letter_i && b == letter_e) || (a == letter_e && b == letter_i)) && compares o then Some BlindEscaped
     else None
 
--- The quoting that the letters directly before the quote ask for; None where they are no prefix after this operator.
+-- The quoting that the letters directly before the quote ask for; None if they are not a prefix after this operator.
 unfoldable pub prefix_quote : Operator → List ℕ → Option Quote
 prefix_quote o [] = Some Plain
 prefix_quote o (a ∷ []) = one_letter o a
@@ -117,7 +117,8 @@ pub record TokenStands (text : List ℕ) (t : Parts) (rest : List ℕ) : Type 0 
   pub prefix : prefix_quote t.head.operator letters ≡ Some t.quote
   pub value : Spells (has_escapes t.quote) pieces t.value
 
--- The text is right up to the blanks after its operator, and letters that are no prefix there come directly before a quote.
+-- The text is right up to the blanks after its operator, and letters that are not a prefix there come directly before
+-- a quote.
 pub record WrongPrefix (text : List ℕ) : Type 0 where
   pub head : Head
   pub quoted : List ℕ
@@ -154,7 +155,8 @@ pub record Gap (rest gap next : List ℕ) : Type 0 where
   pub all : AllAre is_gap_byte gap
   pub longest : BeginsOther is_gap_byte next
 
--- The text, which is at a place of a line, is these tokens with gaps between them, up to its end or to the first part that is no token.
+-- The text, which is at a place of a line, is these tokens with gaps between them, up to its end or to the first part
+-- that is not a token.
 pub data LexesAt : ℕ → List ℕ → List Placed → Option TokenFault → Type 0 where
   -- no token is here
   faulty : {at : ℕ} {text : List ℕ} {fault : TokenFault} → fault.at ≡ at → IsFault text fault.kind → LexesAt at text [] (Some fault)
@@ -164,11 +166,11 @@ pub data LexesAt : ℕ → List ℕ → List Placed → Option TokenFault → Ty
   more : {at : ℕ} {text : List ℕ} {t : Placed} {tokens : List Placed} {end : Option TokenFault} (rest gap next : List ℕ) → TokenAt at text t rest → Gap rest gap next
       → 0 < length next → LexesAt (t.span.end + length gap) next tokens end → LexesAt at text (t ∷ tokens) end
 
--- A line, its tokens and its end: None where it is done, or the fault that ends it.
+-- A line, its tokens and its end: None if it is done, or the fault that ends it.
 abbrev pub Lexes : List ℕ → List Placed → Option TokenFault → Type 0
 Lexes line tokens end = LexesAt 0 line tokens end
 
--- What is given of a line in turn: a token, or the fault that ends them.
+-- What a line gives in turn: a token, or the fault that ends them.
 abbrev pub Item : Type 0
 Item = Result Placed TokenFault
 

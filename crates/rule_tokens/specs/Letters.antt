@@ -1,4 +1,5 @@
--- Names for the letters that mean something before a value or after a backslash, and for the bytes that escapes alone speak of.
+-- Names for the letters that mean something before a value or after a backslash, and for the bytes that only escapes
+-- mean.
 use Rattle.std.specs.Prelude.{ℕ}
 
 abbrev pub bell : ℕ

@@ -7,7 +7,7 @@ use Rattle.rule_tokens.specs.Values.{Means, has_escapes}
 use Rattle.rule_tokens.specs.Grammar.{Parts, Placed, Item, Lexes, answers, is_gap_byte}
 use Rattle.rule_tokens.specs.Reading.{token_at, unquoted}
 
--- The items of a text of this length that begins with what was read, where more gives those that follow at a place.
+-- The items of a text of this length that begins with what was read, if more gives those that follow at a place.
 unfoldable pub items_after : (ℕ → List ℕ → List Item) → ℕ → ℕ → Result (Parts × List ℕ) TokenFaultKind → List Item
 items_after more at len (Err kind) = Err (record { at = at; kind = kind }) ∷ []
 items_after more at len (Ok x) =
@@ -19,7 +19,7 @@ unfoldable pub items_within : ℕ → ℕ → List ℕ → List Item
 items_within zero at text = []
 items_within (suc n) at text = items_after (items_within n) at (length text) (token_at text)
 
--- The items still to come after a place, none where the line is done.
+-- The items still to come after a place, none if the line is done.
 unfoldable pub items_left : Bool → ℕ → List ℕ → List Item
 items_left true at text = []
 items_left false at text = items_within (length text + 1) at text
@@ -28,7 +28,7 @@ items_left false at text = items_within (length text + 1) at text
 abbrev pub is_over : ℕ → List ℕ → Bool
 is_over start line = nat_lt 0 start && start == length line
 
--- The tokens of a line from a place on in turn and the fault that ends them, none where the line is over there.
+-- The tokens of a line from a place on in turn and the fault that ends them, none if the line is over there.
 abbrev pub items_from : ℕ → List ℕ → List Item
 items_from start line = items_left (is_over start line) start (drop start line)
 

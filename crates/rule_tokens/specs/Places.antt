@@ -8,7 +8,8 @@ use Rattle.rule_tokens.specs.Grammar.{Placed, Item, TokenStands, Lexes, answers,
 abbrev pub StandsAt : List ℕ → ℕ → List ℕ → Type 0
 StandsAt line place part = take (length part) (drop place line) ≡ part
 
--- The token is a slice of the line: its bytes from start to end are this token and nothing more, it begins with its key and its attribute, and ends with its value between quotes.
+-- The token is a slice of the line: its bytes from start to end are this token and nothing more, it begins with its
+-- key and its attribute, and ends with its value between quotes.
 pub record IsSlice (line : List ℕ) (t : Placed) : Type 0 where
   pub some : t.span.start < t.span.end
   pub within : t.span.end ≤ length line
@@ -24,7 +25,8 @@ abbrev pub LiesIn : List ℕ → Item → Type 0
 LiesIn line (Ok t) = IsSlice line t
 LiesIn line (Err fault) = fault.at ≤ length line
 
--- The first item begins at the place or after it, each other one at the end of the one before or after that, and nothing follows a fault.
+-- The first item begins at the place or after it, each other one at the end of the one before it or after that, and
+-- nothing follows a fault.
 abbrev pub RisesFrom : ℕ → List Item → Type 0
 RisesFrom place [] = ⊤
 RisesFrom place (Ok t ∷ items) = (place ≤ t.span.start) × RisesFrom t.span.end items

@@ -14,10 +14,10 @@ abbrev pub letters_of : Result (List ℕ) TokenFaultKind → List ℕ
 letters_of (Ok quoted) = take (prefix_len is_letter quoted) quoted
 letters_of (Err kind) = []
 
--- the letters that follow the head that a text begins with, and after its blanks; none where it begins with no head
+-- the letters that follow the head that a text begins with, and after its blanks; none if it begins with no head
 unfoldable pub letters_at : List ℕ → List ℕ
 letters_at text = letters_of (quoted_at text)
 
--- where a wrong prefix stands, these are its letters
+-- if there is a wrong prefix, these are its letters
 abbrev pub AreWrongLetters : List ℕ → List ℕ → Type 0
 AreWrongLetters text letters = (w : WrongPrefix text) → letters ≡ w.letters

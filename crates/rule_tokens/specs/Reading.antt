@@ -1,4 +1,5 @@
--- Reading a token from the front of a text, as functions of lists: what the private functions of the crate are held to. What a line's tokens are is stated in Grammar and Values, independently of all this.
+-- Reading a token from the front of a text, as functions of lists: the private functions of the crate are proved
+-- against these. What a line's tokens are is stated in Grammar and Values, independently of all this.
 use Rattle.std.specs.Prelude.{◌≡◌, ◌&&◌, not, ℕ, zero, suc, ◌+◌, ◌*◌, Bool, true, false, List, [], ◌∷◌, length, take, drop, Option, Some, None, option_map, Result, Ok, Err, nat_lt, ◌==◌, if◌then◌else◌, slice_index}
 use Rattle.std.specs.List.{prefix_len, flat_map}
 use Rattle.std.specs.Char.{digit_value, encode_utf8}
@@ -31,7 +32,7 @@ Gives view (Err e) read = read ≡ Err e
 unfoldable pub key_at : List ℕ → Result (List ℕ × List ℕ) TokenFaultKind
 key_at text = let n = prefix_len is_key_byte text in if n == 0 then Err Syntax else Ok (take n text, drop n text)
 
--- The first n bytes, where the byte b directly follows them, and what follows it.
+-- The first n bytes, if the byte b directly follows them, and what follows it.
 unfoldable pub closed_at : ℕ → ℕ → List ℕ → Result (List ℕ × List ℕ) TokenFaultKind
 closed_at b n text = if slice_index text n == b then Ok (take n text, drop (n + 1) text) else Err Syntax
 
@@ -65,7 +66,7 @@ head_at text = do
   operator ← operator_at (skip_while is_blank attribute.1)
   Ok (record { key = key.0; attribute = attribute.0; operator = operator.0 }, skip_while is_blank operator.1)
 
--- The quoting that letters asked for, or the fault where they are no prefix.
+-- The quoting that letters ask for, or the fault if they are not a prefix.
 abbrev pub quoted_by : Option Quote → List ℕ → Result (Quote × List ℕ) TokenFaultKind
 quoted_by None rest = Err Prefix
 quoted_by (Some q) rest = Ok (q, rest)
@@ -76,7 +77,7 @@ quote_at o text = do
   letters ← closed_at double_quote (prefix_len is_letter text) text
   quoted_by (prefix_quote o letters.0) letters.1
 
--- The piece that a backslash begins in an e value, as far as its first byte tells; it may not be an allowed one.
+-- The piece that a backslash begins in an e value, as its first byte determines it; it need not be an allowed one.
 unfoldable pub escape_front : List ℕ → Piece
 escape_front [] = byte backslash
 escape_front (c ∷ rest) =
@@ -108,12 +109,12 @@ unfoldable pub piece_at : Bool → List ℕ → Option Piece
 piece_at escaped [] = None
 piece_at escaped (b ∷ rest) = if_piece escaped (front escaped b rest)
 
--- A piece and those after it, where more gives those after so many bytes.
+-- A piece and those after it, if more gives those after so many bytes.
 abbrev pub pieces_from : (ℕ → List Piece) → Option Piece → List Piece
 pieces_from more None = []
 pieces_from more (Some p) = p ∷ more (length (drop 1 (spelling p)))
 
--- The pieces of a text from so many bytes on, up to the first place where none stands.
+-- The pieces of a text from so many bytes on, up to the first place without one.
 unfoldable pub pieces_of : Bool → ℕ → List ℕ → List Piece
 pieces_of escaped n [] = []
 pieces_of escaped (suc n) (b ∷ rest) = pieces_of escaped n rest
@@ -139,12 +140,12 @@ token_at text = do
 abbrev pub meaning_at : Bool → List ℕ → Option (List ℕ × List ℕ)
 meaning_at escaped text = option_map (λ p. (meaning p, drop (length (spelling p)) text)) (piece_at escaped text)
 
--- The bytes that a meaning of the code stands for.
+-- The bytes of a meaning, as the code has it.
 abbrev pub meant : Meaning → List ℕ
 meant (Byte b) = b ∷ []
 meant (Character c) = encode_utf8 c
 
--- The parts of a token of the code, without where they lie in memory.
+-- The parts of a token, as the code has them, regardless of where they are in memory.
 abbrev pub parts_of : TokenParts → Parts
 parts_of p = record { head = record { key = p.key.now; attribute = option_map (λ a. a.now) p.attribute; operator = p.operator }; quote = p.quote; value = p.value.now }
 
@@ -181,7 +182,7 @@ character_from rest (Some v) = if is_scalar v then Some (encode_utf8 v, rest) el
 abbrev pub character_at : ℕ → List ℕ → Option (List ℕ × List ℕ)
 character_at count text = character_from (drop count text) (number_at 16 count text)
 
--- What a letter stands for, if anything, and what follows it.
+-- What a letter means, if anything, and what follows it.
 abbrev pub letter_from : ℕ → List ℕ → Option (List ℕ × List ℕ)
 letter_from b rest = if b == 0 then None else Some (b ∷ [], rest)
 

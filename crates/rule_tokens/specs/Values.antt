@@ -9,7 +9,8 @@ use Rattle.rule_tokens.specs.Letters.{bell, backspace, capital_u, letter_a, lett
 use Rattle.rule_tokens.specs.declared.kinds.Quote.{Quote}
 use Rattle.rule_tokens.specs.declared.kinds.Quote.TheVariants.{Plain, Escaped, Blind, BlindEscaped}
 
--- A piece of a value is a byte that stands for itself, a letter after a backslash, or a number by its digits: three octal digits, two hexadecimal ones after x, four after u, eight after U.
+-- A piece of a value is a byte that stands for itself, a letter after a backslash, or a number by its digits: three
+-- octal digits, two hexadecimal ones after x, four after u, eight after U.
 pub data Piece : Type 0 where
   byte letter : ℕ → Piece
   octal hex short long : List ℕ → Piece
@@ -23,7 +24,7 @@ spelling (hex digits) = backslash ∷ letter_x ∷ digits
 spelling (short digits) = backslash ∷ letter_u ∷ digits
 spelling (long digits) = backslash ∷ capital_u ∷ digits
 
--- The byte that a letter stands for after a backslash; 0 where the letter stands for none.
+-- The byte that a letter stands for after a backslash; 0 if the letter stands for none.
 unfoldable pub letter_means : ℕ → ℕ
 letter_means c =
     if c == letter_a then bell
@@ -52,7 +53,7 @@ meaning (long digits) = encode_utf8 (digits_value 16 digits)
 unfoldable pub is_number : ℕ → ℕ → List ℕ → Bool
 is_number base count digits = length digits == count && (list_all (λ d. nat_lt (digit_value d) base) digits && nat_lt 0 (digits_value base digits))
 
--- The number is a character's: no surrogate (D800 to DFFF), and no more than 10FFFF.
+-- The number is a character's: not a surrogate (D800 to DFFF), and at most 10FFFF.
 abbrev pub is_scalar : ℕ → Bool
 is_scalar c = nat_lt c 55296 || (nat_lt 57343 c && nat_lt c 1114112)
 
@@ -65,7 +66,8 @@ is_plain_piece (hex digits) = false
 is_plain_piece (short digits) = false
 is_plain_piece (long digits) = false
 
--- A piece of an e value is an escape, or any byte but a quote, NUL and a backslash. No escape stands for NUL, an octal number is at most 377, and the number after u and U is a character's.
+-- A piece of an e value is an escape, or any byte but a quote, NUL and a backslash. No escape stands for NUL, an
+-- octal number is at most 377, and the number after u and U is a character's.
 abbrev pub is_escaped_piece : Piece → Bool
 is_escaped_piece (byte b) = not (b == double_quote) && (not (b == nul) && not (b == backslash))
 is_escaped_piece (letter c) = nat_lt 0 (letter_means c)
@@ -98,7 +100,7 @@ pub record Means (escaped : Bool) (text bytes : List ℕ) : Type 0 where
   pub spells : Spells escaped pieces text
   pub bytes_are : bytes ≡ flat_map meaning pieces
 
--- A text between quotes means no two things.
+-- A text between quotes has one meaning at most.
 abbrev pub OneMeaning : Type 0
 OneMeaning = (escaped : Bool) (text some other : List ℕ) → Means escaped text some → Means escaped text other → some ≡ other
 
@@ -106,6 +108,6 @@ OneMeaning = (escaped : Bool) (text some other : List ℕ) → Means escaped tex
 abbrev pub HasNoNul : List ℕ → Type 0
 HasNoNul bytes = list_all (λ b. not (b == nul)) bytes ≡ true
 
--- A text between quotes contains no NUL and means none.
+-- A text between quotes has no NUL, and neither do the bytes that it means.
 abbrev pub NoNul : Type 0
 NoNul = (escaped : Bool) (text bytes : List ℕ) → Means escaped text bytes → HasNoNul text × HasNoNul bytes

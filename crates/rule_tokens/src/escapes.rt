@@ -22,7 +22,7 @@ pub(crate) enum Meaning {
     Character(char),
 }
 
-/// The byte that a letter stands for after a backslash, or 0.
+/// The byte that a letter means after a backslash, or 0.
 #[tactic(auto, unfolding(crate::specs::Values::letter_means))]
 fn letter_means(letter: u8) -> u8
     ensures { result ≡ letter_means letter }
@@ -96,7 +96,7 @@ pub(crate) fn escape_of(text: &[u8]) -> Option<(Meaning, &[u8])>
     }
 }
 
-/// The number that so many digits write, where it isn't 0 and no more than 10FFFF.
+/// The number that so many digits write, if it isn't 0 and is at most 10FFFF.
 fn number_of(text: &[u8], base: u32, count: usize) -> Option<u32>
     requires least { 2 ≤ base }
     requires most { base ≤ 16 }
@@ -114,7 +114,7 @@ fn number_of(text: &[u8], base: u32, count: usize) -> Option<u32>
     Some(value)
 }
 
-/// The number that the digits write, where it is no more than 10FFFF.
+/// The number that the digits write, if it is at most 10FFFF.
 #[tactic(auto, using(crate::proofs::Numbers::scan_over, crate::proofs::Numbers::scan_large, crate::proofs::Numbers::scan_other, crate::proofs::Numbers::scan_done))]
 fn scanned(digits: &[u8], base: u32) -> Option<u32>
     requires least { 2 ≤ base }

@@ -18,7 +18,7 @@ pub(crate) fn key_of(text: &[u8]) -> Result<(&[u8], &[u8]), TokenFaultKind>
     Ok(text.split_at(n))
 }
 
-/// The name in braces at the front, if an open brace is there, and what follows it.
+/// The name in braces at the front, if there is an open brace, and what follows it.
 #[tactic(auto, unfolding(crate::specs::Reading::attribute_at))]
 pub(crate) fn attribute_of(text: &[u8]) -> Result<(Option<&[u8]>, &[u8]), TokenFaultKind>
     ensures { Gives (λ x. (option_map (λ a. a.now) x.0, x.1.now)) result (attribute_at text.now) }

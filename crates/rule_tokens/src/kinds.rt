@@ -1,5 +1,5 @@
-//! The small types of a token: its operator, how its value is quoted, where it lies, and why a part
-//! of a line is none.
+//! The small types of a token: its operator, how its value is quoted, where it lies, and why a part of a line is
+//! not one.
 
 use std::error::Error;
 use std::fmt;
@@ -15,7 +15,7 @@ pub enum Operator {
     Add,
     /// `-=`: the value is removed from the key's list.
     Remove,
-    /// `:=`: the key is given the value, and no later change is taken.
+    /// `:=`: the key is given the value, and later changes are ignored.
     AssignFinal,
     /// `=`: the key is given the value.
     Assign,
@@ -58,13 +58,13 @@ pub struct Span {
     pub end: usize,
 }
 
-/// Why a part of a line is no token.
+/// Why a part of a line is not a token.
 #[derive(Clone, Copy, Debug, PartialEq, Eq)]
 pub enum TokenFaultKind {
     /// 1: it doesn't follow the syntax of a token.
     Syntax,
-    /// 2: it is right up to its value, but the letters before the `"` are no prefix, or none that may
-    /// follow this operator.
+    /// 2: it is right up to its value, but the letters before the `"` are not a prefix, or not one that may follow
+    /// this operator.
     Prefix,
 }
 
@@ -82,7 +82,7 @@ impl fmt::Display for TokenFaultKind {
     }
 }
 
-/// The first part of a line that is no token.
+/// The first part of a line that is not a token.
 #[derive(Clone, Copy, Debug, PartialEq, Eq)]
 pub struct TokenFault {
     /// The place of its first byte, in bytes from the line's start.

@@ -20,10 +20,10 @@ fn quoted_of(text: &[u8]) -> Result<&[u8], TokenFaultKind>
     Ok(unindented(rest))
 }
 
-/// The letters directly before the quote of the token that a text begins with, as a wrong prefix is
-/// told of. A text that does not begin as a token has none.
+/// The letters directly before the quote of the token that a text begins with, as they are reported with a wrong
+/// prefix. A text that does not begin like a token has none.
 pub fn letters_before_quote(text: &[u8]) -> &[u8]
-    // Where a wrong prefix stands, these are its letters.
+    // If there is a wrong prefix, these are its letters.
     ensures letters { AreWrongLetters text.now result.now }
     // The same as a function of the text, for definitions above.
     ensures value { result.now ≡ letters_at text.now }

@@ -44,7 +44,7 @@ pub(crate) fn token_of(text: &[u8]) -> Result<(TokenParts<'_>, &[u8]), TokenFaul
     ))
 }
 
-/// A key with what is done with it. It borrows its line, and only `Tokens` makes it.
+/// A key with what is done to it. It borrows its line, and only `Tokens` makes it.
 #[derive(Debug, Drop)]
 pub struct Token<'a> {
     pub(crate) parts: TokenParts<'a>,
@@ -71,14 +71,14 @@ impl<'a> Token<'a> {
         self.parts.key
     }
 
-    /// What is in braces after the key, if braces do.
+    /// What is in the braces after the key, if there are any.
     pub fn attribute(&self) -> Option<&'a [u8]>
         ensures { option_map (λ a. a.now) result ≡ self.now.parts.head.attribute }
     {
         self.parts.attribute
     }
 
-    /// What is done with the key.
+    /// What is done to the key.
     pub fn operator(&self) -> Operator
         ensures { result ≡ self.now.parts.head.operator }
     {

@@ -66,7 +66,7 @@ pub(crate) fn after_gap(text: &[u8]) -> &[u8]
     &text[gap_length(text)..]
 }
 
-/// The first `n` bytes, where `close` directly follows them, and what follows it.
+/// The first `n` bytes, if `close` directly follows them, and what follows it.
 #[tactic(auto, unfolding(crate::specs::Reading::closed_at))]
 pub(crate) fn closed_of(text: &[u8], n: usize, close: u8) -> Result<(&[u8], &[u8]), TokenFaultKind>
     requires { 0 < close }

@@ -10,8 +10,8 @@ use crate::parts::{Token, token_of};
 use crate::runs::after_gap;
 use std::marker::Model;
 
-/// The tokens of a line in turn, and the fault that ends them, if one does: a fault is the last
-/// item. Blanks and commas between tokens are passed over. Nothing is allocated.
+/// The tokens of a line in turn, and the fault that ends them, if one does: a fault is the last item. Blanks and
+/// commas between tokens are skipped. Nothing is allocated.
 #[derive(Debug, Drop)]
 pub struct Tokens<'a> {
     rest: &'a [u8],
@@ -33,10 +33,10 @@ impl<'a> Model for Tokens<'a> {
 }
 
 impl<'a> Tokens<'a> {
-    /// The tokens of a line of a rules file, as udev(7) describes it. The line is one that is joined
-    /// already, without its newline. A line with nothing on it is a fault at 0.
+    /// The tokens of a line of a rules file, as udev(7) describes it. The line has already been joined and has no
+    /// newline. A line with nothing on it is a fault at 0.
     pub fn new(line: &'a [u8]) -> Tokens<'a>
-        // What is given are tokens of the line, up to its end.
+        // The items are tokens of the line, up to its end.
         ensures given { Given line.now result }
         // The line has no others.
         ensures only { Only line.now result }
@@ -50,12 +50,12 @@ impl<'a> Tokens<'a> {
         Tokens::from_place(line, 0)
     }
 
-    /// The tokens of a line from a place on, as in `new`; where the line ends at a place after its
-    /// start, there are none. A place is counted from the start of the line here, too.
+    /// The tokens of a line from a place on, as in `new`; if the line ends at a place after its start, there are
+    /// none. Here too, a place is counted from the start of the line.
     #[tactic(auto, using(crate::proofs::Steps::from_given, crate::proofs::Steps::from_only, crate::proofs::Steps::from_none, crate::proofs::PlaceLemmas::from_lie, crate::proofs::PlaceLemmas::from_rise))]
     pub fn from_place(line: &'a [u8], start: usize) -> Tokens<'a>
         requires { start ≤ length line.now }
-        // What is given are tokens of the line from there on, up to its end.
+        // The items are tokens of the line from there on, up to its end.
         ensures given { is_over start line.now ≡ false → GivenFrom start line.now result }
         // From there on the line has no others.
         ensures only { is_over start line.now ≡ false → OnlyFrom start line.now result }

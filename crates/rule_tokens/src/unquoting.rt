@@ -40,7 +40,7 @@ fn meaning_of(alloc: Global, escaped: bool, text: &[u8]) -> Result<Vec<u8>, Allo
 /// The bytes that the value of a token means: in a plain value `\"` stands for `"`, in an `e` value
 /// each escape for its byte or for its character in UTF-8.
 ///
-/// An error comes where memory runs out, and only there. The escapes are those of udev(7).
+/// Fails only if memory runs out. The escapes are those of udev(7).
 #[tactic(auto, using(crate::proofs::Meanings::means_unquoted, crate::proofs::Meanings::means_only))]
 pub fn unquote(alloc: Global, token: &Token<'_>) -> Result<Vec<u8>, AllocError>
     // The value means these bytes.

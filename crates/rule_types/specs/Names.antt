@@ -49,7 +49,7 @@ keys =
     ∷ key.Tag ∷ key.Attr ∷ key.Sysctl ∷ key.Env ∷ key.Owner ∷ key.Group ∷ key.Mode ∷ key.Seclabel ∷ key.Run
     ∷ key.Options ∷ key.Label ∷ key.Goto ∷ []
 
--- the key of a name, if it is one
+-- the key with a name, if there is one
 unfoldable pub key_of : List ℕ → Option Key
 key_of text = find (λ k. pointwise nat_eq (key_name k) text) keys
 
@@ -66,7 +66,7 @@ import_name import_of.Db = codes "db"
 abbrev pub import_types : List ImportType
 import_types = import_of.Program ∷ import_of.Builtin ∷ import_of.File ∷ import_of.Parent ∷ import_of.Cmdline ∷ import_of.Db ∷ []
 
--- the type of IMPORT of a name, if it is one
+-- the type of IMPORT with a name, if there is one
 unfoldable pub import_type_of : List ℕ → Option ImportType
 import_type_of text = find (λ t. pointwise nat_eq (import_name t) text) import_types
 
@@ -75,6 +75,6 @@ abbrev pub run_name : RunType → List ℕ
 run_name run_of.Program = codes "program"
 run_name run_of.Builtin = codes "builtin"
 
--- the type of RUN of a name, if it is one
+-- the type of RUN with a name, if there is one
 unfoldable pub run_type_of : List ℕ → Option RunType
 run_type_of text = find (λ t. pointwise nat_eq (run_name t) text) (run_of.Program ∷ run_of.Builtin ∷ [])

@@ -34,6 +34,6 @@ is_read_as_assign key.Attr o = is_add_or_final o
 is_read_as_assign key.Sysctl o = is_add_or_final o
 is_read_as_assign _ o = false
 
--- the operator as which one is read after a key
+-- the operator as which an operator is read after a key
 abbrev pub read_as : Key → Operator → Operator
 read_as k o = if is_read_as_assign k o then op.Assign else o

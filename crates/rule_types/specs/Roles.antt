@@ -14,7 +14,7 @@ use Rattle.rule_types.specs.declared.roles.Target.TheVariants as target
 use Rattle.rule_types.specs.declared.roles.Role.{Role}
 use Rattle.rule_types.specs.declared.roles.Role.TheVariants as role
 
--- what a topic is where it is compared; none where it can't be
+-- what a topic is when it is compared; none if it can't be
 unfoldable pub compared : Topic → MatchOperator → Option Role
 compared topic.Action o = Some (role.Plain plain.Action o)
 compared topic.Devpath o = Some (role.Plain plain.Devpath o)
@@ -56,21 +56,22 @@ is_assign_or_final Assign = true
 is_assign_or_final AssignFinal = true
 is_assign_or_final _ = false
 
--- any but `-=`
+-- all but `-=`
 abbrev pub is_not_remove : AssignOperator → Bool
 is_not_remove Remove = false
 is_not_remove _ = true
 
--- any but `:=`
+-- all but `:=`
 abbrev pub is_not_final : AssignOperator → Bool
 is_not_final AssignFinal = false
 is_not_final _ = true
 
--- a role, where its operator is taken
+-- a role, if its operator is taken
 abbrev pub taken : Bool → Role → Option Role
 taken is_taken r = if is_taken then Some r else None
 
--- what a topic is where it is assigned, if it can be by this operator; PROGRAM and IMPORT are then matches, as by `==`
+-- what a topic is when it is assigned, if it can be by this operator; PROGRAM and IMPORT are then matches, as with
+-- `==`
 unfoldable pub assigned : Topic → AssignOperator → Option Role
 assigned topic.Program o = taken (is_not_remove o) (role.Program Equal)
 assigned (topic.Import type) o = taken (is_not_remove o) (role.Import type Equal)
@@ -90,7 +91,7 @@ assigned topic.Label o = taken (is_assign o) role.Label
 assigned topic.Goto o = taken (is_assign o) role.Goto
 assigned _ o = None
 
--- what a token is that is about a topic and has an operator; none where the key does not take the operator
+-- what a token is that is about a topic and has an operator; none if the key does not take the operator
 unfoldable pub role_of : Topic → Operator → Option Role
 role_of about op.Equal = compared about Equal
 role_of about op.NotEqual = compared about NotEqual

@@ -6,7 +6,7 @@ use Rattle.rule_types.specs.declared.part.Comparison.{Comparison}
 use Rattle.rule_types.specs.declared.part.PlainMatch.{PlainMatch}
 use Rattle.rule_types.specs.declared.part.UpMatch.{UpMatch}
 
--- a rule: where it stands, its names for jumps, and its parts in the order of evaluation
+-- a rule: its file and line, its names for jumps, and its parts in the order of evaluation
 pub record Rule : Type 0 where
   pub file : List ℕ
   pub line : ℕ

@@ -52,7 +52,7 @@ abbrev pub octal_behind : ℕ → List ℕ → ℕ
 octal_behind n [] = n
 octal_behind n (b ∷ digits) = octal_behind (8 * n + (b - digit_zero)) digits
 
--- the number that octal digits write, the greatest place first
+-- the number that octal digits write, the most significant first
 abbrev pub octal : List ℕ → ℕ
 octal digits = octal_behind 0 digits
 
@@ -69,12 +69,12 @@ abbrev pub is_mask_as : Profile → List ℕ → Bool
 is_mask_as profile.Manual text = is_mask text
 is_mask_as profile.Udev text = is_some (mode_of text)
 
--- the mask that an attribute gives, or none where there is no attribute
+-- the mask that an attribute gives, or that there is none without an attribute; None for a wrong mask
 abbrev pub mask_in : Profile → Option (List ℕ) → Option (Option (List ℕ))
 mask_in by None = Some None
 mask_in by (Some text) = if is_mask_as by text then Some (Some text) else None
 
--- what is in the braces of TEST, as it is taken: empty braces are none for udev
+-- what is in the braces of TEST, as it is taken: for udev empty braces count as none
 abbrev pub mask_as : Profile → Option (List ℕ) → Option (List ℕ)
 mask_as profile.Manual a = a
 mask_as profile.Udev a = name_in a
@@ -89,12 +89,12 @@ abbrev pub import_in : Option (List ℕ) → Option ImportType
 import_in None = None
 import_in (Some text) = import_type_of text
 
--- the type of RUN that an attribute names, or none where there is no attribute
+-- the type of RUN that an attribute names, or that there is none without an attribute; None for another name
 abbrev pub run_type_in : Option (List ℕ) → Option (Option RunType)
 run_type_in None = Some None
 run_type_in (Some text) = option_map Some (run_type_of text)
 
--- what a token with a key and an attribute is about; none where the key does not take that attribute
+-- what a token with a key and an attribute is about; none if the key does not take that attribute
 unfoldable pub topic_of : Profile → Key → Option (List ℕ) → Option Topic
 topic_of by key.Action a = bare a topic.Action
 topic_of by key.Devpath a = bare a topic.Devpath

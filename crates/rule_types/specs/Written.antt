@@ -1,4 +1,5 @@
--- With which key and which attribute each role of a token is written: tables from the roles back, against which those to the roles are proved.
+-- The key and the attribute with which each role of a token is written: tables from the roles back, against which
+-- those to the roles are proved.
 use Rattle.std.specs.Prelude.{ℕ, List, Option, Some, None, option_map}
 use Rattle.rule_types.specs.Names.{import_name, run_name}
 use Rattle.rule_types.specs.declared.keys.Key.{Key}

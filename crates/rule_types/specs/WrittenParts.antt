@@ -1,4 +1,4 @@
--- With which key and which attribute each part is written.
+-- The key and the attribute with which each part is written.
 use Rattle.std.specs.Prelude.{ℕ, List, Option, Some, None, option_map}
 use Rattle.rule_types.specs.Names.{import_name, run_name}
 use Rattle.rule_types.specs.Written.{attribute_of_plain, attribute_of_target, attribute_of_up, key_of_plain, key_of_target, key_of_up}

@@ -110,7 +110,7 @@ impl Key {
     }
 }
 
-/// The key of a name. Names are told apart by case, and any other text is none.
+/// The key with a name, if there is one; case counts.
 #[tactic(auto, unfolding(crate::specs::Names::key_of))]
 pub fn key_of(text: &[u8]) -> Option<Key>
     ensures value { result ≡ key_of text.now }

@@ -1,9 +1,11 @@
-//! What may be reported for a rule beside its faults: that it is a rule, and most likely not the one that was meant.
+//! What may be reported for a rule besides its faults: that it is a rule, but most likely not the one that was
+//! meant.
 
-/// Why a rule is most likely not the one that was meant, where neither udevadm(8) nor the manual pages find fault with it.
+/// Why a rule is most likely not the one that was meant, though neither udevadm(8) nor the manual pages find fault
+/// with it.
 #[derive(Clone, Copy, Debug, PartialEq, Eq)]
 pub enum Lint {
-    /// W1: MODE is no octal number.
+    /// W1: MODE is not an octal number.
     ModeNotOctal,
     /// W2: a command has a sign of the shell, and no shell runs it.
     SignOfShell,
@@ -17,7 +19,7 @@ pub enum Lint {
     ImportedBelow,
     /// W7: a value is assigned among matches that other rules compare.
     MeantToCompare,
-    /// W8: NAME is given to a device that is no network device.
+    /// W8: NAME is given to a device that is not a network device.
     NameOutsideNet,
     /// W9: a link begins with `/dev/`.
     LinkWithDev,

@@ -5,7 +5,7 @@ ghost use Rattle.rule_types.specs.Topics.{is_mask, is_mask_as, is_mode, is_octal
 
 use text_bytes::{Profile, unindented};
 
-/// What each mode of a file is below.
+/// Each mode of a file is below this number.
 const MODES: u32 = 1 << 12;
 
 /// Whether a text is a mask: for the manual 1 to 5 octal digits, for udev a mode.

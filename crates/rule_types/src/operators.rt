@@ -18,7 +18,7 @@ pub fn is_read_as_assign(key: Key, operator: Operator) -> bool
     }
 }
 
-/// The operator as which one is read after a key.
+/// The operator as which an operator is read after a key.
 pub fn read_as(key: Key, operator: Operator) -> Operator
     ensures { result ≡ read_as key operator }
 {

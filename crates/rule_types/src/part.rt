@@ -26,14 +26,14 @@ pub enum Part {
     Goto(Bytes),
 }
 
-/// Patterns, and whether one of them is to fit or none.
+/// Patterns, and whether one of them has to fit or none may.
 #[derive(Debug, Drop)]
 pub struct Comparison {
-    /// `==` where one is to fit, `!=` where none is.
+    /// `==` if one has to fit, `!=` if none may.
     pub operator: MatchOperator,
     /// Whether the case of ASCII letters is ignored.
     pub blind: bool,
-    /// The value as it was given, its escapes read.
+    /// The value as it was given, with its escapes read.
     pub written: Bytes,
     /// The patterns of the value.
     pub choice: Choice,
@@ -60,7 +60,7 @@ pub struct UpMatch {
 /// Something that is done while a rule is matched.
 #[derive(Debug, Drop)]
 pub struct Act {
-    /// `==` where the rule goes on if it is done, `!=` where it goes on if it is not.
+    /// `==` if the rule goes on when it succeeds, `!=` if the rule goes on when it fails.
     pub operator: MatchOperator,
     /// What is done.
     pub deed: Deed,
@@ -77,7 +77,7 @@ pub enum Deed {
     Import(Import),
 }
 
-/// From where IMPORT takes properties.
+/// Where IMPORT takes properties from.
 #[derive(Debug, Drop)]
 pub enum Import {
     /// The output of a command.
@@ -86,7 +86,7 @@ pub enum Import {
     Builtin(Template),
     /// A file, by its path.
     File(Template),
-    /// The parent device: the properties whose names fit, where case counts; and the value as it was given.
+    /// The parent device: the properties whose names fit, and case counts; with the value as it was given.
     Parent(Choice, Bytes),
     /// The kernel's command line, by a parameter's name.
     Cmdline(Bytes),
@@ -97,7 +97,7 @@ pub enum Import {
 /// An assignment.
 #[derive(Debug, Drop)]
 pub struct Assignment {
-    /// How it stands to what was there. An operator that the key takes as `=` is that.
+    /// How it changes what was there. An operator that the key reads as `=` is `=`.
     pub operator: AssignOperator,
     /// What is changed.
     pub change: Change,
@@ -108,7 +108,7 @@ pub struct Assignment {
 pub enum Change {
     /// An option of OPTIONS.
     Option(RuleOption),
-    /// A text, once its substitutions are made.
+    /// A text, with its substitutions made.
     Text(Target, Template),
     /// RUN: a command that is run in the end, with its type if one is given; else it is a program.
     Run(Option<RunType>, Template),

@@ -20,13 +20,13 @@ pub enum MatchOperator {
 /// An operator that assigns.
 #[derive(Clone, Copy, Debug, PartialEq, Eq)]
 pub enum AssignOperator {
-    /// `=`: the value takes the place of what was there.
+    /// `=`: the value replaces what was there.
     Assign,
     /// `+=`: the value is added.
     Add,
-    /// `-=`: the value is taken away.
+    /// `-=`: the value is removed.
     Remove,
-    /// `:=`: as `=`, and no later change is taken.
+    /// `:=`: as `=`, and later changes are ignored.
     AssignFinal,
 }
 
@@ -108,8 +108,7 @@ pub enum Role {
     Goto,
 }
 
-/// What a token is that is about this topic and has this operator. `None` where the key does not
-/// take the operator.
+/// What a token with this topic and this operator is. `None` if the key does not take the operator.
 #[tactic(auto, unfolding(crate::specs::Roles::role_of))]
 pub fn role_of(topic: Topic, operator: Operator) -> Option<Role>
     ensures role { result ≡ role_of topic operator }
@@ -125,7 +124,7 @@ pub fn role_of(topic: Topic, operator: Operator) -> Option<Role>
     }
 }
 
-/// What a topic is where it is compared, if it can be.
+/// What a topic is when it is compared, if it can be.
 #[tactic(auto, unfolding(crate::specs::Roles::compared))]
 fn compared(topic: Topic, operator: MatchOperator) -> Option<Role>
     ensures role { result ≡ compared topic operator }
@@ -157,8 +156,8 @@ fn compared(topic: Topic, operator: MatchOperator) -> Option<Role>
     }
 }
 
-/// What a topic is where it is assigned, if it can be by this operator. PROGRAM and IMPORT are then
-/// matches, as by `==`.
+/// What a topic is when it is assigned, if it can be by this operator. PROGRAM and IMPORT are then matches, as with
+/// `==`.
 #[tactic(auto, unfolding(crate::specs::Roles::assigned))]
 fn assigned(topic: Topic, operator: AssignOperator) -> Option<Role>
     ensures role { result ≡ assigned topic operator }
@@ -209,7 +208,7 @@ fn assigned(topic: Topic, operator: AssignOperator) -> Option<Role>
     }
 }
 
-/// A role, where its operator is taken.
+/// A role, if its operator is taken.
 fn taken(is_taken: bool, role: Role) -> Option<Role>
     ensures { result ≡ taken is_taken role }
 {
@@ -240,14 +239,14 @@ fn is_assign_or_final(operator: AssignOperator) -> bool
     )
 }
 
-/// Whether an operator is any but `-=`.
+/// Whether an operator is not `-=`.
 fn is_not_remove(operator: AssignOperator) -> bool
     ensures { result ≡ is_not_remove operator }
 {
     !matches!(operator, AssignOperator::Remove)
 }
 
-/// Whether an operator is any but `:=`.
+/// Whether an operator is not `:=`.
 fn is_not_final(operator: AssignOperator) -> bool
     ensures { result ≡ is_not_final operator }
 {

@@ -5,7 +5,7 @@ use crate::part::{Act, Assignment, Comparison, PlainMatch, UpMatch};
 use std::marker::Model;
 use text_bytes::Bytes;
 
-/// A rule: where it stands, and its parts in the order in which they are evaluated.
+/// A rule: its file and line, its names for jumps, and its parts in the order in which they are evaluated.
 #[derive(Debug, Drop)]
 pub struct Rule {
     pub file: Bytes,
@@ -45,7 +45,7 @@ impl Rule {
         self.file.as_slice()
     }
 
-    /// The number of its first line, counted from 1; a number over 2^32 - 1 is given as that one.
+    /// The number of its first line, counted from 1; at most 2^32 - 1.
     pub fn line(&self) -> u32
         ensures { result ≡ self.now.line }
     {

@@ -3,9 +3,9 @@
 /// An option of a rule, as OPTIONS names it in udev(7).
 #[derive(Clone, Copy, Debug, PartialEq, Eq)]
 pub enum RuleOption {
-    /// `link_priority=N`: how links of this device stand against those of others.
+    /// `link_priority=N`: the priority of this device's links over those of others.
     LinkPriority(i32),
-    /// `string_escape=none`: no byte of a link or a name is replaced.
+    /// `string_escape=none`: no byte of a link or name is replaced.
     KeepEscapes,
     /// `string_escape=replace`: spaces of a link are replaced too.
     ReplaceEscapes,
@@ -13,7 +13,7 @@ pub enum RuleOption {
     Watch,
     /// `nowatch`: it is not.
     NoWatch,
-    /// `db_persist`: what is known of the device stays when udev's database is cleared.
+    /// `db_persist`: what is known about the device stays when udev's database is cleared.
     DbPersist,
     /// `static_node=TEXT` or `log_level=TEXT`, which change nothing here, or an option that udev does
     /// not know.

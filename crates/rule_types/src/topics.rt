@@ -52,9 +52,8 @@ pub enum Topic {
     Goto,
 }
 
-/// What a token with this key and attribute is about. `None` where the key lacks an attribute or
-/// does not take this one. An empty attribute is taken by no key; udev alone takes empty braces of
-/// TEST, for none.
+/// What a token with this key and attribute is about. `None` if the key lacks an attribute or does not take this
+/// one. No key takes an empty attribute, except that udev takes the empty braces of TEST as if there were none.
 #[tactic(auto, unfolding(crate::specs::Topics::topic_of))]
 pub fn topic_of(profile: Profile, key: Key, attribute: Option<Bytes>) -> Option<Topic>
     ensures topic { result ≡ topic_of profile key attribute }
@@ -131,7 +130,7 @@ fn is_constant(name: &[u8]) -> bool
     name == b"arch".as_slice() || name == b"virt".as_slice()
 }
 
-/// What is in the braces of TEST, as it is taken: empty braces are none for udev.
+/// What is in the braces of TEST, as it is taken: for udev empty braces count as none.
 fn mask_as(profile: Profile, attribute: Option<Bytes>) -> Option<Bytes>
     ensures { result ≡ mask_as profile attribute }
 {
@@ -141,7 +140,7 @@ fn mask_as(profile: Profile, attribute: Option<Bytes>) -> Option<Bytes>
     }
 }
 
-/// The mask that an attribute gives, or that there is none.
+/// The mask that an attribute gives, or that there is none; `None` for a wrong mask.
 fn mask_in(profile: Profile, attribute: Option<Bytes>) -> Option<Option<Bytes>>
     ensures { result ≡ mask_in profile attribute }
 {

@@ -73,7 +73,7 @@ impl RunType {
     }
 }
 
-/// The type of IMPORT of a name, if it is one.
+/// The type of IMPORT with a name, if there is one.
 #[tactic(auto, unfolding(crate::specs::Names::import_type_of))]
 pub fn import_type_of(text: &[u8]) -> Option<ImportType>
     ensures known { result ≡ import_type_of text.now }
@@ -85,7 +85,7 @@ pub fn import_type_of(text: &[u8]) -> Option<ImportType>
         .find(|known| known.name() == text)
 }
 
-/// The type of RUN of a name, if it is one.
+/// The type of RUN with a name, if there is one.
 #[tactic(auto, unfolding(crate::specs::Names::run_type_of))]
 pub fn run_type_of(text: &[u8]) -> Option<RunType>
     ensures known { result ≡ run_type_of text.now }

@@ -1,4 +1,5 @@
-//! With which key and which attribute a match or an assignment is written: what is reported for an event names it so.
+//! The key and the attribute with which a match or an assignment is written: reports about an event name it by
+//! these.
 ghost use Rattle.std.specs.Prelude.{◌≡◌, option_map};
 ghost use Rattle.rule_types.specs.Written.{attribute_of_plain, attribute_of_target, attribute_of_up, key_of_plain, key_of_target, key_of_up};
 

@@ -1,5 +1,4 @@
-//! With which key and which attribute an act or an assignment is written: the notes of an event name
-//! it so.
+//! The key and the attribute with which an act or an assignment is written: the notes of an event name it by these.
 ghost use Rattle.std.specs.Prelude.{◌≡◌, option_map};
 ghost use Rattle.rule_types.specs.WrittenParts.{attribute_of_change, attribute_of_deed, key_of_change, key_of_deed, type_of};
 

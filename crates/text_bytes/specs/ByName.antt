@@ -3,11 +3,11 @@ use Rattle.std.specs.Prelude.{◌≡◌, Bool, false, nat_le, ℕ, List, Option,
 use Rattle.std.specs.List.{AllByRecursion}
 use Rattle.text_bytes.specs.declared.source_file.SourceFile.{SourceFile}
 
--- each file is under its own name, where a key has this text
+-- each file is under its own name, by the text of a key
 abbrev pub StandUnderTheirNames : {K : Type 0} → (K → List ℕ) → List (K × SourceFile) → Type 0
 StandUnderTheirNames text files = AllByRecursion (λ entry. text entry.0 ≡ entry.1.name) files
 
--- whether a file that is there, or none, has no greater rank than another
+-- whether a file, if there is one, has no greater rank than another
 abbrev pub hides : Option SourceFile → SourceFile → Bool
 hides None file = false
 hides (Some held) file = nat_le held.rank file.rank

@@ -9,7 +9,7 @@ use Rattle.std.specs.declared.cmp.Ordering.TheVariants.{Less, Equal, Greater}
 abbrev pub text_order : List ℕ → List ℕ → Ordering
 text_order text other = slice_cmp nat_cmp text other
 
--- one of three, as a comparison comes out
+-- one of three, by the outcome of a comparison
 abbrev pub by_order : {X : Type 0} → Ordering → X → X → X → X
 by_order Less when_less when_equal when_greater = when_less
 by_order Equal when_less when_equal when_greater = when_equal

@@ -3,7 +3,7 @@ use Rattle.std.specs.Prelude.{ℕ, ◌-◌, ◌^◌, List, min, take}
 use Rattle.text_bytes.specs.declared.message.Message.{Message}
 use Rattle.text_bytes.specs.declared.message.MessageKind.{MessageKind}
 
--- the number of a line, or the greatest that is reported where it is over that
+-- the number of a line, or the greatest that is reported if it is over that
 abbrev pub capped : ℕ → ℕ
 capped number = min number (2 ^ 32 - 1)
 

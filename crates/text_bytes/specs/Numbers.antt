@@ -17,10 +17,10 @@ abbrev pub decimal_behind : ℕ → List ℕ → ℕ
 decimal_behind n [] = n
 decimal_behind n (b ∷ text) = decimal_behind (10 * n + (b - digit_zero)) text
 
--- the number that digits write, the greatest place first
+-- the number that digits write, the most significant first
 abbrev pub decimal : List ℕ → ℕ
 decimal text = decimal_behind 0 text
 
--- the number that a text of one digit or more writes, where it is below a bound
+-- the number that a text of one digit or more writes, if it is below a bound
 unfoldable pub decimal_below : ℕ → List ℕ → Option ℕ
 decimal_below bound text = if is_decimal text && nat_lt (decimal text) bound then Some (decimal text) else None

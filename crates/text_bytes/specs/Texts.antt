@@ -26,6 +26,6 @@ skip_while test xs = drop (prefix_len test xs) xs
 abbrev pub unindented : List ℕ → List ℕ
 unindented text = skip_while is_blank text
 
--- what comes before the first such byte of a text, and what after it
+-- what comes before the first such byte of a text, and what comes after it
 unfoldable pub split_once : ℕ → List ℕ → Option (List ℕ × List ℕ)
 split_once byte text = option_map (λ n. (take n text, drop (n + 1) text)) (position (λ b. b == byte) text)

@@ -1,13 +1,13 @@
 //! Owned bytes.
 //!
-//! A type of its own over `Vec<u8>`, so that a contract sees the list of the bytes and neither
-//! their room nor their place in memory.
+//! A type of its own over `Vec<u8>`, so that a contract sees the list of the bytes, and neither their capacity nor
+//! their place in memory.
 ghost use Rattle.std.specs.Prelude.{◌≡◌, IfOk};
 
 use std::alloc::{AllocError, Global};
 use std::marker::Model;
 
-/// Bytes that are owned: a text, a name, a key or a value.
+/// Owned bytes: a text, a name, a key or a value.
 #[derive(Debug, Drop)]
 pub struct Bytes {
     held: Vec<u8>,
@@ -29,7 +29,7 @@ impl Bytes {
         Bytes { held }
     }
 
-    /// A copy of a slice, in just the room that it needs.
+    /// A copy of a slice, with just the capacity that it needs.
     pub fn copy_of(alloc: Global, slice: &[u8]) -> Result<Bytes, AllocError>
         ensures { IfOk result (λ b. b ≡ slice.now) }
     {

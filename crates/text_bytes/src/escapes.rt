@@ -1,7 +1,6 @@
 //! Texts of a file, as they are written in an output.
 //!
-//! A name or a value may hold any byte, also a newline. Escaped it stays on its line, and what was
-//! written can be read back.
+//! A name or a value may hold any byte, also a newline. Escaped, it stays on its line, and can be read back.
 ghost use Rattle.std.specs.Bool.{then_some};
 ghost use Rattle.std.specs.Prelude.{◌≡◌, ◌++◌, All, IfOk, OnOk, false};
 ghost use Rattle.text_bytes.specs.Escapes.{escape_byte, escape_text, is_control, is_escaped};
@@ -25,7 +24,7 @@ pub fn escape(alloc: Global, text: &[u8]) -> Result<Vec<u8>, AllocError>
     Ok(shown)
 }
 
-/// Puts a byte, escaped if it has to be, after a text.
+/// Appends a byte to a text, escaped if necessary.
 fn push_escaped(shown: &mut Vec<u8>, byte: u8) -> Result<(), AllocError>
     ensures { OnOk result (shown.new.items ≡ shown.old.items ++ escape_byte byte) }
 {
@@ -35,10 +34,10 @@ fn push_escaped(shown: &mut Vec<u8>, byte: u8) -> Result<(), AllocError>
     }
 }
 
-/// What a byte is written as that does not stand for itself, which a control byte and a backslash
-/// don't: `\x` and two upper case hexadecimal digits. `None` says that it stands for itself.
+/// How a byte is written that does not stand for itself, that is, a control byte or a backslash: `\x` and two upper
+/// case hexadecimal digits. `None` means that it stands for itself.
 ///
-/// It takes no memory, so that a text can be escaped byte by byte where memory ran out.
+/// It takes no memory, so that a text can be escaped byte by byte when memory has run out.
 pub fn escaped_byte(byte: u8) -> Option<[u8; 4]>
     ensures { result ≡ then_some (is_escaped byte) (escape_byte byte) }
 {

@@ -1,7 +1,7 @@
 //! Which of the files passed in are read, and in which order.
 //!
-//! Files come from several folders, and one that is in a folder of less rank hides those of its
-//! name in the others. Files are put one by one into a map by their names, which has them sorted.
+//! Files come from several folders, and a file in a folder of lower rank hides those of its name in the others.
+//! Files are put one by one into a map by their names, which keeps them sorted.
 ghost use Rattle.std.specs.Prelude.{◌≡◌, IfOk, OnOk};
 ghost use Rattle.std.specs.BTreeMap.{get_by, values};
 ghost use Rattle.text_bytes.specs.ByName.{hides, StandUnderTheirNames};
@@ -13,11 +13,11 @@ use crate::source_file::SourceFile;
 use std::alloc::{AllocError, Global};
 use std::collections::BTreeMap;
 
-/// The files whose names end in a suffix, sorted by name, byte by byte; of equal names the file of
-/// least rank stays, and of equal ranks the one passed in first. So hwdb(7) has it of files of one
-/// name in several folders.
+/// The files whose names end in a suffix, sorted by name, byte by byte; of equal names the file of least rank
+/// stays, and of equal ranks the one passed in first. This is what hwdb(7) says about files of one name in several
+/// folders.
 ///
-/// The error comes where memory runs out; the files are dropped then.
+/// Fails if memory runs out; the files are dropped then.
 pub fn order_files(
     alloc: Global,
     files: Vec<SourceFile>,

@@ -5,7 +5,7 @@ ghost use Rattle.text_bytes.specs.Lines.{lines, numbered_lines};
 use crate::search::find;
 use std::marker::Model;
 
-/// A line of a text, which it borrows.
+/// A line of a text, borrowed from it.
 #[derive(Debug, Drop)]
 pub struct Line<'a> {
     number: usize,
@@ -35,7 +35,7 @@ impl<'a> Line<'a> {
         self.text
     }
 
-    /// A line of the same number with other bytes, as what is left of this one.
+    /// A line of the same number with other bytes, such as what is left of this one.
     pub fn with_text(&self, text: &'a [u8]) -> Line<'a>
         ensures { result ≡ record { number = self.now.number; text = text.now } }
     {

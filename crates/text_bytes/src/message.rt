@@ -17,25 +17,25 @@ pub enum MessageKind {
     PropertyWithoutMatch,
     /// H2: no property line follows the matches of a paragraph.
     MatchWithoutProperty,
-    /// H3: a line that is not indented stands after the properties of a paragraph.
+    /// H3: a line that is not indented comes after the properties of a paragraph.
     UnindentedLine,
     /// H4: a property has no `=`.
     NoEquals,
     /// H5: nothing comes before the `=` of a property.
     EmptyKey,
-    /// H6: a match is no pattern that is supported.
+    /// H6: a match is not a supported pattern.
     PatternNotSupported,
-    /// V1: a part of a rule is no token.
+    /// V1: a part of a rule is not a token.
     BadSyntax,
-    /// V2: a token's key is none of udev's.
+    /// V2: a token's key is not one of udev's.
     UnknownKey,
     /// V3: a key does not take its operator.
     OperatorNotAllowed,
     /// V4: a key lacks its attribute, or does not take the one that it has.
     WrongAttribute,
-    /// V5: a value is none of those that its key takes.
+    /// V5: a value is not one of those that its key takes.
     BadValue,
-    /// V6: a value has a substitution that is none.
+    /// V6: a value has an invalid substitution.
     BadSubstitution,
     /// V7: no later rule of the file has the label that a rule jumps to.
     NoLaterLabel,
@@ -43,7 +43,7 @@ pub enum MessageKind {
     GivenTwice,
     /// V9: a rule has more than 16,384 bytes.
     LineTooLong,
-    /// V10: the letters before a value are no prefix that is allowed there.
+    /// V10: the letters before a value are not a prefix that is allowed there.
     BadPrefix,
     /// V11: a set of a pattern has a class, which is not supported.
     SetNotSupported,
@@ -53,7 +53,7 @@ pub enum MessageKind {
     ReservedProperty,
     /// V14: NAME is assigned the empty text or `%k`.
     NameWithoutEffect,
-    /// V15: a builtin is none that udev has.
+    /// V15: a builtin is not one of udev's.
     UnknownBuiltin,
     /// V16: two matches of a rule exclude each other.
     MatchesExclude,
@@ -63,19 +63,19 @@ pub enum MessageKind {
     RuleWithoutEffect,
     /// V19: a RESULT comes before the PROGRAM that it asks about.
     ResultBeforeProgram,
-    /// V20: a value is empty where it has to say something.
+    /// V20: a value is empty although it has to say something.
     EmptyValue,
-    /// V21: the name of an attribute has a substitution that is none.
+    /// V21: the name of an attribute has an invalid substitution.
     BadAttributeSubstitution,
     /// V22: the name of an attribute leads to another device.
     AttributeElsewhere,
     /// V23: SUBSYSTEM is compared with an old name of `subsystem`.
     OldSubsystemName,
-    /// V24: an operator is read as `=`, as S3, where udev takes that for more than a remark.
+    /// V24: an operator is read as `=`, as in S3, which udev takes for more than a remark.
     AssignExpected,
     /// V25: no user or group has a name.
     UnknownAccount,
-    /// V26: a file is given up for a line of 16,384 bytes or more.
+    /// V26: a file is given up because of a line of 16,384 bytes or more.
     FileGivenUp,
     /// S1: not exactly one comma is between two tokens, or one follows the last.
     CommaExpected,
@@ -96,11 +96,11 @@ pub enum MessageKind {
 pub struct Message {
     /// The name of the file.
     pub file: Bytes,
-    /// The number of the line, counted from 1; a number over 2^32 - 1 is given as that one.
+    /// The number of the line, counted from 1; a greater one than 2^32 - 1 is given as that.
     pub line: u32,
     /// What is wrong.
     pub kind: MessageKind,
-    /// The first 32 bytes of the part of the line that it is about, before they are escaped.
+    /// The first 32 bytes of the part of the line that it is about, before escaping.
     pub word: Bytes,
 }
 
@@ -124,7 +124,7 @@ impl Message {
     }
 }
 
-/// The number of a line as messages and entries of the database give it: one over 2^32 - 1 as that.
+/// The number of a line as messages and entries of the database give it: at most 2^32 - 1.
 pub fn capped(number: usize) -> u32
     ensures { result ≡ capped number }
 {

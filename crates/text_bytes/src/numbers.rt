@@ -9,8 +9,8 @@ pub fn is_digit(byte: u8) -> bool
     b'0' <= byte && byte <= b'9'
 }
 
-/// The number that a text of one decimal digit or more writes, where it is below a bound. Zeros at
-/// its start count for nothing, and any other byte makes it no number.
+/// The number that a text of one decimal digit or more writes, if it is below a bound. Leading zeros count for
+/// nothing, and with any other byte the text is not a number.
 #[tactic(auto, unfolding(crate::specs::Numbers::decimal_below))]
 pub fn decimal_below(bound: u64, text: &[u8]) -> Option<u64>
     requires { bound ≤ 2 ^ 32 }

@@ -1,6 +1,6 @@
-//! Whose reading of rules is asked for.
+//! The two readings of rules that can be asked for.
 
-/// By whose word rules are read, where the manual and udev part.
+/// Which authority is followed where the manual and udev differ.
 #[derive(Clone, Copy, Debug, PartialEq, Eq)]
 pub enum Profile {
     /// The manual pages udev(7) and udevadm(8).

@@ -14,8 +14,7 @@ pub enum FileKind {
 }
 
 impl FileKind {
-    /// How the names of a folder's files of this kind end; files that are named one by one may have
-    /// any name.
+    /// How the names of a folder's files of this kind end; files that are named one by one may have any name.
     pub fn suffix(self) -> &'static str
         ensures { result.now ≡ suffix_of self }
     {
@@ -31,10 +30,10 @@ impl FileKind {
 pub struct SourceFile {
     /// What it holds.
     pub kind: FileKind,
-    /// The place of its folder among those of its kind: the least wins where names are equal.
+    /// The place of its folder among those of its kind: of equal names the least wins.
     pub rank: u8,
-    /// Its name: as given, or for a folder's file the name without the folder.
+    /// Its name: as given, or for a file of a folder the name without the folder.
     pub name: Bytes,
-    /// All that is in it.
+    /// Its bytes.
     pub bytes: Bytes,
 }

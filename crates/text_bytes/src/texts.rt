@@ -1,4 +1,4 @@
-//! What a text begins with and ends in, and its blanks.
+//! What a text begins with and ends with, and its blanks.
 ghost use Rattle.std.specs.Prelude.{◌≡◌, ◌≤◌, ◌<◌, ◌+◌, length, option_map, IfSome};
 ghost use Rattle.std.specs.List.{prefix_len};
 ghost use Rattle.text_bytes.specs.Names.{is_blank, is_whitespace};
@@ -56,7 +56,7 @@ fn leading_blanks(text: &[u8]) -> usize
     text.iter().take_while(|byte| is_blank(**byte)).count()
 }
 
-/// What comes before the first such byte of a text, and what after it.
+/// What comes before the first such byte of a text, and what comes after it.
 #[tactic(auto, unfolding(crate::specs::Texts::split_once))]
 pub fn split_once(byte: u8, text: &[u8]) -> Option<(&[u8], &[u8])>
     ensures value { option_map (λ p. (p.0.now, p.1.now)) result ≡ split_once byte text.now }

@@ -1,4 +1,4 @@
--- What is between brackets, in both ways of writing, and what a set of it takes.
+-- What is between brackets, in both ways of writing, and what a set made of it takes.
 use Rattle.std.specs.Prelude.{ℕ, zero, suc, Bool, false, not, ◌&&◌, if◌then◌else◌, List, ◌∷◌, [], length, Option, Some, None}
 use Rattle.text_core.specs.Elements.{element_of, takes_among}
 use Rattle.text_core.specs.Sets.{set_takes}
@@ -29,13 +29,13 @@ abbrev pub with_element : Element → Option Closed → Option Closed
 with_element x None = None
 with_element x (Some closed) = Some (record { elements = x ∷ closed.elements; left = closed.left })
 
--- The element found, and after it what the rest gives once the element's own bytes are passed over.
+-- The element found, and after it what the rest gives once the element's own bytes are skipped.
 abbrev pub with_found : Option Found → (ℕ → Option Closed) → Option Closed
 with_found None rest = None
 with_found (Some found) rest = with_element found.element (rest found.behind)
 
--- The elements of a text after a `[` and its sign, after so many bytes to be passed over: up to the first `]` that
--- begins one but the first. There are none, where no such `]` closes them.
+-- The elements of a text after a `[` and its sign, after so many bytes to be skipped: up to the first `]` that begins
+-- one other than the first. If no such `]` closes them there are none.
 abbrev pub elements_at : Reading → Bool → List ℕ → ℕ → Option Closed
 elements_at reading first [] passed = None
 elements_at reading first (b ∷ t) zero =

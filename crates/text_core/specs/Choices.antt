@@ -1,4 +1,4 @@
--- Choices: patterns with a bar between, of which one has to fit.
+-- Choices: patterns with bars between, of which one has to fit.
 use Rattle.std.specs.Prelude.{ℕ, ◌+◌, Bool, ◌==◌, nat_lt, if◌then◌else◌, List, ◌∷◌, [], length, Result, Ok, Err}
 use Rattle.std.specs.List.{slice_split, list_any}
 use Rattle.text_bytes.specs.Names.{bar}
@@ -33,7 +33,7 @@ choice_by reading t = if nat_lt max_len (length t) then Err TooLong else parts_a
 unfoldable pub choice : List ℕ → Result (List (List Item)) GlobFault
 choice t = choice_by Exact t
 
--- The patterns of a choice where ASCII case is ignored.
+-- The patterns of a choice with ASCII case ignored.
 unfoldable pub choice_blind : List ℕ → Result (List (List Item)) GlobFault
 choice_blind t = choice_by Blind t
 

@@ -27,7 +27,7 @@ abbrev pub classes : List ByteClass
 classes =
     Alphanumeric ∷ Alphabetic ∷ Blank ∷ Control ∷ Digit ∷ Graphic ∷ Lowercase ∷ Printed ∷ Punctuation ∷ Whitespace ∷ Uppercase ∷ Hexdigit ∷ []
 
--- The class of a name, if it is one.
+-- The class with a name, if there is one.
 unfoldable pub class_of : List ℕ → Option ByteClass
 class_of name = find (λ class. pointwise nat_eq (class_name class) name) classes
 

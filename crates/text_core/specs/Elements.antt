@@ -12,7 +12,7 @@ use Rattle.text_core.specs.declared.elements.Found.{Found}
 use Rattle.text_core.specs.declared.reading.Reading.{Reading}
 use Rattle.text_core.specs.declared.reading.Reading.TheVariants.{Exact, Blind}
 
--- A byte as a reading compares it: read blind, a capital is its small letter.
+-- A byte as a reading compares it: read blind, a capital is its lower case letter.
 abbrev pub folded : Reading → ℕ → ℕ
 folded Exact b = b
 folded Blind b = to_ascii_lowercase b
@@ -32,7 +32,7 @@ is_ended mark [] = false
 is_ended mark (b ∷ []) = false
 is_ended mark (b ∷ c ∷ t) = b == mark && c == close_bracket
 
--- A small letter but z, of which the names of classes are made.
+-- A lower case letter other than z, of which the names of classes are made.
 abbrev pub is_small_letter : ℕ → Bool
 is_small_letter b = nat_le 97 b && nat_lt b 122
 
@@ -41,13 +41,13 @@ abbrev pub class_element : Option ByteClass → Element
 class_element (Some class) = Class class
 class_element None = Unknown
 
--- `[:name:]` from behind its `[:`: letters, and after them `:]`.
+-- `[:name:]` from after its `[:`: letters, and after them `:]`.
 unfoldable pub named_class : List ℕ → Option Found
 named_class t =
     let n = prefix_len is_small_letter t in
     if is_ended colon (drop n t) then Some (record { element = class_element (class_of (take n t)); behind = n + 3 }) else None
 
--- `[=x=]` from behind its `[=`.
+-- `[=x=]` from after its `[=`.
 abbrev pub equivalence : List ℕ → Option Found
 equivalence [] = None
 equivalence (b ∷ t) = if is_ended equals t then Some (record { element = AsIs b; behind = 4 }) else None
@@ -64,21 +64,21 @@ class_or_equivalence (mark ∷ t) =
 unfoldable pub symbol_len : List ℕ → Option ℕ
 symbol_len t = position (λ pair. pair.0 == dot && pair.1 == close_bracket) (zip t (drop 1 t))
 
--- A symbol of one byte is that byte, and each other one means nothing.
+-- A symbol of one byte is that byte, and any other symbol means nothing.
 abbrev pub symbol_element : ℕ → ℕ → Element
 symbol_element b n = if n == 1 then AsIs b else Unknown
 
--- `[.x.]` from behind its `[.`, if a `.]` ends it.
+-- `[.x.]` from after its `[.`, if a `.]` ends it.
 abbrev pub symbol : List ℕ → Option Found
 symbol [] = None
 symbol (b ∷ t) = option_map (λ n. record { element = symbol_element b n; behind = n + 3 }) (symbol_len (b ∷ t))
 
--- What a `[` that names no class is: the begin of a symbol, or itself.
+-- What a `[` that names no class is: the beginning of a symbol, or itself.
 abbrev pub symbol_or_bracket : Reading → List ℕ → Option Found
 symbol_or_bracket reading [] = Some (single reading open_bracket)
 symbol_or_bracket reading (mark ∷ t) = if mark == dot then symbol t else Some (single reading open_bracket)
 
--- What may stand alone or at an end of a range; nothing, where the text ends within.
+-- What may stand alone or at an end of a range; nothing if the text ends within it.
 unfoldable pub point : Reading → ℕ → List ℕ → Option Found
 point reading b t =
     if b == backslash then escaped reading t
@@ -125,12 +125,12 @@ abbrev pub named_or : Option Found → Option Found → Option Found
 named_or (Some found) other = Some found
 named_or None other = other
 
--- The element that a byte begins before a text; nothing, where the text ends within.
+-- The element that a byte begins before a text; nothing if the text ends within it.
 unfoldable pub element_of : Reading → ℕ → List ℕ → Option Found
 element_of reading b t =
     named_or (if b == open_bracket then class_or_equivalence t else None) (ranged_behind reading t (point reading b t))
 
--- Whether an element has a byte. A class, and a byte with a name, are asked for the byte in its own case.
+-- Whether an element has a byte. A class, and a byte with a name, are compared with the byte in its own case.
 abbrev pub element_has : Reading → Element → ℕ → Bool
 element_has reading (Single own) b = own == folded reading b
 element_has reading (Range first last) b = nat_le first (folded reading b) && nat_le (folded reading b) last
@@ -146,8 +146,8 @@ is_unknown (Range first last) = false
 is_unknown (AsIs own) = false
 is_unknown (Class class) = false
 
--- Whether a set takes a byte: it takes the bytes that an element has, or if it is negated the others. What comes to a name
--- that means nothing is not taken.
+-- Whether a set takes a byte: it takes the bytes that an element has, or if it is negated the others. A byte that
+-- none of the elements before has is not taken once a name that means nothing is reached.
 abbrev pub takes_among : Reading → Bool → List Element → ℕ → Bool
 takes_among reading negated [] b = negated
 takes_among reading negated (element ∷ elements) b =

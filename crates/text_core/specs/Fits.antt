@@ -28,6 +28,6 @@ pub record Splits (first second : List ℕ → Bool) (t : List ℕ) : Type 0 whe
   pub first_passes : IsTrue (first front)
   pub second_passes : IsTrue (second back)
 
--- Two texts of bytes are equal but for the case of ASCII letters.
+-- Two texts of bytes are equal except for the case of ASCII letters.
 abbrev pub SameButCase : List ℕ → List ℕ → Type 0
 SameButCase u v = AllZip (λ b c. (b < 256) × (c < 256) × IsTrue (eq_ignore_ascii_case b c)) u v

@@ -39,26 +39,26 @@ fnmatch_front reading b t =
     else if b == backslash then fnmatch_escaped reading t
     else record { item = itself reading b; behind = 0 }
 
--- The item found in front, and after it those of the rest once the item's own bytes are passed over.
+-- The item found in front, and after it those of the rest once the item's own bytes are skipped.
 abbrev pub with_head : Head → (ℕ → List Item) → List Item
 with_head head rest = head.item ∷ rest head.behind
 
--- The items of a text, after so many bytes to be passed over.
+-- The items of a text, after so many bytes to be skipped.
 abbrev pub fnmatch_items : Reading → List ℕ → ℕ → List Item
 fnmatch_items reading [] passed = []
 fnmatch_items reading (b ∷ t) zero = with_head (fnmatch_front reading b t) (λ n. fnmatch_items reading t n)
 fnmatch_items reading (b ∷ t) (suc n) = fnmatch_items reading t n
 
--- A byte that makes patterns of all parts of a choice.
+-- A byte that makes all parts of a choice patterns.
 abbrev pub is_special : ℕ → Bool
 is_special b = b == star || b == question_mark || b == open_bracket
 
--- The items of a part: those of its pattern, or where the choice has no special byte its bytes.
+-- The items of a part: those of its pattern, or its bytes if the choice has no special byte.
 abbrev pub fnmatch_part : Reading → Bool → List ℕ → List Item
 fnmatch_part reading true part = fnmatch_items reading part 0
 fnmatch_part reading false part = map (itself reading) part
 
--- The patterns of a choice: those of the texts between the bars. That it is too long comes before all else.
+-- The patterns of a choice: those of the texts between the bars. Being too long comes before all else.
 unfoldable pub fnmatch_choice : Reading → List ℕ → Result (List (List Item)) GlobFault
 fnmatch_choice reading t =
     if nat_lt max_len (length t) then Err TooLong

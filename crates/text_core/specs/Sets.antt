@@ -7,7 +7,7 @@ use Rattle.text_core.specs.declared.byte_set.ByteSet.{ByteSet}
 use Rattle.text_core.specs.declared.reading.Reading.{Reading}
 use Rattle.text_core.specs.declared.reading.Reading.TheVariants.{Exact, Blind}
 
--- The last byte of a range, where a minus and that byte come next.
+-- The last byte of a range, if a minus and that byte come next.
 abbrev pub range_end : List ℕ → Option ℕ
 range_end [] = None
 range_end (d ∷ []) = None
@@ -28,7 +28,7 @@ members_have_by Exact members b = members_have members b
 members_have_by Blind members b =
     members_have members (to_ascii_lowercase b) || members_have members (to_ascii_uppercase b)
 
--- A set takes what its members have, and a negated one, last of all, what they have not.
+-- A set takes what its members have, and a negated one takes the others.
 abbrev pub set_takes : Reading → Bool → List ℕ → ℕ → Bool
 set_takes reading negated members b =
     if negated then not (members_have_by reading members b) else members_have_by reading members b
@@ -42,7 +42,7 @@ bits_of p n (suc k) = (if p n then 1 else 0) + 2 * bits_of p (n + 1) k
 unfoldable pub set_of : (ℕ → Bool) → ByteSet
 set_of p = record { bits = map (λ i. bits_of p (8 * i) 8) (range_with_len 0 32) }
 
--- Some byte that is equal but for its case is among the members.
+-- Some byte that is equal except for its case is among the members.
 pub record HasInSomeCase (members : List ℕ) (b : ℕ) : Type 0 where
   pub member : ℕ
   pub among : IsTrue (members_have members member)
@@ -53,8 +53,8 @@ pub data Member : Type 0 where
   alone : ℕ → Member
   range : ℕ → ℕ → Member
 
--- Members are written one after another: a range as its first byte, a minus and its last, and a byte alone where
--- no minus and further byte follow it.
+-- Members are written one after another: a range as its first byte, a minus and its last, and a byte alone if it is
+-- not followed by a minus and a further byte.
 abbrev pub AreMembers : List Member → List ℕ → Type 0
 AreMembers [] m = m ≡ []
 AreMembers (alone x ∷ members) m = (rest : List ℕ) × (m ≡ x ∷ rest) × (range_end rest ≡ None) × AreMembers members rest

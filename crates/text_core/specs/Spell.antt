@@ -13,7 +13,7 @@ use Rattle.text_core.specs.declared.reading.Reading.{Reading}
 use Rattle.text_core.specs.declared.reading.Reading.TheVariants.{Exact, Blind}
 use Rattle.text_core.specs.declared.spell.Head.{Head}
 
--- How many bytes a text may have that is to be read.
+-- How many bytes a text to be read may have.
 abbrev pub max_len : ℕ
 max_len = 16384
 
@@ -65,13 +65,13 @@ set_behind at t =
       len = sign_len t + n + 1;
     }) (members_len unsigned)
 
--- The item of a set; or the fault, where a class is found among its members.
+-- The item of a set; or the fault if a class is found among its members.
 abbrev pub set_unless_class : Reading → WrittenSet → Option ℕ → Result Head GlobFault
 set_unless_class reading set None =
     Ok (record { item = Among (set_of (set_takes reading set.negated set.members)); behind = set.len })
 set_unless_class reading set (Some n) = Err (Class (set.place + n))
 
--- The item of a set, or else of a `[` that begins none and means itself.
+-- The item of a set, or else of a `[` that begins no set and means itself.
 abbrev pub set_or_byte : Reading → Option WrittenSet → Result Head GlobFault
 set_or_byte reading None = Ok (record { item = Byte open_bracket; behind = 0 })
 set_or_byte reading (Some set) = set_unless_class reading set (class_place set.members)
@@ -98,18 +98,18 @@ abbrev pub with_item : Item → Result (List Item) GlobFault → Result (List It
 with_item x (Ok items) = Ok (x ∷ items)
 with_item x (Err e) = Err e
 
--- The item found in front, and after it what the rest spells once the item's own bytes are passed over.
+-- The item found in front, and after it what the rest spells once the item's own bytes are skipped.
 abbrev pub with_front : Result Head GlobFault → (ℕ → Result (List Item) GlobFault) → Result (List Item) GlobFault
 with_front (Ok head) rest = with_item head.item (rest head.behind)
 with_front (Err e) rest = Err e
 
--- What a text spells that is at a place of a whole one, after so many bytes to be passed over.
+-- What a text spells that is at a place of a whole one, after so many bytes to be skipped.
 abbrev pub items_at : Reading → List ℕ → ℕ → ℕ → Result (List Item) GlobFault
 items_at reading [] passed at = Ok []
 items_at reading (b ∷ t) zero at = with_front (front reading at b t) (λ n. items_at reading t n (at + 1))
 items_at reading (b ∷ t) (suc n) at = items_at reading t n (at + 1)
 
--- What a text spells in a reading; that it is too long comes before all else.
+-- What a text spells in a reading; being too long comes before all else.
 unfoldable pub spell_by : Reading → List ℕ → Result (List Item) GlobFault
 spell_by reading t = if nat_lt max_len (length t) then Err TooLong else items_at reading t 0 0
 
@@ -117,6 +117,6 @@ spell_by reading t = if nat_lt max_len (length t) then Err TooLong else items_at
 unfoldable pub spell : List ℕ → Result (List Item) GlobFault
 spell t = spell_by Exact t
 
--- What a text spells where ASCII case is ignored.
+-- What a text spells with ASCII case ignored.
 unfoldable pub spell_blind : List ℕ → Result (List Item) GlobFault
 spell_blind t = spell_by Blind t

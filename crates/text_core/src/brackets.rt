@@ -20,10 +20,9 @@ pub struct Expression {
     pub left: usize,
 }
 
-/// Reads the elements of a text after a `[` and its sign. The first byte begins one, and the first
-/// `]` that begins another one closes them; there are none where no such `]` comes, and then only the
-/// first is read. `lens` and `closed` are what `symbol_lens` and `closed_ends` say of the text. It fails
-/// where an allocation fails.
+/// Reads the elements of a text after a `[` and its sign. The first byte begins one, and the first `]` that begins
+/// another one closes them; if no such `]` comes there are none, and then only the first is read. `lens` and
+/// `closed` are the `symbol_lens` and `closed_ends` of the text. Fails if an allocation fails.
 pub fn read_elements(
     alloc: Global,
     reading: Reading,
@@ -45,8 +44,8 @@ pub fn read_elements(
     read_to_end(alloc, reading, lens, text)
 }
 
-/// Reads the elements of a text up to the `]` that closes them, if one does. `lens` is what
-/// `symbol_lens` says of the text.
+/// Reads the elements of a text up to the `]` that closes them, if one does. `lens` is the `symbol_lens` of the
+/// text.
 fn read_to_end(
     alloc: Global,
     reading: Reading,

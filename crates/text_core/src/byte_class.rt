@@ -21,7 +21,7 @@ pub enum ByteClass {
     Graphic,
     /// `lower`: small letters.
     Lowercase,
-    /// `print`: what is printed, the space among it.
+    /// `print`: what is printed, including the space.
     Printed,
     /// `punct`: what is printed, without the space, letters and digits.
     Punctuation,
@@ -93,7 +93,7 @@ impl ByteClass {
     }
 }
 
-/// The class of a name, if it is one.
+/// The class with a name, if there is one.
 #[tactic(auto, unfolding(crate::specs::Classes::class_of))]
 pub fn class_of(name: &[u8]) -> Option<ByteClass>
     ensures { result ≡ class_of name.now }

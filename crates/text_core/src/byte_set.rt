@@ -1,11 +1,11 @@
 //! Sets of bytes.
 //!
-//! A set is 256 bits, so that whether it has a byte is one look, and so that the index file can hold
-//! it as it is.
+//! A set is 256 bits, so that one look tells whether it has a byte, and so that the index file can hold it as it
+//! is.
 ghost use Rattle.std.specs.Prelude.{◌≡◌};
 ghost use Rattle.text_core.specs.Items.{set_has};
 
-/// A set of bytes: byte `b` belongs to it where bit `b % 8` of `bits[b / 8]` is 1.
+/// A set of bytes: byte `b` belongs to it if bit `b % 8` of `bits[b / 8]` is 1.
 #[derive(Clone, Copy, Debug, PartialEq, Eq)]
 pub struct ByteSet {
     /// The bits, those of the least bytes first.

@@ -1,6 +1,6 @@
-//! Choices: patterns with a bar between, as the values of rules are, by udev(7).
+//! Choices: patterns with bars between, as the values of rules are, by udev(7).
 //!
-//! The bar is looked for before anything else is read, so that one inside a set cuts too.
+//! Bars are looked for before anything else is read, so that a bar inside a set also cuts.
 ghost use Rattle.std.specs.Prelude.{◌≡◌, ◌≢◌, ◌<◌, ◌≤◌, length, Ok, Err, IsErrOf, MatchResult};
 ghost use Rattle.text_core.specs.Choices.{choice, choice_blind, choice_by, choice_fits};
 ghost use Rattle.text_core.specs.Fnmatch.{fnmatch_choice};
@@ -31,8 +31,8 @@ impl Model for Choice {
 }
 
 impl Choice {
-    /// Reads the texts between the bars as patterns, in order. Of parts with a fault the first gives
-    /// it, with the place in the whole text; a text over 16,384 bytes is `TooLong` before all else.
+    /// Reads the texts between the bars as patterns, in order. If parts have faults, the first of these gives its
+    /// own, with the place in the whole text; a text over 16,384 bytes is `TooLong` before all else.
     pub fn read(alloc: Global, text: &[u8]) -> Result<Choice, GlobFault>
         ensures value { MatchResult result (λ c. choice text.now ≡ Ok c) (λ e. e ≢ Memory → choice text.now ≡ Err e) }
         ensures too_long { max_len < length text.now → IsErrOf result TooLong }
@@ -71,10 +71,9 @@ impl Choice {
         Ok(Choice { parts })
     }
 
-    /// Reads the texts between the bars as udev reads them, in order. Where the whole text has no `*`,
-    /// `?` and `[`, each part is its bytes; else each is a pattern of fnmatch(3) in the C locale. No
-    /// text has a fault but one over 16,384 bytes, which is `TooLong`; `Memory` comes where a growth
-    /// was refused.
+    /// Reads the texts between the bars as udev reads them, in order. If the whole text has no `*`, `?` or `[`,
+    /// each part is its bytes; else each is a pattern of fnmatch(3) in the C locale. No text has a fault but one
+    /// over 16,384 bytes, which is `TooLong`; `Memory` means that an allocation failed.
     pub fn read_fnmatch(alloc: Global, reading: Reading, text: &[u8]) -> Result<Choice, GlobFault>
         ensures value { MatchResult result (λ c. fnmatch_choice reading text.now ≡ Ok c) (λ e. e ≢ Memory → fnmatch_choice reading text.now ≡ Err e) }
         ensures too_long { max_len < length text.now → IsErrOf result TooLong }

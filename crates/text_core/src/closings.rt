@@ -1,7 +1,7 @@
 //! Whether a `]` closes the elements that begin at a place, for all places of a text at once.
 //!
-//! Each place is asked for once, from the end of the text to its front, so that many a `[` that is not
-//! closed costs no more than one.
+//! Each place is asked for once, from the end of the text to its front, so that many `[` that are not closed cost
+//! no more than one.
 ghost use Rattle.std.specs.Prelude.{◌≡◌, ℕ, ◌∷◌, false, length, drop, IfOk, Some};
 ghost use Rattle.std.specs.List.{slice_get};
 ghost use Rattle.std.specs.Option.{is_some};
@@ -12,8 +12,8 @@ use crate::elements::element_of;
 use crate::reading::Reading;
 use std::alloc::{AllocError, Global};
 
-/// Whether the elements are closed of which a byte begins the first. `lens` and `closed` are what
-/// `symbol_lens` and `closed_ends` say of the text after the byte.
+/// Whether the elements are closed of which a byte begins the first. `lens` and `closed` are the `symbol_lens` and
+/// `closed_ends` of the text after the byte.
 pub fn is_closed_behind(
     reading: Reading,
     lens: &[Option<usize>],
@@ -31,8 +31,8 @@ pub fn is_closed_behind(
     }
 }
 
-/// Whether elements that go on at a byte are closed: here, or after the one that it begins. `lens`
-/// and `closed` are as at `is_closed_behind`.
+/// Whether elements that go on at a byte are closed: here, or after the one that it begins. `lens` and `closed` are
+/// as in `is_closed_behind`.
 fn is_closed_at(
     reading: Reading,
     lens: &[Option<usize>],
@@ -47,8 +47,8 @@ fn is_closed_at(
     byte == b']' || is_closed_behind(reading, lens, closed, byte, after)
 }
 
-/// Whether elements that go on at an end of a text are closed, for each of its ends by how many bytes
-/// that end has. `lens` is what `symbol_lens` says of the text. It fails where an allocation fails.
+/// Whether elements that go on at an end of a text are closed, for each of its ends by its number of bytes. `lens`
+/// is the `symbol_lens` of the text. Fails if an allocation fails.
 pub fn closed_ends(
     alloc: Global,
     reading: Reading,

@@ -12,19 +12,19 @@ use crate::symbols::symbol_len;
 /// An element between brackets.
 #[derive(Clone, Copy, Debug)]
 pub enum Element {
-    /// A byte, perhaps after a backslash; read blind, a capital is its small letter.
+    /// A byte, perhaps after a backslash; read blind, a capital is its lower case letter.
     Single(u8),
-    /// The bytes from the first to the last; none, where the last is below the first.
+    /// The bytes from the first to the last; none if the last is below the first.
     Range(u8, u8),
     /// `[=x=]` or `[.x.]`: the byte x, in its own case in both readings.
     AsIs(u8),
     /// `[:name:]`: the bytes of a class, in their own case in both readings.
     Class(ByteClass),
-    /// A name that means nothing. No byte that comes to it is taken.
+    /// A name that means nothing. A byte that no element before it has is not taken.
     Unknown,
 }
 
-/// An element that is found at a byte.
+/// An element found at a byte.
 #[derive(Clone, Copy, Debug)]
 pub struct Found {
     /// The element.
@@ -33,7 +33,7 @@ pub struct Found {
     pub behind: usize,
 }
 
-/// A byte as a reading compares it: read blind, a capital of ASCII is its small letter.
+/// A byte as a reading compares it: read blind, an ASCII capital is its lower case letter.
 pub fn folded(reading: Reading, byte: u8) -> u8
     ensures { result ≡ folded reading byte }
 {
@@ -73,7 +73,7 @@ pub fn is_ended(mark: u8, text: &[u8]) -> bool
     text.len() >= 2 && text[0] == mark && text[1] == b']'
 }
 
-/// Whether a byte may be in the name of a class: a small letter but z.
+/// Whether a byte may be in the name of a class: a lower case letter other than z.
 fn is_small_letter(byte: u8) -> bool
     ensures { result ≡ is_small_letter byte }
 {
@@ -100,7 +100,7 @@ fn class_element(name: &[u8]) -> Element
     }
 }
 
-/// The class that a text after `[:` names, where letters and `:]` come next.
+/// The class that a text after `[:` names, if letters and `:]` come next.
 #[tactic(auto, unfolding(crate::specs::Elements::named_class))]
 fn named_class(text: &[u8]) -> Option<Found>
     ensures value { result ≡ named_class text.now }
@@ -117,7 +117,7 @@ fn named_class(text: &[u8]) -> Option<Found>
     })
 }
 
-/// The byte that a text after `[=` names, where it and `=]` come next.
+/// The byte that a text after `[=` names, if it and `=]` come next.
 fn equivalence(text: &[u8]) -> Option<Found>
     ensures value { result ≡ equivalence text.now }
     ensures within { IfSome result (λ found. found.behind ≤ length text.now + 1) }
@@ -145,7 +145,7 @@ fn class_or_equivalence(after: &[u8]) -> Option<Found>
     }
 }
 
-/// The element of a symbol: its byte, where it has just one.
+/// The element of a symbol: its byte, if it has just one.
 fn symbol_element(first: u8, len: usize) -> Element
     ensures { result ≡ symbol_element first len }
 {
@@ -170,7 +170,7 @@ fn symbol(lens: &[Option<usize>], text: &[u8]) -> Option<Found>
     })
 }
 
-/// What a `[` that names no class is: the begin of a symbol, or itself.
+/// What a `[` that names no class is: the beginning of a symbol, or itself.
 fn symbol_or_bracket(reading: Reading, lens: &[Option<usize>], after: &[u8]) -> Option<Found>
     requires { (k : ℕ) → slice_get lens.now (length (drop k after.now)) ≡ Some (symbol_len (drop k after.now)) }
     ensures value { result ≡ symbol_or_bracket reading after.now }
@@ -182,7 +182,7 @@ fn symbol_or_bracket(reading: Reading, lens: &[Option<usize>], after: &[u8]) -> 
     }
 }
 
-/// What may stand alone or at an end of a range. None, where the text ends within.
+/// What may stand alone or at an end of a range. `None` if the text ends within it.
 #[tactic(auto, unfolding(crate::specs::Elements::point))]
 fn point(reading: Reading, lens: &[Option<usize>], byte: u8, after: &[u8]) -> Option<Found>
     requires { (k : ℕ) → slice_get lens.now (length (drop k after.now)) ≡ Some (symbol_len (drop k after.now)) }
@@ -228,7 +228,7 @@ fn range_between(first: Element, last: Element) -> Element
     Element::Range(low, high)
 }
 
-/// The range that a first end begins before this text, or else that end alone.
+/// The range that a first end begins before this text, or otherwise that end alone.
 #[tactic(auto, unfolding(crate::specs::Elements::ranged))]
 fn ranged(reading: Reading, lens: &[Option<usize>], first: Found, rest: &[u8]) -> Option<Found>
     requires symbols { (k : ℕ) → slice_get lens.now (length (drop k rest.now)) ≡ Some (symbol_len (drop k rest.now)) }
@@ -247,8 +247,8 @@ fn ranged(reading: Reading, lens: &[Option<usize>], first: Found, rest: &[u8]) -
     })
 }
 
-/// The element that a byte begins. None, where the text ends within. `lens` is what `symbol_lens` says
-/// of the text after the byte.
+/// The element that a byte begins, or `None` if the text ends within it. `lens` is the `symbol_lens` of the text
+/// after the byte.
 #[tactic(auto, unfolding(crate::specs::Elements::element_of))]
 pub fn element_of(reading: Reading, lens: &[Option<usize>], byte: u8, after: &[u8]) -> Option<Found>
     requires { (k : ℕ) → slice_get lens.now (length (drop k after.now)) ≡ Some (symbol_len (drop k after.now)) }
@@ -275,7 +275,7 @@ fn is_unknown(element: Element) -> bool
     }
 }
 
-/// Whether a byte, as a reading compares it, lies in a range.
+/// Whether a byte, as a reading compares it, is in a range.
 fn range_has(reading: Reading, first: u8, last: u8, byte: u8) -> bool
     ensures { result ≡ (nat_le first (folded reading byte) && nat_le (folded reading byte) last) }
 {

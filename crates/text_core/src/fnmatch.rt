@@ -17,8 +17,8 @@ use crate::spell::{Head, alone, is_negated, itself, sign_len};
 use crate::symbols::symbol_lens;
 use std::alloc::{AllocError, Global};
 
-/// What a `[` begins: a set, or where no `]` closes it itself. `lens` and `closed` are what
-/// `symbol_lens` and `closed_ends` say of the text after it.
+/// What a `[` begins: a set, or the `[` itself if no `]` closes it. `lens` and `closed` are the `symbol_lens` and
+/// `closed_ends` of the text after it.
 fn bracket(
     alloc: Global,
     reading: Reading,
@@ -43,7 +43,7 @@ fn bracket(
     })
 }
 
-/// What a backslash begins: the byte after it, or at the end an item that nothing fits.
+/// What a backslash begins: the byte after it, or at the end of the text an item that nothing fits.
 fn escaped(reading: Reading, after: &[u8]) -> Head
     ensures value { result ≡ fnmatch_escaped reading after.now }
     ensures len { result.behind ≤ length after.now }
@@ -57,8 +57,8 @@ fn escaped(reading: Reading, after: &[u8]) -> Head
     }
 }
 
-/// The item that a byte begins, and how many of the bytes after it belong to it. `lens` and `closed`
-/// are as at `bracket`.
+/// The item that a byte begins, and how many of the bytes after it belong to it. `lens` and `closed` are as in
+/// `bracket`.
 #[tactic(auto, unfolding(crate::specs::Fnmatch::fnmatch_front))]
 fn front(
     alloc: Global,
@@ -116,7 +116,7 @@ fn read_bytes(alloc: Global, reading: Reading, text: &[u8]) -> Result<Pattern, A
     Pattern::of_items(items)
 }
 
-/// Reads a part of a choice: as a pattern, or where the choice has no special byte as its bytes.
+/// Reads a part of a choice: as a pattern, or as its bytes if the choice has no special byte.
 pub fn read_part(
     alloc: Global,
     reading: Reading,
@@ -132,7 +132,7 @@ pub fn read_part(
     }
 }
 
-/// Whether a text has a byte that makes patterns of all its parts: a star, a question mark or a `[`.
+/// Whether a text has a byte that makes all its parts patterns: a star, a question mark or a `[`.
 pub fn has_special(text: &[u8]) -> bool
     ensures { result ≡ list_any is_special text.now }
 {

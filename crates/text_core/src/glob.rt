@@ -1,7 +1,7 @@
-//! Whether a text fits a list of items, without memory and in time at most items times text.
+//! Whether a text fits a list of items, without allocating and in time at most items times text.
 //!
-//! At a `Many` only the last one met has to be gone back to: what fitted before it fits still, so the
-//! search keeps one place, and each start after it is tried once.
+//! The search goes back only to the last `Many`: what fitted before that still fits, so the search keeps one place,
+//! and each start after it is tried once.
 ghost use Rattle.std.specs.Prelude.{◌≡◌, ◌<◌, ◌≤◌, true, false, length};
 ghost use Rattle.text_core.specs.Fits.{fits, some_suffix};
 ghost use Rattle.text_core.specs.Stops.{StopsAt};
@@ -14,7 +14,7 @@ enum Stop<'a> {
     Whole,
     /// An item did not take its byte, or one of the two ended first.
     Fails,
-    /// The items after the `Many`, and the text before which it stands.
+    /// The items after the `Many`, and the text that is left there.
     Star(&'a [Item], &'a [u8]),
 }
 

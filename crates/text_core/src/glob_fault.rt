@@ -1,14 +1,14 @@
-//! Why a text is no pattern.
+//! Why a text is not a pattern.
 
 use std::alloc::{AllocError, AllocFailed};
 use std::error::Error;
 use std::fmt;
 
-/// Why a text is no pattern, or no choice.
+/// Why a text is not a pattern or not a choice.
 #[derive(Clone, Copy, Debug, PartialEq, Eq, Drop)]
 pub enum GlobFault {
-    /// 1: a class, as in `[[:digit:]]`, which is not supported: among the members of a set a `[` stands
-    /// directly before `:`, `.` or `=`.
+    /// 1: a class such as `[[:digit:]]`, which is not supported: among the members of a set a `[` comes directly
+    /// before `:`, `.` or `=`.
     Class {
         /// The place of that inner `[` in the text that was passed in, counted from 0.
         at: usize,

@@ -13,14 +13,14 @@ pub enum Item {
     Byte(u8),
     /// `?`: any one byte.
     One,
-    /// `*`: any bytes, none among them.
+    /// `*`: any number of bytes, also none.
     Many,
     /// `[...]`: one byte of a set.
     Among(ByteSet),
 }
 
 impl Item {
-    /// Whether the item takes this one byte; false of `Many`, which is no item of one byte.
+    /// Whether the item takes this one byte; false of `Many`, which is not an item of one byte.
     pub fn takes(&self, byte: u8) -> bool
         ensures { result ≡ takes self.now byte }
     {

@@ -1,8 +1,8 @@
 //! Patterns, as udev(7) and hwdb(7) describe them for matching.
 //!
-//! A pattern is read once and matched often, so it holds its items ready, each set as bits, and in
-//! just the room that they need: a database has more than a hundred thousand. Copies share the items,
-//! since each property of a match has one.
+//! A pattern is read once and matched often, so it holds its items ready, each set as bits, and with just the
+//! capacity that they need: a database has more than a hundred thousand. Copies share the items, since each
+//! property of a match has one.
 ghost use Rattle.std.specs.Prelude.{◌≡◌, ◌≢◌, ◌+◌, ◌<◌, ◌^◌, length, Ok, Err, IfOk, IsErrOf, MatchResult};
 ghost use Rattle.text_core.specs.Fits.{fits};
 ghost use Rattle.text_core.specs.Spell.{items_at, max_len, spell};
@@ -20,9 +20,9 @@ use std::rc::RcSlice;
 /// How many bytes the text of a pattern or of a choice may have.
 pub const MAX_LEN: usize = 16384;
 
-/// A pattern: `*` takes any bytes, `?` any one, `[..]` one byte of a set, and each other byte, the
-/// backslash too, itself. A set is negated by a first `!` or `^`, has ranges as `a-z`, and ends at the
-/// first `]` after its first member; a `[` that no such `]` follows is a byte.
+/// A pattern: `*` takes any bytes, `?` any one, `[..]` one byte of a set, and each other byte, also the backslash,
+/// itself. A set is negated by a first `!` or `^`, has ranges such as `a-z`, and ends at the first `]` after its
+/// first member; a `[` that no such `]` follows is a byte.
 #[derive(Debug, Drop)]
 pub struct Pattern {
     items: RcSlice<Item>,
@@ -41,9 +41,8 @@ impl Model for Pattern {
 impl Pattern {
     /// Reads a pattern as udev(7) and hwdb(7) write them.
     ///
-    /// A text of more than 16,384 bytes is `TooLong`, before all else; a class among the members of a
-    /// set is `Class`, with the place of its inner `[`, the first of them; `Memory` comes where a
-    /// allocation fails.
+    /// A text of more than 16,384 bytes is `TooLong`, before all else; a class among the members of a set is
+    /// `Class`, with the place of its inner `[`, the first of them; `Memory` means that an allocation failed.
     pub fn read(alloc: Global, text: &[u8]) -> Result<Pattern, GlobFault>
         ensures value { MatchResult result (λ p. spell text.now ≡ Ok p) (λ e. e ≢ Memory → spell text.now ≡ Err e) }
         ensures too_long { max_len < length text.now → IsErrOf result TooLong }
@@ -74,7 +73,7 @@ impl Pattern {
         Ok(Pattern::of_items(items)?)
     }
 
-    /// The pattern of these items, in just the room that they need.
+    /// The pattern of these items, with just the capacity that they need.
     pub(crate) fn of_items(mut items: Vec<Item>) -> Result<Pattern, AllocError>
         ensures { IfOk result (λ p. p ≡ items.items) }
     {
@@ -84,8 +83,8 @@ impl Pattern {
         })
     }
 
-    /// A pattern of the same items, which both share, so that it takes no memory. It fails only where
-    /// there are as many copies as a `usize` counts.
+    /// A pattern of the same items, which both share, so that it takes no memory. Fails only if there are as many
+    /// copies as a `usize` can count.
     pub fn copy(&self, _alloc: Global) -> Result<Pattern, AllocError>
         ensures { IfOk result (λ p. p ≡ self.now) }
     {
@@ -101,7 +100,7 @@ impl Pattern {
         self.items.as_slice()
     }
 
-    /// Whether the whole text fits. It takes no memory, and time of at most items times text.
+    /// Whether the whole text fits. It allocates nothing, and takes time at most items times text.
     pub fn fits(&self, text: &[u8]) -> bool
         ensures { result ≡ fits self.now text.now }
     {

@@ -8,6 +8,6 @@
 pub enum Reading {
     /// Each byte is itself.
     Exact,
-    /// A letter of ASCII stands for both its cases.
+    /// An ASCII letter stands for both its cases.
     Blind,
 }

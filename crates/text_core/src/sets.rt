@@ -18,7 +18,7 @@ pub enum Between<'a> {
     Elements(&'a [Element]),
 }
 
-/// The last byte of a range, where `-` and that byte come next.
+/// The last byte of a range, if `-` and that byte come next.
 fn range_end(rest: &[u8]) -> Option<u8>
     ensures value { result ≡ range_end rest.now }
     ensures len { OnSome result (2 ≤ length rest.now) }
@@ -89,7 +89,7 @@ fn takes(reading: Reading, negated: bool, between: Between<'_>, byte: u8) -> boo
     }
 }
 
-/// Eight bytes of a set from one on, as bits.
+/// Eight bytes of a set, from a byte on, as bits.
 fn eight(reading: Reading, negated: bool, between: Between<'_>, first: u8) -> u8
     requires { first + 8 ≤ 256 }
     ensures { result ≡ bits_of (between_takes reading negated between.entry) first 8 }

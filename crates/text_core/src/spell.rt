@@ -26,7 +26,7 @@ pub(crate) fn is_negated(after: &[u8]) -> bool
     }
 }
 
-/// How many bytes a sign takes: one where there is one.
+/// How many bytes a sign takes: one if there is a sign, else none.
 pub(crate) fn sign_len(after: &[u8]) -> usize
     ensures value { result ≡ sign_len after.now }
     ensures within { result ≤ length after.now }

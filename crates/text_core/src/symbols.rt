@@ -1,7 +1,6 @@
 //! How far a `[.` may reach, for all places of a text at once.
 //!
-//! Each place is asked for once, from the end of the text to its front, so that many a `[.` costs no
-//! more than one.
+//! Each place is asked for once, from the end of the text to its front, so that many `[.` cost no more than one.
 ghost use Rattle.std.specs.Prelude.{◌≡◌, ◌+◌, ◌≤◌, ℕ, length, drop, IfOk, IfSome, Some};
 ghost use Rattle.std.specs.List.{slice_get};
 ghost use Rattle.text_core.specs.Elements.{symbol_len};
@@ -9,7 +8,7 @@ ghost use Rattle.text_core.specs.Elements.{symbol_len};
 use crate::elements::is_ended;
 use std::alloc::{AllocError, Global};
 
-/// How many bytes come before the first `.]` of a text, of which `lens` is what `symbol_lens` says.
+/// How many bytes come before the first `.]` of a text, whose `symbol_lens` are `lens`.
 pub fn symbol_len(lens: &[Option<usize>], text: &[u8]) -> Option<usize>
     requires { (k : ℕ) → slice_get lens.now (length (drop k text.now)) ≡ Some (symbol_len (drop k text.now)) }
     ensures value { result ≡ symbol_len text.now }
@@ -21,7 +20,7 @@ pub fn symbol_len(lens: &[Option<usize>], text: &[u8]) -> Option<usize>
     }
 }
 
-/// The same, where `lens` is what `symbol_lens` says of the text after the first byte.
+/// The same, if `lens` are the `symbol_lens` of the text after the first byte.
 fn next_len(lens: &[Option<usize>], text: &[u8]) -> Option<usize>
     requires { (k : ℕ) → slice_get lens.now (length (drop k (drop 1 text.now))) ≡ Some (symbol_len (drop k (drop 1 text.now))) }
     ensures { result ≡ symbol_len text.now }
@@ -34,8 +33,8 @@ fn next_len(lens: &[Option<usize>], text: &[u8]) -> Option<usize>
     Some(len + 1)
 }
 
-/// How many bytes come before the first `.]`, for each end of a text by how many bytes that end has.
-/// It fails where an allocation fails.
+/// How many bytes come before the first `.]`, for each end of a text by its number of bytes. Fails if an allocation
+/// fails.
 pub fn symbol_lens(alloc: Global, text: &[u8]) -> Result<Vec<Option<usize>>, AllocError>
     ensures { IfOk result (λ lens. (k : ℕ) → slice_get lens.items (length (drop k text.now)) ≡ Some (symbol_len (drop k text.now))) }
 {

@@ -1,5 +1,5 @@
--- What the text of a choice is: parts with a bar between each two, each of them the text of a pattern.
--- It says the same as the reading of `Choices`, and of faults which one is reported.
+-- What the text of a choice is: parts with bars between them, each of them the text of a pattern.
+-- It says the same as the reading of `Choices`, and which of several faults is reported.
 use Rattle.std.specs.Prelude.{◌≡◌, ◌≢◌, ℕ, ◌+◌, ◌<◌, ◌≤◌, ◌↔◌, List, ◌∷◌, [], ◌++◌, length, map, sum_by, All, IsOk, Result, Ok, Err}
 use Rattle.std.specs.List.{join_with_byte}
 use Rattle.text_bytes.specs.Names.{bar}
@@ -8,7 +8,7 @@ use Rattle.text_core.specs.declared.glob_fault.GlobFault.{GlobFault}
 use Rattle.text_core.specs.declared.glob_fault.GlobFault.TheVariants.{Class, TooLong}
 use Rattle.text_core.specs.declared.item.Item.{Item}
 
--- A text is these parts, one at least, with a bar between each two, and no part has a bar.
+-- A text is these parts, at least one, with bars between them, and no part has a bar.
 pub record AreParts (parts : List (List ℕ)) (t : List ℕ) : Type 0 where
   pub some : parts ≢ []
   pub joined : t ≡ join_with_byte bar parts
@@ -20,7 +20,7 @@ pub record SpellParts (spelled : List ℕ → Result (List Item) GlobFault) (t :
   pub are_parts : AreParts parts t
   pub each : map spelled parts ≡ map Ok patterns
 
--- A part of a text has a class at a place of the part, and at that place of the whole text, where the parts before it and
+-- A part of a text has a class at a place of the part, and at that place of the whole text, for which the parts before it and
 -- the bars after these are counted too. All parts before it spell patterns.
 pub record HasFaultyPart (spelled : List ℕ → Result (List Item) GlobFault) (t : List ℕ) (at : ℕ) : Type 0 where
   pub before : List (List ℕ)
@@ -32,8 +32,8 @@ pub record HasFaultyPart (spelled : List ℕ → Result (List Item) GlobFault) (
   pub fault : spelled part ≡ Err (Class place)
   pub at_place : at ≡ sum_by (λ p. length p + 1) before + place
 
--- A function reads choices part by part: patterns where a text of at most 16,384 bytes has parts that spell them, the fault of
--- such a text's first faulty part, and TooLong for longer texts alone.
+-- A function reads choices part by part: patterns if a text of at most 16,384 bytes has parts that spell them, the fault of
+-- such a text's first faulty part, and TooLong only for longer texts.
 pub record ReadsParts (spelled : List ℕ → Result (List Item) GlobFault) (chosen : List ℕ → Result (List (List Item)) GlobFault) : Type 0 where
   pub patterns : (t : List ℕ) (patterns : List (List Item)) → (chosen t ≡ Ok patterns) ↔ ((length t ≤ max_len) × SpellParts spelled t patterns)
   pub class : (t : List ℕ) (at : ℕ) → (chosen t ≡ Err (Class at)) ↔ ((length t ≤ max_len) × HasFaultyPart spelled t at)

@@ -29,8 +29,8 @@ negates no_sign = false
 negates bang_sign = true
 negates caret_sign = true
 
--- A text is a set and then the rest: `[`, a sign, members and `]`. The members are one byte or more; only the first of
--- them may be a `]`; and where no sign is written, they begin with none.
+-- A text is a set and then the rest: `[`, a sign, members and `]`. The members are one byte or more; only the first
+-- of them may be a `]`; and if no sign is written, they don't begin with one.
 pub record IsSet (t : List ℕ) (sign : Sign) (members rest : List ℕ) : Type 0 where
   pub text : t ≡ open_bracket ∷ (print_sign sign ++ (members ++ close_bracket ∷ rest))
   pub some : 0 < length members
@@ -87,7 +87,8 @@ pub record Spells (reading : Reading) (t : List ℕ) (items : List Item) : Type 
   pub written : ArePieces pieces t []
   pub meant : items ≡ map (item_of reading) pieces
 
--- After some pieces of a text stands a set with a class among its members, of which the first begins at a place of the text.
+-- After some pieces of a text comes a set with a class among its members, the first of which begins at a place of the
+-- text.
 pub record HasClassAt (t : List ℕ) (at : ℕ) : Type 0 where
   pub pieces : List Piece
   pub behind : List ℕ
@@ -103,8 +104,8 @@ pub record HasClassAt (t : List ℕ) (at : ℕ) : Type 0 where
   pub starts : start + length behind ≡ length t
   pub at_place : at ≡ start + 1 + length (print_sign sign) + place
 
--- A function reads texts as the grammar says: items where a text of at most 16,384 bytes is written in pieces that mean
--- them, the fault Class where such a text has a class at that place, and TooLong for longer ones alone.
+-- A function reads texts as the grammar says: items if a text of at most 16,384 bytes is written in pieces that mean
+-- them, the fault Class if such a text has a class at that place, and TooLong for longer ones alone.
 pub record FollowsGrammar (reading : Reading) (spelled : List ℕ → Result (List Item) GlobFault) : Type 0 where
   pub items : (t : List ℕ) (items : List Item) → (spelled t ≡ Ok items) ↔ ((length t ≤ max_len) × Spells reading t items)
   pub class : (t : List ℕ) (at : ℕ) → (spelled t ≡ Err (Class at)) ↔ ((length t ≤ max_len) × HasClassAt t at)

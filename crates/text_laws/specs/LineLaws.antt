@@ -13,7 +13,8 @@ abbrev pub last_line : List ℕ → List (List ℕ)
 last_line [] = []
 last_line (b ∷ text) = (b ∷ text) ∷ []
 
--- A text is these lines: those that a newline ends, one after another, and then what is left, which is a line if it is not empty. In none of them is a newline.
+-- A text is these lines: those that a newline ends, one after another, and then what is left, which is a line if it
+-- is not empty. None of them has a newline.
 pub record AreLines (text : List ℕ) (ls : List (List ℕ)) : Type 0 where
   pub ended : List (List ℕ)
   pub left : List ℕ

@@ -1,6 +1,6 @@
-//! What holds of the order of files and of escaped texts, whichever they are.
+//! What holds for the order of files and of escaped texts, whichever they are.
 //!
-//! Each function does nothing: its contract is a law of the definitions that the other contracts cite.
+//! Each function has an empty body, and its contract is a law of the definitions that the other contracts cite.
 ghost use Rattle.std.specs.Prelude.{◌≡◌, ◌<◌, List, ℕ, All, Any};
 ghost use Rattle.text_bytes.specs.Escapes.{escape_text, unescaped};
 ghost use Rattle.text_bytes.specs.FileOrder.{ordered, with_suffix};
@@ -15,8 +15,7 @@ pub fn kept_files()
     ensures there { (suffix : List ℕ) (files : List SourceFile) → All (λ g. Any (λ f. f.name ≡ g.name) (ordered suffix files)) (with_suffix suffix files) }
 {}
 
-/// An escaped text is read back as the text that it was made of, so that no two texts are written
-/// alike.
+/// An escaped text is read back as the text that it was made from, so that no two texts are written alike.
 pub fn escaped_is_read_back()
     ensures { (text : List ℕ) → All (λ b. b < 256) text → unescaped (escape_text text) ≡ text }
 {}

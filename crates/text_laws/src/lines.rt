@@ -1,4 +1,4 @@
-//! The law of lines, the contract of a function that does nothing.
+//! The law of lines.
 ghost use Rattle.text_laws.specs.LineLaws.{OneWay};
 
 /// A text has its lines in just one way: one after another, each with the newline that ends it,

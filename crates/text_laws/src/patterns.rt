@@ -1,8 +1,8 @@
-//! What makes the definitions believable.
+//! Laws of patterns that show the definitions to be right.
 //!
-//! A definition in `specs/` is what a contract means, and so has to be believed. Each function here
-//! has no body, and its contract is a fact about the definitions that says again, in other words and
-//! without their order, what they mean.
+//! A definition in `specs/` is what a contract means, and so has to be believed. Each function here has an empty
+//! body, and its contract says again, in other words and without the order of a computation, what the definitions
+//! mean.
 ghost use Rattle.std.specs.Prelude.{◌≡◌, ◌≢◌, ◌↔◌, ℕ, ◌<◌, Bool, true, false, List, [], ◌∷◌, ◌++◌, IsTrue, Ok};
 ghost use Rattle.std.specs.Char.{eq_ignore_ascii_case};
 ghost use Rattle.std.specs.List.{list_any};
@@ -23,15 +23,15 @@ pub fn spelling_follows_the_grammar()
     ensures blind { FollowsGrammar Blind spell_blind }
 {}
 
-/// Both readings of a choice give the patterns of the texts between its bars, or the fault of the
-/// first of these that has one, with its place in the whole text.
+/// Both readings of a choice give the patterns of the texts between its bars, or the fault of the first of these
+/// that has one, with its place in the whole text.
 pub fn choices_are_read_part_by_part()
     ensures exact { ReadsParts spell choice }
     ensures blind { ReadsParts spell_blind choice_blind }
 {}
 
-/// The texts that fit: of no item the empty one, of an item that takes a byte those of such a byte,
-/// of `Many` all, and of items after items those that can be cut so that each half fits its own.
+/// The texts that fit: of no item the empty one, of an item that takes a byte those of such a byte, of `Many` all,
+/// and of items after items those that can be cut so that each part fits its own.
 pub fn texts_fit_item_by_item()
     ensures none { (t : List ℕ) → IsTrue (fits [] t) ↔ (t ≡ []) }
     ensures one { (x : Item) (t : List ℕ) → x ≢ Many → IsTrue (fits (x ∷ []) t) ↔ ((b : ℕ) × (t ≡ b ∷ []) × IsTrue (takes x b)) }
@@ -39,7 +39,7 @@ pub fn texts_fit_item_by_item()
     ensures joined { (p q : List Item) (t : List ℕ) → IsTrue (fits (p ++ q) t) ↔ Splits (fits p) (fits q) t }
 {}
 
-/// `Many` before items fits exactly where the items fit after some cut of the text.
+/// `Many` before items fits if and only if the items fit what follows some cut of the text.
 pub fn many_fits_where_some_split_does()
     ensures { (p : List Item) (t : List ℕ) → IsTrue (fits (Many ∷ p) t) ↔ Splits (λ _. true) (fits p) t }
 {}
@@ -55,19 +55,19 @@ pub fn set_has_what_passes()
     ensures { (p : ℕ → Bool) (b : ℕ) → b < 256 → set_has (set_of p) b ≡ p b }
 {}
 
-/// A set that is read blind has the bytes that are a member but for their case; a negated one has
-/// the others, so that it has neither case of a member.
+/// A set that is read blind has the bytes that are a member except for their case; a negated one has the others, so
+/// that it has neither case of a member.
 pub fn blind_set_is_joined_before_it_is_negated()
     ensures joined { (members : List ℕ) (b : ℕ) → b < 256 → IsTrue (set_has (set_of (set_takes Blind false members)) b) ↔ HasInSomeCase members b }
     ensures negated { (members : List ℕ) (b : ℕ) → b < 256 → IsTrue (set_has (set_of (set_takes Blind true members)) b) ↔ (HasInSomeCase members b → ⊥) }
 {}
 
-/// A byte that means itself takes, read blind, the bytes that are equal but for their case.
+/// A byte that means itself takes, read blind, the bytes that are equal to it except for their case.
 pub fn blind_byte_takes_both_cases()
     ensures { (b c : ℕ) → c < 256 → takes (itself Blind b) c ≡ eq_ignore_ascii_case b c }
 {}
 
-/// What is read blind fits texts that are equal but for the case of ASCII letters alike.
+/// What is read blind fits, of two texts that are equal except for the case of ASCII letters, both or neither.
 pub fn blind_patterns_ignore_case()
     ensures { (t u v : List ℕ) (items : List Item) → spell_blind t ≡ Ok items → SameButCase u v → fits items u ≡ fits items v }
 {}

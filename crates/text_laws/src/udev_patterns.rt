@@ -1,5 +1,4 @@
-//! Laws of patterns as udev reads them, by fnmatch(3). Each is the contract of a function that does
-//! nothing.
+//! Laws of patterns as udev reads them, by fnmatch(3).
 ghost use Rattle.std.specs.Prelude.{◌≡◌, ◌↔◌, ◌<◌, ℕ, false, List, [], ◌∷◌, ◌++◌, IsTrue, codes};
 ghost use Rattle.text_bytes.specs.Names.{backslash};
 ghost use Rattle.text_core.specs.Classes.{class_has, class_name};

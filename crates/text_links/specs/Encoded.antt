@@ -8,7 +8,7 @@ use Rattle.text_links.specs.Safe.{is_in_sequence, is_plain, value_marks}
 unfoldable pub is_own : List ℕ → ℕ → Bool
 is_own text place = not (slice_index text place == backslash) && (is_plain value_marks (slice_index text place) || is_in_sequence text place)
 
--- the small hexadecimal digits, in the order of their numbers
+-- the lower case hexadecimal digits, in the order of their numbers
 abbrev pub small_digits : List ℕ
 small_digits = codes "0123456789abcdef"
 
@@ -24,7 +24,7 @@ encoded_byte text place = if is_own text place then slice_index text place ∷ [
 unfoldable pub encoded : List ℕ → List ℕ
 encoded text = flat_map (encoded_byte text) (range_with_len 0 (length text))
 
--- the number below 16 that a small digit writes
+-- the number below 16 that a lower case digit writes
 abbrev pub small_digit : ℕ → ℕ
 small_digit digit = position_or_len (λ d. d == digit) small_digits
 

@@ -17,15 +17,15 @@ attribute_marks = codes "#+-.:=@_/$%?,"
 abbrev pub value_marks : List ℕ
 value_marks = codes "#+-.:=@_"
 
--- whether a byte stays wherever it stands
+-- whether a byte stays wherever it is
 abbrev pub is_plain : List ℕ → ℕ → Bool
 is_plain marks b = is_ascii_alphanumeric b || list_any (λ mark. mark == b) marks
 
--- how many bytes the UTF-8 sequence of several bytes has that a text begins with; 0 where it begins with none
+-- the length of the UTF-8 sequence of several bytes that a text begins with; 0 if it begins with none
 unfoldable pub sequence_len : List ℕ → ℕ
 sequence_len text = if is_some (decoded text).char && nat_lt 1 (decoded text).size then (decoded text).size else 0
 
--- whether such a sequence begins so many bytes before a place and reaches over it
+-- whether such a sequence begins so many bytes before a place and covers it
 unfoldable pub is_reached : List ℕ → ℕ → ℕ → Bool
 is_reached text place back = nat_le back place && nat_lt back (sequence_len (drop (place - back) text))
 
@@ -41,7 +41,7 @@ is_hex_escape text place = slice_index text place == backslash && slice_index te
 unfoldable pub stays : List ℕ → List ℕ → ℕ → Bool
 stays marks text place = is_plain marks (slice_index text place) || (is_hex_escape text place || is_in_sequence text place)
 
--- what is at a place of the safe text: the byte itself where it stays, a space for other whitespace, else `_`
+-- what is at a place of the safe text: the byte itself if it stays, a space for other whitespace, else `_`
 unfoldable pub safe_byte : List ℕ → List ℕ → ℕ → ℕ
 safe_byte marks text place =
     if stays marks text place then slice_index text place

@@ -1,4 +1,4 @@
--- For proofs only, no reader has to believe it: what the bytes that are left still add to a text's words.
+-- Serves inner proofs only: what the bytes that are left still add to a text's words.
 use Rattle.std.specs.Prelude.{ℕ, Bool, true, false, if◌then◌else◌, List, [], ◌∷◌, ◌++◌, flat_map, not, ◌&&◌}
 use Rattle.text_bytes.specs.Names.{underscore, is_whitespace}
 use Rattle.text_bytes.specs.Texts.{is_empty}
@@ -9,7 +9,7 @@ use Rattle.text_links.specs.declared.underscores.Word.{Word}
 abbrev pub further : List (List ℕ) → List ℕ
 further ws = flat_map (λ word. underscore ∷ word) ws
 
--- what is added where a word goes on
+-- what is added if a word goes on
 abbrev pub within : List ℕ → List ℕ
 within [] = []
 within (b ∷ text) = if is_whitespace b then further (words text) else b ∷ within text
@@ -27,6 +27,6 @@ with_byte word gap b =
     if is_whitespace b then word
     else (if gap && not (is_empty word) then word ++ underscore ∷ [] else word) ++ b ∷ []
 
--- the word that comes of a word as so much of the text is left
+-- the word that a word becomes when so much of the text is left
 abbrev pub grown : Word → List ℕ → List ℕ
 grown word left = word.bytes.items ++ added (is_empty word.bytes.items) word.gap left

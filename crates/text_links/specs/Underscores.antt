@@ -4,7 +4,7 @@ use Rattle.std.specs.List.{join_with_byte, slice_split}
 use Rattle.text_bytes.specs.Names.{underscore, is_whitespace}
 use Rattle.text_bytes.specs.Texts.{is_empty}
 
--- the words of a text: its longest runs of bytes that are no whitespace
+-- the words of a text: its longest runs of bytes that are not whitespace
 abbrev pub words : List ℕ → List (List ℕ)
 words text = filter (λ word. not (is_empty word)) (slice_split is_whitespace text)
 

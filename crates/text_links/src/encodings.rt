@@ -29,7 +29,7 @@ fn in_digits(byte: u8) -> [u8; 4]
     ]
 }
 
-/// Puts what stands for the byte at a place after a text.
+/// Appends what stands for the byte at a place.
 #[tactic(auto, unfolding(crate::specs::Encoded::encoded_byte))]
 fn push_encoded(made: &mut Vec<u8>, text: &[u8], place: usize) -> Result<(), AllocError>
     requires { place < length text.now }
@@ -42,9 +42,9 @@ fn push_encoded(made: &mut Vec<u8>, text: &[u8], place: usize) -> Result<(), All
     }
 }
 
-/// A text as udev of systemd 257 encodes the value of a property whose name ends in `_ENC`: ASCII letters
-/// and digits, `#+-.:=@_` and UTF-8 sequences of two to four bytes stay; every other byte, the backslash,
-/// too, is `\x` and two small hexadecimal digits.
+/// A text as udev of systemd 257 encodes the value of a property whose name ends in `_ENC`: ASCII letters and
+/// digits, `#+-.:=@_` and UTF-8 sequences of two to four bytes stay; every other byte, also the backslash, is `\x`
+/// and two lower case hexadecimal digits.
 #[tactic(auto, using(crate::proofs::ReadingBack::encoded_more), unfolding(crate::specs::Encoded::encoded))]
 pub fn encoded(alloc: Global, text: &[u8]) -> Result<Vec<u8>, AllocError>
     ensures { IfOk result (λ made. made.items ≡ encoded text.now) }

@@ -15,14 +15,14 @@ const ATTRIBUTE_MARKS: &[u8] = b"#+-.:=@_/$%?,";
 /// The bytes other than letters and digits that stay in a name that is made the value of a property.
 pub(crate) const VALUE_MARKS: &[u8] = b"#+-.:=@_";
 
-/// Whether a byte stays wherever it stands.
+/// Whether a byte stays wherever it is.
 pub(crate) fn is_plain(marks: &[u8], byte: u8) -> bool
     ensures { result ≡ is_plain marks.now byte }
 {
     byte.is_ascii_alphanumeric() || marks.contains(&byte)
 }
 
-/// How many bytes the UTF-8 sequence of several bytes has that a text begins with, or 0.
+/// The length of the UTF-8 sequence of several bytes that a text begins with, or 0.
 #[tactic(auto, unfolding(crate::specs::Safe::sequence_len))]
 fn sequence_len(text: &[u8]) -> usize
     ensures { result ≡ sequence_len text.now }
@@ -31,7 +31,7 @@ fn sequence_len(text: &[u8]) -> usize
     if char.is_some() && size > 1 { size } else { 0 }
 }
 
-/// Whether a UTF-8 sequence that begins so many bytes before a place reaches over it.
+/// Whether a UTF-8 sequence that begins so many bytes before a place covers it.
 #[tactic(auto, unfolding(crate::specs::Safe::is_reached))]
 fn is_reached(text: &[u8], place: usize, back: usize) -> bool
     requires { place < length text.now }
@@ -40,7 +40,7 @@ fn is_reached(text: &[u8], place: usize, back: usize) -> bool
     back <= place && back < sequence_len(&text[place - back..])
 }
 
-/// Whether a place is part of a UTF-8 sequence of several bytes.
+/// Whether a place is in a UTF-8 sequence of several bytes.
 pub(crate) fn is_in_sequence(text: &[u8], place: usize) -> bool
     requires { place < length text.now }
     ensures { result ≡ is_in_sequence text.now place }
@@ -100,25 +100,25 @@ fn safe(alloc: Global, marks: &[u8], text: &[u8]) -> Result<Vec<u8>, AllocError>
 /// `#+-.:=@_/`, a backslash directly before an `x`, and UTF-8 sequences of two to four bytes stay;
 /// whitespace becomes a space, and every other byte `_`. The text keeps its length.
 ///
-/// udev(7) says it of SYMLINK and NAME.
+/// udev(7) says this of SYMLINK and NAME.
 pub fn link_safe(alloc: Global, text: &[u8]) -> Result<Vec<u8>, AllocError>
     ensures { IfOk result (λ made. made.items ≡ safe link_marks text.now) }
 {
     safe(alloc, LINK_MARKS, text)
 }
 
-/// The value of an attribute as it is put into any text: as [`link_safe`] has it, but `$`, `%`, `?` and
-/// `,` stay, too.
+/// The value of an attribute as it is put into any text: as [`link_safe`] has it, but `$`, `%`, `?` and `,` also
+/// stay.
 pub fn attribute_safe(alloc: Global, text: &[u8]) -> Result<Vec<u8>, AllocError>
     ensures { IfOk result (λ made. made.items ≡ safe attribute_marks text.now) }
 {
     safe(alloc, ATTRIBUTE_MARKS, text)
 }
 
-/// A text that a device says of itself as the value of a property, as [`link_safe`] has it, but a slash
-/// does not stay.
+/// A text that a device reports about itself, as the value of a property: as [`link_safe`] has it, but a slash does
+/// not stay.
 ///
-/// So udev of systemd 257 has vendors, models and serial numbers.
+/// This is what udev of systemd 257 does with vendors, models and serial numbers.
 pub fn value_safe(alloc: Global, text: &[u8]) -> Result<Vec<u8>, AllocError>
     ensures { IfOk result (λ made. made.items ≡ safe value_marks text.now) }
 {

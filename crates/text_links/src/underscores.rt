@@ -6,7 +6,7 @@ ghost use Rattle.text_links.specs.Underscores.{underscored};
 use std::alloc::{AllocError, Global};
 use text_bytes::is_whitespace;
 
-/// The word that a text becomes which is put in part by part.
+/// The word that a text becomes, which is passed in part by part.
 #[derive(Drop)]
 pub struct Word {
     pub(crate) bytes: Vec<u8>,
@@ -32,7 +32,7 @@ impl Word {
         self.bytes.len()
     }
 
-    /// Puts more of the text after.
+    /// Adds more of the text.
     pub fn push(&mut self, more: &[u8]) -> Result<(), AllocError>
         ensures { OnOk result ((left : List ℕ) → grown self.new left ≡ grown self.old (more.now ++ left)) }
     {
@@ -43,7 +43,7 @@ impl Word {
         Ok(())
     }
 
-    /// Gives the bytes up.
+    /// Returns the bytes.
     pub fn into_bytes(self) -> Vec<u8>
         ensures { result.items ≡ self.bytes.items }
     {
@@ -52,8 +52,8 @@ impl Word {
     }
 }
 
-/// A text as one word: without the whitespace at its ends, and with one `_` for each run of it inside.
-/// So udev has what is in the place of a substitution in the name of a link.
+/// A text as one word: without the whitespace at its ends, and with one `_` for each run of it inside. This is what
+/// udev does with the value of a substitution in the name of a link.
 pub fn underscored(alloc: Global, text: &[u8]) -> Result<Vec<u8>, AllocError>
     ensures { IfOk result (λ word. word.items ≡ underscored text.now) }
 {
@@ -62,7 +62,7 @@ pub fn underscored(alloc: Global, text: &[u8]) -> Result<Vec<u8>, AllocError>
     Ok(word.into_bytes())
 }
 
-/// Puts a byte after a word, unless it is whitespace: after a gap with `_` before it.
+/// Adds a byte to a word, unless it is whitespace: after a gap with `_` before it.
 fn push_byte(word: &mut Vec<u8>, gap: bool, byte: u8) -> Result<(), AllocError>
     ensures { OnOk result (word.new.items ≡ with_byte word.old.items gap byte) }
 {

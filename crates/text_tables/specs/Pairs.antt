@@ -1,4 +1,4 @@
--- Names with values in their order, and what becomes of them as a name is set or taken away. Values
+-- Names with values in their order, and what becomes of them as a name is set or removed. Values
 -- are texts, or of any other kind.
 use Rattle.std.specs.Prelude.{◌≡◌, ℕ, Bool, not, List, [], ◌∷◌, Option, Some, None, if◌then◌else◌, filter, fold, map, take}
 use Rattle.std.specs.List.{list_any}

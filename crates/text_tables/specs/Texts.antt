@@ -1,4 +1,4 @@
--- Texts in their order, and what becomes of them as one is added or taken away.
+-- Texts in their order, and what becomes of them as one is added or removed.
 use Rattle.std.specs.Prelude.{◌≡◌, ℕ, Bool, not, List, [], ◌∷◌, ◌++◌, if◌then◌else◌, nat_eq, filter, fold, take}
 use Rattle.std.specs.Cmp.Lexicographic.{pointwise}
 use Rattle.std.specs.List.{list_any, IsDistinct}

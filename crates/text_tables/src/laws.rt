@@ -1,4 +1,4 @@
-//! What is true of texts and names as they are added and taken away, said by what is found in them.
+//! What is true of texts and names as they are added and removed, in terms of what is found in them.
 //!
 //! Each function here is empty: its contract is the law.
 ghost use Rattle.std.specs.Prelude.{◌≡◌, ◌∷◌, ◌++◌, [], ◌||◌, ◌&&◌, not, true, false, if◌then◌else◌, is_some, Some, None, List};
@@ -16,7 +16,7 @@ pub fn new_texts_stand_last()
     ensures there { (texts : List Text) (text : Text) → is_among texts text ≡ true → with_text texts text ≡ texts }
 {}
 
-/// What was taken away is not there, and all else is.
+/// What was removed is not there, and all else is.
 pub fn removed_texts_are_gone()
     ensures { (texts : List Text) (text other : Text) → is_among (without_text texts text) other ≡ (not (same_text other text) && is_among texts other) }
 {}
@@ -36,12 +36,12 @@ pub fn set_names_stay_in_place<V>()
     ensures { (pairs : List (Text × V)) (name : Text) (value : V) → named pairs name ≡ true → names (with_value pairs name value) ≡ names pairs }
 {}
 
-/// A name that was taken away has no value, and other names keep theirs.
+/// A name that was removed has no value, and other names keep theirs.
 pub fn removed_names_are_gone<V>()
     ensures { (pairs : List (Text × V)) (name other : Text) → value_of (without_name pairs name) other ≡ (if same_text other name then None else value_of pairs other) }
 {}
 
-/// A name is there where it has a value.
+/// A name is there if and only if it has a value.
 pub fn names_have_values<V>()
     ensures { (pairs : List (Text × V)) (name : Text) → named pairs name ≡ is_some (value_of pairs name) }
 {}

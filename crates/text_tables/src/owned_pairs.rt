@@ -1,4 +1,4 @@
-//! Owned names with owned values: properties that rules set and take away.
+//! Owned names with owned values: properties that rules set and remove.
 ghost use Rattle.std.specs.Prelude.{◌≡◌, [], length, option_map, map, OnOk, OnErr};
 ghost use Rattle.text_tables.specs.Texts.{AreOnce};
 ghost use Rattle.text_tables.specs.Pairs.{names, value_of, with_value, with_values, without_name, SetsFirst};
@@ -71,7 +71,7 @@ impl OwnedPairs {
     }
 
     /// Gives a name a copy of a value: a name that is there takes it in its place, another one is
-    /// added at the end. Where memory runs out, the names and values stay as they are.
+    /// added at the end. If memory runs out, the names and values stay as they are.
     pub fn set(&mut self, alloc: Global, name: &[u8], value: &[u8]) -> Result<(), AllocError>
         ensures pairs { OnOk result (self.new ≡ with_value self.old name.now value.now) }
         ensures refused { OnErr result (self.new ≡ self.old) }
@@ -90,7 +90,7 @@ impl OwnedPairs {
         Ok(())
     }
 
-    /// Sets each of these names, in their order. Where memory runs out, the first so many are set,
+    /// Sets each of these names, in their order. If memory runs out, the first so many are set,
     /// perhaps none, and the others are not.
     pub fn set_all(&mut self, alloc: Global, pairs: &Pairs<'_>) -> Result<(), AllocError>
         ensures pairs { OnOk result (self.new ≡ with_values self.old pairs.now) }

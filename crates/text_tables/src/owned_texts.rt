@@ -1,4 +1,4 @@
-//! Owned texts, each once: what rules add and take away.
+//! Owned texts, each once: what rules add and remove.
 ghost use Rattle.std.specs.Prelude.{◌≡◌, [], map, OnOk, OnErr};
 ghost use Rattle.text_tables.specs.Texts.{is_among, with_text, with_texts, without_text, AddsFirst, AreOnce};
 
@@ -68,7 +68,7 @@ impl OwnedTexts {
         self.held.contains(text)
     }
 
-    /// Adds a copy of a text at the end, unless it is there. Where memory runs out, the texts stay
+    /// Adds a copy of a text at the end, unless it is there. If memory runs out, the texts stay
     /// as they are.
     pub fn add(&mut self, alloc: Global, text: &[u8]) -> Result<(), AllocError>
         ensures texts { OnOk result (self.new ≡ with_text self.old text.now) }
@@ -79,7 +79,7 @@ impl OwnedTexts {
         Ok(())
     }
 
-    /// Adds each of these texts, in their order. Where memory runs out, the first so many are
+    /// Adds each of these texts, in their order. If memory runs out, the first so many are
     /// added, perhaps none, and the others are not.
     pub fn add_all(&mut self, alloc: Global, texts: &Texts<'_>) -> Result<(), AllocError>
         ensures texts { OnOk result (self.new ≡ with_texts self.old texts.now) }

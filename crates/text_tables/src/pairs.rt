@@ -68,8 +68,8 @@ impl<'a> Pairs<'a> {
         self.held.get(name).copied()
     }
 
-    /// Adds a name with its value, and answers whether the name is new; a name that is there takes
-    /// the value in its place. Where memory runs out, the names and values stay as they are.
+    /// Adds a name with its value, and returns whether the name is new; a name that is there takes
+    /// the value in its place. If memory runs out, the names and values stay as they are.
     pub fn add(&mut self, name: &'a [u8], value: &'a [u8]) -> Result<bool, AllocError>
         ensures new { IfOk result (λ new. new ≡ not (named self.old name.now)) }
         ensures pairs { OnOk result (self.new ≡ with_value self.old name.now value.now) }

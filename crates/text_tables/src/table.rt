@@ -75,8 +75,8 @@ impl<'a, V: Drop> Table<'a, V> {
         self.held.contains_key(name)
     }
 
-    /// Adds a name with its value, and answers whether the name is new; a name that is there takes
-    /// the value in its place. Where memory runs out, the names and values stay as they are.
+    /// Adds a name with its value, and returns whether the name is new; a name that is there takes
+    /// the value in its place. If memory runs out, the names and values stay as they are.
     pub fn add(&mut self, name: &'a [u8], value: V) -> Result<bool, AllocError>
         ensures new { IfOk result (λ new. new ≡ not (named self.old name.now)) }
         ensures pairs { OnOk result (self.new ≡ with_value self.old name.now value) }

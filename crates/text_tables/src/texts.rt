@@ -67,7 +67,7 @@ impl<'a> Texts<'a> {
         self.held.contains(text)
     }
 
-    /// Adds a text at the end, and answers whether it is new; one that is there stays alone. Where
+    /// Adds a text at the end, and returns whether it is new; one that is there stays alone. If
     /// memory runs out, the texts stay as they are.
     pub fn add(&mut self, text: &'a [u8]) -> Result<bool, AllocError>
         ensures new { IfOk result (λ new. new ≡ not (is_among self.old text.now)) }

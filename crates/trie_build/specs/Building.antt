@@ -7,7 +7,8 @@ use Rattle.trie_nodes.specs.declared.node.Node.{Node}
 use Rattle.trie_build.specs.Paths.{children_in, paths_among}
 use Rattle.trie_build.specs.Rows.{pattern_at}
 
--- a node has as many children as its path, its path's last label, and as values the patterns that are its path
+-- a node has as many children as its path has, the last label of its path, and as many values as there are patterns
+-- equal to its path
 pub record IsNodeAt (ps : List (List Item)) (q : List Item) (n : Node) : Type 0 where
   pub count : n.count ≡ length (children_in (paths_among ps) q)
   pub label : 0 < length q → n.label ≡ slice_index_or q (length q - 1) One

@@ -24,7 +24,7 @@ entry_at es i = slice_index_or es i no_entry
 abbrev pub value_of : Entry → Value
 value_of e = record { key = e.key; value = e.value; order = e.order; file = e.file; line = e.line }
 
--- the entries, the numbers of those that the values are, and the nodes
+-- the entries, the numbers of the entries that are the values, and the nodes
 pub record Content : Type 0 where
   pub entries : List Entry
   pub numbers : List ℕ

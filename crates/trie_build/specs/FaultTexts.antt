@@ -1,4 +1,4 @@
--- What is said of entries that give no trie.
+-- What is said about entries that give no trie.
 use Rattle.std.specs.Prelude.{ℕ, List, codes}
 use Rattle.trie_build.specs.declared.fault.TrieFault.{TrieFault}
 use Rattle.trie_build.specs.declared.fault.TrieFault.TheVariants.{TooLarge, Memory}

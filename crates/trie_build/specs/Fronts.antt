@@ -3,7 +3,7 @@ use Rattle.std.specs.Prelude.{ℕ, zero, suc, ◌+◌, Bool, ◌==◌, ◌&&◌,
 use Rattle.text_core.specs.declared.item.Item.{Item}
 use Rattle.text_core.specs.declared.item.Item.TheVariants.{Byte, One, Many, Among}
 
--- the byte of a label: all bytes from 250 on have one, and all sets
+-- the byte of a label: all bytes from 250 on share one, and so do all sets
 abbrev pub code : Item → ℕ
 code (Byte b) = min b 250 + 1
 code One = 252

@@ -6,14 +6,14 @@ use Rattle.std.specs.Cmp.Lexicographic.{slice_cmp}
 use Rattle.text_core.specs.declared.item.Item.{Item}
 use Rattle.text_core.specs.declared.item.Item.TheVariants.{Byte, One, Many, Among}
 
--- which labels stand first: bytes, then `?`, `*` and the sets
+-- which labels come first: bytes, then `?`, `*` and the sets
 abbrev pub label_rank : Item → ℕ
 label_rank (Byte b) = 1
 label_rank One = 2
 label_rank Many = 3
 label_rank (Among set) = 4
 
--- what labels of one rank compare by: a byte, and the bytes of a set
+-- what labels of equal rank compare by: a byte, and the bytes of a set
 abbrev pub label_bytes : Item → List ℕ
 label_bytes (Byte b) = b ∷ []
 label_bytes One = []

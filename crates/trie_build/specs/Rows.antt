@@ -28,11 +28,13 @@ pub record AreAlike (bs cs : List ℕ) (n : ℕ) : Type 0 where
   pub same : (d : ℕ) → d < n → slice_index_or bs d 0 ≡ slice_index_or cs d 0
   pub next : n < 24 → slice_index_or bs n 0 ≡ slice_index_or cs n 0 → ⊥
 
--- what the bytes of its first labels leave open of a pattern: where they have a last one, all labels before that are reported
+-- what the bytes of its first labels leave open of a pattern: if there is a last one, they determine all labels
+-- before that
 abbrev pub untold : List ℕ → List Item → List Item
 untold front p = if slice_index_or front 23 0 == 0 then p else drop (min (length p) 23) p
 
--- how a row compares with another: by the first labels, by what these leave open, and of one pattern by the numbers
+-- how a row compares with another: by the first labels, by what these leave open, and for equal patterns by the
+-- numbers
 abbrev pub row_cmp : Row → Row → Ordering
 row_cmp r s = ordering_then (slice_cmp nat_cmp r.front s.front) (ordering_then (pattern_cmp (untold r.front r.items.now) (untold s.front s.items.now)) (nat_cmp r.number s.number))
 

@@ -14,7 +14,7 @@ use Rattle.trie_build.specs.Paths.{paths_of}
 abbrev pub text_cmp : List ℕ → List ℕ → Ordering
 text_cmp s t = slice_cmp nat_cmp s t
 
--- the bytes of a label's set, where it has one
+-- the bytes of a label's set, if it has one
 abbrev pub set_in : Item → List (List ℕ)
 set_in (Byte b) = []
 set_in One = []

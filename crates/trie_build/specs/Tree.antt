@@ -5,7 +5,7 @@ use Rattle.trie_build.specs.Distinct.{IsIn, Rises}
 use Rattle.trie_build.specs.Order.{path_cmp}
 use Rattle.trie_build.specs.Paths.{children_in}
 
--- paths that rise, the root's among them, and with each but that one its parent's
+-- paths that rise, the root's among them, and with each other path that of its parent
 pub record IsTree (ps : List (List Item)) : Type 0 where
   pub rises : Rises path_cmp ps
   pub root : IsIn [] ps

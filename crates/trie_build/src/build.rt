@@ -1,7 +1,7 @@
 //! The nodes of the trie of sorted patterns, level by level.
 //!
-//! The groups of rows are in the order of the nodes. Each is cut once into its children, which are
-//! added after all: so the nodes come by the length of their paths, and then label by label.
+//! The groups of rows are in the order of the nodes. Each is cut once into its children, which are added at the
+//! end: so the nodes are ordered by the length of their paths, and then label by label.
 ghost use Rattle.std.specs.Prelude.{◌≡◌, ◌-◌, ◌<◌, ◌≤◌, All, IfOk, MatchResult, length};
 ghost use Rattle.hwdb_lookup.specs.Bounds.{max_entries};
 ghost use Rattle.text_core.specs.declared.item.Item.TheVariants.{One};
@@ -22,7 +22,7 @@ use trie_nodes::Node;
 /// How many nodes a trie may have.
 const MAX_NODES: usize = 1 << 26;
 
-/// The label that leads to a group; that of the root, to which none leads, is `?`.
+/// The label that leads to a group; for the root, to which none leads, `?`.
 fn last_label(rows: &[Row<'_>], group: Group) -> Item
     requires group { IsGroup (patterns rows.now) group }
     requires fronts { All HasFront rows.now }
@@ -35,7 +35,7 @@ fn last_label(rows: &[Row<'_>], group: Group) -> Item
     label_of(rows, group.depth - 1, group.start as usize)
 }
 
-/// The nodes of the trie of sorted patterns. There are too many where they are more than 2^26.
+/// The nodes of the trie of sorted patterns. More than 2^26 are too many.
 pub(crate) fn nodes_of(alloc: Global, sorted: Sorted<'_, '_>) -> Result<Vec<Node>, TrieFault>
     requires few { length (patterns sorted.rows.now) ≤ max_entries }
     requires up { IsSorted (patterns sorted.rows.now) }

@@ -10,7 +10,7 @@ pub enum TrieFault {
     /// 1: there would be more than 2^26 nodes, there are more than 2^24 entries, or the index file would have
     /// more than 2^32 - 1 bytes.
     TooLarge,
-    /// 2: memory runs out.
+    /// 2: memory ran out.
     Memory,
 }
 

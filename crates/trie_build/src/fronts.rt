@@ -1,7 +1,7 @@
 //! The first labels of a pattern as bytes, for a quick sort.
 //!
-//! Most patterns differ in their first labels, and a row that holds a byte for each of these is
-//! compared without a look at its pattern, which stands elsewhere in memory.
+//! Most patterns differ in their first labels, and a row that holds a byte for each of these is compared without a
+//! look at its pattern, which is elsewhere in memory.
 ghost use Rattle.std.specs.Prelude.{◌≡◌, ◌<◌, IfSome, OnSome};
 ghost use Rattle.text_core.specs.declared.item.Item.{Item};
 ghost use Rattle.trie_build.specs.Fronts.{behind, code, codes, first_code, is_exact};
@@ -11,7 +11,7 @@ use text_core::Item;
 /// How many labels of a pattern have a byte in its row.
 pub(crate) const FRONT: usize = 24;
 
-/// The byte of a label: in the order of labels, one for all high bytes and one for all sets.
+/// The byte of a label: the codes are in the order of labels, with one for all high bytes and one for all sets.
 fn code_of(label: &Item) -> u8
     ensures { result ≡ code label.now }
 {
@@ -30,7 +30,7 @@ fn is_exact(code: u8) -> bool
     code != 251 && code != 254
 }
 
-/// The byte of a pattern's first label; 0 where it has none.
+/// The byte of a pattern's first label; 0 if it has none.
 fn first_code(pattern: &[Item]) -> u8
     ensures { result ≡ first_code pattern.now }
 {
@@ -40,7 +40,7 @@ fn first_code(pattern: &[Item]) -> u8
     }
 }
 
-/// What is left of a pattern after its first label, where its byte says which that is.
+/// What is left of a pattern after its first label, if its byte says which that is.
 fn behind(pattern: &[Item]) -> &[Item]
     ensures { result.now ≡ behind pattern.now }
 {
@@ -50,7 +50,7 @@ fn behind(pattern: &[Item]) -> &[Item]
     }
 }
 
-/// The label that a byte of a front is of, where it is of one alone.
+/// The label that a byte of a front is for, if it is for one alone.
 pub(crate) fn label_by(byte: u8) -> Option<Item>
     ensures some { OnSome result (0 < byte) }
     ensures label { IfSome result (λ x. (y : Item) → code y ≡ byte → y ≡ x) }

@@ -1,7 +1,7 @@
 //! Ranges of the sorted patterns that begin alike.
 //!
-//! Each node of a trie is such a range: first stand the patterns that end there, then for each label
-//! those that go on with it.
+//! Each node of a trie is such a range: first come the patterns that end there, then for each label those that go
+//! on with it.
 ghost use Rattle.std.specs.Prelude.{◌≡◌, ◌+◌, ◌<◌, ◌≤◌, ◌^◌, All, OnOk, length, take, ℕ};
 ghost use Rattle.trie_build.specs.Groups.{AreChildren, IsGroup, IsRun, IsSplit, label_at};
 ghost use Rattle.trie_build.specs.Rows.{AreShared, HasFront, IsSorted, pattern_at, patterns};
@@ -22,7 +22,7 @@ pub(crate) struct Group {
     pub(crate) depth: usize,
 }
 
-/// Where the rows of a group begin whose patterns are longer than its path.
+/// The first row of a group whose pattern is longer than the group's path.
 pub(crate) fn longer_from(rows: &[Row<'_>], group: Group) -> usize
     requires sorted { IsSorted (patterns rows.now) }
     requires group { IsGroup (patterns rows.now) group }
@@ -37,7 +37,7 @@ pub(crate) fn longer_from(rows: &[Row<'_>], group: Group) -> usize
     group.end as usize
 }
 
-/// The label of a row after its first labels: as its front tells, or else as its pattern does.
+/// The label of a row after its first labels: by its front, or else by its pattern.
 pub(crate) fn label_of(rows: &[Row<'_>], depth: usize, at: usize) -> Item
     requires within { at < length (patterns rows.now) }
     requires fronts { All HasFront rows.now }
@@ -53,7 +53,7 @@ pub(crate) fn label_of(rows: &[Row<'_>], depth: usize, at: usize) -> Item
     items_at(rows, at)[depth]
 }
 
-/// Where the run of rows ends that have the same label as the first, in a group whose patterns go on.
+/// The end of the run of rows that have the same label as the first, in a group whose patterns go on.
 fn run_end(sorted: Sorted<'_, '_>, start: usize, end: usize, depth: usize) -> usize
     requires shared { AreShared (patterns sorted.rows.now) sorted.shared.now }
     requires within { end ≤ length (patterns sorted.rows.now) }

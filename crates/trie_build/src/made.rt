@@ -1,4 +1,4 @@
-//! The trie of entries that were read.
+//! The trie of entries that are not too large.
 ghost use Rattle.std.specs.Prelude.{◌≡◌, IfOk};
 ghost use Rattle.hwdb_lookup.specs.Orders.{Rising};
 ghost use Rattle.trie_build.specs.Sizes.{KeepsBounds};
@@ -8,9 +8,9 @@ use crate::trie::Trie;
 use hwdb_lookup::Entry;
 use std::alloc::{AllocError, Global};
 
-/// The trie of entries that are not too large, as those are that were read from files.
+/// The trie of entries that are not too large, as entries read from files are.
 ///
-/// Fails only where there is no memory for it; the entries are dropped then.
+/// Fails only if there is no memory for it; the entries are dropped then.
 pub fn trie_of(alloc: Global, entries: Vec<Entry>) -> Result<Trie, AllocError>
     requires rising { Rising entries.items }
     requires bounds { KeepsBounds entries.items }

@@ -1,13 +1,13 @@
 //! How patterns compare, label by label.
 //!
-//! A label compares by its rank and then by its byte or its set, without a list of numbers being made.
+//! A label compares by its rank and then by its byte or its set, without making a list of numbers.
 ghost use Rattle.std.specs.Prelude.{◌≡◌};
 ghost use Rattle.trie_build.specs.Order.{label_cmp, label_rank, pattern_cmp};
 
 use std::cmp::Ordering;
 use text_core::Item;
 
-/// The rank of a label: bytes stand first, then `?`, `*` and the sets.
+/// The rank of a label: bytes come first, then `?`, `*` and the sets.
 fn rank(label: &Item) -> u8
     ensures { result ≡ label_rank label.now }
 {

@@ -1,7 +1,7 @@
 //! The entries, sorted by their patterns.
 //!
-//! Entries that begin alike then stand side by side, so that a node is a range of them. They are
-//! sorted once, by number, and stay where they are.
+//! Entries that begin alike are then side by side, so that a node is a range of them. They are sorted once, by
+//! number, and are not moved themselves.
 ghost use Rattle.std.specs.Prelude.{◌≡◌, ◌-◌, ◌<◌, ◌≤◌, ◌^◌, All, IfOk, OnOk, length, map, slice_index_or, []};
 ghost use Rattle.std.specs.List.{range_with_len};
 ghost use Rattle.std.specs.List.Sorted.{IsPermutation};
@@ -26,7 +26,8 @@ pub(crate) struct Row<'a> {
     pub(crate) number: u32,
 }
 
-/// What a row's front leaves open of its pattern: where it has a last byte, all labels before that are reported.
+/// What a row's front leaves open of its pattern: if the front has a last byte, it determines all labels before
+/// that one's.
 fn untold<'a>(row: &Row<'a>) -> &'a [Item]
     ensures { result.now ≡ untold row.now.front row.now.items.now }
 {
@@ -37,8 +38,8 @@ fn untold<'a>(row: &Row<'a>) -> &'a [Item]
     rest
 }
 
-/// How a row compares with another: by the patterns, of which the first labels mostly decide, and of
-/// one pattern by the numbers.
+/// How a row compares with another: by the patterns, which mostly differ in their first labels, and for equal
+/// patterns by the numbers.
 fn compare_rows(row: &Row<'_>, other: &Row<'_>) -> Ordering
     ensures { result ≡ row_cmp row.now other.now }
 {
@@ -67,7 +68,7 @@ fn rows_in_order<'a>(alloc: Global, entries: &'a [Entry]) -> Result<Vec<Row<'a>>
     Ok(rows)
 }
 
-/// A row for each entry, sorted by pattern, and of one pattern by number.
+/// A row for each entry, sorted by pattern, and for equal patterns by number.
 pub(crate) fn sorted_rows<'a>(
     alloc: Global,
     entries: &'a [Entry],
@@ -117,8 +118,8 @@ fn common_bytes(front: &[u8; FRONT], other: &[u8; FRONT]) -> usize
     FRONT
 }
 
-/// How many labels a row has in common with the row before it; the first has none. Mostly their fronts tell, and no
-/// pattern is looked at.
+/// How many labels a row has in common with the row before it; the first has none. Mostly their fronts decide,
+/// without a look at the patterns.
 fn shared_at(rows: &[Row<'_>], at: usize) -> usize
     requires within { at < length (patterns rows.now) }
     requires fronts { All HasFront rows.now }

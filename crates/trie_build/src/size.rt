@@ -1,7 +1,7 @@
 //! How long the index file of some entries would be.
 //!
-//! An index tells its places by 32 bits. A trie whose index would be longer is never made, so that
-//! writing one can't fail for its length.
+//! An index gives its places in 32 bits. A trie whose index would be longer is never made, so that writing one
+//! can't fail because of its length.
 ghost use Rattle.std.specs.Prelude.{◌≡◌, ◌+◌, ◌<◌, ◌≤◌, ◌++◌, ◌↔◌, IfOk, IsTrue, MatchOption, OnOk, length, sum_by};
 ghost use Rattle.hwdb_lookup.specs.Bounds.{max_entries};
 ghost use Rattle.trie_build.specs.Content.{shown};
@@ -17,8 +17,8 @@ use trie_nodes::Node;
 /// How many bytes an index may have.
 const MAX_INDEX_LEN: u128 = (1 << 32) - 1;
 
-/// Keeps each of some texts once, sorted. What is there twice mostly does so side by side, and is
-/// dropped before the rest is sorted.
+/// Keeps each of some texts once, sorted. Equal texts are mostly side by side, and are dropped before the rest is
+/// sorted.
 fn keep_distinct(texts: &mut Vec<&[u8]>)
     ensures { shown texts.new.items ≡ distinct text_cmp (shown texts.old.items) }
 {
@@ -27,7 +27,7 @@ fn keep_distinct(texts: &mut Vec<&[u8]>)
     texts.dedup();
 }
 
-/// Adds the bytes of a label's set, where it has one.
+/// Adds the bytes of a label's set, if it has one.
 fn push_set<'a>(sets: &mut Vec<&'a [u8]>, label: &'a Item) -> Result<(), AllocError>
     ensures { OnOk result (shown sets.new.items ≡ shown sets.old.items ++ set_in label.now) }
 {
@@ -61,7 +61,7 @@ pub(crate) fn names_of(alloc: Global, entries: &[Entry]) -> Result<Vec<&[u8]>, A
     Ok(names)
 }
 
-/// Whether the keys and values of entries fit into some room, and what they leave of it.
+/// What the keys and values of entries leave of some room, if they fit into it.
 fn behind_entries(entries: &[Entry], room: u128) -> Option<u128>
     ensures { MatchOption result (room < sum_by own_len entries.now) (λ left. left + sum_by own_len entries.now ≡ room) }
 {
@@ -119,7 +119,7 @@ fn texts_fit_apart(entries: &[Entry], room: u128) -> bool
 }
 
 /// Whether the index of some entries, with their nodes, is not too long even if each node had a set of its own and
-/// each entry a file of its own. Mostly so, and then neither sets nor names need be sorted.
+/// each entry a file of its own. Mostly it is not, and then neither sets nor names have to be sorted.
 fn fits_apart(entries: &[Entry], nodes: &[Node]) -> bool
     requires few { length entries.now ≤ max_entries }
     ensures { IsTrue result → index_len_by nodes.now entries.now ≤ max_index_len }

@@ -21,11 +21,11 @@ use std::ops::Range;
 use text_core::Item;
 use trie_nodes::{Database, Node, Nodes};
 
-/// A database whose patterns are a trie: a query costs what the nodes do that the modalias reaches.
+/// A database whose patterns are a trie: the cost of a query is that of the nodes that the modalias reaches.
 #[derive(Debug, Drop)]
 pub struct Trie {
-    // The entries stand last, as fields are dropped in order: a large piece that is returned after very many small
-    // ones has the C library look at each of these again.
+    // The entries are the last field, as fields are dropped in order: a large piece of memory that is returned
+    // after very many small ones makes the C library look at each of these again.
     numbers: Vec<u32>,
     nodes: Vec<Node>,
     entries: Vec<Entry>,
@@ -44,7 +44,7 @@ impl Model for Trie {
     ghost invariant = { λ t. IsTrie (record { entries = t.entries.items; numbers = t.numbers.items; nodes = t.nodes.items }) × (length t.nodes.items ≤ max_nodes) × (length t.numbers.items ≤ max_entries) × KeepsBounds t.entries.items };
 }
 
-/// What is made of entries for their trie.
+/// What is made from entries for their trie.
 #[derive(Drop)]
 struct Made {
     numbers: Vec<u32>,
@@ -69,7 +69,7 @@ fn made_of(alloc: Global, entries: &[Entry]) -> Result<Made, TrieFault>
     Ok(Made { numbers, nodes })
 }
 
-/// What is made of some entries, unless it is too large.
+/// What is made from some entries, unless it is too large.
 fn small_made_of(alloc: Global, entries: &[Entry]) -> Result<Made, TrieFault>
     requires rising { Rising entries.now }
     requires few { length entries.now ≤ max_entries }
@@ -84,12 +84,12 @@ fn small_made_of(alloc: Global, entries: &[Entry]) -> Result<Made, TrieFault>
 }
 
 impl Trie {
-    /// The trie of entries whose orders strictly rise and whose keys are not empty, as
-    /// [`rising`](hwdb_lookup::rising) tells.
+    /// The trie of entries whose orders strictly rise and whose keys are not empty, which
+    /// [`rising`](hwdb_lookup::rising) checks.
     ///
-    /// `TooLarge` comes where it would have more than 2^26 nodes, where there are more than 2^24
-    /// entries, or where its index file would have more than 2^32 - 1 bytes; `Memory` where a growth
-    /// was refused. The entries are dropped then.
+    /// `TooLarge` means that it would have more than 2^26 nodes, that there are more than 2^24 entries, or that its
+    /// index file would have more than 2^32 - 1 bytes; `Memory` means that an allocation failed. The entries are
+    /// then dropped.
     pub fn build(alloc: Global, entries: Vec<Entry>) -> Result<Trie, TrieFault>
         requires { Rising entries.items }
         ensures entries { IfOk result (λ t. t.entries ≡ entries.items) }
@@ -107,7 +107,7 @@ impl Trie {
         })
     }
 
-    /// What holds of every trie. It is called for the proofs alone, which learn it by the look at a field.
+    /// What holds for every trie. It is called only for the proofs, which learn it from the look at a field.
     fn known(&self)
         ensures { IsTrie self.now }
     {
@@ -137,8 +137,7 @@ impl Trie {
         &self.nodes
     }
 
-    /// The bytes of the sets in its patterns, each set once, sorted. Fails only where there is no memory
-    /// for the list.
+    /// The bytes of the sets in its patterns, each set once, sorted. Fails only if there is no memory for the list.
     pub fn sets(&self, alloc: Global) -> Result<Vec<&[u8]>, AllocError>
         ensures { IfOk result (λ sets. shown sets.items ≡ sets_of self.now.entries) }
     {
@@ -146,16 +145,16 @@ impl Trie {
         Ok(sets)
     }
 
-    /// The names of the files that its entries come from, each once, sorted. Fails only where there is
-    /// no memory for the list.
+    /// The names of the files that its entries come from, each once, sorted. Fails only if there is no memory for
+    /// the list.
     pub fn names(&self, alloc: Global) -> Result<Vec<&[u8]>, AllocError>
         ensures { IfOk result (λ names. shown names.items ≡ names_of self.now.entries) }
     {
         names_of(alloc, &self.entries)
     }
 
-    /// The nodes that are active at the end of a modalias, rising, and how many are active after each
-    /// length of it from 0 on, summed. Fails only where there is no memory for the lists.
+    /// The nodes that are active at the end of a modalias, rising, and how many are active after each length of it
+    /// from 0 on, summed. Fails only if there is no memory for the lists.
     pub fn visits(&self, alloc: Global, modalias: &[u8]) -> Result<(Vec<u32>, u128), AllocError>
         ensures nodes { IfOk result (λ r. r.0.items ≡ active_nodes self.now.entries modalias.now) }
         ensures count { IfOk result (λ r. r.1 ≡ active_count self.now.entries modalias.now) }

@@ -1,4 +1,4 @@
--- What the types of entries say of them.
+-- What the types of entries say about them.
 use Rattle.std.specs.Prelude.{◌≡◌, List, ℕ, length, All}
 use Rattle.hwdb_lookup.specs.declared.entry.Entry.{Entry}
 use Rattle.trie_build.specs.Sizes.{sets_of}

@@ -25,7 +25,7 @@ ending_at es p = filter (λ e. same_path e.pattern p) es
 abbrev pub value_count : List Entry → List Item → ℕ
 value_count es p = length (ending_at es p)
 
--- the entries node by node, as the values stand
+-- the entries node by node, which is the order of the values
 abbrev pub by_nodes : List Entry → List Entry
 by_nodes es = flat_map (ending_at es) (paths_of es)
 
@@ -71,7 +71,7 @@ image_node es i p = record {
 abbrev pub as_set : List ℕ → ByteSet
 as_set bits = record { bits = bits }
 
--- the text: of each value its key and its value, and after all the names of the files
+-- the text: the key and the value of each value, and after all of these the names of the files
 abbrev pub own_text : Entry → List ℕ
 own_text e = e.key ++ e.value
 

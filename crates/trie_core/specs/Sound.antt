@@ -1,4 +1,4 @@
--- Serves inner proofs only: when what is written is an index, said of the draft.
+-- Serves inner proofs only: when what is written is an index, in terms of the draft.
 use Rattle.std.specs.Prelude.{◌≡◌, ℕ, ◌+◌, ◌<◌, ◌≤◌, ◌==◌, if◌then◌else◌, List, [], length, map, sum_by, take, drop, slice_index_or}
 use Rattle.text_core.specs.declared.byte_set.ByteSet.{ByteSet}
 use Rattle.text_core.specs.declared.item.Item.{Item}
@@ -20,7 +20,7 @@ first_children d i = sum_by (λ n. n.count) (take i d.nodes)
 abbrev pub first_values : Draft → ℕ → ℕ
 first_values d i = sum_by (λ n. n.values) (take i d.nodes)
 
--- Some nodes and not too many of each, children and values that follow one another, labels that are some, texts that
+-- At least one node and not too many of each, children and values that follow one another, valid labels, texts that
 -- are in the text, and orders that rise.
 pub record IsSound (d : Draft) : Type 0 where
   pub some : 0 < length d.nodes

@@ -1,4 +1,4 @@
--- Serves inner proofs only: what is written, by the nodes and the entries that it is written of.
+-- Serves inner proofs only: what is written, by the nodes and the entries that it is written from.
 use Rattle.std.specs.Prelude.{ℕ, Bool, ◌+◌, ◌==◌, if◌then◌else◌, List, length, map, flat_map, take, drop, sum_by}
 use Rattle.std.specs.List.{range_with_len}
 use Rattle.hwdb_lookup.specs.declared.entry.Entry.{Entry}
@@ -17,7 +17,7 @@ use Rattle.trie_core.specs.Image.{all_names, label_byte, label_kind, label_set, 
 abbrev pub own_numbers : List ℕ → Node → List ℕ
 own_numbers numbers n = take n.values (drop n.first_value numbers)
 
--- the entries with some numbers
+-- the entries with these numbers
 abbrev pub named : List Entry → List ℕ → List Entry
 named es numbers = map (entry_at es) numbers
 

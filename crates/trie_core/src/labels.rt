@@ -23,7 +23,7 @@ pub(crate) fn kind_of(label: &Item) -> u8
     }
 }
 
-/// The byte of a label; 0 where it has none.
+/// The byte of a label; 0 if it has none.
 pub(crate) fn byte_of(label: &Item) -> u8
     ensures { result ≡ label_byte label.now }
 {
@@ -33,7 +33,7 @@ pub(crate) fn byte_of(label: &Item) -> u8
     }
 }
 
-/// The number of a label's set among the sets; 0 where it has none.
+/// The number of a label's set among the sets; 0 if it has none.
 pub(crate) fn set_of(sets: &[&[u8]], label: &Item) -> u32
     requires sets { AreTexts (shown sets.now) }
     requires there { (set : ByteSet) → label.now ≡ Among set → IsIn set.bits (shown sets.now) }

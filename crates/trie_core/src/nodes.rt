@@ -15,7 +15,7 @@ use index_reading::kinds::ROOT;
 use std::alloc::AllocError;
 use trie_nodes::Node;
 
-/// A node as it is written, its values standing after so many others.
+/// A node as it is written, with its values after so many others.
 fn record_of(node: &Node, is_root: bool, first_value: u32, sets: &[&[u8]]) -> NodeRecord
     requires sets { AreTexts (shown sets.now) }
     requires there { (set : ByteSet) → node.now.label ≡ Among set → IsIn set.bits (shown sets.now) }
@@ -34,7 +34,7 @@ fn record_of(node: &Node, is_root: bool, first_value: u32, sets: &[&[u8]]) -> No
     }
 }
 
-/// Adds the nodes of a trie, their values standing node by node.
+/// Adds the nodes of a trie, with their values ordered node by node.
 pub(crate) fn push_nodes(
     out: &mut Vec<u8>,
     nodes: &[Node],

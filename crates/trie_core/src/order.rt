@@ -1,7 +1,7 @@
-//! The order in which the values of an index stand: node by node.
+//! The order of the values of an index: node by node.
 //!
-//! The values of a trie stand by patterns, so that its nodes are ranges of them. Those of an index
-//! stand level by level, as its nodes do.
+//! The values of a trie are ordered by patterns, so that its nodes are ranges of them. Those of an index are
+//! ordered level by level, as its nodes are.
 ghost use Rattle.std.specs.Prelude.{◌≡◌, ◌+◌, ◌≤◌, All, IfOk, flat_map, length};
 ghost use Rattle.trie_core.specs.Writing.{own_numbers};
 

@@ -1,4 +1,4 @@
-//! Texts that stand sorted, each once: the names of files, and the bytes of sets.
+//! Sorted texts, each once: the names of files, and the bytes of sets.
 ghost use Rattle.std.specs.Prelude.{◌≡◌, ◌++◌, IfOk, OnOk, length};
 ghost use Rattle.trie_build.specs.Distinct.{IsIn, number_in};
 ghost use Rattle.trie_build.specs.Sizes.{text_cmp};
@@ -8,7 +8,7 @@ ghost use Rattle.trie_core.specs.Writing.{AreTexts};
 
 use std::alloc::AllocError;
 
-/// The number of a text among some that have it.
+/// The number of a text among some that include it.
 pub(crate) fn number_of(texts: &[&[u8]], text: &[u8]) -> u32
     requires texts { AreTexts (shown texts.now) }
     requires there { IsIn text.now (shown texts.now) }

@@ -1,6 +1,6 @@
 //! Writing the values of an index, and their texts.
 //!
-//! The values are entries that are reported by their numbers, in the order in which they are written.
+//! The values are entries, given by their numbers in the order in which they are written.
 ghost use Rattle.std.specs.Prelude.{◌≡◌, ◌+◌, ◌<◌, ◌++◌, All, IfOk, OnOk, flat_map, length, map, slice_index, take};
 ghost use Rattle.std.specs.List.{range_with_len};
 ghost use Rattle.hwdb_lookup.specs.declared.entry.Entry.{Entry};
@@ -47,7 +47,7 @@ pub(crate) fn texts_len(entries: &[Entry], order: &[u32]) -> u32
     len
 }
 
-/// Where the names of files begin in the text, after so many bytes, and where the last of them ends.
+/// Where the names of files begin in the text, which come after so many bytes, and where the last of them ends.
 pub(crate) fn places_of(alloc: Global, from: u32, names: &[&[u8]]) -> Result<Vec<u32>, AllocError>
     requires { IsSmall (from + length (all_names (shown names.now))) }
     ensures { IfOk result (λ places. places.items ≡ map (λ k. from + length (all_names (take k (shown names.now)))) (range_with_len 0 (length names.now + 1))) }
@@ -62,7 +62,7 @@ pub(crate) fn places_of(alloc: Global, from: u32, names: &[&[u8]]) -> Result<Vec
     Ok(places)
 }
 
-/// An entry as it is written, its texts beginning at a place.
+/// An entry as it is written, with its texts from a place on.
 fn record_of(entry: &Entry, place: u32, names: &[&[u8]], places: &[u32]) -> ValueRecord
     requires own { IsSmall (place + length (own_text entry.now)) }
     requires names { AreTexts (shown names.now) }

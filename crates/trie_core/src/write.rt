@@ -1,8 +1,7 @@
 //! Writing an index from a trie.
 //!
-//! The parts are written one after another into one text, of which the whole length is known before:
-//! besides it stand only the numbers of the entries in the order of the values, and where the names
-//! of the files begin.
+//! The parts are written one after another into one text, whose length is known beforehand: apart from it only the
+//! numbers of the entries, in the order of the values, and the places where the names of the files begin are held.
 ghost use Rattle.std.specs.Prelude.{◌≡◌, IfOk};
 ghost use Rattle.hwdb_lookup.specs.Bounds.{second_version};
 ghost use Rattle.index_reading.specs.Numbers.{IsSmall};
@@ -33,7 +32,7 @@ fn header_of(nodes: usize, values: usize, sets: usize, text: u32) -> Header
     }
 }
 
-/// The index file of a trie, in version 2. Fails only where there is no memory for it.
+/// The index file of a trie, in version 2. Fails only if there is no memory for it.
 pub fn write_index(alloc: Global, trie: &Trie) -> Result<Vec<u8>, AllocError>
     ensures { IfOk result (λ out. out.items ≡ image trie.now.entries) }
 {

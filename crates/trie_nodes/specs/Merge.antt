@@ -1,7 +1,7 @@
 -- Serves inner proofs only: rising lists that are merged.
 use Rattle.std.specs.Prelude.{ℕ, ◌==◌, if◌then◌else◌, List, ◌∷◌, []}
 
--- the first, or where there is none the end
+-- the first element, or the end if there is none
 abbrev pub first_or : ℕ → List ℕ → ℕ
 first_or end [] = end
 first_or end (x ∷ xs) = x

@@ -4,7 +4,7 @@ use Rattle.text_core.specs.declared.item.Item.{Item}
 use Rattle.text_core.specs.declared.item.Item.TheVariants.{Many}
 use Rattle.text_core.specs.Items.{takes}
 
--- how a node hangs on its parent
+-- the parent that a node has, and the label that leads from there to the node
 pub record Link : Type 0 where
   pub parent : ℕ
   pub label : Item

@@ -28,11 +28,11 @@ numbers nodes = range_with_len 0 (length nodes)
 abbrev pub parents : List Node → List ℕ
 parents nodes = flat_map (λ i. map (λ _. i) (children nodes i)) (numbers nodes)
 
--- how a node hangs on its parent, by the parent's number and the node
+-- the link of a node to its parent, from the parent's number and the node
 abbrev pub link : ℕ × Node → Link
 link pair = record { parent = pair.0; label = pair.1.label }
 
--- how the nodes but the root hang on their parents
+-- the links of all nodes but the root to their parents
 abbrev pub links : List Node → List Link
 links nodes = map link (zip (parents nodes) (drop 1 nodes))
 

@@ -26,7 +26,7 @@ value_at values j = slice_index_or values j no_value
 abbrev pub values_of : List Node → List Value → ℕ → List Value
 values_of nodes values i = map (value_at values) (range_with_len (node_at nodes i).first_value (node_at nodes i).values)
 
--- a node's values are among all
+-- the values of each node are among all n
 abbrev pub ValuesWithin : List Node → ℕ → Type 0
 ValuesWithin nodes n = (i : ℕ) → i < length nodes → (node_at nodes i).first_value + (node_at nodes i).values ≤ n
 

@@ -2,11 +2,11 @@
 
 use text_core::Item;
 
-/// A node of a tree whose nodes stand level by level: its label, and where its children and its
-/// values stand among all.
+/// A node of a tree whose nodes are ordered level by level: its label, and where its children and its values are
+/// among all.
 #[derive(Clone, Copy, Debug)]
 pub struct Node {
-    /// What a text has to have next to reach this node from its parent. The root's is never asked.
+    /// What a text has to have next to reach this node from its parent. The root's is never used.
     pub label: Item,
     /// The number of its first child; the others follow.
     pub first: u32,

@@ -11,8 +11,8 @@ use std::ops::Range;
 
 /// A tree of labels, the root being node 0, and the values that its nodes have.
 ///
-/// Nodes stand level by level, so that the children of a node follow one another, and each of them
-/// follows its parent.
+/// Nodes are ordered level by level, so that the children of a node follow one another, and each of them follows
+/// its parent.
 pub trait Nodes {
     /// The nodes, by number.
     ghost nodes: { Self → List Node };
@@ -21,7 +21,7 @@ pub trait Nodes {
     fn len(&self) -> u32
         ensures { result ≡ length (nodes self.now) };
 
-    /// The number of the root, which says that the nodes are a tree.
+    /// The number of the root; its contract says that the nodes are a tree.
     fn root(&self) -> u32
         ensures value { result ≡ 0 }
         ensures tree { Shape (nodes self.now) };

@@ -1,9 +1,9 @@
 //! A walk along a tree, in time that grows with the active nodes and their children.
 //!
-//! After each byte the nodes whose path fits what was read are the children of the earlier ones that
-//! take the byte, the stars among the earlier ones, and the stars below these. All three come in
-//! rising order, so one merge gives the active nodes in theirs. The lists are lent from step to step,
-//! so that a walk takes memory only while they grow.
+//! After each byte the nodes whose path fits what was read are the children of the earlier ones that take the byte,
+//! the stars among the earlier ones, and the stars below these. All three come in rising order, so one merge gives
+//! the active nodes in theirs. The lists are reused from step to step, so that a walk takes memory only while they
+//! grow.
 ghost use Rattle.std.specs.Prelude.{◌≡◌, ◌+◌, ◌*◌, ◌<◌, ◌≤◌, [], ◌++◌, IfOk, OnOk, length, min, take, drop, All, flat_map, slice_index};
 ghost use Rattle.trie_nodes.specs.Tree.{Shape, active_after, children, stars, takers, count};
 ghost use Rattle.trie_nodes.specs.Merge.{first_or, past};
@@ -94,7 +94,7 @@ fn all_stars<N: Nodes>(nodes: &N, active: &[u32], list: &mut Vec<u32>) -> Result
     Ok(())
 }
 
-/// The first of a list, or where there is none the end.
+/// The first element of a list, or the end if the list is empty.
 fn first_or(end: u32, list: &[u32]) -> u32
     ensures { result ≡ first_or end list.now }
 {
@@ -114,7 +114,7 @@ fn past(node: u32, list: &[u32]) -> &[u32]
     }
 }
 
-/// How many of a list's first numbers are after a walk that has met a node.
+/// How many of a list's first numbers a walk has passed once it has met a node.
 fn passed(node: u32, list: &[u32], at: usize) -> usize
     requires { at ≤ length list.now }
     ensures within { result ≤ length list.now }
@@ -127,7 +127,7 @@ fn passed(node: u32, list: &[u32], at: usize) -> usize
     }
 }
 
-/// The least of the firsts of three rising lists, or where all are empty the end.
+/// The least of the first elements of three rising lists, or the end if all are empty.
 fn nearest(end: u32, first: &[u32], second: &[u32], third: &[u32]) -> u32
     ensures { result ≡ min (first_or end first.now) (min (first_or end second.now) (first_or end third.now)) }
 {
@@ -215,8 +215,8 @@ fn at_start<N: Nodes>(alloc: Global, nodes: &N) -> Result<Vec<u32>, AllocError>
     Ok(list)
 }
 
-/// The nodes that are active at the end of a modalias, rising, and how many are active after each
-/// length of it from 0 on, summed. Fails only where there is no memory for the lists.
+/// The nodes that are active at the end of a modalias, rising, and how many are active after each length of it from
+/// 0 on, summed. Fails only if there is no memory for the lists.
 pub fn visits<N: Nodes>(
     alloc: Global,
     nodes: &N,

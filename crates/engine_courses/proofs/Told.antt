@@ -13,12 +13,8 @@ use Rattle.eval_rules.specs.Jumps.{is_passed}
 use Rattle.eval_rules.specs.Steps.{apply}
 use Rattle.eval_effects.specs.Since.{Since, no_since, since_behind}
 use Rattle.eval_courses.specs.Courses.{course}
-use Rattle.engine_courses.specs.Asked.{is_asked, is_of_unread, unread}
+use Rattle.engine_courses.specs.Asked.{is_asked, unread}
 use Rattle.engine_courses.specs.WhyLines.{jumping_after, passed_texts, rule_lines, sought_by, told_from, told_if_asked, told_of, unread_text, why_line, why_lines}
-
-and_false : (b : Bool) → (b && false) ≡ false
-and_false true = refl
-and_false false = refl
 
 module _ (why : List Text) where
   abbrev asked : Rule × List Text → Bool
@@ -50,8 +46,7 @@ module _ (why : List Text) where
 no_messages : (messages : List Message) (rules : List Rule) → unread [] messages rules ≡ []
 unfolding unread
 no_messages [] rules = refl
-no_messages (m ∷ messages) rules =
-    ap (λ b. cond b (m ∷ filter (λ m. is_of_unread m.kind && false) messages) (filter (λ m. is_of_unread m.kind && false) messages)) (and_false (is_of_unread m.kind)) ∙ no_messages messages rules
+no_messages (m ∷ messages) rules = no_messages messages rules
 
 no_rules : (es : List Entry) (since : Since) (jumping : Option Rule) (rules : List Rule) (s : Scene) → told_from [] es since jumping rules s ≡ []
 unfolding told_from

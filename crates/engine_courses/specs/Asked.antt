@@ -4,8 +4,6 @@ use Rattle.std.specs.List.{list_any}
 use Rattle.text_bytes.specs.Escapes.{escape_text}
 use Rattle.text_bytes.specs.Names.{colon, newline}
 use Rattle.text_bytes.specs.declared.message.Message.{Message}
-use Rattle.text_bytes.specs.declared.message.MessageKind.{MessageKind}
-use Rattle.text_bytes.specs.declared.message.MessageKind.TheVariants.{BadSyntax, UnknownKey, OperatorNotAllowed, WrongAttribute, BadValue, BadSubstitution, LineTooLong, BadPrefix, SetNotSupported, OpenAtEnd}
 use Rattle.text_tables.specs.Texts.{Text, same_text}
 use Rattle.rule_types.specs.Rules.{Rule}
 use Rattle.engine_courses.specs.Nearest.{Place, nearest}
@@ -18,27 +16,13 @@ asks text place = same_text text place.0 || same_text text (place.0 ++ colon ∷
 abbrev pub is_asked : List Text → Text → ℕ → Bool
 is_asked why file line = list_any (λ text. asks text (file, line)) why
 
--- whether a kind of message says that a line of rules was not read: V1 to V6 and V9 to V12
-abbrev pub is_of_unread : MessageKind → Bool
-is_of_unread BadSyntax = true
-is_of_unread UnknownKey = true
-is_of_unread OperatorNotAllowed = true
-is_of_unread WrongAttribute = true
-is_of_unread BadValue = true
-is_of_unread BadSubstitution = true
-is_of_unread LineTooLong = true
-is_of_unread BadPrefix = true
-is_of_unread SetNotSupported = true
-is_of_unread OpenAtEnd = true
-is_of_unread _ = false
-
 -- whether one of these rules is on a line of a file
 abbrev pub has_rule : List Rule → Text → ℕ → Bool
 has_rule rules file line = list_any (λ r. same_text r.file file && r.line == line) rules
 
--- the messages on lines that are asked for and were not read
+-- the messages on lines that are asked for and are no rule, since what the message says kept them from being read as one
 unfoldable pub unread : List Text → List Message → List Rule → List Message
-unread why messages rules = filter (λ m. is_of_unread m.kind && (is_asked why m.file m.line && not (has_rule rules m.file m.line))) messages
+unread why messages rules = filter (λ m. is_asked why m.file m.line && not (has_rule rules m.file m.line)) messages
 
 -- the places of rules and of messages
 abbrev pub places_of : List Message → List Rule → List Place

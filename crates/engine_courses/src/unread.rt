@@ -1,30 +1,11 @@
 //! Which messages are on lines that were not read.
 ghost use Rattle.std.specs.Prelude.{◌≡◌, ◌==◌, not, ◌&&◌, map};
 ghost use Rattle.text_tables.specs.Texts.{same_text};
-ghost use Rattle.engine_courses.specs.Asked.{has_rule, is_asked, is_of_unread};
+ghost use Rattle.engine_courses.specs.Asked.{has_rule, is_asked};
 
 use crate::asked::is_asked;
 use rule_types::Rule;
-use text_bytes::{Message, MessageKind};
-
-/// Whether a kind of message says that a line of rules was not read.
-fn is_of_unread(kind: MessageKind) -> bool
-    ensures { result ≡ is_of_unread kind }
-{
-    match kind {
-        MessageKind::BadSyntax
-        | MessageKind::UnknownKey
-        | MessageKind::OperatorNotAllowed
-        | MessageKind::WrongAttribute
-        | MessageKind::BadValue
-        | MessageKind::BadSubstitution
-        | MessageKind::LineTooLong
-        | MessageKind::BadPrefix
-        | MessageKind::SetNotSupported
-        | MessageKind::OpenAtEnd => true,
-        _ => false,
-    }
-}
+use text_bytes::Message;
 
 /// Whether a rule is on a line of a file.
 fn stands_at(rule: &Rule, file: &[u8], line: u32) -> bool
@@ -42,10 +23,8 @@ fn has_rule(rules: &[Rule], file: &[u8], line: u32) -> bool
 
 /// Whether a message is on a line that is asked for and was not read.
 pub(crate) fn is_unread(why: &[&str], message: &Message, rules: &[Rule]) -> bool
-    ensures { result ≡ (is_of_unread message.now.kind && (is_asked (map (λ t. t.now) why.now) message.now.file message.now.line && not (has_rule rules.now message.now.file message.now.line))) }
+    ensures { result ≡ (is_asked (map (λ t. t.now) why.now) message.now.file message.now.line && not (has_rule rules.now message.now.file message.now.line)) }
 {
     let file = message.file.as_slice();
-    is_of_unread(message.kind)
-        && is_asked(why, file, message.line)
-        && !has_rule(rules, file, message.line)
+    is_asked(why, file, message.line) && !has_rule(rules, file, message.line)
 }

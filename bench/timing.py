@@ -1,7 +1,9 @@
 """What runs take, for the scripts beside this file: the processor's time, the least of some runs that take turns, so that
 all of them meet the same machine."""
 import os
+import re
 import sys
+import tempfile
 from collections import namedtuple
 
 MILLION = 1000 * 1000
@@ -30,3 +32,11 @@ def least(runs, turns=TURNS):
     """The least that each of some runs takes, by their names."""
     taken = [{name: take(run) for name, run in runs.items()} for _ in range(turns)]
     return {name: min(turn[name] for turn in taken) for name in runs}
+
+
+def counted(run):
+    """The instructions of a run, in millions, by valgrind: the same whatever else the machine does."""
+    with tempfile.NamedTemporaryFile() as log:
+        words = ["valgrind", "--tool=cachegrind", "--cache-sim=no", "--cachegrind-out-file=/dev/null", f"--log-file={log.name}"]
+        take(run._replace(words=[*words, *run.words]))
+        return int(re.search(rb"I\s+refs:\s+([\d,]+)", log.read())[1].replace(b",", b"")) / MILLION

@@ -4,6 +4,7 @@ the definition itself compares all with all, its square is let through, and the 
 
 usage: worst_inputs.py PROGRAM [WORD]    WORD: only the cases whose names have it
 """
+import contextlib
 import os
 import struct
 import sys
@@ -139,8 +140,9 @@ def as_bytes(text):
     return text if isinstance(text, bytes) else text.encode()
 
 
-def taken(program, case, count):
-    """What a run of so much takes, in a folder of its own."""
+@contextlib.contextmanager
+def prepared(program, case, count):
+    """A run of so much, in a folder of its own."""
     words, files, block = case.make(count)
     with tempfile.TemporaryDirectory() as folder:
         os.chdir(folder)
@@ -148,9 +150,14 @@ def taken(program, case, count):
             os.makedirs(os.path.dirname(os.path.join(folder, name)), exist_ok=True)
             with open(name, "wb") as file:
                 file.write(as_bytes(text))
-        both = [take(Run([program, *words], "input", "output", (0, 1))) for _ in range(2)]
+        yield Run([program, *words], "input", "output", (0, 1))
         os.chdir("/")
-    return min(both)
+
+
+def taken(program, case, count):
+    """What a run of so much takes."""
+    with prepared(program, case, count) as run:
+        return min(take(run) for _ in range(2))
 
 
 def is_right(program, case):

@@ -9,6 +9,9 @@ use eval_rules::{Commands, Outcome};
 use std::alloc::{AllocError, Global};
 use text_bytes::Bytes;
 
+/// How many bytes most answers have at most: the room that each begins with.
+const USUAL_LEN: usize = 1024;
+
 /// The lines of the answer to an event: one for each part of its outcome that has something to say.
 ///
 /// The lines are `event ACTION PATH`, `name`, `owner`, `group`, `mode`, `priority`, `watch` or
@@ -23,7 +26,7 @@ pub fn answer_lines(
 ) -> Result<Vec<u8>, AllocError>
     ensures { IfOk result (λ lines. lines.items ≡ answer_lines event.now outcome.now) }
 {
-    let mut lines = Vec::new(alloc);
+    let mut lines = Vec::with_capacity(alloc, USUAL_LEN)?;
     push_event(alloc, &mut lines, event.action(), event.device().path())?;
     push_node(alloc, &mut lines, outcome)?;
     push_pairs(alloc, &mut lines, b"label", &outcome.labels)?;

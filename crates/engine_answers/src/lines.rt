@@ -1,5 +1,7 @@
 //! One line of each kind.
-ghost use Rattle.std.specs.Prelude.{◌≡◌, ◌++◌, codes, OnOk, option_map};
+ghost use Rattle.std.specs.Prelude.{◌≡◌, ◌++◌, codes, not, OnOk, option_map};
+ghost use Rattle.std.specs.List.{list_all};
+ghost use Rattle.text_bytes.specs.Escapes.{escape_text, is_escaped};
 ghost use Rattle.engine_answers.specs.Lines.{event_line, given_line, is_hidden, note_line, pair_line, persist_line, priority_line, run_line, shown_line, text_line, watch_line};
 
 use engine_ends::{push_place, push_word};
@@ -7,7 +9,33 @@ use eval_state::Note;
 use itoa::Buffer;
 use rule_types::RunType;
 use std::alloc::{AllocError, Global};
-use text_bytes::{Bytes, escape};
+use text_bytes::{Bytes, escape, escaped_byte};
+
+/// Whether a byte stands for itself.
+fn is_plain_byte(byte: u8) -> bool
+    ensures { result ≡ not (is_escaped byte) }
+{
+    escaped_byte(byte).is_none()
+}
+
+/// Whether all bytes of a text stand for themselves.
+fn is_plain(text: &[u8]) -> bool
+    ensures { result ≡ list_all (λ b. not (is_escaped b)) text.now }
+{
+    text.iter().all(|byte| is_plain_byte(*byte))
+}
+
+/// Puts a text after others, escaped. Mostly nothing has to be, and then it is copied as it is.
+#[tactic(auto, using(crate::proofs::Plain::plain_is_same))]
+fn push_escaped(alloc: Global, lines: &mut Vec<u8>, text: &[u8]) -> Result<(), AllocError>
+    ensures { OnOk result (lines.new.items ≡ lines.old.items ++ escape_text text.now) }
+{
+    if is_plain(text) {
+        lines.extend_from_slice(text)
+    } else {
+        lines.extend_from_slice(&escape(alloc, text)?)
+    }
+}
 
 /// Adds a line with a text.
 #[tactic(auto, unfolding(crate::specs::Lines::text_line))]
@@ -21,7 +49,7 @@ pub fn push_text(
 {
     lines.extend_from_slice(word)?;
     lines.push(b' ')?;
-    lines.extend_from_slice(&escape(alloc, text)?)?;
+    push_escaped(alloc, lines, text)?;
     lines.push(b'\n')?;
     Ok(())
 }
@@ -54,9 +82,9 @@ pub fn push_pair(
 {
     lines.extend_from_slice(word)?;
     lines.push(b' ')?;
-    lines.extend_from_slice(&escape(alloc, name)?)?;
+    push_escaped(alloc, lines, name)?;
     lines.push(b'=')?;
-    lines.extend_from_slice(&escape(alloc, value)?)?;
+    push_escaped(alloc, lines, value)?;
     lines.push(b'\n')?;
     Ok(())
 }
@@ -131,7 +159,7 @@ pub fn push_run(
     lines.extend_from_slice(b"run ")?;
     lines.extend_from_slice(kind.name())?;
     lines.push(b' ')?;
-    lines.extend_from_slice(&escape(alloc, text)?)?;
+    push_escaped(alloc, lines, text)?;
     lines.push(b'\n')?;
     Ok(())
 }
@@ -160,9 +188,9 @@ pub fn push_event(
     ensures { OnOk result (lines.new.items ≡ lines.old.items ++ event_line action.now path.now) }
 {
     lines.extend_from_slice(b"event ")?;
-    lines.extend_from_slice(&escape(alloc, action)?)?;
+    push_escaped(alloc, lines, action)?;
     lines.push(b' ')?;
-    lines.extend_from_slice(&escape(alloc, path)?)?;
+    push_escaped(alloc, lines, path)?;
     lines.push(b'\n')?;
     Ok(())
 }

@@ -11,7 +11,7 @@ use std::alloc::Global;
 use text_bytes::Profile;
 
 /// The most turns over one input.
-const MOST_TURNS: u64 = 1 << 48;
+const MAX_TURNS: u64 = 1 << 48;
 
 /// Answers the blocks of an input, over whose events rules are evaluated by a profile: each answer is written and flushed before the next read. Says whether
 /// any answer has a byte.
@@ -27,7 +27,7 @@ pub fn answer_input<A: Answering, R: Source, W: Sink>(
     output: &mut W,
 ) -> Result<bool, TurnFault>
     ensures { AnswersFinding (answer_of A.answers (asked_by profile answering.now)) result
-        (R.shown input.old) (R.shown input.new) (W.shown output.old) (W.shown output.new) }
+        (record { input = R.shown input.old; output = W.shown output.old }) (record { input = R.shown input.new; output = W.shown output.new }) }
 {
     match Session::new_as(alloc, profile, answering) {
         Ok(mut session) => make_turns(alloc, &mut session, input, output),
@@ -44,10 +44,10 @@ fn make_turns<A: Answering, R: Source, W: Sink>(
 ) -> Result<bool, TurnFault>
     requires { session.old ≡ opened session.old.answering }
     ensures { AnswersFinding (answer_of A.answers session.old.answering) result
-        (R.shown input.old) (R.shown input.new) (W.shown output.old) (W.shown output.new) }
+        (record { input = R.shown input.old; output = W.shown output.old }) (record { input = R.shown input.new; output = W.shown output.new }) }
 {
     let mut finds = false;
-    for _made in 0..MOST_TURNS {
+    for _made in 0..MAX_TURNS {
         match turn_finding(alloc, session, input, output) {
             Ok(turned) => {
                 finds |= turned.finds;

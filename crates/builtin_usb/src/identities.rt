@@ -1,11 +1,11 @@
 //! What a USB device says of itself.
 ghost use Rattle.std.specs.Prelude.{◌≡◌, ◌++◌, [], IfOk, OnOk, codes, option_map, unwrap_or};
 ghost use Rattle.std.specs.List.{list_all};
-ghost use Rattle.builtin_usb.specs.Kinds.{attribute};
+ghost use Rattle.builtin_devices.specs.Devices.{attribute};
 ghost use Rattle.builtin_usb.specs.Identities.{all_texts, from_first, full_serial, identity_of, known_as, marked, may_number, most_bytes, most_serial_bytes, says_nothing, serial_of, shown};
 
-use crate::kinds::attribute;
 use crate::units::Unit;
+use builtin_devices::attribute;
 use device_core::Device;
 use std::alloc::{AllocError, Global};
 use std::marker::Model;
@@ -13,13 +13,13 @@ use text_bytes::Bytes;
 use text_links::{underscored, value_safe};
 
 /// The most bytes of a vendor, a model or a revision that are reported.
-const MOST_BYTES: usize = 63;
+const MAX_BYTES: usize = 63;
 
 /// The most bytes of a serial number that are reported.
-const MOST_SERIAL_BYTES: usize = 511;
+const MAX_SERIAL_BYTES: usize = 511;
 
 /// The most bytes of vendor, model, serial number and instance in one text.
-const MOST_ALL_BYTES: usize = 255;
+const MAX_ALL_BYTES: usize = 255;
 
 /// What is known of a device, its texts as it has them; empty where there is none.
 #[derive(Drop)]
@@ -35,7 +35,7 @@ pub(crate) struct Identity<'a> {
 }
 
 impl<'a> Model for Identity<'a> {
-    ghost use Rattle.builtin_usb.specs.Kinds.{attribute};
+    ghost use Rattle.builtin_devices.specs.Devices.{attribute};
     ghost use Rattle.builtin_usb.specs.Identities.{IdentityValue};
 
     ghost Value = { IdentityValue };
@@ -56,14 +56,14 @@ fn shown_of(alloc: Global, most: usize, text: &[u8]) -> Result<Vec<u8>, AllocErr
 pub(crate) fn shown(alloc: Global, text: &[u8]) -> Result<Vec<u8>, AllocError>
     ensures { IfOk result (λ made. made.items ≡ shown most_bytes text.now) }
 {
-    shown_of(alloc, MOST_BYTES, text)
+    shown_of(alloc, MAX_BYTES, text)
 }
 
 /// A serial number as it is reported.
 pub(crate) fn shown_serial(alloc: Global, text: &[u8]) -> Result<Vec<u8>, AllocError>
     ensures { IfOk result (λ made. made.items ≡ shown most_serial_bytes text.now) }
 {
-    shown_of(alloc, MOST_SERIAL_BYTES, text)
+    shown_of(alloc, MAX_SERIAL_BYTES, text)
 }
 
 /// The first of two texts where something of it is reported, else the second.
@@ -233,6 +233,6 @@ pub(crate) fn full_serial(alloc: Global, identity: &Identity<'_>) -> Result<Vec<
     ensures { IfOk result (λ made. made.items ≡ full_serial identity.now) }
 {
     let mut made = all_texts(alloc, identity)?;
-    made.truncate(MOST_ALL_BYTES);
+    made.truncate(MAX_ALL_BYTES);
     Ok(made)
 }

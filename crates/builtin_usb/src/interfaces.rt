@@ -12,7 +12,7 @@ const DEVICE_BYTES: usize = 18;
 const INTERFACE_BYTES: usize = 9;
 
 /// The most interfaces that are reported.
-const MOST_INTERFACES: usize = 72;
+const MAX_INTERFACES: usize = 72;
 
 /// The kind of descriptor that says about an interface.
 const INTERFACE_KIND: u8 = 4;
@@ -102,7 +102,7 @@ fn read(alloc: Global, file: &[u8]) -> Result<Found, AllocError>
 fn add(found: &mut Vec<Interface>, interface: Interface) -> Result<(), AllocError>
     ensures { OnOk result (found.new.items ≡ with_interface found.old.items interface) }
 {
-    if found.len() < MOST_INTERFACES && !found.contains(&interface) {
+    if found.len() < MAX_INTERFACES && !found.contains(&interface) {
         found.push(interface)?;
     }
     Ok(())
@@ -147,7 +147,7 @@ fn joined(alloc: Global, found: &[Interface], is_closed: bool) -> Result<Vec<u8>
     for interface in found {
         push_interface(&mut text, interface)?;
     }
-    if !found.is_empty() && (is_closed || found.len() == MOST_INTERFACES) {
+    if !found.is_empty() && (is_closed || found.len() == MAX_INTERFACES) {
         text.push(b':')?;
     }
     Ok(text)

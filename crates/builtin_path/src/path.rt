@@ -17,7 +17,7 @@ use text_links::underscored;
 use text_tables::OwnedTexts;
 
 /// The most bytes of a tag.
-const MOST_TAG: usize = 511;
+const MAX_TAG: usize = 511;
 
 /// What a stop adds to the path.
 fn part_of(stop: &Stop) -> Option<&[u8]>
@@ -228,7 +228,7 @@ fn without_last(text: &[u8]) -> &[u8]
 fn cut_tag(text: &[u8]) -> &[u8]
     ensures { result.now ≡ cut_tag text.now }
 {
-    without_last(first_bytes(MOST_TAG, text))
+    without_last(first_bytes(MAX_TAG, text))
 }
 
 /// A text in which each byte that does not stay in a tag is a space.

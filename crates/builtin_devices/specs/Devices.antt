@@ -38,6 +38,10 @@ abbrev pub is_text : Text → Option Text → Bool
 is_text text None = false
 is_text text (Some other) = same_text text other
 
+-- an attribute of a device
+abbrev pub attribute : DeviceValue → (name : Text) → Option Text
+attribute device name = value_of device.attrs name
+
 -- what the kernel calls the type of a device
 abbrev pub type_of : DeviceValue → Option Text
 type_of device = value_of device.env (codes "DEVTYPE")

@@ -85,6 +85,11 @@ number_in base most text =
     let bare = skip_while is_whitespace text in
     option_and_then (natural (begins_with minus bare)) (size_in base most bare)
 
+-- whether a number is there, and the same
+abbrev pub is_number : ℕ → Option ℕ → Bool
+is_number number None = false
+is_number number (Some other) = number == other
+
 -- whether there is a number, and it is above zero
 abbrev pub is_above_zero : Option ℕ → Bool
 is_above_zero None = false

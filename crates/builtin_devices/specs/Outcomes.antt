@@ -1,8 +1,9 @@
 -- The outcome of a builtin, and what the block would have to report for it.
 use Rattle.std.specs.Prelude.{Bool, true, false, List, [], ◌∷◌, is_some, if◌then◌else◌}
 use Rattle.text_tables.specs.Texts.{Text, with_texts}
-use Rattle.text_tables.specs.Pairs.{Pair, value_of}
+use Rattle.text_tables.specs.Pairs.{Pair}
 use Rattle.device_core.specs.Values.{DeviceValue}
+use Rattle.builtin_devices.specs.Devices.{attribute}
 
 -- Whether a builtin succeeds, the properties in the order in which it sets them, where an empty value removes one,
 -- and names for what the block would have to report, each once.
@@ -24,5 +25,5 @@ abbrev pub needs_of : List Text → List Text
 needs_of words = with_texts [] words
 
 -- the word for an attribute, if a device lacks it
-abbrev pub lacking : DeviceValue → (attribute word : Text) → List Text
-lacking device attribute word = if is_some (value_of device.attrs attribute) then [] else word ∷ []
+abbrev pub lacking : DeviceValue → (name word : Text) → List Text
+lacking device name word = if is_some (attribute device name) then [] else word ∷ []

@@ -2,7 +2,7 @@
 ghost use Rattle.std.specs.Prelude.{◌≡◌, ◌<◌, IfOk, length, map, option_copied, option_map};
 ghost use Rattle.std.specs.List.{find};
 ghost use Rattle.device_core.specs.Values.{chain};
-ghost use Rattle.builtin_devices.specs.Devices.{above, device_before, device_by, has_type, is_at, is_of, is_text, parents_of, type_of};
+ghost use Rattle.builtin_devices.specs.Devices.{above, attribute, device_before, device_by, has_type, is_at, is_of, is_text, parents_of, type_of};
 
 use crate::files::told_devices;
 use device_core::{Device, Event};
@@ -121,6 +121,13 @@ pub fn is_text(text: &[u8], held: Option<&[u8]>) -> bool
         Some(other) => other == text,
         None => false,
     }
+}
+
+/// An attribute of a device.
+pub fn attribute<'a>(device: &Device<'a>, name: &[u8]) -> Option<&'a [u8]>
+    ensures { option_map (λ t. t.now) result ≡ attribute device.now name.now }
+{
+    device.attrs().get(name)
 }
 
 /// `DEVTYPE`, what the kernel calls the type of a device.

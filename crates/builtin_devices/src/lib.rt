@@ -4,12 +4,16 @@
 //! Functions that allocate return `AllocError` when memory runs out.
 #![tactic(auto)]
 
+mod addresses;
 mod devices;
 mod files;
+mod fronts;
 mod numbers;
 mod outcomes;
 
-pub use devices::{Devices, is_of, is_text, type_of};
+pub use addresses::{Address, address_of};
+pub use devices::{Devices, attribute, is_of, is_text, type_of};
 pub use files::{file_at, files_below};
-pub use numbers::{Base, bytes_of, digits_in, is_below_zero, name_number, number_in};
+pub use fronts::behind;
+pub use numbers::{Base, bytes_of, digits_in, is_below_zero, is_number, name_number, number_in};
 pub use outcomes::{Outcome, add_property, need_attribute};

@@ -3,7 +3,7 @@ ghost use Rattle.std.specs.Prelude.{◌≡◌, ◌≤◌, ◌<◌, ◌^◌, IfOk
 ghost use Rattle.std.specs.List.{prefix_len};
 ghost use Rattle.text_bytes.specs.Names.{minus, is_whitespace};
 ghost use Rattle.text_bytes.specs.Texts.{begins_with, skip_while};
-ghost use Rattle.builtin_devices.specs.Numbers.{bytes_of, digit_value, digits_in, is_below_zero, is_marked, name_number, number_in, size_in, unsigned, written};
+ghost use Rattle.builtin_devices.specs.Numbers.{bytes_of, digit_value, digits_in, is_below_zero, is_marked, is_number, name_number, number_in, size_in, unsigned, written};
 
 use hex::{FromHexError, decode};
 use std::alloc::{AllocError, Global};
@@ -134,6 +134,16 @@ pub fn number_in(base: Base, most: u64, text: &[u8]) -> Option<u64>
         return None;
     }
     Some(size)
+}
+
+/// Whether a number is there, and the same.
+pub fn is_number(number: u64, held: Option<u64>) -> bool
+    ensures { result ≡ is_number number held }
+{
+    match held {
+        Some(other) => number == other,
+        None => false,
+    }
 }
 
 /// Whether a text is a number below zero, and not below `-most`.

@@ -2,11 +2,10 @@
 use Rattle.std.specs.Prelude.{ℕ, ◌+◌, ◌-◌, not, ◌&&◌, Bool, List, [], ◌∷◌, codes, length, drop, take, nat_eq, Option, slice_get}
 use Rattle.std.specs.List.{concat, prefix_len, starts_with}
 use Rattle.std.specs.Option.{option_and_then}
-use Rattle.text_tables.specs.Pairs.{value_of}
 use Rattle.text_tables.specs.Texts.{Text}
 use Rattle.device_core.specs.Values.{DeviceValue}
 use Rattle.text_links.specs.Kernels.{last_component}
-use Rattle.builtin_devices.specs.Devices.{is_text}
+use Rattle.builtin_devices.specs.Devices.{attribute, is_text}
 
 -- whether a device is of a subsystem
 abbrev pub is_in : Text → DeviceValue → Bool
@@ -23,10 +22,6 @@ from_first test members = drop (prefix_len (λ m. not (test m)) members) members
 -- the folder that a path is in
 abbrev pub folder : Text → Text
 folder path = take (length path - (length (last_component path) + 1)) path
-
--- an attribute of a device
-abbrev pub attribute : DeviceValue → Text → Option Text
-attribute m name = value_of m.attrs name
 
 -- the attribute of the device of a class that has this device's name and is directly below it
 unfoldable pub class_attribute : (class name : Text) → DeviceValue → Option Text

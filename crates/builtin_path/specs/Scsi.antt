@@ -1,19 +1,20 @@
 -- SCSI: the transport that the path of a device shows, and what the device adds by it.
-use Rattle.std.specs.Prelude.{ℕ, ◌+◌, ◌-◌, ◌^◌, ◌==◌, ◌/◌, ◌%◌, Bool, false, true, not, ◌&&◌, nat_lt, List, [], ◌∷◌, ◌++◌, codes, decimal, drop, filter, filter_map, find, fold, if◌then◌else◌, is_some, length, min, Option, Some, None, option_and_then, option_map, slice_get, slice_index, take}
+use Rattle.std.specs.Prelude.{ℕ, ◌+◌, ◌-◌, ◌^◌, ◌==◌, ◌/◌, ◌%◌, Bool, false, true, not, ◌&&◌, nat_lt, List, [], ◌∷◌, ◌++◌, codes, decimal, drop, filter, filter_map, find, fold, if◌then◌else◌, is_some, length, min, Option, Some, None, option_and_then, slice_get, slice_index, take}
 use Rattle.std.specs.List.{concat, list_any, prefix_len}
-use Rattle.text_bytes.specs.Names.{close_brace, colon, minus, open_brace, slash}
-use Rattle.text_bytes.specs.Numbers.{decimal_below}
+use Rattle.text_bytes.specs.Names.{close_brace, minus, open_brace, slash}
 use Rattle.text_bytes.specs.Texts.{begins_with, split_once}
 use Rattle.text_tables.specs.Texts.{Text, is_among, same_text}
+use Rattle.text_links.specs.Encoded.{small_digits}
 use Rattle.text_links.specs.Kernels.{last_component}
 use Rattle.device_core.specs.Values.{DeviceValue}
-use Rattle.builtin_devices.specs.Devices.{is_of, is_text, type_of}
+use Rattle.builtin_devices.specs.Addresses.{address_of}
+use Rattle.builtin_devices.specs.Devices.{attribute, is_of, is_text, type_of}
 use Rattle.builtin_devices.specs.Numbers.{name_number, number_in}
+use Rattle.builtin_devices.specs.declared.addresses.Address.{Address}
 use Rattle.builtin_devices.specs.declared.numbers.Base.TheVariants.{AsWritten, Decimal}
-use Rattle.builtin_path.specs.Members.{attribute, attribute_at, begins, class_attribute, class_attribute_at, folder, from_first, row}
+use Rattle.builtin_path.specs.Members.{attribute_at, begins, class_attribute, class_attribute_at, folder, from_first, row}
 use Rattle.builtin_path.specs.Stops.{absent, adding, ending, passing}
 use Rattle.builtin_path.specs.Texts.{contains}
-use Rattle.builtin_path.specs.declared.scsi.Address.{Address}
 use Rattle.builtin_path.specs.declared.scsi.Transport.{Transport}
 use Rattle.builtin_path.specs.declared.scsi.Transport.TheVariants as transport
 use Rattle.builtin_path.specs.declared.stops.Next.TheVariants.{Fails, On}
@@ -39,29 +40,13 @@ told_by (r ∷ rows) path = if contains r.0 path then Some r.1 else told_by rows
 unfoldable pub transport_of : (path : Text) → Option Transport
 transport_of path = told_by transports path
 
--- the number before the first colon of a text, and what follows the colon
-unfoldable pub before_colon : Text → Option (ℕ × Text)
-before_colon text = option_and_then (λ cut. option_map (λ n. (n, cut.1)) (decimal_below (2 ^ 32) cut.0)) (split_once colon text)
-
--- the address in the name of a SCSI device: four numbers below 2^32 with colons in between
-unfoldable pub address_of : Text → Option Address
-address_of text =
-    option_and_then (λ host.
-    option_and_then (λ bus.
-    option_and_then (λ target.
-    option_map (λ unit. record { host = host.0; bus = bus.0; target = target.0; unit = unit })
-    (decimal_below (2 ^ 32) target.1))
-    (before_colon bus.1))
-    (before_colon host.1))
-    (before_colon text)
-
 -- the address of a device
 abbrev pub address : DeviceValue → Option Address
 address m = address_of (last_component m.path)
 
 -- a digit in base 16, and the four of a number's low 16 bits
 abbrev pub hex_digit : ℕ → ℕ
-hex_digit n = slice_index (codes "0123456789abcdef") (n % 16)
+hex_digit n = slice_index small_digits (n % 16)
 
 abbrev pub four_digits : ℕ → Text
 four_digits n = hex_digit (n / 4096) ∷ hex_digit (n / 256) ∷ hex_digit (n / 16) ∷ hex_digit n ∷ []

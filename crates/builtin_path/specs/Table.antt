@@ -6,8 +6,10 @@ use Rattle.text_bytes.specs.Numbers.{decimal_below, is_digit}
 use Rattle.text_tables.specs.Texts.{Text, is_among, same_text}
 use Rattle.text_links.specs.Kernels.{kernel_name, last_component}
 use Rattle.device_core.specs.Values.{DeviceValue, EventValue}
+use Rattle.builtin_devices.specs.Devices.{attribute}
+use Rattle.builtin_devices.specs.Fronts.{behind}
 use Rattle.builtin_devices.specs.Numbers.{name_number}
-use Rattle.builtin_path.specs.Members.{attribute, begins, row}
+use Rattle.builtin_path.specs.Members.{begins, row}
 use Rattle.builtin_path.specs.Nvme.{nvme_stop, ways_stop}
 use Rattle.builtin_path.specs.Scsi.{scsi_stop}
 use Rattle.builtin_path.specs.Stops.{adding, adding_both, ending, passing}
@@ -81,10 +83,6 @@ unfoldable pub leading_number : Text → Option (ℕ × Text)
 leading_number text =
     let digits = prefix_len is_digit text in
     option_map (λ n. (n, drop digits text)) (decimal_below (2 ^ 32) (take digits text))
-
--- what follows a start, if a text begins with it
-abbrev pub behind : (start text : Text) → Option Text
-behind start text = if begins start text then Some (drop (length start) text) else None
 
 -- the second number of a name that is a start, a number, a mark, and a number; what follows that does not count
 unfoldable pub second_number : (start mark : Text) → (name : Text) → Option ℕ

@@ -6,10 +6,10 @@ use Rattle.text_bytes.specs.Texts.{split_once}
 use Rattle.text_tables.specs.Texts.{Text, same_text}
 use Rattle.text_links.specs.Kernels.{kernel_name}
 use Rattle.device_core.specs.Values.{DeviceValue}
-use Rattle.builtin_devices.specs.Devices.{is_text, type_of}
+use Rattle.builtin_devices.specs.Devices.{attribute, is_text, type_of}
 use Rattle.builtin_devices.specs.Numbers.{number_in}
 use Rattle.builtin_devices.specs.declared.numbers.Base.TheVariants.{Hexadecimal}
-use Rattle.builtin_path.specs.Members.{attribute, row}
+use Rattle.builtin_path.specs.Members.{row}
 use Rattle.builtin_path.specs.Stops.{absent, passing}
 use Rattle.builtin_path.specs.declared.stops.Next.TheVariants.{On}
 use Rattle.builtin_path.specs.declared.stops.Share.TheVariants.{Apart}

@@ -3,8 +3,8 @@ ghost use Rattle.std.specs.Prelude.{◌≡◌, ◌∷◌, ◌≤◌, ◌==◌, I
 ghost use Rattle.std.specs.List.{prefix_len, suffix_len};
 ghost use Rattle.text_bytes.specs.Names.{slash};
 ghost use Rattle.text_links.specs.Kernels.{kernel_name, last_component};
-ghost use Rattle.builtin_devices.specs.Devices.{is_of};
-ghost use Rattle.builtin_path.specs.Members.{attribute, attribute_at, begins, class_attribute, class_attribute_at, folder, from_first, is_in, row};
+ghost use Rattle.builtin_devices.specs.Devices.{attribute, is_of};
+ghost use Rattle.builtin_path.specs.Members.{attribute_at, begins, class_attribute, class_attribute_at, folder, from_first, is_in, row};
 
 use crate::texts::concatenated;
 use builtin_devices::{is_of, is_text};

@@ -1,8 +1,8 @@
-//! SCSI: the transport that the path of a device shows, its address and its unit, and what the device adds.
+//! SCSI: the transport that the path of a device says about, its unit, and what the device adds.
 ghost use Rattle.std.specs.Prelude.{◌≡◌, ◌∷◌, ◌<◌, ◌^◌, [], codes, decimal, IfOk, IfSome, length, map, option_map};
 ghost use Rattle.std.specs.List.{concat};
-ghost use Rattle.builtin_path.specs.Members.{attribute};
-ghost use Rattle.builtin_path.specs.Scsi.{address, address_of, before_colon, firewire_stop, four_digits, hex_digit, numbered_unit, scsi_stop, told_by, transport_of, transport_stop, unit_number, unit_text};
+ghost use Rattle.builtin_devices.specs.Devices.{attribute};
+ghost use Rattle.builtin_path.specs.Scsi.{address, firewire_stop, four_digits, hex_digit, numbered_unit, scsi_stop, told_by, transport_of, transport_stop, unit_number, unit_text};
 
 use crate::members::{Member, row};
 use crate::sas::sas_stop;
@@ -10,10 +10,10 @@ use crate::scsi_hosts::other_stop;
 use crate::scsi_transports::{ata_stop, fibre_stop, guid_stop_above, iscsi_stop};
 use crate::stops::Stop;
 use crate::texts::{concatenated, contains};
-use builtin_devices::{Base, is_text, name_number, number_in, type_of};
+use builtin_devices::{Address, Base, address_of, is_text, name_number, number_in, type_of};
 use itoa::Buffer;
 use std::alloc::{AllocError, Global};
-use text_bytes::{Bytes, decimal_below, split_once};
+use text_bytes::Bytes;
 
 /// The transport by which a device of SCSI is reached, as its path shows.
 #[derive(Clone, Copy)]
@@ -42,24 +42,8 @@ const TRANSPORTS: [(&[u8], Transport); 6] = [
     (b"/VMBUS", Transport::HyperVByAcpi),
 ];
 
-/// The numbers of an address are below this.
-const NUMBERS: u64 = 1 << 32;
-
 /// The digits in base 16.
 const HEX_DIGITS: [u8; 16] = *b"0123456789abcdef";
-
-/// The address of a SCSI device.
-#[derive(Clone, Copy)]
-pub struct Address {
-    /// The number of the host.
-    pub host: u64,
-    /// The number of the bus.
-    pub bus: u64,
-    /// The number of the target.
-    pub target: u64,
-    /// The number of the unit.
-    pub unit: u64,
-}
 
 /// What a table has beside the first of its texts that is in a path.
 fn told_by(rows: &[(&[u8], Transport)], path: &[u8]) -> Option<Transport>
@@ -79,32 +63,6 @@ fn transport_of(path: &[u8]) -> Option<Transport>
     ensures { result ≡ transport_of path.now }
 {
     told_by(&TRANSPORTS, path)
-}
-
-/// The number before the first colon of a text, and what follows the colon.
-#[tactic(auto, unfolding(crate::specs::Scsi::before_colon))]
-fn before_colon(text: &[u8]) -> Option<(u64, &[u8])>
-    ensures { option_map (λ p. (p.0, p.1.now)) result ≡ before_colon text.now }
-{
-    let (number, behind) = split_once(b':', text)?;
-    Some((decimal_below(NUMBERS, number)?, behind))
-}
-
-/// The address that a SCSI device's name is.
-#[tactic(auto, unfolding(crate::specs::Scsi::address_of))]
-fn address_of(text: &[u8]) -> Option<Address>
-    ensures { result ≡ address_of text.now }
-{
-    let (host, behind) = before_colon(text)?;
-    let (bus, behind) = before_colon(behind)?;
-    let (target, behind) = before_colon(behind)?;
-    let unit = decimal_below(NUMBERS, behind)?;
-    Some(Address {
-        host,
-        bus,
-        target,
-        unit,
-    })
 }
 
 /// The address of a device.

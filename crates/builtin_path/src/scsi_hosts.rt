@@ -5,10 +5,10 @@ ghost use Rattle.std.specs.List.{list_any};
 ghost use Rattle.builtin_path.specs.Scsi.{beside_host, host_name, host_names, host_number, host_part, host_stop, hosts_stop, in_host, lower, lowest, numbered_host_stop, other_by, other_stop};
 
 use crate::members::{Member, below_first, folder};
-use crate::scsi::{Address, place_of};
+use crate::scsi::place_of;
 use crate::stops::{Next, Stop, needed};
 use crate::texts::{behind_first, concatenated, is_among};
-use builtin_devices::{Base, number_in};
+use builtin_devices::{Address, Base, number_in};
 use itoa::Buffer;
 use std::alloc::{AllocError, Global};
 use text_bytes::{Bytes, split_once};

@@ -5,10 +5,10 @@ ghost use Rattle.builtin_path.specs.Members.{class_attribute};
 ghost use Rattle.builtin_path.specs.Scsi.{ata_by, ata_place, ata_port_stop, ata_stop, braced, fibre_by, fibre_stop, guid_by, guid_stop, has_braces, is_session, iscsi_by, iscsi_stop, portal_attribute, portal_needs, portal_stop, session_stop};
 
 use crate::members::{Member, attribute_at, class_attribute_at, from_first};
-use crate::scsi::{Address, place_of, unit_text};
+use crate::scsi::{place_of, unit_text};
 use crate::stops::{Share, Stop, lost};
 use crate::texts::{behind_first, concatenated, first_bytes};
-use builtin_devices::name_number;
+use builtin_devices::{Address, name_number};
 use itoa::Buffer;
 use std::alloc::{AllocError, Global};
 use text_bytes::{Bytes, begins_with};

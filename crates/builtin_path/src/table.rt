@@ -2,8 +2,9 @@
 ghost use Rattle.std.specs.Prelude.{◌≡◌, ◌∷◌, ◌≤◌, [], IfOk, codes, decimal, drop, length, map, option_map};
 ghost use Rattle.std.specs.List.{concat, prefix_len};
 ghost use Rattle.text_bytes.specs.Numbers.{is_digit};
-ghost use Rattle.builtin_path.specs.Members.{attribute, begins, row};
-ghost use Rattle.builtin_path.specs.Table.{ap_part, ap_stop, bcma_stop, begun_tapes, beside, first_begun, behind, cciss_stop, leading_number, manner_of, named_stop, numbered_by, numbered_stop, second_by, second_number, stop, stop_as, stop_by, tape_by, tape_part, tape_stop, virtio_stop};
+ghost use Rattle.builtin_devices.specs.Devices.{attribute};
+ghost use Rattle.builtin_path.specs.Members.{begins, row};
+ghost use Rattle.builtin_path.specs.Table.{ap_part, ap_stop, bcma_stop, begun_tapes, beside, first_begun, cciss_stop, leading_number, manner_of, named_stop, numbered_by, numbered_stop, second_by, second_number, stop, stop_as, stop_by, tape_by, tape_part, tape_stop, virtio_stop};
 
 use crate::members::{Member, row};
 use crate::nvme::{nvme_stop, ways_stop};
@@ -11,7 +12,7 @@ use crate::scsi::scsi_stop;
 use crate::stops::{Next, Stop};
 use crate::texts::{concatenated, is_among};
 use crate::usb::usb_stop;
-use builtin_devices::{Devices, name_number};
+use builtin_devices::{Devices, behind, name_number};
 use itoa::Buffer;
 use std::alloc::{AllocError, Global};
 use text_bytes::{Bytes, decimal_below, is_digit};
@@ -186,13 +187,6 @@ fn leading_number(text: &[u8]) -> Option<(u64, &[u8])>
 {
     let (digits, behind) = text.split_at(leading_digits(text));
     Some((decimal_below(NUMBERS, digits)?, behind))
-}
-
-/// What follows a start, if a text begins with it.
-fn behind<'t>(start: &[u8], text: &'t [u8]) -> Option<&'t [u8]>
-    ensures { option_map (λ t. t.now) result ≡ behind start.now text.now }
-{
-    text.strip_prefix(start)
 }
 
 /// The second number of a name that is a start, a number, a mark, and a number.

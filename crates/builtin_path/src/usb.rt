@@ -3,7 +3,8 @@ ghost use Rattle.std.specs.Prelude.{◌≡◌, ◌∷◌, ◌≤◌, IfOk, IfSom
 ghost use Rattle.text_bytes.specs.Names.{minus};
 ghost use Rattle.text_bytes.specs.Texts.{split_once};
 ghost use Rattle.builtin_path.specs.Usb.{by_speed, is_at_port, port_of, port_start, port_stop, protocol_of, revision_by, revision_needs, revision_of, root, speed_needs, usb_stop};
-ghost use Rattle.builtin_path.specs.Members.{attribute, row};
+ghost use Rattle.builtin_devices.specs.Devices.{attribute};
+ghost use Rattle.builtin_path.specs.Members.{row};
 
 use crate::members::{Member, row};
 use crate::stops::{Next, Share, Stop, absent, needed};

@@ -3,7 +3,7 @@ use Rattle.std.proofs.Common.{◌≡◌, [], Option, ap, ◌∙◌, codes, unwra
 use Rattle.text_tables.specs.Texts.{Text}
 use Rattle.device_core.specs.Values.{DeviceValue}
 use Rattle.builtin_usb.specs.Identities.{IdentityValue, from_first, known_as, serial_of}
-use Rattle.builtin_usb.specs.Kinds.{attribute}
+use Rattle.builtin_devices.specs.Devices.{attribute}
 use Rattle.builtin_usb.specs.Units.{UnitValue}
 
 -- what is known, by its texts

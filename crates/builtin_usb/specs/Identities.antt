@@ -9,7 +9,7 @@ use Rattle.text_links.specs.Encoded.{encoded}
 use Rattle.text_links.specs.Safe.{safe, value_marks}
 use Rattle.text_links.specs.Underscores.{underscored}
 use Rattle.device_core.specs.Values.{DeviceValue}
-use Rattle.builtin_usb.specs.Kinds.{attribute}
+use Rattle.builtin_devices.specs.Devices.{attribute}
 use Rattle.builtin_usb.specs.Units.{UnitValue}
 
 -- what is known about a device, with its texts as it has them; empty if there are none

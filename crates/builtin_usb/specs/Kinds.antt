@@ -1,15 +1,11 @@
 -- What ID_TYPE says, by numbers that the kernel reports.
-use Rattle.std.specs.Prelude.{ℕ, ◌-◌, ◌^◌, ◌==◌, ◌&&◌, ◌||◌, Bool, false, List, [], ◌∷◌, Option, Some, None, codes, if◌then◌else◌}
+use Rattle.std.specs.Prelude.{ℕ, ◌-◌, ◌^◌, ◌==◌, ◌&&◌, ◌||◌, Bool, List, [], ◌∷◌, Option, Some, None, codes, if◌then◌else◌}
 use Rattle.std.specs.Option.{option_and_then}
 use Rattle.text_tables.specs.Texts.{Text}
-use Rattle.text_tables.specs.Pairs.{value_of}
 use Rattle.device_core.specs.Values.{DeviceValue}
-use Rattle.builtin_devices.specs.Numbers.{number_in}
+use Rattle.builtin_devices.specs.Devices.{attribute}
+use Rattle.builtin_devices.specs.Numbers.{is_number, number_in}
 use Rattle.builtin_devices.specs.declared.numbers.Base.TheVariants.{AsWritten, Hexadecimal}
-
--- an attribute of a device
-abbrev pub attribute : DeviceValue → Text → Option Text
-attribute device name = value_of device.attrs name
 
 -- the kinds of devices, by the class of an interface
 abbrev pub class_kinds : List (ℕ × Text)
@@ -65,11 +61,6 @@ subclass_number text = number_in AsWritten (2 ^ 31 - 1) text
 -- the subclass of an interface
 abbrev pub subclass_of : (interface : DeviceValue) → Option ℕ
 subclass_of interface = option_and_then subclass_number (attribute interface (codes "bInterfaceSubClass"))
-
--- whether there is a number, and it is the same
-abbrev pub is_number : ℕ → Option ℕ → Bool
-is_number number None = false
-is_number number (Some other) = number == other
 
 -- whether an interface is of class 8, storage
 abbrev pub is_storage : (interface : DeviceValue) → Bool

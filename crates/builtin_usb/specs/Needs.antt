@@ -3,14 +3,15 @@ use Rattle.std.specs.Prelude.{ℕ, Bool, false, not, ◌&&◌, ◌||◌, List, [
 use Rattle.std.specs.Option.{option_and_then, option_to_list}
 use Rattle.text_tables.specs.Texts.{Text}
 use Rattle.device_core.specs.Values.{DeviceValue, EventValue}
-use Rattle.builtin_devices.specs.Devices.{is_of, is_text, kernel_of, parents_of, type_of}
+use Rattle.builtin_devices.specs.Addresses.{address_of}
+use Rattle.builtin_devices.specs.Devices.{attribute, is_of, is_text, kernel_of, parents_of, type_of}
 use Rattle.builtin_devices.specs.Files.{file_at}
 use Rattle.builtin_devices.specs.Numbers.{bytes_of}
 use Rattle.builtin_devices.specs.Outcomes.{lacking}
 use Rattle.builtin_usb.specs.Identities.{says_nothing}
-use Rattle.builtin_usb.specs.Kinds.{attribute, class_of, is_storage, takes_scsi}
+use Rattle.builtin_usb.specs.Kinds.{class_of, is_storage, takes_scsi}
 use Rattle.builtin_usb.specs.Subjects.{is_usb_device}
-use Rattle.builtin_usb.specs.Units.{UnitValue, target_and_unit, unit_texts}
+use Rattle.builtin_usb.specs.Units.{UnitValue, unit_texts}
 
 -- whether a device of a subsystem has no type
 abbrev pub is_untyped : (subsystem : Text) → DeviceValue → Bool
@@ -69,7 +70,7 @@ first_absent unit =
 -- the words for what a SCSI device lacks, whose texts are asked for if its name gives an instance
 abbrev pub unit_words : Option DeviceValue → List Text
 unit_words None = []
-unit_words (Some unit) = if is_some (target_and_unit (kernel_of unit)) then option_to_list (first_absent (unit_texts (Some unit))) else []
+unit_words (Some unit) = if is_some (address_of (kernel_of unit)) then option_to_list (first_absent (unit_texts (Some unit))) else []
 
 -- the bytes of the file of descriptors of a device, which the block gives in hexadecimal digits
 abbrev pub descriptors_at : EventValue → DeviceValue → Option (List ℕ)

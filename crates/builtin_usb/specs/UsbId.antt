@@ -4,9 +4,10 @@ use Rattle.std.specs.Option.{option_and_then}
 use Rattle.text_tables.specs.Texts.{Text}
 use Rattle.text_tables.specs.Pairs.{Pair}
 use Rattle.device_core.specs.Values.{DeviceValue, EventValue}
+use Rattle.builtin_devices.specs.Devices.{attribute}
 use Rattle.builtin_devices.specs.Outcomes.{OutcomeValue, failing, succeeding, needs_of}
 use Rattle.builtin_usb.specs.Interfaces.{packed}
-use Rattle.builtin_usb.specs.Kinds.{attribute, told_kind}
+use Rattle.builtin_usb.specs.Kinds.{told_kind}
 use Rattle.builtin_usb.specs.Subjects.{device_of, interface_of, unit_of}
 use Rattle.builtin_usb.specs.Units.{UnitValue, unit_texts}
 use Rattle.builtin_usb.specs.Identities.{IdentityValue, identity_of, named, rows, unless_empty}

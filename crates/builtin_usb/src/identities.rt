@@ -1,11 +1,11 @@
 //! What a USB device reports about itself.
 ghost use Rattle.std.specs.Prelude.{◌≡◌, ◌++◌, [], IfOk, OnOk, codes, option_map, unwrap_or};
 ghost use Rattle.std.specs.List.{list_all};
-ghost use Rattle.builtin_usb.specs.Kinds.{attribute};
+ghost use Rattle.builtin_devices.specs.Devices.{attribute};
 ghost use Rattle.builtin_usb.specs.Identities.{all_texts, from_first, full_serial, identity_of, known_as, marked, may_number, most_bytes, most_serial_bytes, says_nothing, serial_of, shown};
 
-use crate::kinds::attribute;
 use crate::units::Unit;
+use builtin_devices::attribute;
 use device_core::Device;
 use std::alloc::{AllocError, Global};
 use std::marker::Model;
@@ -35,7 +35,7 @@ pub(crate) struct Identity<'a> {
 }
 
 impl<'a> Model for Identity<'a> {
-    ghost use Rattle.builtin_usb.specs.Kinds.{attribute};
+    ghost use Rattle.builtin_devices.specs.Devices.{attribute};
     ghost use Rattle.builtin_usb.specs.Identities.{IdentityValue};
 
     ghost Value = { IdentityValue };

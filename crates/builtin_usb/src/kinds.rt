@@ -1,8 +1,8 @@
 //! What ID_TYPE says, by numbers that the kernel reports.
 ghost use Rattle.std.specs.Prelude.{◌≡◌, map, option_copied, option_map};
-ghost use Rattle.builtin_usb.specs.Kinds.{attribute, class_of, interface_kind, is_number, is_storage, kind_beside, kind_in, storage_kind, subclass_number, subclass_of, takes_scsi, told_kind};
+ghost use Rattle.builtin_usb.specs.Kinds.{class_of, interface_kind, is_storage, kind_beside, kind_in, storage_kind, subclass_number, subclass_of, takes_scsi, told_kind};
 
-use builtin_devices::{Base, number_in};
+use builtin_devices::{Base, attribute, is_number, number_in};
 use device_core::Device;
 
 /// The class of interfaces that are storage.
@@ -47,13 +47,6 @@ const UNIT_KINDS: [(u64, &[u8]); 7] = [
     (15, b"optical"),
 ];
 
-/// An attribute of a device.
-pub(crate) fn attribute<'a>(device: &Device<'a>, name: &[u8]) -> Option<&'a [u8]>
-    ensures { option_map (λ t. t.now) result ≡ attribute device.now name.now }
-{
-    device.attrs().get(name)
-}
-
 /// The kind that is beside a number.
 fn kind_beside(rows: &[(u64, &'static [u8])], number: u64) -> &'static [u8]
     ensures { result.now ≡ kind_beside (map (λ row. (row.0, row.1.now)) rows.now) number }
@@ -96,16 +89,6 @@ fn subclass_of(interface: &Device<'_>) -> Option<u64>
     ensures { result ≡ subclass_of interface.now }
 {
     subclass_number(attribute(interface, b"bInterfaceSubClass")?)
-}
-
-/// Whether there is a number, and it is the same.
-fn is_number(number: u64, held: Option<u64>) -> bool
-    ensures { result ≡ is_number number held }
-{
-    match held {
-        Some(other) => number == other,
-        None => false,
-    }
 }
 
 /// Whether an interface is storage.

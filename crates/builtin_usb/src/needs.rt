@@ -6,10 +6,12 @@ ghost use Rattle.builtin_usb.specs.Units.{unit_texts};
 ghost use Rattle.builtin_usb.specs.Needs.{asks_revision, descriptors_at, descriptors_words, device_words, first_absent, interface_words, is_untyped, lacks_type, meets_above, meets_unit, meets_untyped, product_words, revision_words, subclass_words, type_words, unit_words, untyped_among, words};
 
 use crate::identities::says_nothing;
-use crate::kinds::{attribute, class_of, is_storage, takes_scsi};
+use crate::kinds::{class_of, is_storage, takes_scsi};
 use crate::subjects::is_usb_device;
-use crate::units::{Unit, has_instance, unit_texts};
-use builtin_devices::{Devices, bytes_of, file_at, is_of, is_text, need_attribute, type_of};
+use crate::units::{Unit, has_address, unit_texts};
+use builtin_devices::{
+    Devices, attribute, bytes_of, file_at, is_of, is_text, need_attribute, type_of,
+};
 use device_core::{Device, Event};
 use std::alloc::{AllocError, Global};
 use text_tables::OwnedTexts;
@@ -191,7 +193,7 @@ fn need_of_unit(
     let Some(unit) = unit else {
         return Ok(());
     };
-    if !has_instance(alloc, unit)? {
+    if !has_address(alloc, unit)? {
         return Ok(());
     }
     if let Some(word) = first_absent(texts) {

@@ -6,9 +6,8 @@ ghost use Rattle.builtin_usb.specs.UsbId.{bus_properties, driver_text, interface
 
 use crate::identities::{Identity, full_serial, shown, shown_serial};
 use crate::interfaces::packed;
-use crate::kinds::attribute;
 use crate::needs::descriptors_at;
-use builtin_devices::add_property;
+use builtin_devices::{add_property, attribute};
 use device_core::{Device, Event};
 use std::alloc::{AllocError, Global};
 use text_bytes::Bytes;

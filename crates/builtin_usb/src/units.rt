@@ -1,18 +1,16 @@
 //! What a SCSI device reports about itself.
 ghost use Rattle.std.specs.Prelude.{◌≡◌, IfOk, is_some, option_copied, option_map};
+ghost use Rattle.builtin_devices.specs.Addresses.{address_of};
 ghost use Rattle.builtin_devices.specs.Devices.{kernel_of};
-ghost use Rattle.builtin_usb.specs.Units.{before_colon, instance_text, silent, target_and_unit, texts_of, unit_texts};
+ghost use Rattle.builtin_usb.specs.Units.{instance_text, silent, texts_of, unit_texts};
 
-use crate::kinds::attribute;
+use builtin_devices::{Address, address_of, attribute};
 use device_core::Device;
 use itoa::Buffer;
 use std::alloc::{AllocError, Global};
 use std::marker::Model;
-use text_bytes::{Bytes, decimal_below, split_once};
+use text_bytes::Bytes;
 use text_links::kernel_name;
-
-/// The numbers of a name are below this.
-const NUMBERS: u64 = 1 << 32;
 
 /// Texts of a SCSI device, as far as they count, and its target and unit.
 #[derive(Drop)]
@@ -33,33 +31,13 @@ impl<'a> Model for Unit<'a> {
     ghost view = { λ u. record { vendor = option_map (λ t. t.now) u.vendor; model = option_map (λ t. t.now) u.model; kind = option_map (λ t. t.now) u.kind; revision = option_map (λ t. t.now) u.revision; instance = u.instance } };
 }
 
-/// The number before the first colon of a text, and what follows the colon.
-#[tactic(auto, unfolding(crate::specs::Units::before_colon))]
-fn before_colon(text: &[u8]) -> Option<(u64, &[u8])>
-    ensures { option_map (λ p. (p.0, p.1.now)) result ≡ before_colon text.now }
+/// The target and the unit of an address as they are reported.
+fn instance_text(alloc: Global, address: Address) -> Result<Bytes, AllocError>
+    ensures { IfOk result (λ text. text ≡ instance_text address) }
 {
-    let (number, behind) = split_once(b':', text)?;
-    Some((decimal_below(NUMBERS, number)?, behind))
-}
-
-/// The target and the unit of the name of a SCSI device.
-#[tactic(auto, unfolding(crate::specs::Units::target_and_unit))]
-fn target_and_unit(kernel: &[u8]) -> Option<(u64, u64)>
-    ensures { result ≡ target_and_unit kernel.now }
-{
-    let (_, bus) = before_colon(kernel)?;
-    let (_, target) = before_colon(bus)?;
-    let (target, unit) = before_colon(target)?;
-    Some((target, decimal_below(NUMBERS, unit)?))
-}
-
-/// A target and a unit as they are reported.
-fn instance_text(alloc: Global, target: u64, unit: u64) -> Result<Bytes, AllocError>
-    ensures { IfOk result (λ text. text ≡ instance_text target unit) }
-{
-    let mut text = Vec::from_slice(alloc, Buffer::new().format(target).as_bytes())?;
+    let mut text = Vec::from_slice(alloc, Buffer::new().format(address.target).as_bytes())?;
     text.push(b':')?;
-    text.extend_from_slice(Buffer::new().format(unit).as_bytes())?;
+    text.extend_from_slice(Buffer::new().format(address.unit).as_bytes())?;
     Ok(Bytes::new(text))
 }
 
@@ -93,12 +71,12 @@ fn texts_of<'a>(unit: &Device<'a>, instance: Bytes) -> Unit<'a>
     }
 }
 
-/// Whether the name of a SCSI device gives an instance.
-pub(crate) fn has_instance(alloc: Global, unit: &Device<'_>) -> Result<bool, AllocError>
-    ensures { IfOk result (λ has. has ≡ is_some (target_and_unit (kernel_of unit.now))) }
+/// Whether the name of a SCSI device is an address.
+pub(crate) fn has_address(alloc: Global, unit: &Device<'_>) -> Result<bool, AllocError>
+    ensures { IfOk result (λ has. has ≡ is_some (address_of (kernel_of unit.now))) }
 {
     let kernel = kernel_name(alloc, unit.path())?;
-    Ok(target_and_unit(kernel.as_slice()).is_some())
+    Ok(address_of(kernel.as_slice()).is_some())
 }
 
 /// The texts of the SCSI device that is asked, if one is.
@@ -112,9 +90,9 @@ pub(crate) fn unit_texts<'a>(
         return Ok(silent());
     };
     let kernel = kernel_name(alloc, unit.path())?;
-    match target_and_unit(kernel.as_slice()) {
-        Some((target, number)) => {
-            let instance = instance_text(alloc, target, number)?;
+    match address_of(kernel.as_slice()) {
+        Some(address) => {
+            let instance = instance_text(alloc, address)?;
             Ok(texts_of(unit, instance))
         }
         None => Ok(silent()),

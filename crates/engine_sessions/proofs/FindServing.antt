@@ -10,7 +10,7 @@ use Rattle.engine_ends.specs.Delivery.{Tells, out_of_memory, write_failed}
 use Rattle.engine_sessions.specs.Turns.{joined, say_something}
 use Rattle.engine_sessions.specs.BlockFaults.{block_line}
 use Rattle.engine_sessions.specs.Answers.{answers_of}
-use Rattle.engine_sessions.specs.Inputs.{AnswersInput}
+use Rattle.engine_sessions.specs.Inputs.{AnswersInput, devices_of}
 use Rattle.engine_sessions.specs.Outcomes.{answered_until, input_outcome}
 use Rattle.engine_sessions.specs.Serves.{IsWhole, Serves, StopsBefore, Concludes, read_failed}
 use Rattle.engine_sessions.specs.Findings.{ConcludesFinding, FindsAll, found}
@@ -71,7 +71,7 @@ low true status e = omega (arith, e)
 low false status e = omega (arith, e)
 
 module _ (messages : Text) (answer : EventValue → Text) (status : ℕ) (before now : Streams) (told : SinkState) (says : HandsOn before.err messages told) where
-  found_well : (t : AnswersInput answer (Ok tt) before.input now.input before.out now.out) → ConcludesFinding (Ok tt) t.sent status told now.err → Serves (λ text. found (input_outcome messages answer text)) status before now
+  found_well : (t : AnswersInput answer (Ok tt) (devices_of before) (devices_of now)) → ConcludesFinding (Ok tt) t.sent status told now.err → Serves (λ text. found (input_outcome messages answer text)) status before now
   found_well t c =
       let is = ap found (outcome_well messages answer (joined t.read) t.sent t.ends.answers) in
       let few : status ≤ 1 = low (say_something t.sent) status c.0 in
@@ -90,10 +90,10 @@ module _ (messages : Text) (answer : EventValue → Text) (status : ℕ) (before
         statuses = omega (arith, few);
       }
 
-  found_fault : (fault : TurnFault) → AnswersInput answer (Err fault) before.input now.input before.out now.out → Concludes (Err fault) status told now.err → (status ≡ 0 → ⊥) → Serves (λ text. found (input_outcome messages answer text)) status before now
+  found_fault : (fault : TurnFault) → AnswersInput answer (Err fault) (devices_of before) (devices_of now) → Concludes (Err fault) status told now.err → (status ≡ 0 → ⊥) → Serves (λ text. found (input_outcome messages answer text)) status before now
   found_fault fault t c n = serves_still messages answer status before now n (answers_serve messages answer status before now (inr (record { told = told; says = says; end = Err fault; answers = t; concludes = c })))
 
-  found_by : (end : Result (Unit {0}) TurnFault) (t : AnswersInput answer end before.input now.input before.out now.out) → ConcludesFinding end t.sent status told now.err → Serves (λ text. found (input_outcome messages answer text)) status before now
+  found_by : (end : Result (Unit {0}) TurnFault) (t : AnswersInput answer end (devices_of before) (devices_of now)) → ConcludesFinding end t.sent status told now.err → Serves (λ text. found (input_outcome messages answer text)) status before now
   found_by (Ok done) t c = found_well t c
   found_by (Err Read) t c = found_fault Read t c (tells_some read_failed 3 status told now.err (omega arith) c)
   found_by (Err Write) t c = found_fault Write t c (tells_some write_failed 3 status told now.err (omega arith) c)

@@ -11,14 +11,14 @@ use Rattle.engine_ends.specs.Sources.{SourceState}
 use Rattle.engine_ends.specs.Streams.{Streams}
 use Rattle.engine_sessions.specs.Sessions.{Held, Takes, opened}
 use Rattle.engine_sessions.specs.Turns.{FailsBy, Sends, Turns, due, joined, say_something}
-use Rattle.engine_sessions.specs.Inputs.{most_turns}
+use Rattle.engine_sessions.specs.Inputs.{devices_of, most_turns}
 use Rattle.engine_sessions.specs.Findings.{AnswersFinding, FindsAll, TurnsFinding}
 use Rattle.engine_sessions.specs.Holding.{IsGoing}
 use Rattle.engine_sessions.specs.declared.session.Step.{Step}
 use Rattle.engine_sessions.specs.declared.turning.TurnFault.{TurnFault}
 use Rattle.engine_sessions.specs.declared.turning.TurnFault.TheVariants.{Read}
-use Rattle.engine_sessions.proofs.TurnLemmas.{Sent, sent-all, sent-all_texts, sent-more, sent-more_texts, sent-none, sent-none_texts}
-use Rattle.engine_sessions.proofs.Turns.{Served, failed, finished, finished_sent, served_at_start, served_at_start_sent, served_more, served_more_sent, used_up}
+use Rattle.engine_sessions.proofs.TurnLemmas.{Sent, at, sent-all, sent-all_texts, sent-more, sent-more_texts, sent-none, sent-none_texts}
+use Rattle.engine_sessions.proofs.Turns.{Served, failed, finished, finished_sent, served_at_start, served_at_start_sent, served_more, served_more_sent, shown, used_up}
 
 some_either : (m n : ℕ) → not (m + n == 0) ≡ (not (m == 0) || not (n == 0))
 some_either zero n = ap (λ k. not (k == 0)) (zero-add n)
@@ -50,8 +50,8 @@ pub finding-all : {A : Type 0} (answer : EventValue → Text) (old now : Held A)
 finding-all answer old now piece before sink finds s = s.finds_is ∙ sym (ap say_something (sent-all_texts answer old now piece before sink s.sent)) ∙ sym (ap (λ a. say_something a.texts) (sent-all answer old now piece before sink s.sent).answers)
 
 -- a turn, by what was due
-pub turn_finds : {A : Type 0} (answer : EventValue → Text) (more finds : Bool) (old new : Held A) (input input_now : SourceState) (output output_now : SinkState) (t : Turns answer more old new input input_now output output_now)
-    → finds ≡ say_something (due answer more old.pending t.piece).texts → TurnsFinding answer more finds old new input input_now output output_now
+pub turn_finds : {A : Type 0} (answer : EventValue → Text) (more finds : Bool) (old new : Held A) (input input_now : SourceState) (output output_now : SinkState) (t : Turns answer more (at old input output) (at new input_now output_now))
+    → finds ≡ say_something (due answer more old.pending t.piece).texts → TurnsFinding answer more finds (at old input output) (at new input_now output_now)
 turn_finds answer more finds old new input input_now output output_now t e = record { turn = t; finds_is = e ∙ ap (λ a. say_something a.texts) t.sends.answers }
 
 -- some turns, and whether any of their answers has a byte
@@ -63,7 +63,7 @@ pub finding_at_start : {A : Type 0} (answer : EventValue → Text) (session : He
 finding_at_start answer session input output e = record { served = served_at_start answer session input output e; finds_is = sym (ap say_something (served_at_start_sent answer session input output e)) }
 
 pub finding_more : {A : Type 0} (answer : EventValue → Text) (first session next : Held A) (input now later : SourceState) (output sink sink_later : SinkState) (turns : ℕ) (finds says : Bool)
-    → ServedFinding answer first input now output sink session turns finds → TurnsFinding answer true says session next now later sink sink_later → length next.pending ≤ most_bytes
+    → ServedFinding answer first input now output sink session turns finds → TurnsFinding answer true says (at session now sink) (at next later sink_later) → length next.pending ≤ most_bytes
     → ServedFinding answer first input later output sink_later next (turns + 1) (finds || says)
 finding_more answer first session next input now later output sink sink_later turns finds says s t fits = record {
   served = served_more answer first session next input now later output sink sink_later turns s.served t.turn fits;
@@ -72,22 +72,22 @@ finding_more answer first session next input now later output sink sink_later tu
 }
 
 pub finding_finished : {A : Type 0} (answer : EventValue → Text) (first session next : Held A) (input now later : SourceState) (output sink sink_later : SinkState) (turns : ℕ) (finds says : Bool)
-    → ServedFinding answer first input now output sink session turns finds → TurnsFinding answer false says session next now later sink sink_later → AnswersFinding answer (Ok (finds || says)) input later output sink_later
+    → ServedFinding answer first input now output sink session turns finds → TurnsFinding answer false says (at session now sink) (at next later sink_later) → AnswersFinding answer (Ok (finds || says)) (shown input output) (shown later sink_later)
 finding_finished answer first session next input now later output sink sink_later turns finds says s t = record {
   answers = finished answer first session next input now later output sink sink_later turns s.served t.turn;
   finds_is = ap₂ (λ a b. a || b) s.finds_is t.finds_is ∙ sym (something-append s.served.sent t.turn.sends.texts)
       ∙ sym (ap say_something (finished_sent answer first session next input now later output sink sink_later turns s.served t.turn));
 }
 
-pub finding_failed : {A : Type 0} (answer : EventValue → Text) (fault : TurnFault) (first session : Held A) (input now later : SourceState) (output sink sink_later : SinkState) (turns : ℕ) (finds : Bool)
-    → ServedFinding answer first input now output sink session turns finds → FailsBy answer fault session now later sink sink_later → AnswersFinding answer (Err fault) input later output sink_later
-finding_failed answer fault first session input now later output sink sink_later turns finds s f = record { answers = failed answer fault first session input now later output sink sink_later turns s.served f; finds_is = tt }
+pub finding_failed : {A : Type 0} (answer : EventValue → Text) (fault : TurnFault) (first session next : Held A) (input now later : SourceState) (output sink sink_later : SinkState) (turns : ℕ) (finds : Bool)
+    → ServedFinding answer first input now output sink session turns finds → FailsBy answer fault (at session now sink) (at next later sink_later) → AnswersFinding answer (Err fault) (shown input output) (shown later sink_later)
+finding_failed answer fault first session next input now later output sink sink_later turns finds s f = record { answers = failed answer fault first session next input now later output sink sink_later turns s.served f; finds_is = tt }
 
 pub finding_used_up : {A : Type 0} (answer : EventValue → Text) (first session : Held A) (input now : SourceState) (output sink : SinkState) (finds : Bool) → ServedFinding answer first input now output sink session most_turns finds
-    → AnswersFinding answer (Err Read) input now output sink
+    → AnswersFinding answer (Err Read) (shown input output) (shown now sink)
 finding_used_up answer first session input now output sink finds s = record { answers = used_up answer first session input now output sink s.served; finds_is = tt }
 
 -- all is answered, and what is found is reported by the status
-pub found_behind : (messages : Text) (answer : EventValue → Text) (finds : Bool) (status : ℕ) (before now : Streams) → HandsOn before.err messages now.err → AnswersFinding answer (Ok finds) before.input now.input before.out now.out → status ≡ cond finds 1 0
+pub found_behind : (messages : Text) (answer : EventValue → Text) (finds : Bool) (status : ℕ) (before now : Streams) → HandsOn before.err messages now.err → AnswersFinding answer (Ok finds) (devices_of before) (devices_of now) → status ≡ cond finds 1 0
     → FindsAll messages answer status before now
 found_behind messages answer finds status before now h a e = inr (record { told = now.err; says = h; end = Ok tt; answers = a.answers; concludes = (e ∙ ap (λ b. cond b 1 0) a.finds_is, refl) })

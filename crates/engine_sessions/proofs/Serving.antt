@@ -22,7 +22,7 @@ use Rattle.engine_sessions.proofs.AnswerLemmas.{answers_to-append}
 use Rattle.engine_sessions.proofs.LawLemmas.{until}
 use Rattle.engine_ends.specs.Delivery.{Delivers, Outcome, Tells, out_of_memory, write_failed}
 use Rattle.engine_sessions.specs.BlockFaults.{block_line}
-use Rattle.engine_sessions.specs.Inputs.{AnswersInput}
+use Rattle.engine_sessions.specs.Inputs.{AnswersInput, devices_of}
 use Rattle.engine_sessions.specs.Outcomes.{answered, answered_until, input_outcome}
 use Rattle.engine_sessions.specs.Serves.{read_failed, WritesOut, HasBegun, IsWhole, IsStatusLine, IsCutShort, TellsFailures, Serves, Concludes, StopsBefore, AnswersAll, Reports}
 
@@ -178,7 +178,7 @@ module _ (messages : Text) (answer : EventValue → Text) (status : ℕ) (before
   output_begun : (text : Text) → HasBegun before.out (joined (answers_of answer text).texts) now.out → HasBegun before.out (input_outcome messages answer text).output now.out
   output_begun text b = subst (λ o. HasBegun before.out o now.out) (sym (output_is messages (joined (answers_of answer text).texts) (length (answers_of answer text).texts) (answers_of answer text).fault)) b
 
-  served_well : (t : AnswersInput answer (Ok tt) before.input now.input before.out now.out) → Concludes (Ok tt) status told now.err → Serves (input_outcome messages answer) status before now
+  served_well : (t : AnswersInput answer (Ok tt) (devices_of before) (devices_of now)) → Concludes (Ok tt) status told now.err → Serves (input_outcome messages answer) status before now
   served_well t c =
       let is = outcome_well messages answer (joined t.read) t.sent t.ends.answers in
       record {
@@ -196,7 +196,7 @@ module _ (messages : Text) (answer : EventValue → Text) (status : ℕ) (before
         statuses = omega (arith, c.0);
       }
 
-  served_read : (t : AnswersInput answer (Err Read) before.input now.input before.out now.out) → Concludes (Err Read) status told now.err → status ≡ 3 → Serves (input_outcome messages answer) status before now
+  served_read : (t : AnswersInput answer (Err Read) (devices_of before) (devices_of now)) → Concludes (Err Read) status told now.err → status ≡ 3 → Serves (input_outcome messages answer) status before now
   served_read t c e = record {
     read = t.read;
     pieces = t.pieces;
@@ -212,7 +212,7 @@ module _ (messages : Text) (answer : EventValue → Text) (status : ℕ) (before
     statuses = omega (arith, e);
   }
 
-  served_write : (t : AnswersInput answer (Err Write) before.input now.input before.out now.out) → Concludes (Err Write) status told now.err → status ≡ 3 → Serves (input_outcome messages answer) status before now
+  served_write : (t : AnswersInput answer (Err Write) (devices_of before) (devices_of now)) → Concludes (Err Write) status told now.err → status ≡ 3 → Serves (input_outcome messages answer) status before now
   served_write t c e = record {
     read = t.read;
     pieces = t.pieces;
@@ -228,7 +228,7 @@ module _ (messages : Text) (answer : EventValue → Text) (status : ℕ) (before
     statuses = omega (arith, e);
   }
 
-  served_memory : (t : AnswersInput answer (Err (Session Memory)) before.input now.input before.out now.out) → Concludes (Err (Session Memory)) status told now.err → Serves (input_outcome messages answer) status before now
+  served_memory : (t : AnswersInput answer (Err (Session Memory)) (devices_of before) (devices_of now)) → Concludes (Err (Session Memory)) status told now.err → Serves (input_outcome messages answer) status before now
   served_memory t c = record {
     read = t.read;
     pieces = t.pieces;
@@ -245,7 +245,7 @@ module _ (messages : Text) (answer : EventValue → Text) (status : ℕ) (before
       told_failures (inl p) e f = record { failed = λ g. not_four status g p.0; well = λ h. (e, f, p.1.well ∙ says.well) }
       told_failures (inr p) e f = record { failed = λ g. inr (inr (inl (subst (λ n. Counts 1 n now.err.faults) says.well p.1.failed))); well = λ h. absurd (h p.0) }
 
-  served_block : (number : ℕ) (fault : BlockFault) (t : AnswersInput answer (Err (Session (Block number fault))) before.input now.input before.out now.out) → Concludes (Err (Session (Block number fault))) status told now.err → Serves (input_outcome messages answer) status before now
+  served_block : (number : ℕ) (fault : BlockFault) (t : AnswersInput answer (Err (Session (Block number fault))) (devices_of before) (devices_of now)) → Concludes (Err (Session (Block number fault))) status told now.err → Serves (input_outcome messages answer) status before now
   served_block number fault t (inl p) =
       let is = outcome_faulty messages answer (joined t.read) t.sent number fault t.ends.0.answers t.ends.0.numbered in
       record {
@@ -283,7 +283,7 @@ module _ (messages : Text) (answer : EventValue → Text) (status : ℕ) (before
   three line (inl p) = p.0
   three line (inr p) = p.0
 
-  served_behind : (end : Result (Unit {0}) TurnFault) → AnswersInput answer end before.input now.input before.out now.out → Concludes end status told now.err → Serves (input_outcome messages answer) status before now
+  served_behind : (end : Result (Unit {0}) TurnFault) → AnswersInput answer end (devices_of before) (devices_of now) → Concludes end status told now.err → Serves (input_outcome messages answer) status before now
   served_behind (Ok done) t c = served_well t c
   served_behind (Err Read) t c = served_read t c (three read_failed c)
   served_behind (Err Write) t c = served_write t c (three write_failed c)

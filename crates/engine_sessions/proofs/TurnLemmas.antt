@@ -15,7 +15,7 @@ use Rattle.engine_ends.specs.Sources.{SourceState}
 use Rattle.engine_sessions.specs.Answers.{answers_to, well, counted, number_behind}
 use Rattle.engine_sessions.specs.Known.{known_blocks}
 use Rattle.engine_sessions.specs.Sessions.{Held, closed, Takes, Ends, FailsBy}
-use Rattle.engine_sessions.specs.Turns.{HasEnded, Sends, SendsDue, SendsUntil, due, Reads, FailsBy as TurnFailsBy}
+use Rattle.engine_sessions.specs.Turns.{HasEnded, Sends, Situation, SendsDue, SendsUntil, due, Reads, FailsBy as TurnFailsBy}
 use Rattle.engine_sessions.specs.Holding.{IsGoing, IsOpen, held, BreaksOffAt}
 use Rattle.engine_sessions.specs.declared.session.Step.{Step}
 use Rattle.engine_sessions.specs.declared.session.SessionFault.{SessionFault}
@@ -25,6 +25,10 @@ use Rattle.engine_sessions.specs.declared.turning.TurnFault.TheVariants.{Read, W
 use Rattle.engine_sessions.proofs.KnownLemmas.{known-fits, known-append}
 use Rattle.engine_sessions.proofs.AnswerLemmas.{with_texts, answers_to-append, answers_to-faulty, counted-add}
 use Rattle.engine_sessions.proofs.SendLemmas.{sends-none, sends-more}
+
+-- a session with its devices
+abbrev pub at : {A : Type 0} → Held A → SourceState → SinkState → Situation A
+at session input output = record { session = session; input = input; output = output }
 
 -- the first bytes of a piece were taken, and their answers sent
 pub record Sent {A : Type 0} (answer : EventValue → Text) (old : Held A) (part : Text) (now : Held A) (before sink : SinkState) : Type 0 where
@@ -215,9 +219,9 @@ ended_by Ended old now next blocks e going f = let both : true ≡ false = sym f
 
 -- a turn that fails after its read
 pub turn_fails : {A : Type 0} (answer : EventValue → Text) (fault : TurnFault) (old : Held A) (input input_now : SourceState) (output output_now : SinkState) (more : Bool) (piece : Text)
-    → old.ended ≡ false → Reads more input piece input_now → SendsUntil fault (due answer more old.pending piece) old.answered output output_now → TurnFailsBy answer fault old input input_now output output_now
-turn_fails answer Read old input input_now output output_now more piece going reads s = absurd s
-turn_fails answer Write old input input_now output output_now more piece going reads s = record { goes_on = going; more = more; piece = piece; reads = reads; sends = s }
-turn_fails answer (Session (Block number fault)) old input input_now output output_now more piece going reads s = record { goes_on = going; more = more; piece = piece; reads = reads; sends = s }
-turn_fails answer (Session Memory) old input input_now output output_now more piece going reads s = record { goes_on = going; more = more; piece = piece; reads = reads; sends = s }
-turn_fails answer (Session Ended) old input input_now output output_now more piece going reads s = absurd s
+    → old.ended ≡ false → Reads more input piece input_now → SendsUntil fault (due answer more old.pending piece) old.answered output output_now → (new : Held A) → TurnFailsBy answer fault (at old input output) (at new input_now output_now)
+turn_fails answer Read old input input_now output output_now more piece going reads s new = absurd s
+turn_fails answer Write old input input_now output output_now more piece going reads s new = record { goes_on = going; more = more; piece = piece; reads = reads; sends = s }
+turn_fails answer (Session (Block number fault)) old input input_now output output_now more piece going reads s new = record { goes_on = going; more = more; piece = piece; reads = reads; sends = s }
+turn_fails answer (Session Memory) old input input_now output output_now more piece going reads s new = record { goes_on = going; more = more; piece = piece; reads = reads; sends = s }
+turn_fails answer (Session Ended) old input input_now output output_now more piece going reads s new = absurd s

@@ -24,8 +24,9 @@ use Rattle.engine_sessions.specs.declared.turning.TurnFault.{TurnFault}
 use Rattle.engine_sessions.specs.declared.turning.TurnFault.TheVariants.{Read, Write, Session}
 use Rattle.engine_sessions.proofs.AnswerLemmas.{with_texts, answers_to-append, counted-add}
 use Rattle.engine_sessions.proofs.SendLemmas.{sends-none, sends-more}
+use Rattle.engine_sessions.proofs.TurnLemmas.{at}
 use Rattle.engine_sessions.proofs.LawLemmas.{Given, until, complete_well, behind_well, first_answers, stays_faulty}
-use Rattle.engine_sessions.specs.Inputs.{most_turns, all_but_last, HasSentDue, HoldsFew, StopsAtBlock, ReadsWell, ReadsToFault, AnswersInput}
+use Rattle.engine_sessions.specs.Inputs.{most_turns, all_but_last, HasSentDue, Devices, HoldsFew, StopsAtBlock, ReadsWell, ReadsToFault, AnswersInput}
 
 -- no more is held, neither before one of these pieces nor after them, than a block may have
 abbrev pub HoldsUpTo : List Text → Type 0
@@ -114,6 +115,10 @@ to_fault turns made input now later e w f = record {
   failed = subst (λ n. Counts 1 n later.faults) w.well f.failed;
 }
 
+-- what an input and an output show
+abbrev pub shown : SourceState → SinkState → Devices
+shown input output = record { input = input; output = output }
+
 pub served_at_start : {A : Type 0} (answer : EventValue → Text) (session : Held A) (input : SourceState) (output : SinkState) → session ≡ opened session.answering → Served answer session input input output output session 0
 served_at_start answer session input output e = record {
   read = [];
@@ -145,7 +150,7 @@ given_more answer session next text piece sent sink later g s = record {
 }
 
 pub served_more : {A : Type 0} (answer : EventValue → Text) (first session next : Held A) (input now later : SourceState) (output sink sink_later : SinkState) (turns : ℕ)
-    → Served answer first input now output sink session turns → Turns answer true session next now later sink sink_later → length next.pending ≤ most_bytes → Served answer first input later output sink_later next (turns + 1)
+    → Served answer first input now output sink session turns → Turns answer true (at session now sink) (at next later sink_later) → length next.pending ≤ most_bytes → Served answer first input later output sink_later next (turns + 1)
 served_more answer first session next input now later output sink sink_later turns s t fits =
     let given : Given answer (joined (s.read ++ t.piece ∷ [])) (s.sent ++ t.sends.texts) next = rw joined-push (given_more answer session next (joined s.read) t.piece s.sent sink sink_later s.given t.sends) in
     let held : length (rest_of (joined (s.read ++ t.piece ∷ []))) ≤ most_bytes = subst (λ text. length text ≤ most_bytes) (sym given.pending) fits in
@@ -165,7 +170,7 @@ served_more answer first session next input now later output sink sink_later tur
     }
 
 pub served_more_sent : {A : Type 0} (answer : EventValue → Text) (first session next : Held A) (input now later : SourceState) (output sink sink_later : SinkState) (turns : ℕ)
-    → (s : Served answer first input now output sink session turns) (t : Turns answer true session next now later sink sink_later) (fits : length next.pending ≤ most_bytes)
+    → (s : Served answer first input now output sink session turns) (t : Turns answer true (at session now sink) (at next later sink_later)) (fits : length next.pending ≤ most_bytes)
     → (served_more answer first session next input now later output sink sink_later turns s t fits).sent ≡ s.sent ++ t.sends.texts
 unfolding served_more
 served_more_sent answer first session next input now later output sink sink_later turns s t fits = refl
@@ -187,7 +192,7 @@ none_left_behind : (now later : Option Text) (piece : Text) → piece ≡ [] →
 none_left_behind now later piece e f h = subst NoneLeft (f ∙ ap (λ p. led_by p later) e ∙ led_by-nil later) h
 
 pub finished : {A : Type 0} (answer : EventValue → Text) (first session next : Held A) (input now later : SourceState) (output sink sink_later : SinkState) (turns : ℕ)
-    → Served answer first input now output sink session turns → Turns answer false session next now later sink sink_later → AnswersInput answer (Ok tt) input later output sink_later
+    → Served answer first input now output sink session turns → Turns answer false (at session now sink) (at next later sink_later) → AnswersInput answer (Ok tt) (shown input output) (shown later sink_later)
 finished answer first session next input now later output sink sink_later turns s t = record {
   read = s.read ++ t.piece ∷ [];
   pieces = one_more input now later s.read t.piece s.pieces t.reads.gives.pieces;
@@ -206,7 +211,7 @@ finished answer first session next input now later output sink sink_later turns 
 }
 
 pub finished_sent : {A : Type 0} (answer : EventValue → Text) (first session next : Held A) (input now later : SourceState) (output sink sink_later : SinkState) (turns : ℕ)
-    → (s : Served answer first input now output sink session turns) (t : Turns answer false session next now later sink sink_later)
+    → (s : Served answer first input now output sink session turns) (t : Turns answer false (at session now sink) (at next later sink_later))
     → (finished answer first session next input now later output sink sink_later turns s t).sent ≡ s.sent ++ t.sends.texts
 unfolding finished
 finished_sent answer first session next input now later output sink sink_later turns s t = refl
@@ -259,7 +264,7 @@ later_none more now later piece rest r e f = rw e at (none_left_behind now.left 
 
 stops_at_block : {A : Type 0} (answer : EventValue → Text) (session : Held A) (now later : SourceState) (read : List Text) (more : Bool) (piece : Text) (sent : List Text) (number : ℕ) (fault : BlockFault) (sink sink_later : SinkState)
     → Given answer (joined read) sent session → Reads more now piece later → Refuses (due answer more session.pending piece) session.answered number fault sink sink_later
-    → StopsAtBlock answer (joined (read ++ piece ∷ [])) later.left (sent ++ (due answer more session.pending piece).texts) number fault
+    → StopsAtBlock answer (record { text = joined (read ++ piece ∷ []); left = later.left; sent = sent ++ (due answer more session.pending piece).texts; told = sink_later }) number fault
 stops_at_block answer session now later read more piece sent number fault sink sink_later g reads r = record {
   answers = rw append-nil at (faulty_later answer session read more piece [] sent fault g r.faulty (λ h. refl));
   stays = λ rest e. faulty_later answer session read more piece rest sent fault g r.faulty (later_none more now later piece rest reads e);
@@ -273,9 +278,9 @@ stops_at_block answer session now later read more piece sent number fault sink s
         assoc : (x y : ℕ) → x + y + 1 ≡ x + (y + 1)
         assoc x y = omega arith
 
-pub failed : {A : Type 0} (answer : EventValue → Text) (fault : TurnFault) (first session : Held A) (input now later : SourceState) (output sink sink_later : SinkState) (turns : ℕ)
-    → Served answer first input now output sink session turns → FailsBy answer fault session now later sink sink_later → AnswersInput answer (Err fault) input later output sink_later
-failed answer Read first session input now later output sink sink_later turns s f = record {
+pub failed : {A : Type 0} (answer : EventValue → Text) (fault : TurnFault) (first session next : Held A) (input now later : SourceState) (output sink sink_later : SinkState) (turns : ℕ)
+    → Served answer first input now output sink session turns → FailsBy answer fault (at session now sink) (at next later sink_later) → AnswersInput answer (Err fault) (shown input output) (shown later sink_later)
+failed answer Read first session next input now later output sink sink_later turns s f = record {
   read = s.read;
   pieces = f.1.pieces ∙ s.pieces;
   left = s.left ∙ ap (led_by (joined s.read)) (sym f.1.left);
@@ -287,7 +292,7 @@ failed answer Read first session input now later output sink sink_later turns s 
   due = s.due;
   ends = (s.given.answers, f.2);
 }
-failed answer Write first session input now later output sink sink_later turns s f =
+failed answer Write first session next input now later output sink sink_later turns s f =
     let on = read_on answer first session input now later output sink turns f.more f.piece s f.reads in
     let all = sent_first answer session s.read f.more f.piece s.sent f.sends.sent (f.sends.next ∷ f.sends.unsent) s.given f.sends.texts_are in
     record {
@@ -302,7 +307,7 @@ failed answer Write first session input now later output sink sink_later turns s
       due = due_behind answer s.read f.piece s.sent f.sends.sent s.given.answers;
       ends = record { next = f.sends.next; unsent = f.sends.unsent ++ all.0; answers = all.1; breaks = f.sends.breaks };
     }
-failed answer (Session (Block number fault)) first session input now later output sink sink_later turns s f =
+failed answer (Session (Block number fault)) first session next input now later output sink sink_later turns s f =
     let on = read_on answer first session input now later output sink turns f.more f.piece s f.reads in
     let texts : List Text = (due answer f.more session.pending f.piece).texts in
     record {
@@ -317,7 +322,7 @@ failed answer (Session (Block number fault)) first session input now later outpu
       due = due_behind answer s.read f.piece s.sent texts s.given.answers;
       ends = (stops_at_block answer session now later s.read f.more f.piece s.sent number fault sink sink_later s.given f.reads f.sends, refl);
     }
-failed answer (Session Memory) first session input now later output sink sink_later turns s f =
+failed answer (Session Memory) first session next input now later output sink sink_later turns s f =
     let on = read_on answer first session input now later output sink turns f.more f.piece s f.reads in
     let all = sent_first answer session s.read f.more f.piece s.sent f.sends.sent f.sends.unsent s.given f.sends.texts_are in
     record {
@@ -332,11 +337,11 @@ failed answer (Session Memory) first session input now later output sink sink_la
       due = due_behind answer s.read f.piece s.sent f.sends.sent s.given.answers;
       ends = record { unsent = f.sends.unsent ++ all.0; answers = all.1; untouched = refl };
     }
-failed answer (Session Ended) first session input now later output sink sink_later turns s f = let both : true ≡ false = sym f.0 ∙ s.goes_on in absurd cc
+failed answer (Session Ended) first session next input now later output sink sink_later turns s f = let both : true ≡ false = sym f.0 ∙ s.goes_on in absurd cc
 
 -- no turn is left
 pub used_up : {A : Type 0} (answer : EventValue → Text) (first session : Held A) (input now : SourceState) (output sink : SinkState)
-    → Served answer first input now output sink session most_turns → AnswersInput answer (Err Read) input now output sink
+    → Served answer first input now output sink session most_turns → AnswersInput answer (Err Read) (shown input output) (shown now sink)
 used_up answer first session input now output sink s = record {
   read = s.read;
   pieces = s.pieces;
@@ -351,7 +356,7 @@ used_up answer first session input now output sink s = record {
 }
 
 -- without a session nothing is read or sent
-pub unstarted : (answer : EventValue → Text) (input : SourceState) (output : SinkState) → AnswersInput answer (Err (Session Memory)) input input output output
+pub unstarted : (answer : EventValue → Text) (input : SourceState) (output : SinkState) → AnswersInput answer (Err (Session Memory)) (shown input output) (shown input output)
 unstarted answer input output = record {
   read = [];
   pieces = sym (followed_by-nil input.pieces);

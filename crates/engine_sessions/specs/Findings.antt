@@ -3,19 +3,17 @@
 use Rattle.std.specs.Prelude.{◌≡◌, ℕ, ◌⊎◌, ◌==◌, Bool, if◌then◌else◌, List, Result, Ok, Err, IfOk, length}
 use Rattle.text_tables.specs.Texts.{Text}
 use Rattle.device_core.specs.Values.{EventValue}
-use Rattle.engine_ends.specs.Sources.{SourceState}
 use Rattle.engine_ends.specs.Sinks.{SinkState, HandsOn}
 use Rattle.engine_ends.specs.Streams.{Streams}
 use Rattle.engine_ends.specs.Delivery.{Outcome}
-use Rattle.engine_sessions.specs.Sessions.{Held}
-use Rattle.engine_sessions.specs.Turns.{Turns, say_something}
-use Rattle.engine_sessions.specs.Inputs.{AnswersInput}
+use Rattle.engine_sessions.specs.Turns.{Situation, Turns, say_something}
+use Rattle.engine_sessions.specs.Inputs.{AnswersInput, Devices, devices_of}
 use Rattle.engine_sessions.specs.Serves.{Concludes, StopsBefore}
 use Rattle.engine_sessions.specs.declared.turning.TurnFault.{TurnFault}
 
 -- A turn, and whether any of the answers that it sends has a byte.
-pub record TurnsFinding {A : Type 0} (answer : EventValue → Text) (more finds : Bool) (old new : Held A) (input input_now : SourceState) (output output_now : SinkState) : Type 0 where
-  pub turn : Turns answer more old new input input_now output output_now
+pub record TurnsFinding {A : Type 0} (answer : EventValue → Text) (more finds : Bool) (before now : Situation A) : Type 0 where
+  pub turn : Turns answer more before now
   pub finds_is : finds ≡ say_something turn.sends.texts
 
 -- how it ended, whatever was found
@@ -24,8 +22,8 @@ ended_by (Ok finds) = Ok tt
 ended_by (Err fault) = Err fault
 
 -- An input is answered, and if all of it is, whether any answer has a byte.
-pub record AnswersFinding (answer : EventValue → Text) (end : Result Bool TurnFault) (input input_now : SourceState) (output output_now : SinkState) : Type 0 where
-  pub answers : AnswersInput answer (ended_by end) input input_now output output_now
+pub record AnswersFinding (answer : EventValue → Text) (end : Result Bool TurnFault) (before now : Devices) : Type 0 where
+  pub answers : AnswersInput answer (ended_by end) before now
   pub finds_is : IfOk end (λ finds. finds ≡ say_something answers.sent)
 
 -- an outcome whose output is a finding: its status is 1 if there is any output
@@ -43,7 +41,7 @@ pub record FindsBehind (messages : Text) (answer : EventValue → Text) (status 
   pub told : SinkState
   pub says : HandsOn before.err messages told
   pub end : Result (Unit {0}) TurnFault
-  pub answers : AnswersInput answer end before.input now.input before.out now.out
+  pub answers : AnswersInput answer end (devices_of before) (devices_of now)
   pub concludes : ConcludesFinding end answers.sent status told now.err
 
 -- Messages, and the findings in an input after them, step by step.

@@ -9,11 +9,21 @@ use Rattle.engine_ends.specs.Told.{followed_by, led_by, NoneLeft}
 use Rattle.engine_ends.specs.Counts.{Counts}
 use Rattle.engine_ends.specs.Sources.{SourceState}
 use Rattle.engine_ends.specs.Sinks.{SinkState, BreaksOff}
+use Rattle.engine_ends.specs.Streams.{Streams}
 use Rattle.engine_sessions.specs.Answers.{answers_to, answers_of, well, number_behind}
 use Rattle.engine_sessions.specs.Turns.{Sends, joined}
 use Rattle.engine_sessions.specs.declared.session.SessionFault.TheVariants.{Block, Memory, Ended}
 use Rattle.engine_sessions.specs.declared.turning.TurnFault.{TurnFault}
 use Rattle.engine_sessions.specs.declared.turning.TurnFault.TheVariants.{Read, Write, Session}
+
+-- what an input and an output show
+pub record Devices : Type 0 where
+  pub input : SourceState
+  pub output : SinkState
+
+-- what those of a run show
+abbrev pub devices_of : Streams → Devices
+devices_of streams = record { input = streams.input; output = streams.out }
 
 -- the most turns over one input
 abbrev pub most_turns : ℕ
@@ -31,41 +41,47 @@ HasSentDue answer read sent = (behind : List Text) × (sent ≡ (answers_to answ
 abbrev pub HoldsFew : List Text → Type 0
 HoldsFew read = (n : ℕ) → n < length read → length (rest_of (joined (take n read))) ≤ most_bytes
 
+-- The bytes read of an input, those left of it, the answers sent, and the sink after these.
+pub record Progress : Type 0 where
+  pub text : Text
+  pub left : Option Text
+  pub sent : List Text
+  pub told : SinkState
+
 -- The answers sent are all those before a faulty block of this number, and what is left of the input changes nothing of that.
-pub record StopsAtBlock (answer : EventValue → Text) (text : Text) (left : Option Text) (sent : List Text) (number : ℕ) (fault : BlockFault) : Type 0 where
-  pub answers : answers_of answer text ≡ record { texts = sent; fault = Some fault }
-  pub stays : (later : Text) → left ≡ Some later → answers_of answer (text ++ later) ≡ record { texts = sent; fault = Some fault }
-  pub numbered : number ≡ number_behind (length sent)
+pub record StopsAtBlock (answer : EventValue → Text) (so_far : Progress) (number : ℕ) (fault : BlockFault) : Type 0 where
+  pub answers : answers_of answer so_far.text ≡ record { texts = so_far.sent; fault = Some fault }
+  pub stays : (later : Text) → so_far.left ≡ Some later → answers_of answer (so_far.text ++ later) ≡ record { texts = so_far.sent; fault = Some fault }
+  pub numbered : number ≡ number_behind (length so_far.sent)
 
 -- The sink broke off at the answer after those sent.
-pub record StopsInAnswer (answer : EventValue → Text) (text : Text) (sent : List Text) (told now : SinkState) : Type 0 where
+pub record StopsInAnswer (answer : EventValue → Text) (so_far : Progress) (now : SinkState) : Type 0 where
   pub next : Text
   pub unsent : List Text
-  pub answers : (answers_of answer text).texts ≡ sent ++ next ∷ unsent
-  pub breaks : BreaksOff told next now
+  pub answers : (answers_of answer so_far.text).texts ≡ so_far.sent ++ next ∷ unsent
+  pub breaks : BreaksOff so_far.told next now
 
 -- The answers sent are the first of all, and nothing was written after them.
-pub record StopsBetween (answer : EventValue → Text) (text : Text) (sent : List Text) (told now : SinkState) : Type 0 where
+pub record StopsBetween (answer : EventValue → Text) (so_far : Progress) (now : SinkState) : Type 0 where
   pub unsent : List Text
-  pub answers : (answers_of answer text).texts ≡ sent ++ unsent
-  pub untouched : now ≡ told
+  pub answers : (answers_of answer so_far.text).texts ≡ so_far.sent ++ unsent
+  pub untouched : now ≡ so_far.told
 
 -- All bytes of the input were read, no block of them is faulty, and all answers are sent.
-pub record IsAnswered (answer : EventValue → Text) (text : Text) (left : Option Text) (sent : List Text) (told now : SinkState) : Type 0 where
-  pub answers : answers_of answer text ≡ well sent
-  pub none_left : NoneLeft left
-  pub untouched : now ≡ told
+pub record IsAnswered (answer : EventValue → Text) (so_far : Progress) (now : SinkState) : Type 0 where
+  pub answers : answers_of answer so_far.text ≡ well so_far.sent
+  pub none_left : NoneLeft so_far.left
+  pub untouched : now ≡ so_far.told
 
--- How it ends, by the bytes read, those left, the answers sent, and the sink after these and at the end: all is
--- answered; or what was read until then is, and no more could be read; or it stops in an answer, at a faulty block,
--- or when memory runs out.
-abbrev pub EndsBy : (EventValue → Text) → Result (Unit {0}) TurnFault → Text → Option Text → List Text → SinkState → SinkState → Type 0
-EndsBy answer (Ok done) text left sent told now = IsAnswered answer text left sent told now
-EndsBy answer (Err Read) text left sent told now = (answers_to answer (complete_runs text) ≡ well sent) × (now ≡ told)
-EndsBy answer (Err Write) text left sent told now = StopsInAnswer answer text sent told now
-EndsBy answer (Err (Session (Block number fault))) text left sent told now = StopsAtBlock answer text left sent number fault × (now ≡ told)
-EndsBy answer (Err (Session Memory)) text left sent told now = StopsBetween answer text sent told now
-EndsBy answer (Err (Session Ended)) text left sent told now = ⊥
+-- How it ends, by what was read and sent and the sink at the end: all is answered; or what was read until then is, and no more could be
+-- read; or it stops in an answer, at a faulty block, or where memory runs out.
+abbrev pub EndsBy : (EventValue → Text) → Result (Unit {0}) TurnFault → (so_far : Progress) → (now : SinkState) → Type 0
+EndsBy answer (Ok done) so_far now = IsAnswered answer so_far now
+EndsBy answer (Err Read) so_far now = (answers_to answer (complete_runs so_far.text) ≡ well so_far.sent) × (now ≡ so_far.told)
+EndsBy answer (Err Write) so_far now = StopsInAnswer answer so_far now
+EndsBy answer (Err (Session (Block number fault))) so_far now = StopsAtBlock answer so_far number fault × (now ≡ so_far.told)
+EndsBy answer (Err (Session Memory)) so_far now = StopsBetween answer so_far now
+EndsBy answer (Err (Session Ended)) so_far now = ⊥
 
 -- So many reads were made from the input, and none failed.
 pub record ReadsWell (turns : ℕ) (before now : SourceState) : Type 0 where
@@ -90,14 +106,14 @@ CountsBy _ turns before now = ReadsWell turns before now
 
 -- What is read from an input in pieces, which of its answers are sent (written and flushed, and none of those calls
 -- failed), and how it ends.
-pub record AnswersInput (answer : EventValue → Text) (end : Result (Unit {0}) TurnFault) (input input_now : SourceState) (output output_now : SinkState) : Type 0 where
+pub record AnswersInput (answer : EventValue → Text) (end : Result (Unit {0}) TurnFault) (before now : Devices) : Type 0 where
   pub read : List Text
-  pub pieces : input_now.pieces ≡ followed_by input.pieces read
-  pub left : input.left ≡ led_by (joined read) input_now.left
-  pub counts : CountsBy end (length read) input input_now
+  pub pieces : now.input.pieces ≡ followed_by before.input.pieces read
+  pub left : before.input.left ≡ led_by (joined read) now.input.left
+  pub counts : CountsBy end (length read) before.input now.input
   pub fits : HoldsFew read
   pub sent : List Text
   pub told : SinkState
-  pub sends : Sends output sent told
+  pub sends : Sends before.output sent told
   pub due : HasSentDue answer read sent
-  pub ends : EndsBy answer end (joined read) input_now.left sent told output_now
+  pub ends : EndsBy answer end (record { text = joined read; left = now.input.left; sent = sent; told = told }) now.output

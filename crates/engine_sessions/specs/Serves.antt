@@ -12,7 +12,7 @@ use Rattle.engine_sessions.specs.declared.turning.TurnFault.{TurnFault}
 use Rattle.engine_sessions.specs.declared.turning.TurnFault.TheVariants.{Read, Write, Session}
 use Rattle.engine_ends.specs.Delivery.{Delivers, Outcome, Tells, TellsFaults, out_of_memory, write_failed}
 use Rattle.engine_sessions.specs.BlockFaults.{block_line}
-use Rattle.engine_sessions.specs.Inputs.{AnswersInput, UsesUp}
+use Rattle.engine_sessions.specs.Inputs.{AnswersInput, UsesUp, devices_of}
 
 -- the line on an input that failed
 abbrev pub read_failed : Text
@@ -79,7 +79,7 @@ pub record AnswersBehind (messages : Text) (answer : EventValue → Text) (statu
   pub told : SinkState
   pub says : HandsOn before.err messages told
   pub end : Result (Unit {0}) TurnFault
-  pub answers : AnswersInput answer end before.input now.input before.out now.out
+  pub answers : AnswersInput answer end (devices_of before) (devices_of now)
   pub concludes : Concludes end status told now.err
 
 -- Nothing is read or answered: the error output failed at the messages, or memory runs out before them, which its

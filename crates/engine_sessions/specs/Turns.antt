@@ -14,6 +14,12 @@ use Rattle.engine_sessions.specs.declared.session.SessionFault.TheVariants.{Bloc
 use Rattle.engine_sessions.specs.declared.turning.TurnFault.{TurnFault}
 use Rattle.engine_sessions.specs.declared.turning.TurnFault.TheVariants.{Read, Write, Session}
 
+-- a session, with what its input and its output show
+pub record Situation (A : Type 0) : Type 0 where
+  pub session : Held A
+  pub input : SourceState
+  pub output : SinkState
+
 -- answers, one after another
 abbrev pub joined : List Text → Text
 joined texts = flat_map (λ text. text) texts
@@ -93,11 +99,11 @@ pub record SendsDue {A : Type 0} (answer : EventValue → Text) (more : Bool) (o
   pub leaves : new ≡ behind more old piece (length texts)
 
 -- What a turn does: it makes one read, and sends every answer that is due then.
-pub record Turns {A : Type 0} (answer : EventValue → Text) (more : Bool) (old new : Held A) (input input_now : SourceState) (output output_now : SinkState) : Type 0 where
-  pub goes_on : old.ended ≡ false
+pub record Turns {A : Type 0} (answer : EventValue → Text) (more : Bool) (before now : Situation A) : Type 0 where
+  pub goes_on : before.session.ended ≡ false
   pub piece : Text
-  pub reads : Reads more input piece input_now
-  pub sends : SendsDue answer more old piece new output output_now
+  pub reads : Reads more before.input piece now.input
+  pub sends : SendsDue answer more before.session piece now.session before.output now.output
 
 -- Which of the answers due are sent if a turn fails after its read: up to the one in which the output failed, all
 -- before a faulty block, or some if memory runs out.
@@ -109,16 +115,16 @@ SendsUntil (Session Memory) answers answered before now = SendsSome before answe
 SendsUntil (Session Ended) answers answered before now = ⊥
 
 -- One read was made, and then the turn failed.
-pub record FailsBehindRead {A : Type 0} (answer : EventValue → Text) (fault : TurnFault) (old : Held A) (input input_now : SourceState) (output output_now : SinkState) : Type 0 where
-  pub goes_on : old.ended ≡ false
+pub record FailsBehindRead {A : Type 0} (answer : EventValue → Text) (fault : TurnFault) (before now : Situation A) : Type 0 where
+  pub goes_on : before.session.ended ≡ false
   pub more : Bool
   pub piece : Text
-  pub reads : Reads more input piece input_now
-  pub sends : SendsUntil fault (due answer more old.pending piece) old.answered output output_now
+  pub reads : Reads more before.input piece now.input
+  pub sends : SendsUntil fault (due answer more before.session.pending piece) before.session.answered before.output now.output
 
--- What a turn does if it fails: its read failed and nothing is sent, or the session had ended and nothing is read or
--- sent, or it failed after the read.
-abbrev pub FailsBy : {A : Type 0} → (EventValue → Text) → TurnFault → Held A → SourceState → SourceState → SinkState → SinkState → Type 0
-FailsBy answer Read old input input_now output output_now = (old.ended ≡ false) × SourceFails input input_now × (output_now ≡ output)
-FailsBy answer (Session Ended) old input input_now output output_now = (old.ended ≡ true) × (input_now ≡ input) × (output_now ≡ output)
-FailsBy answer fault old input input_now output output_now = FailsBehindRead answer fault old input input_now output output_now
+-- What a turn reads and sends where it fails: its read failed and nothing is sent, or the session had ended and nothing is read or sent,
+-- or it failed after the read.
+abbrev pub FailsBy : {A : Type 0} → (EventValue → Text) → TurnFault → (before now : Situation A) → Type 0
+FailsBy answer Read before now = (before.session.ended ≡ false) × SourceFails before.input now.input × (now.output ≡ before.output)
+FailsBy answer (Session Ended) before now = (before.session.ended ≡ true) × (now.input ≡ before.input) × (now.output ≡ before.output)
+FailsBy answer fault before now = FailsBehindRead answer fault before now

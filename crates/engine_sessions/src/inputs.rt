@@ -27,7 +27,7 @@ pub fn answer_input<A: Answering, R: Source, W: Sink>(
     output: &mut W,
 ) -> Result<bool, TurnFault>
     ensures { AnswersFinding (answer_of A.answers (asked_by profile answering.now)) result
-        (R.shown input.old) (R.shown input.new) (W.shown output.old) (W.shown output.new) }
+        (record { input = R.shown input.old; output = W.shown output.old }) (record { input = R.shown input.new; output = W.shown output.new }) }
 {
     match Session::new_as(alloc, profile, answering) {
         Ok(mut session) => make_turns(alloc, &mut session, input, output),
@@ -44,7 +44,7 @@ fn make_turns<A: Answering, R: Source, W: Sink>(
 ) -> Result<bool, TurnFault>
     requires { session.old ≡ opened session.old.answering }
     ensures { AnswersFinding (answer_of A.answers session.old.answering) result
-        (R.shown input.old) (R.shown input.new) (W.shown output.old) (W.shown output.new) }
+        (record { input = R.shown input.old; output = W.shown output.old }) (record { input = R.shown input.new; output = W.shown output.new }) }
 {
     let mut finds = false;
     for _made in 0..MAX_TURNS {

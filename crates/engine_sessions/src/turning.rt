@@ -54,10 +54,12 @@ pub fn turn<A: Answering, R: Source, W: Sink>(
     input: &mut R,
     output: &mut W,
 ) -> Result<bool, TurnFault>
-    ensures ok { IfOk result (λ more. Turns (answer_of A.answers session.old.answering) more session.old session.new
-        (R.shown input.old) (R.shown input.new) (W.shown output.old) (W.shown output.new)) }
-    ensures err { IfErr result (λ fault. FailsBy (answer_of A.answers session.old.answering) fault session.old
-        (R.shown input.old) (R.shown input.new) (W.shown output.old) (W.shown output.new)) }
+    ensures ok { IfOk result (λ more. Turns (answer_of A.answers session.old.answering) more
+        (record { session = session.old; input = R.shown input.old; output = W.shown output.old })
+        (record { session = session.new; input = R.shown input.new; output = W.shown output.new })) }
+    ensures err { IfErr result (λ fault. FailsBy (answer_of A.answers session.old.answering) fault
+        (record { session = session.old; input = R.shown input.old; output = W.shown output.old })
+        (record { session = session.new; input = R.shown input.new; output = W.shown output.new })) }
     ensures ended { OnErr result (HasEnded session.old session.new) }
     ensures fits { length session.new.pending ≤ most_bytes }
     ensures untouched { session.old.ended ≡ true → (session.new ≡ session.old) × (input.new ≡ input.old) × (output.new ≡ output.old) }
@@ -75,10 +77,12 @@ pub(crate) fn turn_finding<A: Answering, R: Source, W: Sink>(
     input: &mut R,
     output: &mut W,
 ) -> Result<Turned, TurnFault>
-    ensures ok { IfOk result (λ turned. TurnsFinding (answer_of A.answers session.old.answering) turned.more turned.finds session.old session.new
-        (R.shown input.old) (R.shown input.new) (W.shown output.old) (W.shown output.new)) }
-    ensures err { IfErr result (λ fault. FailsBy (answer_of A.answers session.old.answering) fault session.old
-        (R.shown input.old) (R.shown input.new) (W.shown output.old) (W.shown output.new)) }
+    ensures ok { IfOk result (λ turned. TurnsFinding (answer_of A.answers session.old.answering) turned.more turned.finds
+        (record { session = session.old; input = R.shown input.old; output = W.shown output.old })
+        (record { session = session.new; input = R.shown input.new; output = W.shown output.new })) }
+    ensures err { IfErr result (λ fault. FailsBy (answer_of A.answers session.old.answering) fault
+        (record { session = session.old; input = R.shown input.old; output = W.shown output.old })
+        (record { session = session.new; input = R.shown input.new; output = W.shown output.new })) }
     ensures ended { OnErr result (HasEnded session.old session.new) }
     ensures fits { length session.new.pending ≤ most_bytes }
     ensures untouched { session.old.ended ≡ true → (session.new ≡ session.old) × (input.new ≡ input.old) × (output.new ≡ output.old) }

@@ -2,7 +2,7 @@
 use Rattle.std.proofs.Common.{◌≡◌, Bool, true, false, not, ◌&&◌, ◌||◌, nat_eq, [], ◌∷◌, refl, ap, sym, ◌∙◌, true≢false, eqb-true, eq-eqb}
 use Rattle.std.specs.List.{starts_with}
 use Rattle.text_tables.specs.Texts.{Text}
-use Rattle.rule_pairs.specs.Forms.{is_empty}
+use Rattle.text_bytes.specs.Texts.{is_empty}
 use Rattle.rule_pairs.specs.Relations.{part_ways}
 
 first_holds : (a b : Bool) → (a && b) ≡ true → a ≡ true

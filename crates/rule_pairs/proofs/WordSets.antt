@@ -6,7 +6,7 @@ use Rattle.std.specs.Prelude.{◌↔◌}
 use Rattle.text_core.specs.Choices.{is_bar}
 use Rattle.text_tables.specs.Texts.{Text, is_among, same_text, with_text}
 use Rattle.text_tables.proofs.Found.{among_added}
-use Rattle.rule_pairs.specs.Forms.{is_empty}
+use Rattle.text_bytes.specs.Texts.{is_empty}
 use Rattle.rule_pairs.specs.Relations.{same_words}
 use Rattle.rule_pairs.specs.Words.{parts_of, with_word}
 

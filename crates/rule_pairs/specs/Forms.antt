@@ -1,8 +1,9 @@
 -- How a token compares its value, by what the value is.
-use Rattle.std.specs.Prelude.{ℕ, Bool, true, false, not, ◌&&◌, ◌||◌, ◌==◌, if◌then◌else◌, List, length, codes}
+use Rattle.std.specs.Prelude.{ℕ, Bool, true, false, not, ◌&&◌, ◌||◌, if◌then◌else◌, List, codes}
 use Rattle.std.specs.List.{list_any, slice_split}
-use Rattle.text_bytes.specs.Names.{open_bracket, question_mark, star}
+use Rattle.text_bytes.specs.Texts.{is_empty}
 use Rattle.text_core.specs.Choices.{is_bar}
+use Rattle.text_core.specs.Fnmatch.{is_special}
 use Rattle.text_tables.specs.Texts.{same_text}
 use Rattle.rule_tokens.specs.Grammar.{compares}
 use Rattle.rule_tokens.specs.declared.kinds.Operator.{Operator}
@@ -35,17 +36,9 @@ any_subsystem text = same_text text (codes "subsystem") || (same_text text (code
 abbrev pub is_something : List ℕ → Bool
 is_something text = same_text text (codes "?*")
 
--- a byte that makes a value a pattern
-abbrev pub is_sign : ℕ → Bool
-is_sign b = b == star || (b == question_mark || b == open_bracket)
-
--- whether a value is a pattern
+-- whether a value is a pattern: it has one of `*`, `?` and `[`
 abbrev pub is_pattern : List ℕ → Bool
-is_pattern text = list_any is_sign text
-
--- whether a text has no byte
-abbrev pub is_empty : List ℕ → Bool
-is_empty text = length text == 0
+is_pattern text = list_any is_special text
 
 -- whether one of the texts between bars is empty
 abbrev pub has_empty_part : List ℕ → Bool

@@ -3,10 +3,11 @@ use Rattle.std.specs.Prelude.{Bool, true, false, not, ◌&&◌, ◌||◌, nat_eq
 use Rattle.std.specs.List.{list_all, list_any, prefix_len, starts_with}
 use Rattle.std.specs.Option.{option_eq}
 use Rattle.std.specs.Ordering.{int_eq}
+use Rattle.text_bytes.specs.Texts.{is_empty}
+use Rattle.text_core.specs.Fnmatch.{is_special}
 use Rattle.text_tables.specs.Texts.{Text, is_among, same_text}
 use Rattle.rule_tokens.specs.declared.kinds.Operator.{Operator}
 use Rattle.rule_tokens.specs.declared.kinds.Operator.TheVariants as op
-use Rattle.rule_pairs.specs.Forms.{is_empty, is_sign}
 use Rattle.rule_pairs.specs.Said.{Said}
 use Rattle.rule_pairs.specs.declared.form.Form.{Form}
 use Rattle.rule_pairs.specs.declared.form.Form.TheVariants as form
@@ -69,9 +70,9 @@ lacks_words a = is_wordless a.form && (not a.blind && not a.trims)
 abbrev pub are_alike : Said → Said → Bool
 are_alike a b = (same_matter a b && same_way a b) && (lacks_words a || same_words a.words b.words)
 
--- what is in a pattern before its first sign
+-- what is in a pattern before its first `*`, `?` or `[`
 unfoldable pub beginning : Text → Text
-beginning word = take (prefix_len (λ b. not (is_sign b)) word) word
+beginning word = take (prefix_len (λ b. not (is_special b)) word) word
 
 -- whether no text begins with both of two texts: neither is empty, and neither begins with the other
 unfoldable pub part_ways : Text → Text → Bool

@@ -1,9 +1,9 @@
 -- The words of a token: the texts that it compares with or assigns, each once.
 use Rattle.std.specs.Prelude.{Bool, if◌then◌else◌, List, [], ◌∷◌, Option, Some, None, fold}
 use Rattle.std.specs.List.{slice_split}
+use Rattle.text_bytes.specs.Texts.{is_empty}
 use Rattle.text_core.specs.Choices.{is_bar}
 use Rattle.text_tables.specs.Texts.{Text, with_text}
-use Rattle.rule_pairs.specs.Forms.{is_empty}
 
 -- words, and one more unless it is empty
 abbrev pub with_word : List Text → Text → List Text

@@ -1,6 +1,7 @@
 //! How a token compares its value, by what the value is.
 ghost use Rattle.std.specs.Prelude.{◌≡◌};
-ghost use Rattle.rule_pairs.specs.Forms.{any_subsystem, compared_form, form_of, has_empty_part, is_choice, is_deed, is_pattern, is_sign, is_something, is_subsystem, parts_form};
+ghost use Rattle.text_core.specs.Fnmatch.{is_special};
+ghost use Rattle.rule_pairs.specs.Forms.{any_subsystem, compared_form, form_of, has_empty_part, is_choice, is_deed, is_pattern, is_something, is_subsystem, parts_form};
 
 use rule_types::{Key, Operator};
 
@@ -50,8 +51,8 @@ pub(crate) fn is_something(text: &[u8]) -> bool
 }
 
 /// Whether a byte makes a value a pattern.
-pub(crate) fn is_sign(byte: u8) -> bool
-    ensures { result ≡ is_sign byte }
+pub(crate) fn is_special(byte: u8) -> bool
+    ensures { result ≡ is_special byte }
 {
     byte == b'*' || byte == b'?' || byte == b'['
 }
@@ -96,7 +97,7 @@ fn any_subsystem(text: &[u8]) -> bool
 fn is_pattern(text: &[u8]) -> bool
     ensures { result ≡ is_pattern text.now }
 {
-    text.iter().any(|byte| is_sign(*byte))
+    text.iter().any(|byte| is_special(*byte))
 }
 
 /// Whether one of the texts between bars is empty.

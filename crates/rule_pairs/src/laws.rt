@@ -3,7 +3,7 @@ ghost use Rattle.std.specs.Prelude.{◌≡◌, ◌≤◌, ◌↔◌, ◌&&◌, [
 ghost use Rattle.std.specs.List.{find, slice_split, starts_with};
 ghost use Rattle.text_core.specs.Choices.{is_bar};
 ghost use Rattle.text_tables.specs.Texts.{Text, is_among};
-ghost use Rattle.rule_pairs.specs.Forms.{is_empty};
+ghost use Rattle.text_bytes.specs.Texts.{is_empty};
 ghost use Rattle.rule_pairs.specs.Pairs.{Pair, finding, is_of_kind, same_kind, told_of};
 ghost use Rattle.rule_pairs.specs.Relations.{are_alike, is_against, is_same, part_ways, same_words};
 ghost use Rattle.rule_pairs.specs.Said.{Said};

@@ -2,10 +2,10 @@
 ghost use Rattle.std.specs.Prelude.{◌≡◌, ◌≤◌, length, map, not};
 ghost use Rattle.std.specs.List.{list_all, list_any, prefix_len};
 ghost use Rattle.text_tables.specs.Texts.{is_among, same_text};
-ghost use Rattle.rule_pairs.specs.Forms.{is_sign};
+ghost use Rattle.text_core.specs.Fnmatch.{is_special};
 ghost use Rattle.rule_pairs.specs.Relations.{all_part_ways, are_alike, are_disjoint, are_opposite, beginning, is_against, is_same, is_strict, is_wordless, lacks_words, leave_nothing, part_ways, parts_from_all, same_bool, same_form, same_matter, same_operator, same_way, same_words, share_a_word};
 
-use crate::form::{Form, is_sign};
+use crate::form::{Form, is_special};
 use crate::said::Said;
 use rule_types::Operator;
 use text_tables::OwnedTexts;
@@ -200,19 +200,19 @@ fn part_ways(x: &[u8], y: &[u8]) -> bool
     !x.is_empty() && !y.is_empty() && !x.starts_with(y) && !y.starts_with(x)
 }
 
-/// What is in a pattern before its first sign.
+/// What is in a pattern before its first `*`, `?` or `[`.
 #[tactic(auto, unfolding(crate::specs::Relations::beginning))]
 fn beginning(word: &[u8]) -> &[u8]
     ensures { result.now ≡ beginning word.now }
 {
-    let (front, _) = word.split_at(length_before_sign(word));
+    let (front, _) = word.split_at(plain_length(word));
     front
 }
 
-/// How many bytes of a pattern come before its first sign.
-fn length_before_sign(word: &[u8]) -> usize
-    ensures value { result ≡ prefix_len (λ b. not (is_sign b)) word.now }
+/// How many bytes of a pattern come before the first of these.
+fn plain_length(word: &[u8]) -> usize
+    ensures value { result ≡ prefix_len (λ b. not (is_special b)) word.now }
     ensures within { result ≤ length word.now }
 {
-    word.iter().take_while(|byte| !is_sign(**byte)).count()
+    word.iter().take_while(|byte| !is_special(**byte)).count()
 }

@@ -4,14 +4,15 @@ use Rattle.engine_sessions.specs.Sessions.{answer_of}
 use Rattle.engine_sessions.specs.Turns.{FailsBy}
 use Rattle.engine_sessions.specs.Findings.{TurnsFinding}
 use Rattle.engine_sessions.specs.Inputs.{most_turns}
+use Rattle.engine_sessions.proofs.TurnLemmas.{at}
 use Rattle.engine_sessions.proofs.FindingLemmas.{ServedFinding, finding_at_start, finding_failed, finding_finished, finding_more, finding_used_up}
 use Rattle.engine_sessions.proofs.inputs.make_turns.Goals as goal
 
 pub returns-in-Err : goal.returns-in-Err
 returns-in-Err g c =
     let s = c.loop-made.invariant in
-    let turn = subst (λ a. FailsBy (answer_of g.A.Answering.answers a) c.in-Err.fault c.loop-made.session (g.R.Source.shown c.loop-made.input) (g.R.Source.shown c.turn_finding.new.input) (g.W.Sink.shown c.loop-made.output) (g.W.Sink.shown c.turn_finding.new.output)) s.served.answering c.in-Err.ensures.err in
-    finding_failed (answer_of g.A.Answering.answers c.args.session.now.answering) c.in-Err.fault c.args.session.now c.loop-made.session _ _ _ _ _ _ c.loop-made._made c.loop-made.finds s turn
+    let turn = subst (λ a. FailsBy (answer_of g.A.Answering.answers a) c.in-Err.fault (at c.loop-made.session (g.R.Source.shown c.loop-made.input) (g.W.Sink.shown c.loop-made.output)) (at c.turn_finding.new.session (g.R.Source.shown c.turn_finding.new.input) (g.W.Sink.shown c.turn_finding.new.output))) s.served.answering c.in-Err.ensures.err in
+    finding_failed (answer_of g.A.Answering.answers c.args.session.now.answering) c.in-Err.fault c.args.session.now c.loop-made.session c.turn_finding.new.session _ _ _ _ _ _ c.loop-made._made c.loop-made.finds s turn
 
 pub loop-made-init : goal.loop-made-init
 loop-made-init g c = finding_at_start _ _ _ _ c.requires
@@ -19,17 +20,17 @@ loop-made-init g c = finding_at_start _ _ _ _ c.requires
 pub returns-then-not-turned : goal.returns-then-not-turned
 returns-then-not-turned g c =
     let s = c.loop-made.invariant in
-    let ok = subst (λ m. TurnsFinding (answer_of g.A.Answering.answers c.loop-made.session.answering) m c.in-Ok.turned.finds c.loop-made.session c.turn_finding.new.session (g.R.Source.shown c.loop-made.input) (g.R.Source.shown c.turn_finding.new.input) (g.W.Sink.shown c.loop-made.output) (g.W.Sink.shown c.turn_finding.new.output))
+    let ok = subst (λ m. TurnsFinding (answer_of g.A.Answering.answers c.loop-made.session.answering) m c.in-Ok.turned.finds (at c.loop-made.session (g.R.Source.shown c.loop-made.input) (g.W.Sink.shown c.loop-made.output)) (at c.turn_finding.new.session (g.R.Source.shown c.turn_finding.new.input) (g.W.Sink.shown c.turn_finding.new.output)))
     (not-true c.in-Ok.turned.more c.if-not-turned.true) c.in-Ok.ensures.ok in
-    let turn = subst (λ a. TurnsFinding (answer_of g.A.Answering.answers a) false c.in-Ok.turned.finds c.loop-made.session c.turn_finding.new.session (g.R.Source.shown c.loop-made.input) (g.R.Source.shown c.turn_finding.new.input) (g.W.Sink.shown c.loop-made.output) (g.W.Sink.shown c.turn_finding.new.output)) s.served.answering ok in
+    let turn = subst (λ a. TurnsFinding (answer_of g.A.Answering.answers a) false c.in-Ok.turned.finds (at c.loop-made.session (g.R.Source.shown c.loop-made.input) (g.W.Sink.shown c.loop-made.output)) (at c.turn_finding.new.session (g.R.Source.shown c.turn_finding.new.input) (g.W.Sink.shown c.turn_finding.new.output))) s.served.answering ok in
     finding_finished (answer_of g.A.Answering.answers c.args.session.now.answering) c.args.session.now c.loop-made.session c.turn_finding.new.session _ _ _ _ _ _ c.loop-made._made c.loop-made.finds c.in-Ok.turned.finds s turn
 
 pub loop-made-preserved : goal.loop-made-preserved
 loop-made-preserved g c =
     let s = c.loop-made.invariant in
-    let ok = subst (λ m. TurnsFinding (answer_of g.A.Answering.answers c.loop-made.session.answering) m c.in-Ok.turned.finds c.loop-made.session c.turn_finding.new.session (g.R.Source.shown c.loop-made.input) (g.R.Source.shown c.turn_finding.new.input) (g.W.Sink.shown c.loop-made.output) (g.W.Sink.shown c.turn_finding.new.output))
+    let ok = subst (λ m. TurnsFinding (answer_of g.A.Answering.answers c.loop-made.session.answering) m c.in-Ok.turned.finds (at c.loop-made.session (g.R.Source.shown c.loop-made.input) (g.W.Sink.shown c.loop-made.output)) (at c.turn_finding.new.session (g.R.Source.shown c.turn_finding.new.input) (g.W.Sink.shown c.turn_finding.new.output)))
     (not-false c.in-Ok.turned.more c.if-not-turned.false) c.in-Ok.ensures.ok in
-    let turn = subst (λ a. TurnsFinding (answer_of g.A.Answering.answers a) true c.in-Ok.turned.finds c.loop-made.session c.turn_finding.new.session (g.R.Source.shown c.loop-made.input) (g.R.Source.shown c.turn_finding.new.input) (g.W.Sink.shown c.loop-made.output) (g.W.Sink.shown c.turn_finding.new.output)) s.served.answering ok in
+    let turn = subst (λ a. TurnsFinding (answer_of g.A.Answering.answers a) true c.in-Ok.turned.finds (at c.loop-made.session (g.R.Source.shown c.loop-made.input) (g.W.Sink.shown c.loop-made.output)) (at c.turn_finding.new.session (g.R.Source.shown c.turn_finding.new.input) (g.W.Sink.shown c.turn_finding.new.output))) s.served.answering ok in
     finding_more (answer_of g.A.Answering.answers c.args.session.now.answering) c.args.session.now c.loop-made.session c.turn_finding.new.session _ _ _ _ _ _ c.loop-made._made c.loop-made.finds c.in-Ok.turned.finds s turn c.turn_finding.ensures.fits
 
 pub returns : goal.returns

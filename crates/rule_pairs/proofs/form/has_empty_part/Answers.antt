@@ -2,7 +2,7 @@ use Rattle.std.proofs.Common.{rules, tests}
 use Rattle.std.proofs.lemmas.Iterator.Search.{any_from_yields_List}
 use Rattle.std.proofs.lemmas.Iterator.Splits.{YieldsList-from_slice_split}
 use Rattle.text_core.specs.Choices.{is_bar}
-use Rattle.rule_pairs.specs.Forms.{is_empty}
+use Rattle.text_bytes.specs.Texts.{is_empty}
 use Rattle.rule_pairs.proofs.form.has_empty_part.Goals as goal
 
 pub returns : goal.returns

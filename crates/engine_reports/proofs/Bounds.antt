@@ -17,6 +17,8 @@ use Rattle.index_reading.specs.declared.fault.IndexFault.{IndexFault}
 use Rattle.engine_ends.specs.declared.line.Line.{Line}
 use Rattle.engine_reports.specs.Checks.{said_of, told}
 use Rattle.engine_ends.specs.Delivery.{Outcome}
+use Rattle.engine_reports.specs.Databases.{database_of}
+use Rattle.engine_reports.specs.Messages.{message_lines}
 use Rattle.engine_reports.specs.Outcomes.{are_few, database_outcome, rules_outcome, too_many_entries, too_many_rules}
 use Rattle.engine_reports.specs.Indexes.{refused_index}
 use Rattle.engine_reports.specs.declared.refusal.Refusal.{Refusal}
@@ -75,6 +77,19 @@ outcome_many say files beyond = rw (few_beyond files beyond) refl
 pub entries_refused : (say : List Entry → List Message → Outcome) (files : List SourceFile) (fault : HwdbFault) → (fault ≡ hwdb.TooMany → WithinBounds files → ⊥) → IsSaid (refused_entries fault) (database_outcome say files)
 entries_refused say files hwdb.TooMany beyond = outcome_many say files (beyond refl)
 entries_refused say files hwdb.Memory beyond = tt
+
+-- what comes of the files of a database, by its bounds
+pub database_few : (files : List SourceFile) → WithinBounds files → database_of files ≡ Ok (record { messages = message_lines (messages_of files); entries = entries_of files })
+unfolding database_of
+database_few files w = rw (few_within files w) refl
+
+database_many : (files : List SourceFile) → (WithinBounds files → ⊥) → database_of files ≡ Err too_many_entries
+unfolding database_of
+database_many files beyond = rw (few_beyond files beyond) refl
+
+pub database_refused : (files : List SourceFile) (fault : HwdbFault) → (fault ≡ hwdb.TooMany → WithinBounds files → ⊥) → IsRefused (refused_entries fault) (database_of files)
+database_refused files hwdb.TooMany beyond = database_many files (beyond refl)
+database_refused files hwdb.Memory beyond = tt
 
 pub rules_few : (line : Line) (files : List SourceFile) → tokens_in (set_of files).rules ≤ 2 ^ 24 → rules_outcome line files ≡ said_of line.summary files (told line.style (set_of files).messages)
 unfolding rules_outcome

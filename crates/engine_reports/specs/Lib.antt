@@ -6,3 +6,4 @@ pub mod Indexes
 pub mod Outcomes
 pub mod Messages
 pub mod Answers
+pub mod Databases

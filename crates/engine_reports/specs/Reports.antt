@@ -51,7 +51,7 @@ abbrev pub shown_rules : RulesRead → List Entry → OpeningValue
 shown_rules read entries = record { messages = read.messages.items; about_rules = read.rules.messages; rules = read.rules.rules; entries = entries }
 
 -- A refusal is what is to be said instead of an opening; about out of memory nothing is said here.
-abbrev pub IsRefused : Refusal → Result OpeningValue Outcome → Type 0
+abbrev pub IsRefused : {A : Type 0} → Refusal → Result A Outcome → Type 0
 IsRefused Memory opening = Unit {0}
 IsRefused TooManyEntries opening = opening ≡ Err too_many_entries
 IsRefused TooManyRules opening = opening ≡ Err too_many_rules

@@ -10,7 +10,7 @@ use std::alloc::{AllocError, Global};
 /// The lines that answer a modalias, sorted by key: `KEY=VALUE`, and with `sources` the file and
 /// line of each property before it.
 #[tactic(auto, unfolding(crate::specs::Answers::answer_lines))]
-pub(crate) fn answer_lines<L: Lookup>(
+pub fn answer_lines<L: Lookup>(
     alloc: Global,
     database: &L,
     modalias: &[u8],

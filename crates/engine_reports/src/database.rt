@@ -1,14 +1,17 @@
-//! What `query` and `update` say about the database.
+//! What `query` and `update` say of the database.
 //!
-//! `query` asks an index if one is passed in; of files it keeps only the entries that the modalias fits. `update`
-//! makes the trie of all entries, as events do, and writes the index from it.
-ghost use Rattle.std.specs.Prelude.{◌≡◌, ◌<◌, List, length, IfOk, IfErr};
+//! `query` asks an index where one is passed in; of files it keeps just the entries that the modalias fits. `update`
+//! makes the trie of all entries, as events do, of which the index is written; over such a trie `query -` answers the
+//! modaliases of its input.
+ghost use Rattle.std.specs.Prelude.{◌≡◌, ◌<◌, List, length, Ok, IfOk, IfErr};
 ghost use Rattle.text_bytes.specs.declared.message.Message.{Message};
 ghost use Rattle.hwdb_lookup.specs.declared.entry.Entry.{Entry};
 ghost use Rattle.engine_ends.specs.Delivery.{Outcome};
 ghost use Rattle.engine_reports.specs.Outcomes.{database_outcome, query_outcome, query_over, update_outcome, update_status};
+ghost use Rattle.engine_reports.specs.Databases.{database_of};
 ghost use Rattle.engine_reports.specs.FilesRead.{files_read};
-ghost use Rattle.engine_reports.specs.Reports.{IsSaid, said};
+ghost use Rattle.engine_reports.specs.Messages.{message_lines};
+ghost use Rattle.engine_reports.specs.Reports.{IsRefused, IsSaid, said};
 
 use crate::answers::answer_lines;
 use crate::file_choice::files_read;
@@ -73,12 +76,31 @@ fn read_database(
         → say read.0.entries read.1.items ≡ database_outcome say (files_read FileKind.Hwdb line.now files.items)) }
     ensures refused { IfErr result (λ e. (say : List Entry → List Message → Outcome)
         → IsSaid e (database_outcome say (files_read FileKind.Hwdb line.now files.items))) }
+    ensures database { IfOk result (λ read. database_of (files_read FileKind.Hwdb line.now files.items) ≡ Ok (record { messages = message_lines read.1.items; entries = read.0.entries })) }
+    ensures none { IfErr result (λ e. IsRefused e (database_of (files_read FileKind.Hwdb line.now files.items))) }
 {
     let files = files_read(alloc, FileKind::Hwdb, line, files)?;
     let database = read_sources(alloc, &files)?;
     drop(files);
     let trie = trie_of(alloc, database.entries)?;
     Ok((trie, database.messages))
+}
+
+/// The database of the files that are read, as a trie, and the lines of the messages about these.
+///
+/// `TooManyEntries` comes exactly where the files hold more than a database may, `Memory` where memory
+/// runs out.
+pub fn open_database(
+    alloc: Global,
+    line: &Line<'_>,
+    files: Vec<SourceFile>,
+) -> Result<(Vec<u8>, Trie), Refusal>
+    ensures database { IfOk result (λ read. database_of (files_read FileKind.Hwdb line.now files.items) ≡ Ok (record { messages = read.0.items; entries = read.1.entries })) }
+    ensures none { IfErr result (λ e. IsRefused e (database_of (files_read FileKind.Hwdb line.now files.items))) }
+{
+    let (trie, messages) = read_database(alloc, line, files)?;
+    let messages = message_lines(alloc, &messages)?;
+    Ok((messages, trie))
 }
 
 /// The answer to the line's modalias, and the messages about the files.

@@ -20,8 +20,9 @@ mod opening;
 mod refusal;
 mod report;
 
+pub use answers::answer_lines;
 pub use checks::{counted, is_style, report_on_rules};
-pub use database::{report_on_query, report_on_update};
+pub use database::{open_database, report_on_query, report_on_update};
 pub use delivery::{deliver_refusal, deliver_report, deliver_usage_error};
 pub use file_choice::files_read;
 pub use indexes::open_index;

@@ -26,59 +26,59 @@ use Rattle.engine_sessions.specs.Inputs.{AnswersInput, devices_of}
 use Rattle.engine_sessions.specs.Outcomes.{answered, answered_until, input_outcome}
 use Rattle.engine_sessions.specs.Serves.{read_failed, WritesOut, HasBegun, IsWhole, IsStatusLine, IsCutShort, TellsFailures, Serves, Concludes, StopsBefore, AnswersAll, Reports}
 
-not_four : (status : ℕ) {P : Type 0} → status ≡ 3 → status ≡ 4 → P
+pub not_four : (status : ℕ) {P : Type 0} → status ≡ 3 → status ≡ 4 → P
 not_four status e f = absurd (omega (arith, e, f))
 
-not_under : (status : ℕ) {P : Type 0} → 3 ≤ status → status < 3 → P
+pub not_under : (status : ℕ) {P : Type 0} → 3 ≤ status → status < 3 → P
 not_under status h k = absurd (omega (arith, h, k))
 
-begun-none : (sink : SinkState) (text : Text) → HasBegun sink text sink
+pub begun-none : (sink : SinkState) (text : Text) → HasBegun sink text sink
 begun-none sink text = (0, omega arith, sym (followed_by-nil sink.taken))
 
 begun-same : (before now : SinkState) (text : Text) → now ≡ before → HasBegun before text now
 begun-same before now text e = rw e (begun-none before text)
 
-begun-taken : (before now : SinkState) (text : Text) → now.taken ≡ followed_by before.taken text → HasBegun before text now
+pub begun-taken : (before now : SinkState) (text : Text) → now.taken ≡ followed_by before.taken text → HasBegun before text now
 begun-taken before now text e = (length text, omega arith, e ∙ ap (followed_by before.taken) (sym (take-length text)))
 
-begun-first : (before now : SinkState) (first second : Text) → HasBegun before first now → HasBegun before (first ++ second) now
+pub begun-first : (before now : SinkState) (first second : Text) → HasBegun before first now → HasBegun before (first ++ second) now
 begun-first before now first second b = (b.0, omega (arith, b.1, length-append first second), b.2 ∙ ap (followed_by before.taken) (sym (take-append-le b.0 first second b.1)))
 
-begun-behind : (before told now : SinkState) (first second : Text) → told.taken ≡ followed_by before.taken first → HasBegun told second now → HasBegun before (first ++ second) now
+pub begun-behind : (before told now : SinkState) (first second : Text) → told.taken ≡ followed_by before.taken first → HasBegun told second now → HasBegun before (first ++ second) now
 begun-behind before told now first second e b = (
   length first + b.0,
   omega (arith, b.1, length-append first second),
   b.2 ∙ ap (λ t. followed_by t (take b.0 second)) e ∙ followed_by-append before.taken first (take b.0 second) ∙ ap (followed_by before.taken) (sym (take-append-add first second b.0)),
 )
 
-tells_begun : (line : Text) (wanted status : ℕ) (told now : SinkState) → Tells line wanted status told now → HasBegun told line now
+pub tells_begun : (line : Text) (wanted status : ℕ) (told now : SinkState) → Tells line wanted status told now → HasBegun told line now
 tells_begun line wanted status told now (inl p) = begun-taken told now line p.1.taken
 tells_begun line wanted status told now (inr p) = p.1.taken
 
 -- a run that is cut short, by the line that says about it
-cut_by : (outcome : Outcome) (status : ℕ) (before now : Streams) (told : SinkState) (line : Text) → IsStatusLine line → HasBegun before.out outcome.output now.out → HasBegun before.err outcome.messages told → HasBegun told line now.err
+pub cut_by : (outcome : Outcome) (status : ℕ) (before now : Streams) (told : SinkState) (line : Text) → IsStatusLine line → HasBegun before.out outcome.output now.out → HasBegun before.err outcome.messages told → HasBegun told line now.err
     → (status ≡ 4 → HandsOn told out_of_memory now.err) → IsCutShort outcome status before now
 cut_by outcome status before now told line is output messages begun memory = record { output = output; told = told; messages = messages; line = line; line_is = is; begun = begun; memory = memory }
 
-at_memory : (status : ℕ) (told now : SinkState) → Tells out_of_memory 4 status told now → status ≡ 4 → HandsOn told out_of_memory now
+pub at_memory : (status : ℕ) (told now : SinkState) → Tells out_of_memory 4 status told now → status ≡ 4 → HandsOn told out_of_memory now
 at_memory status told now (inl p) e = p.1
 at_memory status told now (inr p) e = not_four status p.0 e
 
-memory_status : (status : ℕ) (told now : SinkState) → Tells out_of_memory 4 status told now → 3 ≤ status
+pub memory_status : (status : ℕ) (told now : SinkState) → Tells out_of_memory 4 status told now → 3 ≤ status
 memory_status status told now (inl p) = omega (arith, p.0)
 memory_status status told now (inr p) = omega (arith, p.0)
 
-memory_most : (status : ℕ) (told now : SinkState) → Tells out_of_memory 4 status told now → status ≤ 4
+pub memory_most : (status : ℕ) (told now : SinkState) → Tells out_of_memory 4 status told now → status ≤ 4
 memory_most status told now (inl p) = omega (arith, p.0)
 memory_most status told now (inr p) = omega (arith, p.0)
 
 -- what was refused
-refused_cut : (outcome : Outcome) (status : ℕ) (before now : Streams) → now.out ≡ before.out → Tells out_of_memory 4 status before.err now.err → IsCutShort outcome status before now
+pub refused_cut : (outcome : Outcome) (status : ℕ) (before now : Streams) → now.out ≡ before.out → Tells out_of_memory 4 status before.err now.err → IsCutShort outcome status before now
 refused_cut outcome status before now untouched tells =
     cut_by outcome status before now before.err out_of_memory (inr (inr (inr refl))) (begun-same before.out now.out outcome.output untouched) (begun-none before.err outcome.messages) (tells_begun out_of_memory 4 status before.err now.err tells) (at_memory status before.err now.err tells)
 
 -- what the error output broke off in
-messages_cut : (outcome : Outcome) (status : ℕ) (before now : Streams) → now.out ≡ before.out → status ≡ 3 → HasBegun before.err outcome.messages now.err → IsCutShort outcome status before now
+pub messages_cut : (outcome : Outcome) (status : ℕ) (before now : Streams) → now.out ≡ before.out → status ≡ 3 → HasBegun before.err outcome.messages now.err → IsCutShort outcome status before now
 messages_cut outcome status before now untouched e begun =
     cut_by outcome status before now now.err [] (inl refl) (begun-same before.out now.out outcome.output untouched) begun (begun-none now.err []) (not_four status e)
 
@@ -151,7 +151,7 @@ sent_flushed out told (text ∷ sent) e = inl e
 pub sends_output : (out told out_now : SinkState) (sent : List Text) → Sends out sent told → out_now ≡ told → WritesOut out (joined sent) out_now
 sends_output out told out_now sent s e = rw e (record { taken = s.taken; flushed = sent_flushed out told sent s.flushed; well = s.well })
 
-hands_behind : (err told err_now : SinkState) (first second : Text) → HandsOn err first told → HandsOn told second err_now → HandsOn err (first ++ second) err_now
+pub hands_behind : (err told err_now : SinkState) (first second : Text) → HandsOn err first told → HandsOn told second err_now → HandsOn err (first ++ second) err_now
 hands_behind err told err_now first second h k = record {
   taken = k.taken ∙ ap (λ t. followed_by t second) h.taken ∙ followed_by-append err.taken first second;
   flushed = k.flushed;

@@ -47,7 +47,7 @@ pub record Served {A : Type 0} (answer : EventValue → Text) (first : Held A) (
   pub goes_on : session.ended ≡ false
   pub answering : session.answering ≡ first.answering
 
-led_by-nil : (told : Option Text) → led_by [] told ≡ told
+pub led_by-nil : (told : Option Text) → led_by [] told ≡ told
 led_by-nil None = refl
 led_by-nil (Some rest) = refl
 
@@ -55,10 +55,10 @@ led_by-append : (first second : Text) (told : Option Text) → led_by first (led
 led_by-append first second None = refl
 led_by-append first second (Some rest) = ap Some (sym (append_assoc first second rest))
 
-joined-push : (read : List Text) (piece : Text) → joined (read ++ piece ∷ []) ≡ joined read ++ piece
+pub joined-push : (read : List Text) (piece : Text) → joined (read ++ piece ∷ []) ≡ joined read ++ piece
 joined-push read piece = flat_map-append (λ text. text) read (piece ∷ []) ∙ ap (λ l. joined read ++ l) (append-nil piece)
 
-all_but_last-push : (read : List Text) (piece : Text) → all_but_last (read ++ piece ∷ []) ≡ read
+pub all_but_last-push : (read : List Text) (piece : Text) → all_but_last (read ++ piece ∷ []) ≡ read
 all_but_last-push read piece = grind (arith, common_steps)
 
 -- nothing is due at the start
@@ -70,10 +70,10 @@ due_behind : (answer : EventValue → Text) (read : List Text) (piece : Text) (s
 due_behind answer read piece sent more e =
     (more, ap (λ texts. texts ++ more) (sym (ap (λ pieces. (answers_to answer (complete_runs (joined pieces))).texts) (all_but_last-push read piece) ∙ ap (λ a. a.texts) e)))
 
-one_more : (input now later : SourceState) (read : List Text) (piece : Text) → now.pieces ≡ followed_by input.pieces read → later.pieces ≡ followed_by now.pieces (piece ∷ []) → later.pieces ≡ followed_by input.pieces (read ++ piece ∷ [])
+pub one_more : (input now later : SourceState) (read : List Text) (piece : Text) → now.pieces ≡ followed_by input.pieces read → later.pieces ≡ followed_by now.pieces (piece ∷ []) → later.pieces ≡ followed_by input.pieces (read ++ piece ∷ [])
 one_more input now later read piece p q = q ∙ ap (λ told. followed_by told (piece ∷ [])) p ∙ followed_by-append input.pieces read (piece ∷ [])
 
-left_behind : (input now later : SourceState) (read : List Text) (piece : Text) → input.left ≡ led_by (joined read) now.left → now.left ≡ led_by piece later.left → input.left ≡ led_by (joined (read ++ piece ∷ [])) later.left
+pub left_behind : (input now later : SourceState) (read : List Text) (piece : Text) → input.left ≡ led_by (joined read) now.left → now.left ≡ led_by piece later.left → input.left ≡ led_by (joined (read ++ piece ∷ [])) later.left
 left_behind input now later read piece p q = p ∙ ap (led_by (joined read)) q ∙ led_by-append (joined read) piece later.left ∙ ap (λ text. led_by text later.left) (sym (joined-push read piece))
 
 -- what was held before each piece, with one more piece after them
@@ -99,7 +99,7 @@ none_at_start : HoldsUpTo []
 none_at_start n h = let none : n ≡ 0 = omega (arith, h) in rw none (omega arith)
 
 -- one read more was made
-reads_more : (turns : ℕ) (input now later : SourceState) → ReadsWell turns input now → Counts 1 now.reads later.reads → later.faults ≡ now.faults → ReadsWell (turns + 1) input later
+pub reads_more : (turns : ℕ) (input now later : SourceState) → ReadsWell turns input now → Counts 1 now.reads later.reads → later.faults ≡ now.faults → ReadsWell (turns + 1) input later
 reads_more turns input now later w r e = record { reads = counts-more turns 1 input.reads now.reads later.reads w.reads r; well = e ∙ w.well }
 
 -- one piece more was read
@@ -188,7 +188,7 @@ answers_now : {A : Type 0} (answer : EventValue → Text) (session : Held A) (re
     → answers_of answer (joined (read ++ piece ∷ [])) ≡ with_texts sent (answers_of answer (session.pending ++ piece))
 answers_now answer session read piece sent g = rw (append-nil (joined (read ++ piece ∷ [])), append-nil (session.pending ++ piece)) at (all_answers answer session read piece [] sent g)
 
-none_left_behind : (now later : Option Text) (piece : Text) → piece ≡ [] → now ≡ led_by piece later → NoneLeft now → NoneLeft later
+pub none_left_behind : (now later : Option Text) (piece : Text) → piece ≡ [] → now ≡ led_by piece later → NoneLeft now → NoneLeft later
 none_left_behind now later piece e f h = subst NoneLeft (f ∙ ap (λ p. led_by p later) e ∙ led_by-nil later) h
 
 pub finished : {A : Type 0} (answer : EventValue → Text) (first session next : Held A) (input now later : SourceState) (output sink sink_later : SinkState) (turns : ℕ)
@@ -259,7 +259,7 @@ faulty_later answer session read false piece later sent fault g e none =
     ∙ answers_now answer session read piece sent g ∙ ap (with_texts sent) (until_texts (due answer false session.pending piece) fault e)
 
 -- the bytes left are none where the input goes on no more
-later_none : (more : Bool) (now later : SourceState) (piece rest : Text) → Reads more now piece later → later.left ≡ Some rest → more ≡ false → rest ≡ []
+pub later_none : (more : Bool) (now later : SourceState) (piece rest : Text) → Reads more now piece later → later.left ≡ Some rest → more ≡ false → rest ≡ []
 later_none more now later piece rest r e f = rw e at (none_left_behind now.left later.left piece (r.ends.0 f) r.gives.left (r.none_left f))
 
 stops_at_block : {A : Type 0} (answer : EventValue → Text) (session : Held A) (now later : SourceState) (read : List Text) (more : Bool) (piece : Text) (sent : List Text) (number : ℕ) (fault : BlockFault) (sink sink_later : SinkState)

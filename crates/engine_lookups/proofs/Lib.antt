@@ -1,0 +1,6 @@
+pub mod LineLemmas
+pub mod AnswerLemmas
+pub mod TakingLemmas
+pub mod InputLemmas
+pub mod Serving
+pub mod LawLemmas

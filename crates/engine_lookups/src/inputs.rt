@@ -1,0 +1,42 @@
+//! The turns over an input.
+ghost use Rattle.std.specs.Prelude.{◌≡◌};
+ghost use Rattle.engine_lookups.specs.Inputs.{AnswersInput};
+ghost use Rattle.engine_lookups.specs.Outcomes.{answer_to};
+
+use crate::held::{Held, LookupFault};
+use crate::turning::turn;
+use engine_ends::{Sink, Source};
+use hwdb_lookup::Lookup;
+use std::alloc::Global;
+
+/// The most turns over one input.
+const MAX_TURNS: u64 = 1 << 48;
+
+/// Answers the lines of an input, each before the next read.
+///
+/// `TooLong` comes where a line is too long, with the answers to all lines before it sent; `Memory`
+/// where memory runs out; `Write` where the output failed; `Read` where the input failed, or did not
+/// end within 2^48 reads.
+pub(crate) fn answer_input<L: Lookup, R: Source, W: Sink>(
+    alloc: Global,
+    sources: bool,
+    database: &L,
+    input: &mut R,
+    output: &mut W,
+) -> Result<(), LookupFault>
+    ensures { AnswersInput (answer_to sources (L.entries database.now)) result
+        (R.shown input.old) (R.shown input.new) (W.shown output.old) (W.shown output.new) }
+{
+    let mut held = Held::new(alloc);
+    for _made in 0..MAX_TURNS {
+        match turn(alloc, sources, database, &mut held, input, output) {
+            Ok(more) => {
+                if !more {
+                    return Ok(());
+                }
+            }
+            Err(fault) => return Err(fault),
+        }
+    }
+    Err(LookupFault::Read)
+}

@@ -1,0 +1,31 @@
+//! What holds of the answers to lines. Each law is the contract of a function that does nothing.
+ghost use Rattle.std.specs.Prelude.{◌≡◌, List, false, [], ◌∷◌, ◌++◌};
+ghost use Rattle.text_bytes.specs.Names.{newline};
+ghost use Rattle.text_bytes.specs.declared.message.Message.{Message};
+ghost use Rattle.text_tables.specs.Texts.{Text};
+ghost use Rattle.hwdb_lookup.specs.declared.entry.Entry.{Entry};
+ghost use Rattle.device_core.specs.RunBlocks.{newline_count};
+ghost use Rattle.engine_ends.specs.declared.line.Line.{Line};
+ghost use Rattle.engine_reports.specs.Messages.{message_lines};
+ghost use Rattle.engine_reports.specs.Outcomes.{query_outcome};
+ghost use Rattle.engine_lookups.specs.Outcomes.{answer_to, is_too_long, lines_outcome};
+
+/// Over an input of one line all is as `query` has it for that modalias, but for the empty line after
+/// the properties.
+pub fn a_line_alone_is_a_query()
+    ensures { (line : Line) (entries : List Entry) (messages : List Message) → newline_count line.modalias.now ≡ 0 → is_too_long line.modalias.now ≡ false
+        → lines_outcome (message_lines messages) (answer_to line.sources entries) (line.modalias.now ++ newline ∷ []) ≡ record {
+          output = (query_outcome line entries messages).output ++ newline ∷ [];
+          messages = (query_outcome line entries messages).messages;
+          status = (query_outcome line entries messages).status;
+        } }
+{}
+
+/// An input that is put after a newline of another gets its answers after those to the other, in which no
+/// line is too long, and its status.
+pub fn answers_to_lines_follow_one_another()
+    ensures output { (messages : Text) (answer : Text → Text) (first second : Text) → (lines_outcome messages answer (first ++ newline ∷ [])).status ≡ 0
+        → (lines_outcome messages answer (first ++ newline ∷ second)).output ≡ (lines_outcome messages answer (first ++ newline ∷ [])).output ++ (lines_outcome messages answer second).output }
+    ensures status { (messages : Text) (answer : Text → Text) (first second : Text) → (lines_outcome messages answer (first ++ newline ∷ [])).status ≡ 0
+        → (lines_outcome messages answer (first ++ newline ∷ second)).status ≡ (lines_outcome messages answer second).status }
+{}

@@ -1,0 +1,67 @@
+//! Turns: one read, and the answers to the lines that end in it.
+ghost use Rattle.std.specs.Prelude.{◌≡◌, ◌+◌, ◌^◌, ◌<◌, ◌≤◌, ◌++◌, length, true, IfErr, IfOk, OnOk};
+ghost use Rattle.engine_lookups.specs.Inputs.{TurnFails, Turns};
+ghost use Rattle.engine_lookups.specs.Outcomes.{answer_to};
+ghost use Rattle.engine_lookups.specs.Taking.{Answers, IsOpen, StopsIn};
+
+use crate::held::{Held, LookupFault};
+use engine_ends::{DeviceFault, Sink, Source};
+use hwdb_lookup::Lookup;
+use std::alloc::Global;
+
+/// The most bytes of a read.
+const MAX_READ: usize = 4096;
+
+/// Makes one read of at most 4,096 bytes, and answers each line that ends in it, and at the input's end
+/// the last line. Says whether the input goes on.
+pub(crate) fn turn<L: Lookup, R: Source, W: Sink>(
+    alloc: Global,
+    sources: bool,
+    database: &L,
+    held: &mut Held,
+    input: &mut R,
+    output: &mut W,
+) -> Result<bool, LookupFault>
+    requires open { IsOpen held.old }
+    requires few { held.old.number + 4096 < 2 ^ 64 }
+    ensures ok { IfOk result (λ more. Turns (answer_to sources (L.entries database.now)) more held.old held.new
+        (R.shown input.old) (R.shown input.new) (W.shown output.old) (W.shown output.new)) }
+    ensures err { IfErr result (λ fault. TurnFails (answer_to sources (L.entries database.now)) fault held.old
+        (R.shown input.old) (R.shown input.new) (W.shown output.old) (W.shown output.new)) }
+{
+    let mut piece = [0u8; MAX_READ];
+    match input.read(&mut piece) {
+        Ok(0) => match held.end(alloc, sources, database, output) {
+            Ok(()) => Ok(false),
+            Err(fault) => Err(fault),
+        },
+        Ok(len) => match answer_piece(alloc, sources, database, held, &piece[..len], output) {
+            Ok(()) => Ok(true),
+            Err(fault) => Err(fault),
+        },
+        Err(DeviceFault) => Err(LookupFault::Read),
+    }
+}
+
+/// Takes a piece, and answers each line that ends in it.
+fn answer_piece<L: Lookup, W: Sink>(
+    alloc: Global,
+    sources: bool,
+    database: &L,
+    held: &mut Held,
+    piece: &[u8],
+    output: &mut W,
+) -> Result<(), LookupFault>
+    requires open { IsOpen held.old }
+    requires few { held.old.number + length piece.now < 2 ^ 64 }
+    ensures ok { OnOk result (Answers (answer_to sources (L.entries database.now)) held.old piece.now held.new (W.shown output.old) (W.shown output.new)) }
+    ensures err { IfErr result (λ fault. StopsIn (answer_to sources (L.entries database.now)) fault true held.old.number (held.old.bytes ++ piece.now) (W.shown output.old) (W.shown output.new)) }
+{
+    for byte in piece {
+        match held.take(alloc, sources, database, *byte, output) {
+            Ok(()) => {}
+            Err(fault) => return Err(fault),
+        }
+    }
+    Ok(())
+}

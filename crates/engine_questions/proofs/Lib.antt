@@ -1,0 +1,4 @@
+pub mod Idling
+pub mod Asking
+pub mod Going
+pub mod Walking

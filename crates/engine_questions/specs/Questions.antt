@@ -1,0 +1,82 @@
+-- What rules ask of an event: the commands that are looked up while the rules are evaluated, and that the event's block does not answer.
+use Rattle.std.specs.Prelude.{ℕ, Bool, not, ◌==◌, ◌&&◌, ◌||◌, if◌then◌else◌, is_some, List, [], ◌∷◌, ◌++◌, filter, Option, None}
+use Rattle.std.specs.List.{list_all}
+use Rattle.text_bytes.specs.Names.{newline, nul}
+use Rattle.text_bytes.specs.Texts.{is_empty}
+use Rattle.text_bytes.specs.declared.profile.Profile.{Profile}
+use Rattle.text_bytes.specs.declared.profile.Profile.TheVariants.{Manual, Udev}
+use Rattle.text_tables.specs.Texts.{Text, with_texts}
+use Rattle.text_tables.specs.Pairs.{value_of}
+use Rattle.hwdb_lookup.specs.declared.entry.Entry.{Entry}
+use Rattle.rule_types.specs.Rules.{Rule}
+use Rattle.rule_types.specs.declared.part.Act.{Act}
+use Rattle.rule_types.specs.declared.part.Deed.{Deed}
+use Rattle.rule_types.specs.declared.part.Deed.TheVariants as deed
+use Rattle.rule_types.specs.declared.part.Import.{Import}
+use Rattle.rule_types.specs.declared.part.Import.TheVariants as import
+use Rattle.device_core.specs.Values.{EventValue}
+use Rattle.eval_state.specs.Scenes.{start}
+use Rattle.eval_state.specs.declared.scene.Scene.{Scene}
+use Rattle.eval_state.specs.declared.state.State.{State}
+use Rattle.eval_rendering.specs.declared.rendered.Rendered.{Rendered}
+use Rattle.eval_rendering.specs.declared.rendered.Rendered.TheVariants as rendered
+use Rattle.eval_acts.specs.ActTexts.{import_text, most_command_bytes, program_text}
+use Rattle.eval_acts.specs.Acts.{act_step}
+use Rattle.eval_rules.specs.Jumps.{is_passed, sought_after}
+use Rattle.eval_rules.specs.Steps.{Went, apply, onward, plain_step, search, walk}
+
+-- whether a byte may stand within a line of a block
+abbrev pub stands_in_line : ℕ → Bool
+stands_in_line b = not (b == newline || b == nul)
+
+-- whether a line of a block can have a command
+abbrev pub can_be_asked : Text → Bool
+can_be_asked command = not (is_empty command) && list_all stands_in_line command
+
+-- a command, where the event's block does not answer it; a text that is too long is no command
+abbrev pub unanswered : EventValue → Rendered → List Text
+unanswered event (rendered.Text command) = if is_some (value_of event.programs command) then [] else command ∷ []
+unanswered event rendered.TooLong = []
+
+-- what an IMPORT asks: under udev IMPORT{program} looks its command up
+abbrev pub import_asks : Profile → Import → State → List Text
+import_asks Udev (import.Program template) s = unanswered s.event (import_text most_command_bytes template s)
+import_asks profile from s = []
+
+-- what an act asks: the command that it looks up, where the block does not answer it
+abbrev pub act_asks : Deed → State → List Text
+act_asks (deed.Test mask template) s = []
+act_asks (deed.Program template) s = unanswered s.event (program_text template s)
+act_asks (deed.Import from) s = import_asks s.event.profile from s
+
+-- what is asked after something that stops the rule, or lets it go on
+abbrev pub asked_onward : (Scene → List Text) → Went → List Text
+asked_onward asked went = if went.1 then asked went.0 else []
+
+-- what acts of a rule ask, one after another, up to the first that stops the rule
+unfoldable pub acts_ask : List Entry → Rule → List Act → Scene → List Text
+acts_ask entries r [] s = []
+acts_ask entries r (act ∷ acts) s = act_asks act.deed s.state ++ asked_onward (acts_ask entries r acts) (act_step entries r act s)
+
+-- what a rule comes to before its acts: the matches of the event, and the search for one device
+abbrev pub before_acts : Rule → Scene → Went
+before_acts r s = onward (search r.up) (walk (plain_step r) r.plain s)
+
+-- what a rule asks: what its acts ask, where its matches let it go on to them
+unfoldable pub rule_asks : List Entry → Rule → Scene → List Text
+rule_asks entries r s = asked_onward (acts_ask entries r r.acts) (before_acts r s)
+
+-- what rules ask, one after another, perhaps while a label is sought: one that is passed over asks nothing
+unfoldable pub rules_ask : List Entry → Option Text → List Rule → Scene → List Text
+rules_ask entries sought [] s = []
+rules_ask entries sought (r ∷ rs) s =
+    if is_passed sought r then rules_ask entries sought rs s
+    else rule_asks entries r s ++ rules_ask entries (sought_after (apply entries r s).1 r) rs (apply entries r s).0
+
+-- commands, and after them others that can be asked, each once
+abbrev pub with_asked : List Text → List Text → List Text
+with_asked asked commands = with_texts asked (filter can_be_asked commands)
+
+-- the questions of an event: what rules ask of it and can be asked, each command once, where it is first asked
+abbrev pub questions : List Rule → List Entry → EventValue → List Text
+questions rules entries event = with_asked [] (rules_ask entries None rules (start event))

@@ -1,0 +1,54 @@
+//! The answer of `--questions` to an event.
+ghost use Rattle.std.specs.Prelude.{◌≡◌, ◌++◌, IfOk, OnOk};
+ghost use Rattle.engine_questions.specs.Lines.{question_answer, question_line, question_lines};
+
+use crate::rules::questions;
+use device_core::Event;
+use engine_answers::push_event;
+use hwdb_lookup::Lookup;
+use rule_core::RuleSet;
+use std::alloc::{AllocError, Global};
+use text_bytes::Bytes;
+use text_tables::OwnedTexts;
+
+/// Puts the line that asks a command after others.
+fn push_question(lines: &mut Vec<u8>, command: &[u8]) -> Result<(), AllocError>
+    ensures { OnOk result (lines.new.items ≡ lines.old.items ++ question_line command.now) }
+{
+    lines.extend_from_slice(b"Q: ")?;
+    lines.extend_from_slice(command)?;
+    lines.push(b'\n')?;
+    Ok(())
+}
+
+/// Puts the lines that ask commands after others.
+fn push_questions(lines: &mut Vec<u8>, commands: &OwnedTexts) -> Result<(), AllocError>
+    ensures { OnOk result (lines.new.items ≡ lines.old.items ++ question_lines commands.now) }
+{
+    for command in commands.as_slice() {
+        push_question(lines, command)?;
+    }
+    Ok(())
+}
+
+/// The answer of `--questions` to an event: the line `event ACTION PATH`, then `Q: COMMAND` for each command that rules
+/// ask and the event's block does not answer, as `questions` gives them, and an empty line. The commands are as a block
+/// has them, not escaped; with a line `R: STATUS TEXT` after each, the lines can be put at the end of the block.
+///
+/// The error comes where memory runs out.
+#[tactic(auto, unfolding(crate::specs::Lines::question_answer))]
+pub fn question_answer<L: Lookup>(
+    alloc: Global,
+    rules: &RuleSet,
+    event: &Event<'_>,
+    lookup: &L,
+) -> Result<Bytes, AllocError>
+    ensures { IfOk result (λ text. text ≡ question_answer rules.now.rules (L.entries lookup.now) event.now) }
+{
+    let asked = questions(alloc, rules.rules(), event, lookup)?;
+    let mut lines = Vec::new(alloc);
+    push_event(alloc, &mut lines, event.action(), event.device().path())?;
+    push_questions(&mut lines, &asked)?;
+    lines.push(b'\n')?;
+    Ok(Bytes::new(lines))
+}

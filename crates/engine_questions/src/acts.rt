@@ -8,7 +8,7 @@ ghost use Rattle.engine_questions.specs.Questions.{act_asks, import_asks, unansw
 
 use crate::commands::can_be_asked;
 use device_core::Event;
-use eval_acts::{MOST_COMMAND_BYTES, import_text, program_text};
+use eval_acts::{MAX_COMMAND_BYTES, import_text, program_text};
 use eval_rendering::Rendered;
 use eval_state::State;
 use rule_templates::Template;
@@ -80,7 +80,7 @@ fn ask_imported_program(
 ) -> Result<(), AllocError>
     ensures { OnOk result (asked.new ≡ with_asked asked.old (unanswered state.now.event (import_text most_command_bytes template.now state.now))) }
 {
-    let text = import_text(alloc, MOST_COMMAND_BYTES, template, state)?;
+    let text = import_text(alloc, MAX_COMMAND_BYTES, template, state)?;
     ask_rendered(alloc, &text, state.event.event(), asked)
 }
 

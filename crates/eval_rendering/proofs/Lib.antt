@@ -1,3 +1,4 @@
 pub mod SpacedWords
 pub mod Joining
 pub mod Passing
+pub mod Naming

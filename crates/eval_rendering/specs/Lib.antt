@@ -3,3 +3,5 @@ pub mod Rendering
 pub mod Words
 pub mod Shown
 pub mod Bounds
+pub mod Names
+pub mod Lengthened

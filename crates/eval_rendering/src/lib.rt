@@ -5,12 +5,18 @@
 
 mod attributes;
 mod bounded_text;
+mod laws;
+mod names;
 mod pieces;
 mod rendered;
 mod rendering;
+mod short_name;
 mod spaced_words;
 mod words;
 
+pub use laws::a_name_is_rendered_as_a_text;
+pub use names::rendered_name;
 pub use rendered::{Mode, Rendered};
 pub use rendering::{render, render_text};
+pub use short_name::ShortName;
 pub use text_links::{attribute_safe, link_safe, underscored};

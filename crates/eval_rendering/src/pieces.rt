@@ -78,7 +78,7 @@ fn selected_driver<'a>(state: &State<'a>) -> &'a [u8]
 }
 
 /// The first part of the device number, or 0.
-fn major<'a>(state: &State<'a>) -> &'a [u8]
+pub(crate) fn major<'a>(state: &State<'a>) -> &'a [u8]
     ensures { result.now ≡ unwrap_or (option_map (λ number. number.major) state.now.event.device.number) (codes "0") }
 {
     match state.event.device().number() {
@@ -88,7 +88,7 @@ fn major<'a>(state: &State<'a>) -> &'a [u8]
 }
 
 /// The second part of the device number, or 0.
-fn minor<'a>(state: &State<'a>) -> &'a [u8]
+pub(crate) fn minor<'a>(state: &State<'a>) -> &'a [u8]
     ensures { result.now ≡ unwrap_or (option_map (λ number. number.minor) state.now.event.device.number) (codes "0") }
 {
     match state.event.device().number() {
@@ -98,7 +98,7 @@ fn minor<'a>(state: &State<'a>) -> &'a [u8]
 }
 
 /// The node of the second device of the chain, empty if there is none.
-fn parent_node<'a>(state: &State<'a>) -> &'a [u8]
+pub(crate) fn parent_node<'a>(state: &State<'a>) -> &'a [u8]
     ensures { result.now ≡ or_empty (parent_node state.now) }
 {
     match state.event.device_at(1) {
@@ -118,7 +118,7 @@ fn own_name<'s>(profile: Profile, state: &'s State<'_>) -> &'s [u8]
 }
 
 /// The assigned name, else the device's own.
-fn name<'s>(profile: Profile, state: &'s State<'_>) -> &'s [u8]
+pub(crate) fn name<'s>(profile: Profile, state: &'s State<'_>) -> &'s [u8]
     ensures { result.now ≡ unwrap_or state.now.name (own_name profile state.now.event.device) }
 {
     match &state.name {

@@ -7,3 +7,4 @@ pub mod Fronts
 pub mod Left
 pub mod Digits
 pub mod Examples
+pub mod Bare

@@ -8,3 +8,4 @@ pub mod Faults
 pub mod FaultTexts
 pub mod Integers
 pub mod Cuts
+pub mod Bare

@@ -17,8 +17,9 @@ mod piece;
 mod reading;
 mod template;
 
+pub use cut::Cut;
 pub use fault::TemplateFault;
 pub use integers::{behind_separators, integer_of, is_separator, natural_of};
 pub use piece::Piece;
-pub use reading::is_faulty;
+pub use reading::{is_faulty, kept};
 pub use template::Template;

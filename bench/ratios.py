@@ -4,7 +4,8 @@
 Each row is the least of several runs that take turns with those that it is compared with: processor time and peak memory.
 The growth rows give what one, ten and a hundred times as much of one thing takes; ten times as much should take ten times
 as long. With --instructions valgrind counts instructions in place of time, which does not depend on what else the machine
-does; memory is measured in a run of its own, as ever.
+does; the system's own are not among them, so that there is no ratio to a program that only reads. Memory is measured in a
+run of its own, as ever; it is at least what this script holds, some 16 MB.
 
 usage: bench/ratios.py ROOT UDEV [--instructions] [WORD]
            ROOT is the root of a distribution's files: usr/lib/udev/hwdb.d and rules.d; UDEV is what bench/udev_root.sh
@@ -208,7 +209,7 @@ def table(bench, word, unit):
         own = sum(costs[name] for name in row.runs) - sum(costs[name] for name in row.start)
         other = sum(costs[name] for name in row.beside)
         cells = [row.name, shown(row, own, unit), f"{' and '.join(row.beside)}: {shown(Row('', ()), other, unit)}" if other else "",
-                 f"{own / other:.2f}" if other else "", row.aim, f"{max(taken[name].peak for name in row.runs):.0f} MB", f"{row.most} MB" if row.most else ""]
+                 f"{own / other:.2f}" if other > (0 if unit == "s" else 1) else "", row.aim, f"{max(taken[name].peak for name in row.runs):.0f} MB", f"{row.most} MB" if row.most else ""]
         print("| " + " | ".join(cells) + " |", flush=True)
 
 

@@ -90,12 +90,20 @@ impl OwnedPairs {
         Ok(())
     }
 
+    /// Makes room for so many more names, so that the table does not grow step by step.
+    fn reserve(&mut self, more: usize) -> Result<(), AllocError>
+        ensures { self.new ≡ self.old }
+    {
+        self.held.reserve(more)
+    }
+
     /// Sets each of these names, in their order. If memory runs out, the first so many are set,
     /// perhaps none, and the others are not.
     pub fn set_all(&mut self, alloc: Global, pairs: &Pairs<'_>) -> Result<(), AllocError>
         ensures pairs { OnOk result (self.new ≡ with_values self.old pairs.now) }
         ensures refused { OnErr result (SetsFirst self.old pairs.now self.new) }
     {
+        self.reserve(pairs.len())?;
         for (name, value) in pairs.as_map().iter() {
             self.set(alloc, name, value)?;
         }

@@ -11,5 +11,5 @@ loop-name-preserved c =
 
 pub returns-in_err-set-clause-refused : goal.returns-in_err-set-clause-refused
 returns-in_err-set-clause-refused c =
-    let p = err_from_is_err_and c.from_residual.result c.from_residual.ensures.1 in
+    let p = err_from_is_err_and c.from_residual-in_err-set.result c.from_residual-in_err-set.ensures.1 in
     rw p.1 (stopped (λ held pair. with_value held pair.0 pair.1) _ _ _ _ _ c.loop-name.invariant c.in_err-set.ensures.refused)

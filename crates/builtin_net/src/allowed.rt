@@ -5,7 +5,7 @@ ghost use Rattle.text_tables.specs.Texts.{same_text};
 ghost use Rattle.text_tables.specs.Pairs.{value_of};
 ghost use Rattle.builtin_net.specs.Allowed.{attribute_name, interface, is_allowed, is_yes, lacks, number, permission, permits, read};
 
-use crate::words::MOST_NUMBER;
+use crate::words::MAX_NUMBER;
 use builtin_devices::{Base, number_in};
 use device_core::{Device, Event};
 use text_tables::{OwnedPairs, Pairs};
@@ -169,7 +169,7 @@ pub(crate) fn number(device: &Device<'_>, attribute: Attribute) -> Option<u64>
     ensures { result ≡ number device.now attribute }
 {
     match read(device, attribute) {
-        Some(text) => number_in(Base::AsWritten, MOST_NUMBER, text),
+        Some(text) => number_in(Base::AsWritten, MAX_NUMBER, text),
         None => None,
     }
 }
@@ -204,7 +204,7 @@ pub(crate) fn own_number(event: &Event<'_>, env: &OwnedPairs, attribute: Attribu
     ensures { result ≡ number (interface event.now env.now) attribute }
 {
     match read_own(event, env, attribute) {
-        Some(text) => number_in(Base::AsWritten, MOST_NUMBER, text),
+        Some(text) => number_in(Base::AsWritten, MAX_NUMBER, text),
         None => None,
     }
 }

@@ -7,8 +7,8 @@ ghost use Rattle.builtin_net.specs.Buses.{acpi_text, by_ccw, by_netdevsim, by_pl
 
 use crate::allowed::{Attribute, read_own};
 use crate::ports::some_text;
-use crate::words::{MOST_NUMBER, behind, is_hexadecimal, is_plain, joined, push_number, small};
-use builtin_devices::{Base, Devices, is_of, name_number, number_in};
+use crate::words::{MAX_NUMBER, is_hexadecimal, is_plain, joined, push_number, small};
+use builtin_devices::{Base, Devices, behind, is_of, name_number, number_in};
 use device_core::{Device, Event};
 use std::alloc::{AllocError, Global};
 use text_bytes::{begins_with, decimal_below, split_once};
@@ -116,7 +116,7 @@ fn vio_text(alloc: Global, name: &[u8]) -> Result<Option<Vec<u8>>, AllocError>
     if name.len() != 8 || !is_hexadecimal(name) {
         return Ok(None);
     }
-    let Some(number) = number_in(Base::Hexadecimal, MOST_NUMBER, name.split_at(4).1) else {
+    let Some(number) = number_in(Base::Hexadecimal, MAX_NUMBER, name.split_at(4).1) else {
         return Ok(None);
     };
     let mut text = Vec::new(alloc);
@@ -187,7 +187,7 @@ fn with_instance(
     if !is_acpi(vendor, model, instance) {
         return Ok(None);
     }
-    match number_in(Base::Hexadecimal, MOST_NUMBER, instance) {
+    match number_in(Base::Hexadecimal, MAX_NUMBER, instance) {
         Some(instance) => Ok(Some(acpi_text(alloc, vendor, model, instance)?)),
         None => Ok(None),
     }
@@ -262,7 +262,7 @@ fn simulated(
 fn number_of_name(kernel: &[u8]) -> Option<u64>
     ensures { result ≡ number_of_name kernel.now }
 {
-    number_in(Base::AsWritten, MOST_NUMBER, name_number(kernel)?)
+    number_in(Base::AsWritten, MAX_NUMBER, name_number(kernel)?)
 }
 
 /// What names say about a device of netdevsim and of the port.

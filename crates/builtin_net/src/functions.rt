@@ -5,7 +5,7 @@ ghost use Rattle.builtin_net.specs.Function.{config, domain_text, function, func
 ghost use Rattle.builtin_net.specs.Words.{most_number};
 
 use crate::allowed::{Attribute, is_yes, read};
-use crate::words::{MOST_NUMBER, joined, push_number};
+use crate::words::{MAX_NUMBER, joined, push_number};
 use builtin_devices::{Base, bytes_of, file_at, number_in};
 use device_core::{Device, Event};
 use std::alloc::{AllocError, Global};
@@ -30,7 +30,7 @@ fn small_number(base: Base, text: &[u8]) -> Option<u64>
     ensures value { result ≡ number_in base most_number text.now }
     ensures small { IfSome result (λ n. n ≤ most_number) }
 {
-    number_in(base, MOST_NUMBER, text)
+    number_in(base, MAX_NUMBER, text)
 }
 
 /// The function of a domain and a bus, whose slot and function are in a text.

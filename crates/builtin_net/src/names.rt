@@ -18,8 +18,8 @@ use crate::slots::{Slot, pci_above, slot_of};
 use crate::trees::tree_text;
 use crate::usb::{bcma_suffix, usb_suffix};
 use crate::virtual_functions::{NamedFunction, named_function};
-use crate::words::{is_number, joined, push_number};
-use builtin_devices::{Devices, add_property};
+use crate::words::{joined, push_number};
+use builtin_devices::{Devices, add_property, is_number};
 use device_core::{Device, Event};
 use std::alloc::{AllocError, Global};
 use text_bytes::Bytes;
@@ -27,7 +27,7 @@ use text_links::kernel_name;
 use text_tables::OwnedPairs;
 
 /// The most bytes of a name.
-const MOST_NAME: usize = 127;
+const MAX_NAME: usize = 127;
 
 /// Adds a property of a prefix and a text after it, where there is one and both are not too long.
 #[tactic(auto, unfolding(crate::specs::Names::given))]
@@ -44,7 +44,7 @@ fn give(
         return Ok(());
     };
     let name = joined(alloc, prefix, &text)?;
-    if name.len() > MOST_NAME {
+    if name.len() > MAX_NAME {
         return Ok(());
     }
     add_property(alloc, key, &name, names)
@@ -60,7 +60,7 @@ pub(crate) fn lasting_address(
 ) -> Result<Option<Vec<u8>>, AllocError>
     ensures { IfOk result (λ digits. option_map (λ d. d.items) digits ≡ lasting_address prefix (interface event.now env.now)) }
 {
-    if prefix.is_infiniband() || !is_number(own_number(event, env, Attribute::AddrAssignType), 0) {
+    if prefix.is_infiniband() || !is_number(0, own_number(event, env, Attribute::AddrAssignType)) {
         return Ok(None);
     }
     match read_own(event, env, Attribute::Address) {

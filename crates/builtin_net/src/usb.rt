@@ -2,8 +2,8 @@
 ghost use Rattle.std.specs.Prelude.{◌≡◌, ◌++◌, IfOk, OnOk, option_map};
 ghost use Rattle.builtin_net.specs.Usb.{bcma_suffix, core_in, core_of, port_byte, ports_text, unless_usual, usb_numbers, usb_ports, usb_suffix, usb_text};
 
-use crate::words::{MOST_NUMBER, behind, push_number};
-use builtin_devices::{Base, number_in};
+use crate::words::{MAX_NUMBER, push_number};
+use builtin_devices::{Base, behind, number_in};
 use std::alloc::{AllocError, Global};
 use text_bytes::split_once;
 
@@ -90,8 +90,8 @@ pub(crate) fn usb_suffix(alloc: Global, name: &[u8]) -> Result<Option<Vec<u8>>, 
 fn core_of(bus: &[u8], core: &[u8]) -> Option<u64>
     ensures { result ≡ core_of bus.now core.now }
 {
-    number_in(Base::Decimal, MOST_NUMBER, bus)?;
-    number_in(Base::Decimal, MOST_NUMBER, core)
+    number_in(Base::Decimal, MAX_NUMBER, bus)?;
+    number_in(Base::Decimal, MAX_NUMBER, core)
 }
 
 /// The core that a name of bcma tells.

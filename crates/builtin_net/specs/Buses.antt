@@ -9,11 +9,12 @@ use Rattle.text_bytes.specs.Texts.{begins_with, split_once}
 use Rattle.text_tables.specs.Texts.{Text, same_text}
 use Rattle.device_core.specs.Values.{DeviceValue, EventValue}
 use Rattle.builtin_devices.specs.Devices.{above, is_of, kernel_of, parents_of}
+use Rattle.builtin_devices.specs.Fronts.{behind}
 use Rattle.builtin_devices.specs.Numbers.{name_number, number_in}
 use Rattle.builtin_devices.specs.declared.numbers.Base.TheVariants.{AsWritten, Hexadecimal}
 use Rattle.builtin_net.specs.Allowed.{read}
 use Rattle.builtin_net.specs.Port.{some_text}
-use Rattle.builtin_net.specs.Words.{behind, is_plain, most_number}
+use Rattle.builtin_net.specs.Words.{is_plain, most_number}
 use Rattle.builtin_net.specs.declared.allowed.Attribute.TheVariants.{PhysPortName}
 
 -- the device right above the event device

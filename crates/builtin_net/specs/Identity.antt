@@ -5,11 +5,11 @@ use Rattle.text_tables.specs.Texts.{Text}
 use Rattle.text_tables.specs.Pairs.{value_of}
 use Rattle.device_core.specs.Values.{DeviceValue, EventValue}
 use Rattle.builtin_devices.specs.Devices.{type_of}
-use Rattle.builtin_devices.specs.Numbers.{is_below_zero, number_in}
+use Rattle.builtin_devices.specs.Numbers.{is_below_zero, is_number, number_in}
 use Rattle.builtin_devices.specs.declared.numbers.Base.TheVariants.{AsWritten}
 use Rattle.builtin_net.specs.Allowed.{number, read}
 use Rattle.builtin_net.specs.Prefixes.{prefix_of}
-use Rattle.builtin_net.specs.Words.{is_number, positive}
+use Rattle.builtin_net.specs.Words.{positive}
 use Rattle.builtin_net.specs.declared.allowed.Attribute.TheVariants.{Iflink, Hardware}
 use Rattle.builtin_net.specs.declared.prefixes.Prefix.{Prefix}
 
@@ -35,7 +35,7 @@ link interface = option_and_then index_in (read interface Iflink)
 
 -- whether an interface is not stacked on another
 unfoldable pub is_alone : EventValue → (interface : DeviceValue) → Bool
-is_alone event interface = option_map_or (is_number (link interface)) (index event) false
+is_alone event interface = option_map_or (λ own. is_number own (link interface)) (index event) false
 
 -- how names of an interface begin, if it has some
 unfoldable pub naming : EventValue → (interface : DeviceValue) → Option Prefix

@@ -6,6 +6,7 @@ use Rattle.text_tables.specs.Texts.{Text}
 use Rattle.text_tables.specs.Pairs.{Pair}
 use Rattle.device_core.specs.Values.{DeviceValue, EventValue}
 use Rattle.builtin_devices.specs.Devices.{above, kernel_of}
+use Rattle.builtin_devices.specs.Numbers.{is_number}
 use Rattle.builtin_net.specs.Address.{address_digits}
 use Rattle.builtin_net.specs.Allowed.{number, read}
 use Rattle.builtin_net.specs.Buses.{by_ccw, by_netdevsim, by_platform, by_vio, by_xen, is_there, parent_behind_virtio}
@@ -16,7 +17,6 @@ use Rattle.builtin_net.specs.Prefixes.{is_ethernet, is_infiniband, prefix_text}
 use Rattle.builtin_net.specs.Slots.{pci_above, slot_of}
 use Rattle.builtin_net.specs.Trees.{tree_text}
 use Rattle.builtin_net.specs.Usb.{bcma_suffix, usb_suffix}
-use Rattle.builtin_net.specs.Words.{is_number}
 use Rattle.builtin_net.specs.Virtual.{Named, named_function}
 use Rattle.builtin_net.specs.declared.allowed.Attribute.TheVariants.{AddrAssignType, Address}
 use Rattle.builtin_net.specs.declared.functions.Function.{Function}
@@ -31,7 +31,7 @@ given key prefix (Some text) = if nat_le (length (prefix ++ text)) 127 then (key
 -- the digits of an address that stays, for an interface that is not of InfiniBand
 unfoldable pub lasting_address : Prefix → (interface : DeviceValue) → Option Text
 lasting_address prefix interface =
-    if is_infiniband prefix || not (is_number (number interface AddrAssignType) 0) then None
+    if is_infiniband prefix || not (is_number 0 (number interface AddrAssignType)) then None
     else option_and_then address_digits (read interface Address)
 
 -- the name by an address

@@ -5,6 +5,7 @@ use Rattle.text_tables.specs.Texts.{Text}
 use Rattle.text_tables.specs.Pairs.{value_of}
 use Rattle.device_core.specs.Values.{DeviceValue, EventValue}
 use Rattle.builtin_devices.specs.Devices.{is_of, kernel_of}
+use Rattle.builtin_devices.specs.Numbers.{is_number}
 use Rattle.builtin_devices.specs.Outcomes.{needs_of}
 use Rattle.builtin_net.specs.Allowed.{lacks, number, read}
 use Rattle.builtin_net.specs.Buses.{is_there, parent_behind_virtio}
@@ -17,7 +18,6 @@ use Rattle.builtin_net.specs.Prefixes.{is_ethernet, is_infiniband}
 use Rattle.builtin_net.specs.Slots.{firmware_number, is_bridge, is_told, number_by_firmware, pci_above, search_end, slots_folder}
 use Rattle.builtin_net.specs.Trees.{aliases_folder, node_link}
 use Rattle.builtin_net.specs.Virtual.{Named}
-use Rattle.builtin_net.specs.Words.{is_number}
 use Rattle.builtin_net.specs.declared.allowed.Attribute.TheVariants.{Iflink, Hardware, AddrAssignType, Address, PhysPortName, DevPort, DevId, FunctionId, Modalias}
 use Rattle.builtin_net.specs.declared.functions.Function.{Function}
 use Rattle.builtin_net.specs.declared.prefixes.Prefix.{Prefix}
@@ -37,7 +37,7 @@ own_needs event interface =
 abbrev pub address_needs : Prefix → (interface : DeviceValue) → List Text
 address_needs prefix interface =
     when (not (is_infiniband prefix) && lacks interface AddrAssignType) (codes "addr_assign_type")
-    ++ when (not (is_infiniband prefix) && is_number (number interface AddrAssignType) 0 && lacks interface Address) (codes "address")
+    ++ when (not (is_infiniband prefix) && is_number 0 (number interface AddrAssignType) && lacks interface Address) (codes "address")
 
 -- for the aliases
 abbrev pub tree_needs : EventValue → Prefix → List Text
@@ -48,7 +48,7 @@ abbrev pub port_needs : Prefix → (interface : DeviceValue) → (by_id : Bool) 
 port_needs prefix interface by_id =
     let is_named = is_some (some_text (read interface PhysPortName)) in
     when (not is_named && lacks interface DevPort) (codes "dev_port")
-    ++ when (not is_named && is_number (number interface DevPort) 0 && by_id && is_infiniband prefix && lacks interface DevId) (codes "dev_id")
+    ++ when (not is_named && is_number 0 (number interface DevPort) && by_id && is_infiniband prefix && lacks interface DevId) (codes "dev_id")
 
 -- whether there is a device, and it is a bridge
 abbrev pub is_bridge_there : Option DeviceValue → Bool

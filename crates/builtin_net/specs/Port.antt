@@ -5,9 +5,10 @@ use Rattle.std.specs.Option.{option_or}
 use Rattle.text_bytes.specs.Texts.{is_empty}
 use Rattle.text_tables.specs.Texts.{Text}
 use Rattle.device_core.specs.Values.{DeviceValue}
+use Rattle.builtin_devices.specs.Fronts.{behind}
 use Rattle.builtin_net.specs.Allowed.{number, read}
 use Rattle.builtin_net.specs.Prefixes.{is_infiniband}
-use Rattle.builtin_net.specs.Words.{behind, behind_digits, leading_number, is_plain}
+use Rattle.builtin_net.specs.Words.{behind_digits, leading_number, is_plain}
 use Rattle.builtin_net.specs.declared.allowed.Attribute.TheVariants.{PhysPortName, DevPort, DevId}
 use Rattle.builtin_net.specs.declared.prefixes.Prefix.{Prefix}
 

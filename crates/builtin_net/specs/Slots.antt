@@ -11,11 +11,11 @@ use Rattle.text_tables.specs.Pairs.{Pair}
 use Rattle.device_core.specs.Values.{DeviceValue, EventValue}
 use Rattle.builtin_devices.specs.Devices.{above, is_of, kernel_of, parents_of}
 use Rattle.builtin_devices.specs.Files.{file_at, files_below}
-use Rattle.builtin_devices.specs.Numbers.{number_in}
+use Rattle.builtin_devices.specs.Numbers.{is_number, number_in}
 use Rattle.builtin_devices.specs.declared.numbers.Base.TheVariants.{AsWritten, Hexadecimal}
 use Rattle.builtin_net.specs.Allowed.{number, read}
 use Rattle.builtin_net.specs.Function.{is_several}
-use Rattle.builtin_net.specs.Words.{is_number, most_number, positive}
+use Rattle.builtin_net.specs.Words.{most_number, positive}
 use Rattle.builtin_net.specs.declared.allowed.Attribute.TheVariants.{Sun, FunctionId, Modalias}
 use Rattle.builtin_net.specs.declared.slots.Slot.{Slot}
 
@@ -79,7 +79,7 @@ number_by_place event pci = option_and_then (λ file. slot_number file.0) (find 
 -- whether a name is this number in eight hexadecimal digits with lower case letters
 unfoldable pub is_identity : ℕ → Text → Bool
 is_identity n name =
-    length name == 8 && list_all is_ascii_hexdigit name && not (list_any is_ascii_uppercase name) && is_number (number_in Hexadecimal most_number name) n
+    length name == 8 && list_all is_ascii_hexdigit name && not (list_any is_ascii_uppercase name) && is_number n (number_in Hexadecimal most_number name)
 
 -- whether a file is that of the slot of this number
 abbrev pub is_slot_of : ℕ → Pair → Bool

@@ -6,10 +6,11 @@ use Rattle.text_tables.specs.Texts.{Text, same_text}
 use Rattle.text_tables.specs.Pairs.{Pair}
 use Rattle.device_core.specs.Values.{DeviceValue, EventValue}
 use Rattle.builtin_devices.specs.Files.{file_at, files_below}
+use Rattle.builtin_devices.specs.Fronts.{behind}
 use Rattle.builtin_devices.specs.Numbers.{number_in}
 use Rattle.builtin_devices.specs.declared.numbers.Base.TheVariants.{AsWritten}
 use Rattle.builtin_net.specs.Buses.{parent}
-use Rattle.builtin_net.specs.Words.{behind, most_number}
+use Rattle.builtin_net.specs.Words.{most_number}
 
 -- the root of the device tree, and the folder of its aliases
 abbrev pub tree_root : Text

@@ -3,9 +3,10 @@ use Rattle.std.specs.Prelude.{ℕ, ◌==◌, [], ◌++◌, codes, decimal, map, 
 use Rattle.text_bytes.specs.Names.{colon, dot, minus}
 use Rattle.text_bytes.specs.Texts.{split_once}
 use Rattle.text_tables.specs.Texts.{Text, same_text}
+use Rattle.builtin_devices.specs.Fronts.{behind}
 use Rattle.builtin_devices.specs.Numbers.{number_in}
 use Rattle.builtin_devices.specs.declared.numbers.Base.TheVariants.{Decimal}
-use Rattle.builtin_net.specs.Words.{behind, most_number}
+use Rattle.builtin_net.specs.Words.{most_number}
 
 -- ports with `u` for each dot in between
 abbrev pub port_byte : ℕ → ℕ

@@ -7,7 +7,7 @@ use Rattle.text_tables.specs.Pairs.{Pair}
 use Rattle.device_core.specs.Values.{DeviceValue, EventValue}
 use Rattle.builtin_devices.specs.Devices.{device_by}
 use Rattle.builtin_devices.specs.Files.{file_at, files_below}
-use Rattle.builtin_net.specs.Words.{behind}
+use Rattle.builtin_devices.specs.Fronts.{behind}
 
 -- a function by which an interface is named, and what follows them: the number of the virtual function
 abbrev pub Named : Type 0

@@ -1,6 +1,6 @@
 -- Parts of texts that several names need.
-use Rattle.std.specs.Prelude.{ℕ, ◌^◌, ◌-◌, ◌==◌, Bool, false, not, ◌&&◌, List, length, take, drop, nat_eq, Option, Some, None, if◌then◌else◌}
-use Rattle.std.specs.List.{list_any, prefix_len, starts_with}
+use Rattle.std.specs.Prelude.{ℕ, ◌^◌, ◌-◌, ◌==◌, Bool, not, ◌&&◌, take, drop, Option, Some, None, if◌then◌else◌}
+use Rattle.std.specs.List.{list_any, prefix_len}
 use Rattle.std.specs.Str.{is_utf8}
 use Rattle.text_bytes.specs.Escapes.{is_control}
 use Rattle.text_bytes.specs.Numbers.{decimal_below, is_digit}
@@ -9,10 +9,6 @@ use Rattle.text_tables.specs.Texts.{Text}
 -- the greatest number of 32 bits
 abbrev pub most_number : ℕ
 most_number = 2 ^ 32 - 1
-
--- what follows a beginning, if a text begins with it
-unfoldable pub behind : (front : Text) → Text → Option Text
-behind front text = if starts_with nat_eq text front then Some (drop (length front) text) else None
 
 -- the digits that a text begins with, and what follows them
 abbrev pub leading_digits : Text → Text
@@ -33,8 +29,3 @@ is_plain text = is_utf8 text && not (list_any is_control text)
 abbrev pub positive : Option ℕ → Option ℕ
 positive None = None
 positive (Some n) = if n == 0 then None else Some n
-
--- whether there is a number, and it is this one
-abbrev pub is_number : Option ℕ → ℕ → Bool
-is_number None n = false
-is_number (Some m) n = m == n

@@ -7,8 +7,8 @@ ghost use Rattle.builtin_net.specs.Buses.{acpi_text, by_ccw, by_netdevsim, by_pl
 
 use crate::allowed::{Attribute, read_own};
 use crate::ports::some_text;
-use crate::words::{MAX_NUMBER, behind, is_hexadecimal, is_plain, joined, push_number, small};
-use builtin_devices::{Base, Devices, is_of, name_number, number_in};
+use crate::words::{MAX_NUMBER, is_hexadecimal, is_plain, joined, push_number, small};
+use builtin_devices::{Base, Devices, behind, is_of, name_number, number_in};
 use device_core::{Device, Event};
 use std::alloc::{AllocError, Global};
 use text_bytes::{begins_with, decimal_below, split_once};

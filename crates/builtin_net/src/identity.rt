@@ -5,8 +5,8 @@ ghost use Rattle.builtin_net.specs.Identity.{index, index_in, is_alone, is_ident
 
 use crate::allowed::{Attribute, own_number, read_own};
 use crate::prefixes::{Prefix, prefix_of};
-use crate::words::{is_number, positive};
-use builtin_devices::{Base, is_below_zero, number_in, type_of};
+use crate::words::positive;
+use builtin_devices::{Base, is_below_zero, is_number, number_in, type_of};
 use device_core::Event;
 use text_tables::OwnedPairs;
 
@@ -62,7 +62,7 @@ pub(crate) fn is_alone(event: &Event<'_>, env: &OwnedPairs) -> bool
     ensures { result ≡ is_alone event.now (interface event.now env.now) }
 {
     match index(event) {
-        Some(own) => is_number(link(event, env), own),
+        Some(own) => is_number(own, link(event, env)),
         None => false,
     }
 }

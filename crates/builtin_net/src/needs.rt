@@ -19,8 +19,7 @@ use crate::slots::{
 };
 use crate::trees::{ALIASES_FOLDER, node_link};
 use crate::virtual_functions::NamedFunction;
-use crate::words::is_number;
-use builtin_devices::{Devices, is_of};
+use builtin_devices::{Devices, is_number, is_of};
 use device_core::{Device, Event};
 use std::alloc::{AllocError, Global};
 use text_tables::{OwnedPairs, OwnedTexts};
@@ -69,7 +68,7 @@ fn need_address(
     }
     let lacks_kind = lacks_own(event, env, Attribute::AddrAssignType);
     need(alloc, needs, lacks_kind, b"addr_assign_type")?;
-    let stays = is_number(own_number(event, env, Attribute::AddrAssignType), 0);
+    let stays = is_number(0, own_number(event, env, Attribute::AddrAssignType));
     let lacks_address = stays && lacks_own(event, env, Attribute::Address);
     need(alloc, needs, lacks_address, b"address")
 }
@@ -109,7 +108,7 @@ fn need_port(
     }
     let lacks_port = lacks_own(event, env, Attribute::DevPort);
     need(alloc, needs, lacks_port, b"dev_port")?;
-    let is_first = is_number(own_number(event, env, Attribute::DevPort), 0);
+    let is_first = is_number(0, own_number(event, env, Attribute::DevPort));
     let asks_id = is_first && by_id && prefix.is_infiniband();
     need(
         alloc,

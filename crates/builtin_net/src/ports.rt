@@ -5,7 +5,8 @@ ghost use Rattle.builtin_net.specs.Port.{named_port, numbered_port, port_number,
 
 use crate::allowed::{Attribute, own_number, read_own};
 use crate::prefixes::Prefix;
-use crate::words::{behind, behind_digits, is_plain, joined, leading_number, push_number};
+use crate::words::{behind_digits, is_plain, joined, leading_number, push_number};
+use builtin_devices::behind;
 use device_core::Event;
 use std::alloc::{AllocError, Global};
 use text_tables::OwnedPairs;

@@ -9,8 +9,8 @@ ghost use Rattle.builtin_net.specs.Slots.{ends_search, ends_search_in_pci, firmw
 
 use crate::allowed::{Attribute, number, read};
 use crate::functions::is_several;
-use crate::words::{MAX_NUMBER, is_hexadecimal, is_number, positive};
-use builtin_devices::{Base, Devices, file_at, files_below, is_of, number_in};
+use crate::words::{MAX_NUMBER, is_hexadecimal, positive};
+use builtin_devices::{Base, Devices, file_at, files_below, is_number, is_of, number_in};
 use device_core::{Device, Event};
 use std::alloc::{AllocError, Global};
 use text_bytes::split_once;
@@ -193,7 +193,7 @@ fn is_identity(number: u64, name: &[u8]) -> bool
     name.len() == 8
         && is_hexadecimal(name)
         && !has_large(name)
-        && is_number(number_in(Base::Hexadecimal, MAX_NUMBER, name), number)
+        && is_number(number, number_in(Base::Hexadecimal, MAX_NUMBER, name))
 }
 
 /// Whether a file is that of the slot of a number of System z.

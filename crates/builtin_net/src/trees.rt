@@ -3,8 +3,8 @@ ghost use Rattle.std.specs.Prelude.{◌≡◌, IfOk, find, option_and_then, opti
 ghost use Rattle.builtin_net.specs.Trees.{alias_end, alias_number, clear_number, first_alias, is_alias, node_link, node_number, node_of, node_path, other_alias, tree_text};
 
 use crate::buses::parent;
-use crate::words::{MAX_NUMBER, behind, joined, push_number};
-use builtin_devices::{Base, Devices, file_at, files_below, number_in};
+use crate::words::{MAX_NUMBER, joined, push_number};
+use builtin_devices::{Base, Devices, behind, file_at, files_below, number_in};
 use device_core::{Device, Event};
 use std::alloc::{AllocError, Global};
 

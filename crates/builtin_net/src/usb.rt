@@ -2,8 +2,8 @@
 ghost use Rattle.std.specs.Prelude.{◌≡◌, ◌++◌, IfOk, OnOk, option_map};
 ghost use Rattle.builtin_net.specs.Usb.{bcma_suffix, core_in, core_of, port_byte, ports_text, unless_usual, usb_numbers, usb_ports, usb_suffix, usb_text};
 
-use crate::words::{MAX_NUMBER, behind, push_number};
-use builtin_devices::{Base, number_in};
+use crate::words::{MAX_NUMBER, push_number};
+use builtin_devices::{Base, behind, number_in};
 use std::alloc::{AllocError, Global};
 use text_bytes::split_once;
 

@@ -4,8 +4,8 @@ ghost use Rattle.std.specs.List.{list_all};
 ghost use Rattle.text_bytes.specs.Numbers.{is_decimal, is_digit};
 ghost use Rattle.builtin_net.specs.Virtual.{leads_to, named_function, physical_path, virtual_digits, virtual_number};
 
-use crate::words::{behind, joined};
-use builtin_devices::{Devices, file_at, files_below};
+use crate::words::joined;
+use builtin_devices::{Devices, behind, file_at, files_below};
 use device_core::{Device, Event};
 use std::alloc::{AllocError, Global};
 use std::marker::Model;

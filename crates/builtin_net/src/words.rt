@@ -5,7 +5,7 @@ ghost use Rattle.std.specs.List.{list_all, list_any, prefix_len};
 ghost use Rattle.std.specs.Str.{is_utf8};
 ghost use Rattle.text_bytes.specs.Escapes.{is_control};
 ghost use Rattle.text_bytes.specs.Numbers.{is_digit};
-ghost use Rattle.builtin_net.specs.Words.{behind, behind_digits, is_number, is_plain, leading_number, positive};
+ghost use Rattle.builtin_net.specs.Words.{behind_digits, is_plain, leading_number, positive};
 
 use itoa::Buffer;
 use std::alloc::{AllocError, Global};
@@ -13,18 +13,6 @@ use text_bytes::{decimal_below, is_digit};
 
 /// The greatest number of 32 bits.
 pub(crate) const MAX_NUMBER: u64 = u32::MAX as u64;
-
-/// What follows a beginning, if a text begins with it.
-#[tactic(auto, unfolding(crate::specs::Words::behind))]
-pub(crate) fn behind<'a>(front: &[u8], text: &'a [u8]) -> Option<&'a [u8]>
-    ensures { option_map (λ t. t.now) result ≡ behind front.now text.now }
-{
-    if !text.starts_with(front) {
-        return None;
-    }
-    let (_, behind) = text.split_at(front.len());
-    Some(behind)
-}
 
 /// How many digits a text begins with.
 fn digit_count(text: &[u8]) -> usize
@@ -132,14 +120,4 @@ pub(crate) fn joined(alloc: Global, front: &[u8], behind: &[u8]) -> Result<Vec<u
     let mut text = Vec::from_slice(alloc, front)?;
     text.extend_from_slice(behind)?;
     Ok(text)
-}
-
-/// Whether there is a number, and it is a certain one.
-pub(crate) fn is_number(number: Option<u64>, other: u64) -> bool
-    ensures { result ≡ is_number number other }
-{
-    match number {
-        Some(number) => number == other,
-        None => false,
-    }
 }

@@ -1,5 +1,6 @@
 -- What a diagnostic is about, in words.
-use Rattle.std.specs.Prelude.{ℕ, ◌||◌, if◌then◌else◌, List, [], codes, unwrap_or}
+use Rattle.std.specs.Prelude.{ℕ, if◌then◌else◌, List, [], codes, unwrap_or}
+use Rattle.std.specs.List.{list_any}
 use Rattle.text_bytes.specs.Names.{space}
 use Rattle.text_bytes.specs.Texts.{begins_with, split_once}
 use Rattle.rule_types.specs.declared.lint.Lint.{Lint}
@@ -46,20 +47,9 @@ code_of remark = (heading_parts remark).0
 abbrev pub text_of : Remark → List ℕ
 text_of remark = (heading_parts remark).1
 
-abbrev pub letter_i : ℕ
-letter_i = 73
-
-abbrev pub letter_s : ℕ
-letter_s = 83
-
-abbrev pub letter_w : ℕ
-letter_w = 87
-
 -- how severe a remark is, by the letter of its code: S, I and W are warnings, all others errors
 abbrev pub severity_of : Remark → Severity
-severity_of remark =
-    if begins_with letter_s (remark_heading remark) || begins_with letter_i (remark_heading remark)
-    || begins_with letter_w (remark_heading remark) then Warning else Error
+severity_of remark = if list_any (λ letter. begins_with letter (remark_heading remark)) (codes "SIW") then Warning else Error
 
 -- the word for how severe something is
 abbrev pub severity_word : Severity → List ℕ

@@ -1,5 +1,5 @@
 -- Laws of the lints of a file.
-use Rattle.std.proofs.Common.{◌≡◌, ℕ, Bool, true, false, cond, not, ◌||◌, ◌&&◌, nat_lt, List, [], ◌∷◌, ◌++◌, length, map, reverse, Option, Some, None, is_some, Result, Ok, Err, refl, ap, sym, ◌∙◌}
+use Rattle.std.proofs.Common.{◌≡◌, ℕ, Bool, true, false, cond, not, ◌||◌, ◌&&◌, nat_lt, List, [], ◌∷◌, ◌++◌, length, map, reverse, Option, Some, None, is_ok, is_some, Result, Ok, Err, refl, ap, sym, ◌∙◌}
 use Rattle.std.specs.List.{list_any}
 use Rattle.std.proofs.lemmas.List.{reverse-append}
 use Rattle.std.proofs.lemmas.List.Folds.{list_any-append}
@@ -18,7 +18,7 @@ use Rattle.rule_core.specs.Ends.{given_up}
 use Rattle.rule_places.specs.Kept.{kept_lines}
 use Rattle.rule_places.specs.declared.kept.KeptLine.{KeptLine}
 use Rattle.rule_lints.specs.Compared.{Valued, assigned_value, meant_spots, meant_to_compare}
-use Rattle.rule_lints.specs.FileLaws.{ImportsFurtherDown, IsImportedBelow, NoneBehindMatches, NoneUncompared, ReachedBehindLostJumps, ReachedBehindMatches, ReachedByLabels, is_read, told_in, told_of}
+use Rattle.rule_lints.specs.FileLaws.{ImportsFurtherDown, IsImportedBelow, NoneBehindMatches, NoneUncompared, ReachedBehindLostJumps, ReachedBehindMatches, ReachedByLabels, told_in, told_of}
 use Rattle.rule_lints.specs.FileLints.{file_spots, lints_of, placed_lint, placed_lints}
 use Rattle.rule_lints.specs.FileRules.{LandedRule, file_rules, goto_of, landed_rules, rules_unless, tokens_of_rule, with_parts}
 use Rattle.rule_lints.specs.Imported.{any_property, assigned_in, below_spots, families, given_by, given_names, has_family, has_property, imported_by, imported_in, imported_names, is_given, is_of, perhaps_in, wanted_in}
@@ -33,7 +33,7 @@ abbrev drafted : Profile → List ℕ → Result (List Part) Finding → Bool �
 drafted by line (Ok parts) idle = cond idle (Err (finding RuleWithoutEffect [])) (Ok (draft by line parts))
 drafted by line (Err wrong) idle = Err wrong
 
-lines_kept : (by : Profile) (line : List ℕ) (tokens : List Placed) (parts : Result (List Part) Finding) (idle : Bool) → is_some (cond idle None (with_parts tokens parts)) ≡ is_read (drafted by line parts idle)
+lines_kept : (by : Profile) (line : List ℕ) (tokens : List Placed) (parts : Result (List Part) Finding) (idle : Bool) → is_some (cond idle None (with_parts tokens parts)) ≡ is_ok (drafted by line parts idle)
 lines_kept by line tokens (Ok parts) true = refl
 lines_kept by line tokens (Ok parts) false = refl
 lines_kept by line tokens (Err wrong) true = refl
@@ -43,7 +43,7 @@ lines_drafted : (by : Profile) (line : List ℕ) (parts : Result (List Part) Fin
 lines_drafted by line (Ok parts) = refl
 lines_drafted by line (Err wrong) = refl
 
-pub lines_read : (by : Profile) (line : List ℕ) → is_some (tokens_of_rule by line) ≡ is_read (draft_of by line)
+pub lines_read : (by : Profile) (line : List ℕ) → is_some (tokens_of_rule by line) ≡ is_ok (draft_of by line)
 unfolding tokens_of_rule draft_of
 lines_read by line = on (nat_lt (most_bytes by) (length line))
   where
@@ -53,9 +53,9 @@ lines_read by line = on (nat_lt (most_bytes by) (length line))
     idle : Bool
     idle = lacks_effect by (tokens_of items)
 
-    on : (b : Bool) → is_some (cond b None (cond idle None (with_parts (tokens_of items) (parts_of by line items)))) ≡ is_read (cond b (Err (finding LineTooLong [])) (draft_with by line (parts_of by line items)))
+    on : (b : Bool) → is_some (cond b None (cond idle None (with_parts (tokens_of items) (parts_of by line items)))) ≡ is_ok (cond b (Err (finding LineTooLong [])) (draft_with by line (parts_of by line items)))
     on true = refl
-    on false = lines_kept by line (tokens_of items) (parts_of by line items) idle ∙ ap is_read (lines_drafted by line (parts_of by line items))
+    on false = lines_kept by line (tokens_of items) (parts_of by line items) idle ∙ ap is_ok (lines_drafted by line (parts_of by line items))
 
 -- tests
 or_by : (a b c : Bool) → (a ≡ true → c ≡ true) → (b ≡ true → c ≡ true) → (a || b) ≡ true → c ≡ true

@@ -1,32 +1,28 @@
--- Octal numbers that are read digit by digit, and given up where they are too great.
-use Rattle.std.proofs.Common.{◌≡◌, ℕ, ◌+◌, ◌*◌, ◌<◌, ◌≤◌, Bool, true, false, not, ◌&&◌, List, [], ◌∷◌, length, drop, get_or, nat_le, nat_lt, refl, arith, add-one}
-use Rattle.std.proofs.Math.Seq.{drop-cons}
-use Rattle.std.specs.Char.{digit_value}
-use Rattle.std.specs.List.{list_all}
-use Rattle.std.specs.Str.Parse.{digits_value, digits_value_after}
-use Rattle.text_bytes.specs.Texts.{is_empty}
-use Rattle.rule_lints.specs.Modes.{greatest_mode, is_mode}
+-- A text with no blank before it is a mode where udev reads one.
+use Rattle.std.proofs.Common.{◌≡◌, ℕ, ◌+◌, Bool, true, false, cond, ◌&&◌, ◌||◌, List, [], ◌∷◌, drop, Some, None, is_some, nat_lt, refl, ap, ◌∙◌, arith}
+use Rattle.std.specs.List.{list_all, prefix_len}
+use Rattle.std.proofs.lemmas.Bool.Decides.{nat_tests}
+use Rattle.text_bytes.specs.Names.{is_blank, space, tab}
+use Rattle.text_bytes.specs.Texts.{begins_with, unindented}
+use Rattle.rule_types.specs.Topics.{is_mode, is_octal, mode_of, octal}
 
--- a number with the digits from a place on is that with the digit there, and then those after it
-number_on : (text : List ℕ) (i n : ℕ) → i < length text → digits_value_after 8 n (drop i text) ≡ digits_value_after 8 (n * 8 + digit_value (get_or text i 0)) (drop (i + 1) text)
-number_on text i n here = rw (drop-cons text i 0, add-one i) refl
+-- what udev reads is a mode
+read_mode : (text : List ℕ) → is_some (mode_of text) ≡ is_mode (unindented text)
+unfolding mode_of
+read_mode text = by (is_mode (unindented text))
+  where
+    by : (b : Bool) → is_some (cond b (Some (octal (unindented text))) None) ≡ b
+    by true = refl
+    by false = refl
 
--- further digits make no number less
-grows : (n : ℕ) (text : List ℕ) → n ≤ digits_value_after 8 n text
-grows n [] = omega arith
-grows n (b ∷ text) = let more = grows (n * 8 + digit_value b) text in omega (arith, more)
+pub bare_mode : (text : List ℕ) → (begins_with space text || begins_with tab text) ≡ false → is_some (mode_of text) ≡ is_mode text
+bare_mode [] e = read_mode []
+bare_mode (b ∷ text) e = read_mode (b ∷ text) ∙ ap (λ (v : Bool). is_mode (drop (cond v (1 + prefix_len is_blank text) 0) (b ∷ text))) e
 
-both_false : (a b : Bool) → b ≡ false → (a && b) ≡ false
-both_false true b h = h
-both_false false b h = refl
+blank_no_digit : (b : ℕ) → is_blank b ≡ true → is_octal b ≡ false
+blank_no_digit b h = grind (arith, nat_tests)
 
-above_false : (a b : ℕ) → b < a → nat_le a b ≡ false
-above_false a b h = grind arith
-
--- a number that is too great at some digit is no mode
-pub too_great : (text : List ℕ) (i n digit : ℕ) → i < length text → digit_value (get_or text i 0) ≡ digit → digits_value_after 8 n (drop i text) ≡ digits_value 8 text → greatest_mode < n * 8 + digit → is_mode text ≡ false
-too_great text i n digit here e number high =
-    let more = grows (n * 8 + digit_value (get_or text i 0)) (drop (i + 1) text) in
-    let on = number_on text i n here in
-    let great : greatest_mode < digits_value 8 text = omega (arith, more, on, number, high, e) in
-    rw (above_false (digits_value 8 text) greatest_mode great, both_false (list_all (λ b. nat_lt (digit_value b) 8) text) false refl, both_false (not (is_empty text)) false refl) refl
+-- a text with a blank before it is none
+pub no_mode_after_blanks : (text : List ℕ) → (begins_with space text || begins_with tab text) ≡ true → is_mode text ≡ false
+no_mode_after_blanks [] e = cc
+no_mode_after_blanks (b ∷ text) e = ap (λ (v : Bool). (true && (v && list_all is_octal text)) && nat_lt (octal (b ∷ text)) 4096) (blank_no_digit b e)

@@ -1,10 +1,8 @@
 -- What is true of the lints of a file.
-use Rattle.std.specs.Prelude.{◌≡◌, Bool, true, false, List, [], ◌∷◌, ◌++◌, reverse, Result, Ok, Err}
+use Rattle.std.specs.Prelude.{◌≡◌, true, false, List, [], ◌∷◌, ◌++◌, reverse}
 use Rattle.std.specs.List.{list_any}
 use Rattle.text_tables.specs.Texts.{Text}
 use Rattle.rule_types.specs.declared.lint.Lint.{Lint}
-use Rattle.rule_parts.specs.declared.finding.Finding.{Finding}
-use Rattle.rule_core.specs.Drafts.{Draft}
 use Rattle.rule_lints.specs.Compared.{meant_to_compare}
 use Rattle.rule_lints.specs.FileRules.{LandedRule}
 use Rattle.rule_lints.specs.Imported.{given_names, has_property, imported_below, is_given, imported_names}
@@ -14,11 +12,6 @@ use Rattle.rule_lints.specs.Written.{WrittenPart}
 use Rattle.rule_lints.specs.declared.file_lints.FileSpot.{FileSpot}
 use Rattle.rule_lints.specs.declared.placed_lint.PlacedLint.{PlacedLint}
 use Rattle.rule_lints.specs.declared.spot.LintSpot.{LintSpot}
-
--- whether a line is read as a rule
-abbrev pub is_read : Result Draft Finding → Bool
-is_read (Ok d) = true
-is_read (Err wrong) = false
 
 -- if a match is reported in a rule below others, the nearest first, its property is imported by this rule or further
 -- down, and neither given nor perhaps given by one of the others

@@ -1,5 +1,5 @@
 -- What is true of the lints of one rule, in terms of texts and not of how they are read.
-use Rattle.std.specs.Prelude.{◌≡◌, ◌<◌, ◌≤◌, ◌^◌, ℕ, ◌+◌, ◌*◌, Bool, true, false, ◌&&◌, ◌||◌, nat_eq, nat_le, List, [], ◌∷◌, ◌++◌, length, map, flat_map, take, drop, codes, Result, Ok, Err, is_some}
+use Rattle.std.specs.Prelude.{◌≡◌, ◌<◌, ◌^◌, ℕ, ◌+◌, ◌*◌, Bool, true, false, ◌&&◌, ◌||◌, nat_eq, nat_le, List, [], ◌∷◌, ◌++◌, length, map, flat_map, take, drop, codes, Result, Ok, Err, is_some}
 use Rattle.std.specs.List.{AllByRecursion, list_any, slice_split, starts_with}
 use Rattle.text_bytes.specs.Names.{close_brace, comma, digit_zero, open_brace}
 use Rattle.text_core.specs.Choices.{choice, is_bar}
@@ -8,7 +8,6 @@ use Rattle.text_core.specs.declared.item.Item.{Item}
 use Rattle.rule_lints.specs.Commands.{is_quote, is_shell_sign}
 use Rattle.rule_lints.specs.Devices.{group_of, is_other}
 use Rattle.rule_lints.specs.LetterCase.{is_miswritten}
-use Rattle.rule_lints.specs.Modes.{greatest_mode}
 use Rattle.rule_lints.specs.Patterns.{are_expressions, close_parenthesis, open_parenthesis, take_all}
 use Rattle.rule_lints.specs.Texts.{has_byte}
 use Rattle.rule_lints.specs.Written.{WrittenPart}
@@ -26,7 +25,7 @@ pub record WritesMode (text : List ℕ) : Type 0 where
   pub some : 0 < length digits
   pub octal : AllByRecursion (λ d. d < 8) digits
   pub written : text ≡ map (λ d. digit_zero + d) digits
-  pub least : by_places digits ≤ greatest_mode
+  pub least : by_places digits < 8 ^ 4
 
 -- a piece of a command: a byte outside of quotes, or a quote with what is in it
 pub data Piece : Type 0 where

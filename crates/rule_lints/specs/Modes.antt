@@ -1,24 +1,14 @@
 -- W1: MODE is not an octal number.
-use Rattle.std.specs.Prelude.{ℕ, Bool, not, ◌&&◌, ◌||◌, ◌==◌, nat_lt, nat_le, if◌then◌else◌, List, Option, Some, None}
-use Rattle.std.specs.Char.{digit_value}
-use Rattle.std.specs.List.{list_all, list_any}
+use Rattle.std.specs.Prelude.{ℕ, Bool, ◌||◌, ◌==◌, if◌then◌else◌, List, Option, Some, None}
+use Rattle.std.specs.List.{list_any}
 use Rattle.std.specs.Option.{option_and_then}
-use Rattle.std.specs.Str.Parse.{digits_value}
 use Rattle.text_bytes.specs.Names.{dollar, percent}
-use Rattle.text_bytes.specs.Texts.{is_empty}
+use Rattle.rule_types.specs.Topics.{is_mode}
 use Rattle.rule_types.specs.declared.part.Change.{Change}
 use Rattle.rule_types.specs.declared.part.Change.TheVariants as change
 use Rattle.rule_types.specs.declared.part.Part.{Part}
 use Rattle.rule_types.specs.declared.roles.Target.TheVariants as target
 use Rattle.rule_lints.specs.Parts.{change_of}
-
--- the greatest mode, which is 7777 in octal digits
-abbrev pub greatest_mode : ℕ
-greatest_mode = 4095
-
--- whether a text is one octal digit or more, and nothing else, of a number that a mode may be
-abbrev pub is_mode : List ℕ → Bool
-is_mode text = not (is_empty text) && (list_all (λ b. nat_lt (digit_value b) 8) text && nat_le (digits_value 8 text) greatest_mode)
 
 -- whether a text has a byte that may begin a substitution
 abbrev pub has_sign : List ℕ → Bool

@@ -1,17 +1,17 @@
 //! Laws of the lints of a file, each the contract of a function with an empty body.
-ghost use Rattle.std.specs.Prelude.{◌≡◌, [], List, Some, ℕ, is_some, map};
+ghost use Rattle.std.specs.Prelude.{◌≡◌, [], List, Some, ℕ, is_ok, is_some, map};
 ghost use Rattle.text_bytes.specs.declared.profile.Profile as profiles;
 ghost use Rattle.text_bytes.specs.declared.source_file.SourceFile as files;
 ghost use Rattle.rule_core.specs.Drafts.{draft_of};
 ghost use Rattle.rule_core.specs.Ends.{given_up};
-ghost use Rattle.rule_lints.specs.FileLaws.{FirstIsReached, ImportsFurtherDown, NoneBehindMatches, NoneUncompared, ReachedBehindLostJumps, ReachedBehindMatches, ReachedByLabels, is_read, told_in, told_of};
+ghost use Rattle.rule_lints.specs.FileLaws.{FirstIsReached, ImportsFurtherDown, NoneBehindMatches, NoneUncompared, ReachedBehindLostJumps, ReachedBehindMatches, ReachedByLabels, told_in, told_of};
 ghost use Rattle.rule_lints.specs.FileLints.{file_spots, placed_lints};
 ghost use Rattle.rule_lints.specs.FileRules.{file_rules, landed_rules, tokens_of_rule};
 
 /// A joined line is a rule for lints if and only if `rule_core` reads it as one.
 #[tactic(auto, using(crate::proofs::FileLemmas::lines_read))]
 pub fn lines_are_rules_where_they_are_read()
-    ensures { (by : profiles.Profile) (line : List ℕ) → is_some (tokens_of_rule by line) ≡ is_read (draft_of by line) }
+    ensures { (by : profiles.Profile) (line : List ℕ) → is_some (tokens_of_rule by line) ≡ is_ok (draft_of by line) }
 {}
 
 /// W6 is reported for properties that the rule or one further down imports, and that no rule before it imports,

@@ -7,7 +7,8 @@ ghost use Rattle.rule_lints.specs.Commands.{has_shell_sign, lacks_path, lacks_sh
 ghost use Rattle.rule_lints.specs.Devices.{stranger};
 ghost use Rattle.rule_lints.specs.Laws.{AreOfOneGroup, HasBraces, HasOpenParenthesis, HasSignOutside, IsStranger, WritesMode, has_capital, is_small_text, is_told_as, is_told_as_expression, is_told_to_hold};
 ghost use Rattle.rule_lints.specs.LetterCase.{is_capital, is_small_alias, items_in_place};
-ghost use Rattle.rule_lints.specs.Modes.{is_mode, no_mode};
+ghost use Rattle.rule_types.specs.Topics.{is_mode};
+ghost use Rattle.rule_lints.specs.Modes.{no_mode};
 ghost use Rattle.rule_lints.specs.Names.{links_with_dev};
 ghost use Rattle.rule_lints.specs.Patterns.{has_braces, has_open_parenthesis, is_expression, take_all};
 ghost use Rattle.rule_lints.specs.declared.letter_case.Writing.TheVariants.{Alias, Lower, Prefixed};

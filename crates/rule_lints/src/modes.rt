@@ -1,12 +1,13 @@
 //! W1: MODE is not an octal number.
-ghost use Rattle.std.specs.Prelude.{◌≡◌, option_map};
-ghost use Rattle.rule_lints.specs.Modes.{has_sign, is_mode, mode_in, no_mode, wrong_mode};
+ghost use Rattle.std.specs.Prelude.{◌≡◌, ◌||◌, option_map};
+ghost use Rattle.text_bytes.specs.Names.{space, tab};
+ghost use Rattle.text_bytes.specs.Texts.{begins_with};
+ghost use Rattle.rule_types.specs.Topics.{is_mode};
+ghost use Rattle.rule_lints.specs.Modes.{has_sign, mode_in, no_mode, wrong_mode};
 
 use crate::parts::change_of;
-use rule_types::{Change, Part, Target};
-
-/// The greatest mode of a file.
-const GREATEST_MODE: u32 = 0o7777;
+use rule_types::{Change, Part, Target, mode_of};
+use text_bytes::begins_with;
 
 /// The value with which W1 is reported: one that a part gives to MODE, and that is not a mode.
 pub(crate) fn wrong_mode(part: &Part) -> Option<&[u8]>
@@ -43,22 +44,18 @@ fn has_sign(text: &[u8]) -> bool
     text.iter().any(|byte| *byte == b'$' || *byte == b'%')
 }
 
-/// Whether a text is one octal digit or more, and nothing else, of a number that a mode may be.
+/// Whether a text begins with a space or a tab.
+fn is_indented(text: &[u8]) -> bool
+    ensures { result ≡ (begins_with space text.now || begins_with tab text.now) }
+{
+    begins_with(b' ', text) || begins_with(b'\t', text)
+}
+
+/// Whether a text is one octal digit or more, and nothing else, of a number that a mode may be: a mode that udev
+/// reads, with no blanks before it.
+#[tactic(auto, using(crate::proofs::Octal::bare_mode, crate::proofs::Octal::no_mode_after_blanks))]
 fn is_mode(text: &[u8]) -> bool
     ensures { result ≡ is_mode text.now }
 {
-    if text.is_empty() {
-        return false;
-    }
-    let mut number: u32 = 0;
-    for byte in text {
-        let Some(digit) = char::from(*byte).to_digit(8) else {
-            return false;
-        };
-        number = number * 8 + digit;
-        if number > GREATEST_MODE {
-            return false;
-        }
-    }
-    true
+    !is_indented(text) && mode_of(text).is_some()
 }

@@ -4,7 +4,7 @@ use Rattle.std.specs.List.{list_any, prefix_len}
 use Rattle.std.proofs.lemmas.Bool.{ltb-false, ltb-true}
 use Rattle.std.proofs.lemmas.List.Sums.{take_while-cons}
 use Rattle.rule_remarks.specs.ByLine.{before, by_line, from_line}
-use Rattle.rule_remarks.specs.Laws.{RisesFrom}
+use Rattle.rule_core.specs.Laws.{RisesFrom}
 
 module _ {X : Type 0} (line_of : X → ℕ) where
   -- an element more, with the others before it

@@ -1,5 +1,5 @@
 -- What is reported for a file is reported for its rules.
-use Rattle.std.proofs.Common.{◌≡◌, ℕ, ◌+◌, Bool, true, false, cond, inl, inr, List, [], ◌∷◌, ◌++◌, length, map, Option, Some, None, refl}
+use Rattle.std.proofs.Common.{◌≡◌, ℕ, ◌+◌, Bool, true, false, cond, inl, inr, List, [], ◌∷◌, ◌++◌, length, map, is_ok, Option, Some, None, refl}
 use Rattle.std.specs.List.{AllByRecursion}
 use Rattle.text_bytes.specs.Lines.{NumberedLine}
 use Rattle.text_bytes.specs.declared.profile.Profile.TheVariants.{Udev}
@@ -15,22 +15,22 @@ use Rattle.rule_places.specs.declared.placed_finding.PlacedFinding.{PlacedFindin
 use Rattle.rule_places.specs.declared.spot.Spot.{Spot}
 use Rattle.rule_remarks.specs.Laws.{IsOfRule}
 use Rattle.rule_remarks.specs.Remarks.{rule_remarks}
-use Rattle.rule_remarks.specs.Rules.{file_remarks, is_read, line_remarks, remarks_from, remarks_unless}
+use Rattle.rule_remarks.specs.Rules.{file_remarks, line_remarks, remarks_from, remarks_unless}
 
 both : (all : List NumberedLine) (xs ys : List PlacedFinding) → AllByRecursion (IsOfRule all) xs → AllByRecursion (IsOfRule all) ys → AllByRecursion (IsOfRule all) (xs ++ ys)
 both all [] ys h g = g
 both all (x ∷ xs) ys h g = (h.0, both all xs ys h.1 g)
 
 module _ (accounts : Accounts) (kept : List KeptLine) (all : List NumberedLine) where
-  spots_of_rule : (l : NumberedLine) (start : ℕ) (spots : List Spot) → IsAmong l all → is_read (draft_of Udev l.text) ≡ true → AllByRecursion (IsOfRule all) (map (placed kept l.number start) spots)
+  spots_of_rule : (l : NumberedLine) (start : ℕ) (spots : List Spot) → IsAmong l all → is_ok (draft_of Udev l.text) ≡ true → AllByRecursion (IsOfRule all) (map (placed kept l.number start) spots)
   spots_of_rule l start [] a r = tt
   spots_of_rule l start (s ∷ spots) a r = (record { line = l; among = a; read = r; number = refl }, spots_of_rule l start spots a r)
 
   of_line : (l : NumberedLine) (start : ℕ) → IsAmong l all → AllByRecursion (IsOfRule all) (map (placed kept l.number start) (line_remarks accounts l.text))
   unfolding line_remarks
-  of_line l start a = by (is_read (draft_of Udev l.text)) refl
+  of_line l start a = by (is_ok (draft_of Udev l.text)) refl
     where
-      by : (b : Bool) → is_read (draft_of Udev l.text) ≡ b → AllByRecursion (IsOfRule all) (map (placed kept l.number start) (cond b (rule_remarks accounts (tokens_of (items_as Udev l.text))) []))
+      by : (b : Bool) → is_ok (draft_of Udev l.text) ≡ b → AllByRecursion (IsOfRule all) (map (placed kept l.number start) (cond b (rule_remarks accounts (tokens_of (items_as Udev l.text))) []))
       by true e = spots_of_rule l start (rule_remarks accounts (tokens_of (items_as Udev l.text))) a e
       by false e = tt
 

@@ -1,5 +1,5 @@
 -- Where what is reported for a rule is in its line.
-use Rattle.std.proofs.Common.{◌≡◌, ℕ, zero, suc, Bool, true, false, cond, true≢false, ◌||◌, List, [], ◌∷◌, ◌++◌, flat_map, filter_map, slice_get, Option, Some, None, option_map, Ok, Err, refl, sym}
+use Rattle.std.proofs.Common.{◌≡◌, ℕ, zero, suc, Bool, true, false, cond, true≢false, ◌||◌, List, [], ◌∷◌, ◌++◌, flat_map, filter_map, slice_get, is_ok, Option, Some, None, option_map, Ok, Err, refl, sym}
 use Rattle.std.specs.List.{AllByRecursion, cons_option, find}
 use Rattle.text_bytes.specs.Texts.{is_empty}
 use Rattle.text_bytes.specs.declared.message.MessageKind.{MessageKind}
@@ -30,7 +30,7 @@ use Rattle.rule_places.proofs.PartStanding.{AllStand, Stands, attribute_stands, 
 use Rattle.rule_places.proofs.Standing.{all_lie, weaker}
 use Rattle.rule_remarks.specs.Attributes.{is_bad_name, is_elsewhere}
 use Rattle.rule_remarks.specs.Remarks.{attribute_remarks, fault_spot, is_of_key, is_program, is_result, late_program, order_remarks, pair_remark, remarks_by, rule_remarks, token_remarks, value_remarks}
-use Rattle.rule_remarks.specs.Rules.{is_read, line_remarks}
+use Rattle.rule_remarks.specs.Rules.{line_remarks}
 use Rattle.rule_remarks.specs.Values.{assigned_fault, compared_fault, filled_fault, given_fault, text_fault, value_fault}
 
 -- what is wrong with a value is reported for the value or of the key
@@ -192,7 +192,7 @@ slices line (Err fault ∷ items) h = slices line items h.1
 
 line_told : (accounts : Accounts) (line : List ℕ) → AllStand line (line_remarks accounts line)
 unfolding line_remarks
-line_told accounts line = by (is_read (draft_of Udev line))
+line_told accounts line = by (is_ok (draft_of Udev line))
   where
     by : (b : Bool) → AllStand line (cond b (rule_remarks accounts (tokens_of (items_as Udev line))) [])
     by true = rule_told accounts line (tokens_of (items_as Udev line)) (slices line (items_as Udev line) (all_lie Udev line))

@@ -10,8 +10,8 @@ use Rattle.rule_pairs.specs.declared.accounts.AccountKind.TheVariants.{User, Gro
 use Rattle.rule_pairs.specs.declared.accounts.Account.{Account}
 
 -- a text without the white space at its start
-abbrev pub trimmed : List ℕ → List ℕ
-trimmed text = skip_while is_whitespace text
+abbrev pub bare : List ℕ → List ℕ
+bare text = skip_while is_whitespace text
 
 -- a text without a `+` at its start
 abbrev pub without_plus : List ℕ → List ℕ
@@ -20,7 +20,7 @@ without_plus (b ∷ text) = if b == plus then text else b ∷ text
 
 -- the number that a field gives: perhaps white space and a `+`, and after it decimal digits of a number within 32 bits
 abbrev pub field_number : List ℕ → Option ℕ
-field_number text = decimal_below (2 ^ 32) (without_plus (trimmed text))
+field_number text = decimal_below (2 ^ 32) (without_plus (bare text))
 
 -- what comes before a cut of a text, all of it if it is not cut
 abbrev pub before_cut : List ℕ → Option (List ℕ × List ℕ) → List ℕ
@@ -58,7 +58,7 @@ account_in kind line = if is_passed_over line then None else option_and_then (λ
 
 -- the account that a line lists, if it does
 abbrev pub account_of : AccountKind → NumberedLine → Option Account
-account_of kind l = account_in kind (trimmed l.text)
+account_of kind l = account_in kind (bare l.text)
 
 -- the accounts that a file with these bytes lists, in the order of its lines
 abbrev pub accounts_of : AccountKind → List ℕ → List Account

@@ -6,11 +6,11 @@ use Rattle.rule_types.specs.declared.keys.Key.{Key}
 use Rattle.rule_types.specs.declared.keys.Key.TheVariants as key
 
 -- whether substitutions may be in the attribute of a key
-abbrev pub takes_substitutions : Key → Bool
-takes_substitutions key.Attr = true
-takes_substitutions key.Attrs = true
-takes_substitutions key.Sysctl = true
-takes_substitutions _ = false
+abbrev pub substitutes_in_name : Key → Bool
+substitutes_in_name key.Attr = true
+substitutes_in_name key.Attrs = true
+substitutes_in_name key.Sysctl = true
+substitutes_in_name _ = false
 
 -- whether a key compares the attributes of the devices of the chain
 abbrev pub is_of_chain : Key → Bool
@@ -28,7 +28,7 @@ leads_elsewhere name = starts_with nat_eq name (codes "device/") || has_way_up n
 
 -- whether the attribute of a key has an invalid substitution
 abbrev pub is_bad_name : Key → List ℕ → Bool
-is_bad_name k name = takes_substitutions k && is_faulty name
+is_bad_name k name = substitutes_in_name k && is_faulty name
 
 -- whether the attribute of a key is one of another device
 abbrev pub is_elsewhere : Key → List ℕ → Bool

@@ -1,5 +1,5 @@
 -- What is true of the remarks.
-use Rattle.std.specs.Prelude.{◌≡◌, ◌≤◌, ℕ, ◌++◌, true, List, [], ◌∷◌, ⊤, codes}
+use Rattle.std.specs.Prelude.{◌≡◌, ℕ, ◌∷◌, ◌++◌, true, is_ok, List, codes}
 use Rattle.text_bytes.specs.Lines.{NumberedLine}
 use Rattle.text_bytes.specs.declared.profile.Profile.TheVariants.{Udev}
 use Rattle.rule_tokens.specs.Grammar.{Placed}
@@ -7,7 +7,6 @@ use Rattle.rule_core.specs.Drafts.{draft_of}
 use Rattle.rule_places.specs.Shown.{IsAmong}
 use Rattle.rule_places.specs.declared.placed_finding.PlacedFinding.{PlacedFinding}
 use Rattle.rule_remarks.specs.Remarks.{is_program, is_result}
-use Rattle.rule_remarks.specs.Rules.{is_read}
 
 -- a text has `../` in it
 pub record HasWayUp (text : List ℕ) : Type 0 where
@@ -19,7 +18,7 @@ pub record HasWayUp (text : List ℕ) : Type 0 where
 pub record IsOfRule (ls : List NumberedLine) (told : PlacedFinding) : Type 0 where
   pub line : NumberedLine
   pub among : IsAmong line ls
-  pub read : is_read (draft_of Udev line.text) ≡ true
+  pub read : is_ok (draft_of Udev line.text) ≡ true
   pub number : told.begins ≡ line.number
 
 -- one of these tokens is a PROGRAM, and a RESULT comes before it
@@ -31,8 +30,3 @@ pub record HasLateProgram (tokens : List Placed) (program : Placed) : Type 0 whe
   pub whole : tokens ≡ front ++ result ∷ (between ++ program ∷ behind)
   pub asked : is_result result ≡ true
   pub runs : is_program program ≡ true
-
--- the lines of elements never fall, and the first is not before this one
-abbrev pub RisesFrom : {X : Type 0} → (X → ℕ) → ℕ → List X → Type 0
-RisesFrom line_of line [] = ⊤
-RisesFrom line_of line (x ∷ xs) = (line ≤ line_of x) × RisesFrom line_of (line_of x) xs

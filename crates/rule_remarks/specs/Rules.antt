@@ -1,9 +1,8 @@
 -- What udev reports about the rules of a file that stay, with the places in the file.
-use Rattle.std.specs.Prelude.{ℕ, ◌+◌, Bool, true, false, if◌then◌else◌, List, [], ◌∷◌, ◌++◌, length, map, Option, Some, None, Result, Ok, Err}
+use Rattle.std.specs.Prelude.{ℕ, ◌+◌, is_ok, if◌then◌else◌, List, [], ◌∷◌, ◌++◌, length, map, Option, Some, None}
 use Rattle.text_bytes.specs.Lines.{NumberedLine}
 use Rattle.text_bytes.specs.declared.profile.Profile.TheVariants.{Udev}
-use Rattle.rule_parts.specs.declared.finding.Finding.{Finding}
-use Rattle.rule_core.specs.Drafts.{Draft, draft_of, items_as, tokens_of}
+use Rattle.rule_core.specs.Drafts.{draft_of, items_as, tokens_of}
 use Rattle.rule_core.specs.Ends.{given_up}
 use Rattle.rule_core.specs.Lines.{joined_lines}
 use Rattle.rule_pairs.specs.Accounts.{Accounts}
@@ -14,14 +13,9 @@ use Rattle.rule_places.specs.declared.placed_finding.PlacedFinding.{PlacedFindin
 use Rattle.rule_places.specs.declared.spot.Spot.{Spot}
 use Rattle.rule_remarks.specs.Remarks.{rule_remarks}
 
--- whether a joined line was read as a rule
-abbrev pub is_read : Result Draft Finding → Bool
-is_read (Ok d) = true
-is_read (Err wrong) = false
-
 -- what is reported for a joined line, if it is a rule for udev
 unfoldable pub line_remarks : Accounts → List ℕ → List Spot
-line_remarks accounts line = if is_read (draft_of Udev line) then rule_remarks accounts (tokens_of (items_as Udev line)) else []
+line_remarks accounts line = if is_ok (draft_of Udev line) then rule_remarks accounts (tokens_of (items_as Udev line)) else []
 
 -- what is reported for joined lines that follow so many bytes of others
 abbrev pub remarks_from : Accounts → List KeptLine → ℕ → List NumberedLine → List PlacedFinding

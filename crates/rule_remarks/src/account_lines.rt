@@ -2,7 +2,7 @@
 ghost use Rattle.std.specs.Prelude.{◌≡◌, ◌≤◌, IfOk, length, option_map};
 ghost use Rattle.std.specs.List.{prefix_len};
 ghost use Rattle.text_bytes.specs.Names.{is_whitespace};
-ghost use Rattle.rule_remarks.specs.AccountLines.{account, account_in, accounts_of, field_number, first_field, is_passed_over, number_in, trimmed, without_plus};
+ghost use Rattle.rule_remarks.specs.AccountLines.{account, account_in, accounts_of, field_number, first_field, is_passed_over, number_in, bare, without_plus};
 
 use rule_pairs::{Account, AccountKind};
 use std::alloc::{AllocError, Global};
@@ -25,7 +25,7 @@ pub fn read_accounts(
 {
     let mut accounts = Vec::new(alloc);
     for line in Lines::new(bytes) {
-        if let Some((name, number)) = account_in(kind, trimmed(line.text())) {
+        if let Some((name, number)) = account_in(kind, bare(line.text())) {
             let name = Bytes::copy_of(alloc, name)?;
             accounts.push(Account { name, number })?;
         }
@@ -83,7 +83,7 @@ fn first_field(text: &[u8]) -> &[u8]
 fn field_number(text: &[u8]) -> Option<u32>
     ensures { result ≡ field_number text.now }
 {
-    let number = decimal_below(NUMBERS, without_plus(trimmed(text)))?;
+    let number = decimal_below(NUMBERS, without_plus(bare(text)))?;
     Some(number as u32)
 }
 
@@ -98,8 +98,8 @@ fn without_plus(text: &[u8]) -> &[u8]
 }
 
 /// A text without the white space at its start.
-fn trimmed(text: &[u8]) -> &[u8]
-    ensures { result.now ≡ trimmed text.now }
+fn bare(text: &[u8]) -> &[u8]
+    ensures { result.now ≡ bare text.now }
 {
     let (_, behind) = text.split_at(leading_white_space(text));
     behind

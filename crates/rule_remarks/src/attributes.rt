@@ -1,6 +1,6 @@
 //! What is wrong with the name of an attribute in a rule that stays.
 ghost use Rattle.std.specs.Prelude.{◌≡◌};
-ghost use Rattle.rule_remarks.specs.Attributes.{has_way_up, is_bad_name, is_elsewhere, is_of_chain, leads_elsewhere, takes_substitutions};
+ghost use Rattle.rule_remarks.specs.Attributes.{has_way_up, is_bad_name, is_elsewhere, is_of_chain, leads_elsewhere, substitutes_in_name};
 
 use rule_templates::is_faulty;
 use rule_types::Key;
@@ -9,7 +9,7 @@ use rule_types::Key;
 pub(crate) fn is_bad_name(key: Key, name: &[u8]) -> bool
     ensures { result ≡ is_bad_name key name.now }
 {
-    takes_substitutions(key) && is_faulty(name)
+    substitutes_in_name(key) && is_faulty(name)
 }
 
 /// Whether the attribute of a key is one of another device.
@@ -20,8 +20,8 @@ pub(crate) fn is_elsewhere(key: Key, name: &[u8]) -> bool
 }
 
 /// Whether substitutions may be in the attribute of a key.
-fn takes_substitutions(key: Key) -> bool
-    ensures { result ≡ takes_substitutions key }
+fn substitutes_in_name(key: Key) -> bool
+    ensures { result ≡ substitutes_in_name key }
 {
     matches!(key, Key::Attr | Key::Attrs | Key::Sysctl)
 }

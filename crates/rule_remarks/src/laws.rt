@@ -14,7 +14,8 @@ ghost use Rattle.rule_remarks.specs.AccountLines.{account, account_in};
 ghost use Rattle.rule_remarks.specs.Attributes.{has_way_up};
 ghost use Rattle.rule_remarks.specs.Findings.{findings_as};
 ghost use Rattle.rule_remarks.specs.ByLine.{by_line};
-ghost use Rattle.rule_remarks.specs.Laws.{HasLateProgram, HasWayUp, IsOfRule, RisesFrom};
+ghost use Rattle.rule_remarks.specs.Laws.{HasLateProgram, HasWayUp, IsOfRule};
+ghost use Rattle.rule_core.specs.Laws.{RisesFrom};
 ghost use Rattle.rule_remarks.specs.Remarks.{late_program, rule_remarks};
 ghost use Rattle.rule_remarks.specs.Rules.{file_remarks, line_remarks};
 

@@ -1,8 +1,8 @@
 //! What is reported for a joined line that is a rule for udev.
-ghost use Rattle.std.specs.Prelude.{◌≡◌, IfOk};
+ghost use Rattle.std.specs.Prelude.{◌≡◌, IfOk, is_ok};
 ghost use Rattle.text_bytes.specs.declared.profile.Profile.TheVariants.{Udev};
 ghost use Rattle.rule_core.specs.Drafts.{draft_of, items_as, tokens_of};
-ghost use Rattle.rule_remarks.specs.Rules.{is_read, line_remarks};
+ghost use Rattle.rule_remarks.specs.Rules.{line_remarks};
 
 use crate::rule_remarks::rule_remarks;
 use rule_core::{line_tokens, read_draft};
@@ -32,7 +32,7 @@ pub(crate) fn line_remarks(
 
 /// Whether a joined line is a rule for udev.
 fn is_read(alloc: Global, line: &[u8]) -> Result<bool, AllocError>
-    ensures { IfOk result (λ read. read ≡ is_read (draft_of Udev line.now)) }
+    ensures { IfOk result (λ read. read ≡ is_ok (draft_of Udev line.now)) }
 {
     match read_draft(alloc, Profile::Udev, line) {
         Ok(_) => Ok(true),

@@ -285,6 +285,8 @@ ROWS = [
         output=EMPTY_INDEX, messages=FAULTY_SOURCE_TOLD, status=1),
     Row("an index written", ["update", "t.hwdb"], {"t.hwdb": "a*\n K=V\n"}, output=INDEX),
     Row("an index", ["query", "--index", "a.index", "abc"], {"a.index": INDEX}, output="K=V\n"),
+    Row("an index, line by line", ["query", "--index", "a.index", "-"], {"a.index": INDEX}, "abc\nb\na", "K=V\n\n\nK=V\n\n"),
+    Row("files, line by line", ["query", "--sources", "-", "t.hwdb"], {"t.hwdb": "a*\n K=V\n"}, "abc\nb", "t.hwdb:2: K=V\n\n\n"),
     Row(
         "an index beside rules", ["events", "--index", "a.index", "r.rules"], {"a.index": INDEX, "r.rules": DISK_RULE},
         DISK, DISK_ANSWER),

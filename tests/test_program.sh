@@ -49,6 +49,20 @@ exec 4<&-
 status=0
 wait $! || status=$?
 same "a faulty block behind it" "1|block 2, line 1: no device|env SUBSYSTEM=block" "$status|$(cat err)|$(tail -n 1 <<< "$rest")"
+# A modalias is answered before the next one is there.
+mkfifo lines
+"$program" query - trackball.hwdb < lines > answers 2> err &
+exec 3> lines 4< answers
+echo 'mouse:usb:name:My TrackBall:x' >&3
+read -r -t 10 first <&4 || first="nothing in 10 seconds"
+same "an answer before the next modalias" "ID_INPUT_TRACKBALL=1" "$first"
+printf mouse:x >&3
+exec 3>&-
+rest=$(cat - <(echo end) <&4 | paste -s -d "|" -)
+exec 4<&-
+status=0
+wait $! || status=$?
+same "a last modalias without a newline" "0||MOUSE_DPI=1600@125|||end" "$status|$(cat err)|$rest"
 ends "events without a file that is there" 3 "" "devdry: cannot read none.rules" events -r none none.rules
 ends "events without a block" 0 "" "" events -r none disk.rules
 ends "a rule that is dropped" 0 "" "mistakes.rules:2: V2 unknown key: SUBSYSTEMM" events -r none mistakes.rules

@@ -26,9 +26,10 @@ Options:
 Status:
   0  all went well, or help was asked for
   1  verify found a bad file, or there was a message and
-     --strict was given, or an event block is faulty, or there
-     are too many rules or entries, or the index is refused,
-     or compare found a difference, or files or --all no file
+     --strict was given, or an event block is faulty, or a
+     line of query - is too long, or there are too many rules
+     or entries, or the index is refused, or compare found a
+     difference, or files or --all no file
   2  the words of the command are not understood
   3  a file, a folder, the input or an output failed
   4  out of memory
@@ -67,7 +68,7 @@ Prints the properties that the hardware database has for a device
 Usage: devdry query [OPTIONS] <MODALIAS> [FILE]...
 
 Arguments:
-  <MODALIAS>  Device to look up, by its modalias
+  <MODALIAS>  Device to look up, by its modalias; -: those of the standard input
   [FILE]...   Database files to read in place of the folders
 
 Options:

@@ -17,9 +17,10 @@ use std::alloc::{AllocError, Global};
 const STATUSES: &str = "Status:
   0  all went well, or help was asked for
   1  verify found a bad file, or there was a message and
-     --strict was given, or an event block is faulty, or there
-     are too many rules or entries, or the index is refused,
-     or compare found a difference, or files or --all no file
+     --strict was given, or an event block is faulty, or a
+     line of query - is too long, or there are too many rules
+     or entries, or the index is refused, or compare found a
+     difference, or files or --all no file
   2  the words of the command are not understood
   3  a file, a folder, the input or an output failed
   4  out of memory
@@ -191,7 +192,11 @@ fn required_argument<'a>(alloc: Global, name: &'a str, help: &'a str) -> Arg<'a>
 fn modalias_argument<'a>(alloc: Global) -> Arg<'a>
     ensures { (rule_of result ≡ modalias_rule) × (result.global ≡ false) }
 {
-    required_argument(alloc, "MODALIAS", "Device to look up, by its modalias")
+    required_argument(
+        alloc,
+        "MODALIAS",
+        "Device to look up, by its modalias; -: those of the standard input",
+    )
 }
 
 fn old_argument<'a>(alloc: Global) -> Arg<'a>

@@ -1,9 +1,14 @@
 -- From the steps of a run to what it serves.
-use Rattle.std.proofs.Common.{◌≡◌, ℕ, true, cond, List, inl, inr, refl, ap, subst, sym, Result, Ok, Err}
+use Rattle.std.proofs.Common.{◌≡◌, ℕ, Bool, true, false, cond, List, inl, inr, refl, ap, subst, sym, Option, Result, Ok, Err}
+use Rattle.text_bytes.specs.declared.source_file.SourceFile.{SourceFile}
 use Rattle.text_tables.specs.Texts.{Text}
 use Rattle.engine_ends.specs.declared.line.Line.{Line}
 use Rattle.engine_ends.specs.Streams.{Streams, outputs}
 use Rattle.engine_ends.specs.Delivery.{Outcome, Delivers, Tells, TellsFaults, out_of_memory}
+use Rattle.index_reading.specs.declared.fault.IndexFault.{IndexFault}
+use Rattle.index_reading.specs.Contents.{Contents}
+use Rattle.engine_lookups.specs.Databases.{LooksUpBy, lookups_by}
+use Rattle.engine_reports.specs.Databases.{DatabaseValue, database}
 use Rattle.engine_reports.specs.Openings.{OpeningValue}
 use Rattle.engine_reports.specs.Indexes.{refused_index}
 use Rattle.engine_reports.specs.Outcomes.{too_many_entries, too_many_rules}
@@ -15,13 +20,22 @@ use Rattle.engine_sessions.specs.Serves.{AnswersAll, Serves}
 use Rattle.engine_sessions.specs.Sessions.{answers_as}
 use Rattle.engine_sessions.proofs.Serving.{answers_serve, reports_serve}
 use Rattle.engine_core.specs.Answering.{answer_by}
-use Rattle.engine_core.specs.Outcomes.{answer_with, asked_of, asks_more, outcome_by, tables_of, told_of}
-use Rattle.engine_core.specs.Runs.{RunsBy}
+use Rattle.engine_core.specs.Outcomes.{answer_with, asked_of, asks_more, before_input, outcome_as, outcome_by, tables_of, told_of}
+use Rattle.engine_core.specs.Runs.{RunsAs, RunsBy}
 use Rattle.engine_core.specs.Told.{ToldValue, told_by}
 
-pub runs_serve : (line : Line) (opened : Result OpeningValue Outcome) (status : ℕ) (before now : Streams) → RunsBy line opened status before now → Serves (outcome_by line opened) status before now
+runs_serve : (line : Line) (opened : Result OpeningValue Outcome) (status : ℕ) (before now : Streams) → RunsBy line opened status before now → Serves (outcome_by line opened) status before now
 runs_serve line (Ok opening) status before now r = answers_serve opening.messages (answer_with line opening) status before now r
 runs_serve line (Err said) status before now r = reports_serve (λ text. said) said status before now (λ text. refl) r
+
+lookups_serve : (line : Line) (read : Result DatabaseValue Outcome) (status : ℕ) (before now : Streams) → LooksUpBy line read status before now → Serves (lookups_by line read) status before now
+lookups_serve line (Ok database) status before now r = r.serves
+lookups_serve line (Err said) status before now r = reports_serve (λ text. said) said status before now (λ text. refl) r
+
+pub runs_as : (reads : Bool) (line : Line) (files : List SourceFile) (opened : Option (Result Contents IndexFault)) (status : ℕ) (before now : Streams) → RunsAs reads line files opened status before now
+    → Serves (outcome_as reads line files opened) status before now
+runs_as true line files opened status before now r = lookups_serve line (database line files opened) status before now r
+runs_as false line files opened status before now r = runs_serve line (before_input line.verb line files opened) status before now r
 
 -- what is said without a look at the input
 pub report_runs : (line : Line) (begun : Result OpeningValue Outcome) (said : Outcome) (report : Result Report Refusal) (status : ℕ) (before now : Streams) → begun ≡ Err said → ((outcome : Outcome) → IsReport outcome report → Delivers outcome status (outputs before) (outputs now))

@@ -1,6 +1,7 @@
 -- What a run says: its outcome, as a function of the command line, of the files passed in, of the outcome of opening
 -- an index and of the input.
-use Rattle.std.specs.Prelude.{Bool, not, ◌||◌, ◌==◌, if◌then◌else◌, List, map, Option, Some, None, Result, Ok, Err, vec_len}
+use Rattle.std.specs.Prelude.{Bool, true, false, not, ◌||◌, ◌&&◌, ◌==◌, if◌then◌else◌, List, codes, map, Option, Some, None, Result, Ok, Err, vec_len}
+use Rattle.std.specs.Str.{bytes_eq}
 use Rattle.text_tables.specs.Texts.{Text}
 use Rattle.text_bytes.specs.declared.source_file.SourceFile.{SourceFile}
 use Rattle.index_reading.specs.declared.fault.IndexFault.{IndexFault}
@@ -10,6 +11,8 @@ use Rattle.engine_ends.specs.declared.line.Line.{Line}
 use Rattle.engine_ends.specs.declared.line.Verb.{Verb}
 use Rattle.engine_ends.specs.declared.line.Verb.TheVariants.{Update, Query, Verify, Events}
 use Rattle.engine_ends.specs.Delivery.{Outcome}
+use Rattle.engine_lookups.specs.Databases.{lookups_by}
+use Rattle.engine_reports.specs.Databases.{database}
 use Rattle.engine_reports.specs.Openings.{OpeningValue, opening}
 use Rattle.engine_reports.specs.Outcomes.{query_over, usage_error}
 use Rattle.engine_courses.specs.Asked.{unknown}
@@ -66,6 +69,22 @@ abbrev pub outcome_by : Line → Result OpeningValue Outcome → Text → Outcom
 outcome_by line (Ok opening) input = input_outcome opening.messages (answer_with line opening) input
 outcome_by line (Err said) input = said
 
+-- whether a verb is that of `query`
+abbrev pub is_query : Verb → Bool
+is_query Update = false
+is_query Query = true
+is_query Verify = false
+is_query Events = false
+
+-- whether a line looks up the modaliases that its input has, one a line: it is one of `query`, and its modalias is `-`
+abbrev pub reads_modaliases : Line → Bool
+reads_modaliases line = is_query line.verb && bytes_eq line.modalias.now (codes "-")
+
+-- the outcome of a run, by whether it looks up the modaliases of its input
+abbrev pub outcome_as : Bool → Line → List SourceFile → Option (Result Contents IndexFault) → Text → Outcome
+outcome_as true line files opened input = lookups_by line (database line files opened) input
+outcome_as false line files opened input = outcome_by line (before_input line.verb line files opened) input
+
 -- the outcome of a run over the files passed in, the outcome of opening an index and an input
 abbrev pub outcome : Line → List SourceFile → Option (Result Contents IndexFault) → Text → Outcome
-outcome line files opened input = outcome_by line (before_input line.verb line files opened) input
+outcome line files opened input = outcome_as (reads_modaliases line) line files opened input

@@ -1,5 +1,5 @@
 -- A run step by step.
-use Rattle.std.specs.Prelude.{ℕ, List, Option, Result, Ok, Err}
+use Rattle.std.specs.Prelude.{ℕ, Bool, true, false, List, Option, Result, Ok, Err}
 use Rattle.text_bytes.specs.declared.source_file.SourceFile.{SourceFile}
 use Rattle.text_tables.specs.Texts.{Text}
 use Rattle.index_reading.specs.declared.fault.IndexFault.{IndexFault}
@@ -7,15 +7,22 @@ use Rattle.index_reading.specs.Contents.{Contents}
 use Rattle.engine_ends.specs.declared.line.Line.{Line}
 use Rattle.engine_ends.specs.Streams.{Streams}
 use Rattle.engine_ends.specs.Delivery.{Outcome}
+use Rattle.engine_lookups.specs.Databases.{LooksUpBy}
+use Rattle.engine_reports.specs.Databases.{database}
 use Rattle.engine_reports.specs.Indexes.{Opens}
 use Rattle.engine_reports.specs.Openings.{OpeningValue}
 use Rattle.engine_sessions.specs.Serves.{AnswersAll, Reports, Serves}
-use Rattle.engine_core.specs.Outcomes.{answer_with, before_input, outcome}
+use Rattle.engine_core.specs.Outcomes.{answer_with, before_input, outcome, reads_modaliases}
 
 -- a run of a line, by its outcome before it looks at its input
 abbrev pub RunsBy : Line → Result OpeningValue Outcome → ℕ → Streams → Streams → Type 0
 RunsBy line (Ok opening) status before now = AnswersAll opening.messages (answer_with line opening) status before now
 RunsBy line (Err said) status before now = Reports said status before now
+
+-- a run of a line, by whether it looks up the modaliases of its input
+abbrev pub RunsAs : Bool → Line → List SourceFile → Option (Result Contents IndexFault) → ℕ → Streams → Streams → Type 0
+RunsAs true line files opened status before now = LooksUpBy line (database line files opened) status before now
+RunsAs false line files opened status before now = RunsBy line (before_input line.verb line files opened) status before now
 
 -- A run over the outcome of opening its index: what is written and answered is one function of the line, the files,
 -- the index and the input, also step by step.
@@ -23,4 +30,4 @@ pub record RunsOver (line : Line) (files : List SourceFile) (index : Option Text
   pub opened : Option (Result Contents IndexFault)
   pub opens : Opens index opened
   pub serves : Serves (outcome line files opened) status before now
-  pub steps : RunsBy line (before_input line.verb line files opened) status before now
+  pub steps : RunsAs (reads_modaliases line) line files opened status before now

@@ -1,34 +1,38 @@
 //! The whole run.
-ghost use Rattle.std.specs.Prelude.{◌≡◌, option_map};
-ghost use Rattle.engine_core.specs.Outcomes.{before_input};
-ghost use Rattle.engine_core.specs.Runs.{RunsBy, RunsOver};
+ghost use Rattle.std.specs.Prelude.{◌≡◌, false, option_map};
+ghost use Rattle.engine_core.specs.Outcomes.{before_input, reads_modaliases};
+ghost use Rattle.engine_core.specs.Runs.{RunsAs, RunsBy, RunsOver};
 
 use crate::checking::{report_on_index, report_on_verify};
 use crate::events::serve_events;
 use engine_ends::{Line, Sink, Source, Verb};
+use engine_lookups::serve_lookups;
 use engine_reports::{deliver_report, open_index, report_on_query};
 use index_reading::{Index, IndexFault};
 use std::alloc::Global;
 use text_bytes::SourceFile;
 
-/// Runs a command over files that were read, writes what it says, and returns the status to exit with.
+/// Runs a command over files that were read, writes what it says, and gives the status to exit with.
 ///
-/// Messages about the files go to `error`, for `verify` and `update` in the format of `line` and without those that
-/// it ignores, for `verify` with lints if `line` asks for them; the answer to `output`: for `query` the lines of
-/// the properties as systemd-hwdb(8) gives them, for `update` the index of the database, whether there are messages
-/// or not, for `verify`, as in udevadm(8), how many files are bad, and for `events` the answer to each block of
-/// `input`, written and flushed before the next read, with the rule before each line that it comes from and after
-/// the lines what rules met, if `line` asks for that. If `line` names files of the kind that the command reads,
-/// those passed in are read in their order, and otherwise those whose names end in `.hwdb` or `.rules`, of each
-/// name the one of least rank, sorted by name. `verify` and `events` read rules, and `events` evaluates them, by
-/// the profile of `line`. If `index` is passed in, `query` and `events` answer from it and read no file of the
-/// database. Only `events` looks at the input.
+/// Messages about the files go to `error`, for `verify` and `update` in the format of `line` and without
+/// those that it ignores, for `verify` with lints where `line` asks for them; the answer to `output`: for `query` the lines of the
+/// properties as systemd-hwdb(8) gives them, and where its modalias is `-` those for each line of `input`, with an empty line after
+/// them, written and flushed before the next read; for `update` the index of the database, messages or not,
+/// for `verify`, as in udevadm(8), how many files are bad, and for `events` the answer to each block of
+/// `input`, written and flushed before the next read, with the rule before each line that it comes from
+/// and after the lines what rules met, where `line` asks for that. Where `line` names files of the
+/// kind that the command reads, those passed in are read in their order, and else those whose names end
+/// in `.hwdb` or `.rules`, of each name the one of least rank, sorted by name. `verify` and `events` read
+/// rules, and `events` evaluates them, by the profile of `line`. Where `index` is passed in, `query` and `events`
+/// answer from it and read no file of the database. The input is looked at by
+/// `events` and by such a `query` alone.
 ///
-/// The status is 0; 1 if `update` is strict and there is a message, if `verify` finds a bad file, if a block is
-/// faulty, if the files hold more than they may, or if `query` or `events` is passed an index that fails a check; 2
-/// if a text of `why` asks for neither a rule nor a message's place, and then no input is read; 3 if the input or
-/// an output failed, or the input did not end within 2^48 reads, and only then; 4 if memory ran out. Under 3 all
-/// was written and flushed.
+/// The status is 0; 1 where `update` is strict and there is a message, where `verify` finds a bad file, where a block is faulty or a
+/// line of modaliases too long, where the
+/// files hold more than they may, or where `query` or `events` is passed an index that fails a check; 2 where a text
+/// of `ignored` is no
+/// code, and where a text of `why` asks for no rule and for no message's place, and then no input is read; 3 where the input or an output
+/// failed, or the input did not end within 2^48 reads, and only there; 4 where memory ran out. Under 3 all was written and flushed.
 pub fn serve<R: Source, W: Sink, E: Sink>(
     alloc: Global,
     line: &Line<'_>,
@@ -42,13 +46,41 @@ pub fn serve<R: Source, W: Sink, E: Sink>(
     ensures runs { RunsOver line.now files.items (option_map (λ bytes. bytes.now) index.entry) result
         (record { input = R.shown input.old; out = W.shown output.old; err = E.shown error.old })
         (record { input = R.shown input.new; out = W.shown output.new; err = E.shown error.new }) }
-    ensures untouched { (line.now.verb ≡ Verb.Events → ⊥) → input.new ≡ input.old }
+    ensures untouched { (line.now.verb ≡ Verb.Events → ⊥) → reads_modaliases line.now ≡ false → input.new ≡ input.old }
 {
     serve_opened(alloc, line, files, open_index(index), input, output, error)
 }
 
+/// Whether a line looks up the modaliases that its input has.
+fn reads_modaliases(line: &Line<'_>) -> bool
+    ensures { result ≡ reads_modaliases line.now }
+{
+    line.verb == Verb::Query && line.modalias == "-"
+}
+
 /// The same, by the outcome of opening the index.
 fn serve_opened<R: Source, W: Sink, E: Sink>(
+    alloc: Global,
+    line: &Line<'_>,
+    files: Vec<SourceFile>,
+    opened: Option<Result<Index<'_>, IndexFault>>,
+    input: &mut R,
+    output: &mut W,
+    error: &mut E,
+) -> u8
+    ensures runs { RunsAs (reads_modaliases line.now) line.now files.items opened.entry result
+        (record { input = R.shown input.old; out = W.shown output.old; err = E.shown error.old })
+        (record { input = R.shown input.new; out = W.shown output.new; err = E.shown error.new }) }
+    ensures untouched { (line.now.verb ≡ Verb.Events → ⊥) → reads_modaliases line.now ≡ false → input.new ≡ input.old }
+{
+    if reads_modaliases(line) {
+        return serve_lookups(alloc, line, files, opened, input, output, error);
+    }
+    serve_verb(alloc, line, files, opened, input, output, error)
+}
+
+/// A run that looks up no modaliases of its input.
+fn serve_verb<R: Source, W: Sink, E: Sink>(
     alloc: Global,
     line: &Line<'_>,
     files: Vec<SourceFile>,

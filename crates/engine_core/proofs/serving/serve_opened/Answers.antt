@@ -1,21 +1,23 @@
-use Rattle.std.proofs.Common.{ap, refl}
-use Rattle.engine_reports.specs.Outcomes.{query_over}
-use Rattle.engine_core.specs.Checking.{update_said, verify_said}
-use Rattle.engine_core.specs.Outcomes.{before_input}
-use Rattle.engine_core.proofs.Running.{report_runs}
+use Rattle.std.proofs.Common.{◌≡◌, true, false, subst, sym, ◌∙◌}
+use Rattle.engine_core.specs.Outcomes.{reads_modaliases}
+use Rattle.engine_core.specs.Runs.{RunsAs}
 use Rattle.engine_core.proofs.serving.serve_opened.Goals as goal
 
-pub returns-in-Query-clause-runs : goal.returns-in-Query-clause-runs
-returns-in-Query-clause-runs g c =
-    report_runs c.args.line.now _ (query_over c.args.line.now c.args.files.items c.args.opened) c.report_on_query.result _ _ _ (ap (λ v. before_input v c.args.line.now c.args.files.items c.args.opened) c.in-Query.is)
-    c.deliver_report.ensures.delivers c.deliver_report.ensures.faults (record { says = c.report_on_query.ensures.said; refused = c.report_on_query.ensures.refused }) refl
+pub returns-then-reads_modaliases-clause-runs : goal.returns-then-reads_modaliases-clause-runs
+returns-then-reads_modaliases-clause-runs g c =
+    let reads : reads_modaliases c.args.line.now ≡ true = sym c.reads_modaliases.ensures ∙ c.if-reads_modaliases.true in
+    subst (λ v. RunsAs v c.args.line.now c.args.files.items c.args.opened c.serve_lookups.result
+    (record { input = g.R.Source.shown c.args.input.now; out = g.W.Sink.shown c.args.output.now; err = g.E.Sink.shown c.args.error.now })
+    (record { input = g.R.Source.shown c.serve_lookups.new.input; out = g.W.Sink.shown c.serve_lookups.new.output; err = g.E.Sink.shown c.serve_lookups.new.error })) (sym reads) c.serve_lookups.ensures
 
-pub returns-in-Update-clause-runs : goal.returns-in-Update-clause-runs
-returns-in-Update-clause-runs g c =
-    report_runs c.args.line.now _ (update_said c.args.line.now c.args.files.items) c.report_on_index.result _ _ _ (ap (λ v. before_input v c.args.line.now c.args.files.items c.args.opened) c.in-Update.is)
-    c.deliver_report-in-Update.ensures.delivers c.deliver_report-in-Update.ensures.faults (record { says = c.report_on_index.ensures.said; refused = c.report_on_index.ensures.refused }) refl
+pub returns-clause-runs : goal.returns-clause-runs
+returns-clause-runs g c =
+    let reads : reads_modaliases c.args.line.now ≡ false = sym c.reads_modaliases.ensures ∙ c.if-reads_modaliases.false in
+    subst (λ v. RunsAs v c.args.line.now c.args.files.items c.args.opened c.serve_verb.result
+    (record { input = g.R.Source.shown c.args.input.now; out = g.W.Sink.shown c.args.output.now; err = g.E.Sink.shown c.args.error.now })
+    (record { input = g.R.Source.shown c.serve_verb.new.input; out = g.W.Sink.shown c.serve_verb.new.output; err = g.E.Sink.shown c.serve_verb.new.error })) (sym reads) c.serve_verb.ensures.runs
 
-pub returns-in-Verify-clause-runs : goal.returns-in-Verify-clause-runs
-returns-in-Verify-clause-runs g c =
-    report_runs c.args.line.now _ (verify_said c.args.line.now c.args.files.items) c.report_on_verify.result _ _ _ (ap (λ v. before_input v c.args.line.now c.args.files.items c.args.opened) c.in-Verify.is)
-    c.deliver_report-in-Verify.ensures.delivers c.deliver_report-in-Verify.ensures.faults (record { says = c.report_on_verify.ensures.said; refused = c.report_on_verify.ensures.refused }) refl
+pub returns-then-reads_modaliases-clause-untouched : goal.returns-then-reads_modaliases-clause-untouched
+returns-then-reads_modaliases-clause-untouched g c = λ other h.
+    let both : true ≡ false = sym c.if-reads_modaliases.true ∙ c.reads_modaliases.ensures ∙ h in
+    absurd cc

@@ -1,6 +1,4 @@
 use Rattle.std.proofs.Common.{cond, ◌&&◌, ap}
-use Rattle.text_bytes.specs.Names.{open_bracket}
-use Rattle.text_bytes.specs.Texts.{begins_with}
 use Rattle.eval_state.specs.Named.{named}
 use Rattle.eval_matching.specs.Attributes.{is_elsewhere, named_value, udev_subject}
 use Rattle.eval_matching.specs.Holding.{udev_attribute, udev_unread}

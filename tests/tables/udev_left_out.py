@@ -1,5 +1,5 @@
 """`events --udev` where devdry does not do as udevadm 257: what udevadm answers, and what devdry does. docs/differences.md says why."""
-from tables.kinds.udev_blocks import BOTH, CAMERA, DISK, NET, STAR, THING, answering
+from tables.kinds.udev_blocks import CAMERA, DISK, NET, STAR, THING, answering
 from tables.kinds.udev_events import answered_otherwise
 
 CASES = [
@@ -10,21 +10,6 @@ CASES = [
      DISK,
      ['label smack=x', 'label smack=y', 'label smack=y'],
      ['label smack=y']),
-    ('a name of an attribute is rendered',
-     ('ATTR{$kernel}=="x", ENV{A}="1"\n' +
-      'ATTR{x%ny}=="1", ENV{B}="1"\n' +
-      'ATTRS{%k}=="x", ENV{C}="$id"\n'),
-     BOTH+"A: both7=x\nA: x7y=1\n",
-     ['env A=1', 'env B=1', 'env C=both7'],
-     ['note r.rules:1: attribute not read: $kernel', 'note r.rules:2: attribute not read: x%ny']),
-    ('a fault in a name of an attribute',
-     ('ATTR{%}=="1", ENV{A}="1"\n' +
-      'ATTR{$disk}=="2", ENV{B}="1"\n' +
-      'ATTR{a$attr}=="3", ENV{C}="1"\n'),
-     STAR+"A: %=1\nA: $disk=2\nA: a=3\n",
-     ['env A=1', 'env B=1', 'env C=1'],
-     ['note r.rules:1: attribute not read: %', 'note r.rules:2: attribute not read: $disk',
-      'note r.rules:3: attribute not read: a$attr']),
     ('a number that is no character in a link',
      'SYMLINK+=e"c\\ufffe"\n',
      DISK,

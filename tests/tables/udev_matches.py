@@ -1,5 +1,5 @@
 """`events --udev`: matches, as udevadm 257 answers it."""
-from tables.kinds.udev_blocks import BANG, CLASS, DISK, STAR, SUBSYSTEM
+from tables.kinds.udev_blocks import BANG, BOTH, CLASS, DISK, PART, STAR, SUBSYSTEM, answering
 from tables.kinds.udev_events import answered_as_udev
 
 CASES = [
@@ -78,6 +78,80 @@ CASES = [
      'ENV{H}="$attr{[usb/usb1]serial}|$attr{[usb/usb1]none}|$attr{[usb/none]serial}|$attr{[usb]x}|"\n',
      DISK,
      ['env H=7||||']),
+    ('a name of an attribute is rendered',
+     ('ATTR{$kernel}=="x", ENV{A}="1"\n' +
+      'ATTR{x%ny}=="1", ENV{B}="1"\n' +
+      'ATTRS{%k}=="x", ENV{C}="$id"\n' +
+      'ATTR{$kernel}!="x", ENV{D}="1"\n' +
+      'ATTR{none%n}!="x", ENV{E}="1"\n'),
+     BOTH+"A: both7=x\nA: x7y=1\n",
+     ['env A=1', 'env B=1', 'env C=both7']),
+    ('a fault in a name of an attribute',
+     ('ATTR{%}=="1", ENV{A}="1"\n' +
+      'ATTR{$disk}=="2", ENV{B}="1"\n' +
+      'ATTR{a$attr}=="3", ENV{C}="1"\n' +
+      'ATTR{a$kernel{x}=="3", ENV{D}="1"\n' +
+      'ATTR{a$env{X}=="3", ENV{E}="1"\n' +
+      'ATTR{a%c{1}=="3", ENV{F}="1"\n' +
+      'ATTR{$attr{a}!="x", ENV{G}="1"\n'),
+     STAR+"A: %=1\nA: $disk=2\nA: a=3\n",
+     ['env A=1', 'env B=1', 'env C=1', 'env D=1', 'env E=1', 'env F=1']),
+    ('signs in a name of an attribute',
+     ('ATTR{a$$b}=="1", ENV{A}="1"\n' +
+      'ATTR{c%%}=="2", ENV{B}="1"\n'),
+     STAR+"A: a$b=1\nA: c%=2\n",
+     ['env A=1', 'env B=1']),
+    ('substitutions in a name of an attribute',
+     ('ATTR{v%M:%m}=="1", ENV{A}="1"\n' +
+      'ATTR{n$name}=="2", ENV{B}="1"\n' +
+      'ATTR{d$devnode}=="3", ENV{C}="1"\n' +
+      'ATTR{r%r.}=="4", ENV{D}="1"\n' +
+      'ATTR{s$sys}=="5", ENV{E}="1"\n' +
+      'ATTR{w$devpath}=="6", ENV{F}="1"\n' +
+      'ATTR{[block/sda]model}=="Disk", ENV{G}="1"\n'),
+     DISK.replace("A: size=2048\n", "A: size=2048\nA: v8:0=1\nA: nsda=2\nA: d/dev/sda=3\nA: r/dev.=4\nA: s/sys=5\nA: w/devices/pci0/usb1/block/sda=6\n"),
+     ['env A=1', 'env B=1', 'env C=1', 'env D=1', 'env E=1', 'env F=1', 'env G=1']),
+    ('the node of the parent in a name of an attribute',
+     'ATTR{p%P}=="1", ENV{A}="1"\n',
+     PART.replace("D: 8:1\n", "D: 8:1\nA: pdisks/vda=1\n"),
+     ['env A=1']),
+    ('links in a name of an attribute',
+     ('ATTR{l$links}=="0", ENV{A}="1"\n' +
+      'SYMLINK+="a"\n' +
+      'ATTR{l$links}=="1", ENV{B}="1"\n' +
+      'ATTR{l%L.}=="2", ENV{C}="1"\n'),
+     DISK.replace("A: size=2048\n", "A: size=2048\nA: l=0\nA: la=1\nA: la.=2\n"),
+     ['link a', 'env A=1', 'env B=1', 'env C=1']),
+    ('the result of a program in a name of an attribute',
+     ('ATTR{r$result}=="0", ENV{A}="1"\n' +
+      'PROGRAM="ata_id r1"\n' +
+      'ATTR{r%c}=="1", ENV{B}="1"\n'),
+     answering(DISK.replace("A: size=2048\n", "A: size=2048\nA: r=0\nA: rr1=1\n"), ("ata_id r1", 0, "r1")),
+     ['env A=1', 'env B=1']),
+    ('the device that was selected, in a name of an attribute',
+     ('ATTR{x$id}=="0", ENV{A}="1"\n' +
+      'SUBSYSTEMS=="usb", ENV{B}="1"\n' +
+      'ATTR{x$id}=="1", ENV{C}="1"\n' +
+      'ATTR{x$driver}=="2", ENV{D}="1"\n' +
+      'SUBSYSTEMS=="none", ENV{E}="1"\n' +
+      'ATTR{x%b}=="0", ENV{F}="1"\n'),
+     DISK.replace("A: size=2048\n", "A: size=2048\nA: x=0\nA: xusb1=1\nA: xhub=2\n"),
+     ['env A=1', 'env B=1', 'env C=1', 'env D=1', 'env F=1']),
+    ('the device that is tried, in a name of an attribute',
+     ('ATTRS{x%b}=="1", ENV{A}="$id"\n' +
+      'ATTR{x%b}=="3", ENV{C}="1"\n' +
+      'ATTRS{x$driver}=="2", ENV{B}="$id"\n' +
+      'ATTRS{x$id}=="4", ENV{D}="$id"\n' +
+      'ATTRS{x$id}!="1", ATTRS{x$id}!="3", ENV{E}="$id"\n'),
+     DISK.replace("A: size=2048\n", "A: size=2048\nA: xusb1=3\nA: xsda=4\nA: x=2\n").replace("A: serial=7\n", "A: serial=7\nA: xusb1=1\nA: xsda=1\nA: xhub=2\n"),
+     ['env A=usb1', 'env B=sda', 'env C=1', 'env D=sda', 'env E=sda']),
+    ('a rendered name of 511 bytes',
+     ('ATTR{' + 'd' * 250 + '/' + 'e' * 250 + '/' + 'f' * 6 + '%k}=="1", ENV{A}="1"\n' +
+      'ATTR{' + 'd' * 250 + '/' + 'e' * 250 + '/' + 'f' * 7 + '%k}=="1", ENV{B}="1"\n' +
+      'ATTR{' + 'd' * 250 + '/' + 'e' * 250 + '/' + 'f' * 7 + '%k}!="1", ENV{C}="1"\n' +
+      'ATTR{' + 'd' * 250 + '/' + 'e' * 250 + '/' + 'f' * 7 + 'sda}=="1", ENV{D}="1"\n'),
+     DISK.replace("A: size=2048\n", "A: size=2048\nA: " + 'd' * 250 + '/' + 'e' * 250 + '/' + 'f' * 6 + "sda=1\nA: " + 'd' * 250 + '/' + 'e' * 250 + '/' + 'f' * 7 + "sda=1\n"),
+     ['env A=1', 'env D=1']),
     ('no substitutions behind a bracket',
      'ATTR{[block/$kernel]size}!="1", ENV{J}="1"\n',
      DISK,

@@ -23,11 +23,12 @@ use Rattle.rule_types.specs.declared.part.UpMatch.{UpMatch}
 use Rattle.rule_types.specs.Rules.{Rule}
 use Rattle.eval_core.specs.Sketches.{exact_sketch, sketch}
 use Rattle.device_core.specs.Values.{DeviceValue, EventValue, chain}
+use Rattle.eval_state.specs.Chains.{device_at}
 use Rattle.eval_state.specs.Texts.{or_empty, trimmed}
 use Rattle.eval_state.specs.declared.state.State.{State}
-use Rattle.eval_matching.specs.Attributes.{attribute_by, attribute_of}
+use Rattle.eval_matching.specs.Attributes.{attribute_by, value_by}
 use Rattle.eval_matching.specs.Holding.{agrees, attribute, holds, one}
-use Rattle.eval_matching.specs.Subjects.{found_place, holds_at, plain_subject, up_subject}
+use Rattle.eval_matching.specs.Subjects.{found_place, holds_at, plain_subject, tried, up_subject}
 use Rattle.eval_matching.proofs.Finding.{none_found}
 use Rattle.eval_state.specs.declared.scene.Scene.{Scene}
 use Rattle.eval_acts.specs.Acts.{act_step}
@@ -144,7 +145,7 @@ module _ (state : State) (manual : state.event.profile ≡ Manual) where
   no_attribute part name found key equal e h place within =
       let d : DeviceValue = get_or (chain state.event) place state.event.device in
       ap (λ k. holds (up_subject k state place) part.wanted) key
-      ∙ ap (λ by. holds (attribute_by by name state.event (attribute_of state.event name place)) part.wanted) manual
+      ∙ ap (λ by. holds (attribute_by by name state.event (option_and_then (λ device. value_by by name (tried state place) device.attrs) (device_at state.event place))) part.wanted) manual
       ∙ ap (λ (o : Option DeviceValue). holds (attribute (option_and_then (λ device. value_of device.attrs name) o)) part.wanted) (device place within)
       ∙ attribute_missed part.wanted found (value_of d.attrs name) e (missing place d name found (device place within) h (value_of d.attrs name) refl)
       ∙ ap (λ o. agrees o false) equal

@@ -29,7 +29,7 @@ use Rattle.eval_state.specs.Chains.{kernel_of}
 use Rattle.eval_state.specs.Texts.{or_empty, trimmed}
 use Rattle.eval_state.specs.Scenes.{noted}
 use Rattle.eval_state.specs.declared.note_kind.NoteKind.TheVariants.{AttributeNotRead}
-use Rattle.eval_matching.specs.Attributes.{attribute_by, is_not_read, is_not_read_by}
+use Rattle.eval_matching.specs.Attributes.{attribute_by, is_not_read, is_not_read_by, value_by}
 use Rattle.eval_matching.specs.Holding.{agrees, attribute, ends_in_whitespace, holds, is_whitespace_item, one}
 use Rattle.eval_matching.specs.Subjects.{plain_subject, subsystem_by}
 use Rattle.eval_matching.specs.Udev.{passes}
@@ -141,7 +141,7 @@ module _ (names : List Text) (r : Rule) (s : Scene) (manual : s.state.event.prof
   key_missed plain.Driver wanted h = (refl, text_ruled 3 (or_empty s.state.event.device.driver) wanted refl (exact_sketch wanted.choice) refl h)
   key_missed (plain.Attr name) wanted h = (
     attribute_reached r name s manual,
-    ap (λ by. holds (attribute_by by name s.state.event (value_of s.state.event.device.attrs name)) wanted) manual
+    ap (λ by. holds (attribute_by by name s.state.event (value_by by name s.state s.state.event.device.attrs)) wanted) manual
         ∙ attribute_ruled name wanted (position (same_text name) names) refl (exact_sketch wanted.choice) refl h,
   )
   key_missed key wanted h = nothing_known h

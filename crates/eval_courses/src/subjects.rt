@@ -9,7 +9,9 @@ ghost use Rattle.eval_courses.specs.Looks.{looked, members_told, value_told};
 ghost use Rattle.eval_courses.specs.Upward.{is_absent};
 
 use eval_effects::push_shown;
-use eval_matching::{Attribute, attribute_at, driver_at, is_known_constant, subsystem_at};
+use eval_matching::{
+    Attribute, attribute_at, driver_at, event_attribute, is_known_constant, subsystem_at,
+};
 use eval_state::State;
 use rule_types::{PlainKey, UpKey};
 use std::alloc::{AllocError, Global};
@@ -77,7 +79,7 @@ pub(crate) fn plain_subject<'s, 'a>(key: &PlainKey, state: &'s State<'a>) -> Sub
         PlainKey::Name => Subject::One(assigned_name(state)),
         PlainKey::Symlink => Subject::Members(profile_of(state), state.links.as_slice()),
         PlainKey::Tag => Subject::Members(profile_of(state), state.tags.as_slice()),
-        PlainKey::Attr(name) => Subject::Attribute(attribute_at(state, 0, name.as_slice())),
+        PlainKey::Attr(name) => Subject::Attribute(event_attribute(state, name.as_slice())),
         PlainKey::Sysctl(_) => Subject::Unread,
         PlainKey::Env(name) => Subject::One(state.property(name.as_slice())),
         PlainKey::Const(name) => named_constant(name.as_slice(), state),

@@ -1,5 +1,5 @@
 -- Which attribute a match of ATTR or ATTRS looks at.
-use Rattle.std.specs.Prelude.{ℕ, Bool, false, not, ◌&&◌, ◌||◌, ◌==◌, if◌then◌else◌, is_none, Option, Some, None, option_map}
+use Rattle.std.specs.Prelude.{ℕ, Bool, false, not, ◌&&◌, ◌||◌, ◌==◌, if◌then◌else◌, is_none, List, Option, Some, None, option_map}
 use Rattle.std.specs.List.{list_any}
 use Rattle.std.specs.Option.{option_and_then}
 use Rattle.text_bytes.specs.Names.{dollar, open_bracket, percent}
@@ -7,11 +7,13 @@ use Rattle.text_bytes.specs.Texts.{begins_with, is_empty}
 use Rattle.text_bytes.specs.declared.profile.Profile.{Profile}
 use Rattle.text_bytes.specs.declared.profile.Profile.TheVariants as profile
 use Rattle.text_tables.specs.Texts.{Text}
-use Rattle.text_tables.specs.Pairs.{value_of}
+use Rattle.text_tables.specs.Pairs.{Pair, value_of}
 use Rattle.device_core.specs.Values.{EventValue}
 use Rattle.eval_state.specs.Chains.{device_at}
 use Rattle.eval_state.specs.Named.{NamedValue, named, named_place}
 use Rattle.eval_state.specs.Texts.{or_empty}
+use Rattle.eval_state.specs.declared.state.State.{State}
+use Rattle.eval_rendering.specs.Names.{name_text, short}
 use Rattle.eval_matching.specs.Holding.{Subject, attribute, udev_attribute, udev_unread}
 use Rattle.eval_matching.specs.Udev.{capped}
 
@@ -23,15 +25,31 @@ attribute_of event name place = option_and_then (λ device. value_of device.attr
 abbrev pub has_sign : Text → Bool
 has_sign name = list_any (λ b. b == dollar || b == percent) name
 
+-- whether udev renders a name: one that names no device, and has such a byte
+abbrev pub is_rendered : Text → Bool
+is_rendered name = not (begins_with open_bracket name) && has_sign name
+
+-- what udev finds by a name: of one that it renders by what comes of that, where it is not too long
+unfoldable pub udev_value : Text → State → List Pair → Option Text
+udev_value name state attrs = if is_rendered name then option_and_then (value_of attrs) (short (name_text name state)) else value_of attrs name
+
+-- an attribute among those of a device, by the name that a match has
+abbrev pub value_by : Profile → Text → State → List Pair → Option Text
+value_by profile.Manual name state attrs = value_of attrs name
+value_by profile.Udev name state attrs = udev_value name state attrs
+
+-- the same of the device at a place of the chain, if there is one
+abbrev pub own_attribute : Text → State → ℕ → Option Text
+own_attribute name state place = option_and_then (λ device. value_by state.event.profile name state device.attrs) (device_at state.event place)
+
 -- whether a name is that of an attribute of a device that is not in the chain
 abbrev pub is_elsewhere : EventValue → Option NamedValue → Bool
 is_elsewhere event None = false
 is_elsewhere event (Some n) = not (is_empty n.attribute) && is_none (named_place n event)
 
--- whether udev would read an attribute of this name that a dry run does not read: one of a device that the block does
--- not have, or one whose name has substitutions
+-- whether udev would read an attribute of this name where a dry run does not: one of a device that the block does not have
 abbrev pub is_unknown : Text → EventValue → Bool
-is_unknown name event = if begins_with open_bracket name then is_elsewhere event (named name) else has_sign name
+is_unknown name event = begins_with open_bracket name && is_elsewhere event (named name)
 
 -- whether an attribute that a match asks for is not read; the manual knows no such names
 abbrev pub is_not_read_by : Profile → Text → EventValue → Bool
@@ -59,7 +77,7 @@ sought name event own = if begins_with open_bracket name then named_value event 
 unfoldable pub udev_subject : Text → EventValue → Option Text → Subject
 udev_subject name event own = if is_unknown name event then udev_unread else udev_attribute (sought name event own)
 
--- what a match of an attribute looks at, by the attribute of this name that the device itself has
+-- what a match of an attribute looks at, by the attribute that the device itself has
 abbrev pub attribute_by : Profile → Text → EventValue → Option Text → Subject
 attribute_by profile.Manual name event own = attribute own
 attribute_by profile.Udev name event own = udev_subject name event own

@@ -1,5 +1,5 @@
 -- What each match looks at.
-use Rattle.std.specs.Prelude.{ℕ, zero, suc, Bool, ◌||◌, if◌then◌else◌, List, [], length, Option, option_map, unwrap_or, position, codes}
+use Rattle.std.specs.Prelude.{ℕ, zero, suc, Bool, ◌||◌, if◌then◌else◌, List, [], length, Option, Some, option_map, unwrap_or, position, codes}
 use Rattle.std.specs.List.{list_all, range_with_len}
 use Rattle.std.specs.Option.{option_and_then}
 use Rattle.text_bytes.specs.declared.profile.Profile.{Profile}
@@ -15,7 +15,7 @@ use Rattle.rule_types.specs.declared.part.UpMatch.{UpMatch}
 use Rattle.eval_state.specs.Chains.{device_at, kernel_of}
 use Rattle.eval_state.specs.declared.state.State.{State}
 use Rattle.eval_state.specs.Texts.{or_empty}
-use Rattle.eval_matching.specs.Attributes.{attribute_by, attribute_of}
+use Rattle.eval_matching.specs.Attributes.{attribute_by, own_attribute, value_by}
 use Rattle.eval_matching.specs.Holding.{Subject, one, constant, members, never, udev_members, udev_subsystem, unread, holds}
 
 -- whether a constant is one that CONST knows
@@ -46,7 +46,7 @@ plain_subject plain.Driver state = one (or_empty state.event.device.driver)
 plain_subject plain.Name state = one (or_empty state.name)
 plain_subject plain.Symlink state = members_by state.event.profile state.links
 plain_subject plain.Tag state = members_by state.event.profile state.tags
-plain_subject (plain.Attr name) state = attribute_by state.event.profile name state.event (value_of state.event.device.attrs name)
+plain_subject (plain.Attr name) state = attribute_by state.event.profile name state.event (value_by state.event.profile name state state.event.device.attrs)
 plain_subject (plain.Sysctl name) state = unread
 plain_subject (plain.Env name) state = one (or_empty (value_of state.env name))
 plain_subject (plain.Const name) state = named_constant name state
@@ -56,13 +56,17 @@ abbrev pub tags_at : State → ℕ → List Text
 tags_at state zero = state.tags
 tags_at state (suc above) = unwrap_or (option_map (λ device. device.tags) (device_at state.event (suc above))) []
 
+-- what is known while the device at a place of the chain is tried: that one is selected
+abbrev pub tried : State → ℕ → State
+tried state place = record state { selected = Some place }
+
 -- what each match of one device looks at, at a place of the chain
 abbrev pub up_subject : UpKey → State → ℕ → Subject
 up_subject up.Kernels state place = one (or_empty (option_map kernel_of (device_at state.event place)))
 up_subject up.Subsystems state place = one (or_empty (option_and_then (λ device. device.subsystem) (device_at state.event place)))
 up_subject up.Drivers state place = one (or_empty (option_and_then (λ device. device.driver) (device_at state.event place)))
 up_subject up.Tags state place = members_by state.event.profile (tags_at state place)
-up_subject (up.Attrs name) state place = attribute_by state.event.profile name state.event (attribute_of state.event name place)
+up_subject (up.Attrs name) state place = attribute_by state.event.profile name state.event (own_attribute name (tried state place) place)
 
 -- whether a match of one device holds at a place of the chain
 unfoldable pub holds_at : State → ℕ → UpMatch → Bool

@@ -1,18 +1,26 @@
 //! Which attribute a match of ATTR or ATTRS looks at.
 ghost use Rattle.std.specs.Prelude.{◌≡◌, option_map};
+ghost use Rattle.std.specs.Option.{option_and_then};
+ghost use Rattle.text_tables.specs.Pairs.{value_of};
+ghost use Rattle.rule_types.specs.declared.roles.PlainKey.TheVariants as plain;
+ghost use Rattle.rule_types.specs.declared.roles.UpKey.TheVariants as up;
 ghost use Rattle.eval_state.specs.Named.{named, named_place};
 ghost use Rattle.eval_state.specs.Texts.{or_empty};
-ghost use Rattle.eval_matching.specs.Attributes.{attribute_by, attribute_of, found_value, has_sign, is_elsewhere, is_not_read, is_unknown, named_value, sought, udev_subject};
+ghost use Rattle.eval_matching.specs.Attributes.{attribute_by, attribute_of, found_value, has_sign, is_elsewhere, is_not_read, is_rendered, is_unknown, named_value, own_attribute, sought, udev_subject, udev_value, value_by};
 ghost use Rattle.eval_matching.specs.Holding.{holds};
 ghost use Rattle.eval_matching.specs.Lent.{lent_subject};
+ghost use Rattle.eval_matching.specs.Subjects.{plain_subject, up_subject};
 ghost use Rattle.eval_matching.specs.Udev.{capped};
 ghost use Rattle.eval_state.specs.Chains.{device_at};
+ghost use Rattle.eval_rendering.specs.Names.{name_text, short};
 
 use crate::holding::attribute_holds;
 use crate::udev;
+use eval_rendering::rendered_name;
 use eval_state::{Chain, Named, State};
 use rule_types::Comparison;
 use text_bytes::{Profile, begins_with};
+use text_tables::Pairs;
 
 /// What a match of ATTR or ATTRS looks at.
 #[derive(Debug, Drop)]
@@ -49,20 +57,23 @@ fn is_elsewhere(chain: &Chain<'_>, named: Option<Named<'_>>) -> bool
     }
 }
 
+/// Whether udev renders a name.
+fn is_rendered(name: &[u8]) -> bool
+    ensures { result ≡ is_rendered name.now }
+{
+    !begins_with(b'[', name) && has_sign(name)
+}
+
 /// Whether udev would read an attribute of this name that a dry run does not read.
 fn is_unknown(name: &[u8], chain: &Chain<'_>) -> bool
     ensures { result ≡ is_unknown name.now chain.now }
 {
-    if begins_with(b'[', name) {
-        is_elsewhere(chain, Named::read(name))
-    } else {
-        has_sign(name)
-    }
+    begins_with(b'[', name) && is_elsewhere(chain, Named::read(name))
 }
 
 /// Whether a match of ATTR or ATTRS asks for an attribute that udev of systemd 257 would read, and that is not read
-/// here: one of a device that is not in the chain, named `[SUBSYSTEM/KERNEL]ATTRIBUTE`, or one whose name has a
-/// `$` or a `%`. Never by the manual, which knows no such names.
+/// here: one of a device that is not in the chain, named `[SUBSYSTEM/KERNEL]ATTRIBUTE`. Never by the manual, which
+/// knows no such names.
 #[tactic(auto, unfolding(crate::specs::Attributes::is_not_read))]
 pub fn is_not_read(name: &[u8], chain: &Chain<'_>) -> bool
     ensures { result ≡ is_not_read name.now chain.now }
@@ -104,39 +115,132 @@ fn named_value<'a>(chain: &Chain<'a>, named: Option<Named<'_>>) -> Option<&'a [u
     found_value(chain, named.attribute, chain.named_place(&named))
 }
 
+/// The value of a name once that is rendered, where the device at a place is selected, or none.
+fn value_of_rendered<'a>(
+    state: &State<'_>,
+    selected: Option<usize>,
+    name: &[u8],
+    attrs: &Pairs<'a>,
+) -> Option<&'a [u8]>
+    ensures { option_map (λ value. value.now) result ≡ option_and_then (value_of attrs.now) (short (name_text name.now (record state.now { selected = selected }))) }
+{
+    let rendered = rendered_name(state, selected, name);
+    match rendered.text() {
+        Some(text) => attrs.get(text),
+        None => None,
+    }
+}
+
+/// What udev finds by a name.
+#[tactic(auto, unfolding(crate::specs::Attributes::udev_value))]
+fn udev_value<'a>(
+    state: &State<'_>,
+    selected: Option<usize>,
+    name: &[u8],
+    attrs: &Pairs<'a>,
+) -> Option<&'a [u8]>
+    ensures { option_map (λ value. value.now) result ≡ udev_value name.now (record state.now { selected = selected }) attrs.now }
+{
+    if is_rendered(name) {
+        value_of_rendered(state, selected, name, attrs)
+    } else {
+        attrs.get(name)
+    }
+}
+
+/// An attribute among those of a device, by the name that a match has.
+fn value_by<'a>(
+    state: &State<'_>,
+    selected: Option<usize>,
+    name: &[u8],
+    attrs: &Pairs<'a>,
+) -> Option<&'a [u8]>
+    ensures { option_map (λ value. value.now) result ≡ value_by state.now.event.profile name.now (record state.now { selected = selected }) attrs.now }
+{
+    match state.event.event().profile() {
+        Profile::Manual => attrs.get(name),
+        Profile::Udev => udev_value(state, selected, name, attrs),
+    }
+}
+
+/// The same of the device at a place of the chain, if there is one.
+fn own_attribute<'a>(
+    state: &State<'a>,
+    selected: Option<usize>,
+    place: usize,
+    name: &[u8],
+) -> Option<&'a [u8]>
+    ensures { option_map (λ value. value.now) result ≡ own_attribute name.now (record state.now { selected = selected }) place }
+{
+    let device = state.event.device_at(place)?;
+    value_by(state, selected, name, device.attrs())
+}
+
 /// The attribute of a name as udev has it, by the one of the device at a place.
-fn sought<'a>(chain: &Chain<'a>, place: usize, name: &[u8]) -> Option<&'a [u8]>
-    ensures { option_map (λ value. value.now) result ≡ sought name.now chain.now (attribute_of chain.now name.now place) }
+fn sought<'a>(
+    state: &State<'a>,
+    selected: Option<usize>,
+    place: usize,
+    name: &[u8],
+) -> Option<&'a [u8]>
+    ensures { option_map (λ value. value.now) result ≡ sought name.now state.now.event (own_attribute name.now (record state.now { selected = selected }) place) }
 {
     if begins_with(b'[', name) {
-        named_value(chain, Named::read(name))
+        named_value(&state.event, Named::read(name))
     } else {
-        attribute_of(chain, name, place)
+        own_attribute(state, selected, place, name)
     }
 }
 
 /// What udev compares of an attribute.
 #[tactic(auto, unfolding(crate::specs::Attributes::udev_subject))]
-fn udev_attribute<'a>(chain: &Chain<'a>, place: usize, name: &[u8]) -> Attribute<'a>
-    ensures { lent_subject result ≡ udev_subject name.now chain.now (attribute_of chain.now name.now place) }
+fn udev_attribute<'a>(
+    state: &State<'a>,
+    selected: Option<usize>,
+    place: usize,
+    name: &[u8],
+) -> Attribute<'a>
+    ensures { lent_subject result ≡ udev_subject name.now state.now.event (own_attribute name.now (record state.now { selected = selected }) place) }
 {
-    if is_unknown(name, chain) {
+    if is_unknown(name, &state.event) {
         Attribute::NotRead
     } else {
-        Attribute::Udev(sought(chain, place, name))
+        Attribute::Udev(sought(state, selected, place, name))
     }
 }
 
-/// What a match of ATTR or ATTRS looks at, at a place of the chain: by the manual the attribute of the device there; as
-/// udev of systemd 257 has it, that of a device of the chain if the name is `[SUBSYSTEM/KERNEL]ATTRIBUTE`, which is
-/// empty if that device has none, and its first 511 bytes.
-pub fn attribute_at<'a>(state: &State<'a>, place: usize, name: &[u8]) -> Attribute<'a>
-    ensures { lent_subject result ≡ attribute_by state.now.event.profile name.now state.now.event (attribute_of state.now.event name.now place) }
+/// What a match of an attribute looks at, at a place of the chain, where the device at another place is selected, or
+/// none.
+fn attribute_by<'a>(
+    state: &State<'a>,
+    selected: Option<usize>,
+    place: usize,
+    name: &[u8],
+) -> Attribute<'a>
+    ensures { lent_subject result ≡ attribute_by state.now.event.profile name.now state.now.event (own_attribute name.now (record state.now { selected = selected }) place) }
 {
     match state.event.event().profile() {
-        Profile::Manual => Attribute::Manual(attribute_of(&state.event, name, place)),
-        Profile::Udev => udev_attribute(&state.event, place, name),
+        Profile::Manual => Attribute::Manual(own_attribute(state, selected, place, name)),
+        Profile::Udev => udev_attribute(state, selected, place, name),
     }
+}
+
+/// What a match of ATTR looks at: by the manual the attribute of the event device that has this name. As udev of
+/// systemd 257 has it, a name with a `$` or a `%` is rendered first, and no attribute has one that comes to more than
+/// 511 bytes; but `[SUBSYSTEM/KERNEL]ATTRIBUTE` is an attribute of a device of the chain, its first 511 bytes, and
+/// empty where that device has none.
+pub fn event_attribute<'a>(state: &State<'a>, name: &[u8]) -> Attribute<'a>
+    ensures { lent_subject result ≡ plain_subject (plain.Attr name.now) state.now }
+{
+    attribute_by(state, state.selected, 0, name)
+}
+
+/// What a match of ATTRS looks at, at a place of the chain: what ATTR would look at if the device there were the event
+/// device, and were selected.
+pub fn attribute_at<'a>(state: &State<'a>, place: usize, name: &[u8]) -> Attribute<'a>
+    ensures { lent_subject result ≡ up_subject (up.Attrs name.now) state.now place }
+{
+    attribute_by(state, Some(place), place, name)
 }
 
 /// Whether a comparison holds for what a match of ATTR or ATTRS looks at.

@@ -1,27 +1,29 @@
 //! Laws of what udev compares, each the contract of a function with an empty body.
-ghost use Rattle.std.specs.Prelude.{◌≡◌, ◌&&◌, ◌++◌, ◌∷◌, ℕ, [], Option, Some, None, not, true, false};
+ghost use Rattle.std.specs.Prelude.{◌≡◌, ◌≤◌, ◌<◌, ◌&&◌, ◌++◌, ◌∷◌, ℕ, List, [], length, Option, Some, None, not, true, false};
 ghost use Rattle.std.specs.List.{list_all, list_any};
 ghost use Rattle.text_bytes.specs.Names.{bar, open_bracket};
 ghost use Rattle.text_bytes.specs.Texts.{begins_with, is_empty};
 ghost use Rattle.text_bytes.specs.declared.profile.Profile.TheVariants as profile;
 ghost use Rattle.text_core.specs.Choices.{is_bar};
 ghost use Rattle.text_tables.specs.Texts.{Text, same_text};
-ghost use Rattle.text_tables.specs.Pairs.{value_of};
+ghost use Rattle.text_tables.specs.Pairs.{Pair, value_of};
 ghost use Rattle.device_core.specs.Values.{DeviceValue, EventValue};
 ghost use Rattle.rule_types.specs.declared.part.Comparison.{Comparison};
 ghost use Rattle.rule_types.specs.declared.roles.PlainKey.TheVariants as plain;
+ghost use Rattle.rule_types.specs.declared.roles.UpKey.TheVariants as up;
 ghost use Rattle.eval_state.specs.Chains.{device_at};
 ghost use Rattle.eval_state.specs.Named.{NamedValue, named, named_place};
 ghost use Rattle.eval_state.specs.Texts.{or_empty};
 ghost use Rattle.eval_state.specs.declared.state.State.{State};
-ghost use Rattle.eval_matching.specs.Attributes.{has_sign, is_unknown, udev_subject};
+ghost use Rattle.eval_rendering.specs.Names.{name_text};
+ghost use Rattle.eval_matching.specs.Attributes.{has_sign, udev_subject, udev_value};
 ghost use Rattle.eval_matching.specs.Holding.{holds, udev_attribute, udev_unread};
-ghost use Rattle.eval_matching.specs.Subjects.{plain_subject};
+ghost use Rattle.eval_matching.specs.Subjects.{plain_subject, up_subject};
 ghost use Rattle.eval_matching.specs.Udev.{capped, first_part, is_cut, last_is, without_end};
 
 /// For udev, ATTR with an attribute that the device does not have fails, with `==` and with `!=`.
 pub fn an_absent_attribute_fails_both()
-    ensures { (name : Text) (state : State) (wanted : Comparison) → state.event.profile ≡ profile.Udev → begins_with open_bracket name ≡ false → value_of state.event.device.attrs name ≡ None → holds (plain_subject (plain.Attr name) state) wanted ≡ false }
+    ensures { (name : Text) (state : State) (wanted : Comparison) → state.event.profile ≡ profile.Udev → begins_with open_bracket name ≡ false → udev_value name state state.event.device.attrs ≡ None → holds (plain_subject (plain.Attr name) state) wanted ≡ false }
 {}
 
 /// A name that names a device of the chain, and an attribute, looks at that attribute of that device, and the device's
@@ -34,11 +36,22 @@ pub fn a_named_device_is_looked_at()
     ensures unnamed { (text : Text) (event : EventValue) (own : Option Text) → named (open_bracket ∷ text) ≡ None → udev_subject (open_bracket ∷ text) event own ≡ udev_attribute None }
 {}
 
-/// A name that names no device looks at the device's own attribute, unless it has a byte that begins a
-/// substitution: then it is not read.
+/// A name that names no device looks at the device's own attribute.
 pub fn a_plain_name_looks_at_the_device()
-    ensures plain { (name : Text) (event : EventValue) (own : Option Text) → begins_with open_bracket name ≡ false → has_sign name ≡ false → udev_subject name event own ≡ udev_attribute own }
-    ensures substituted { (name : Text) (event : EventValue) (own : Option Text) → begins_with open_bracket name ≡ false → has_sign name ≡ true → udev_subject name event own ≡ udev_unread }
+    ensures { (name : Text) (event : EventValue) (own : Option Text) → begins_with open_bracket name ≡ false → udev_subject name event own ≡ udev_attribute own }
+{}
+
+/// A name without a byte that begins a substitution stands for itself. Any other that names no device stands for what it
+/// is rendered to, where that has 511 bytes at most; no attribute has a longer name.
+pub fn a_name_with_a_sign_is_rendered()
+    ensures plain { (name : Text) (state : State) (attrs : List Pair) → has_sign name ≡ false → udev_value name state attrs ≡ value_of attrs name }
+    ensures rendered { (name : Text) (state : State) (attrs : List Pair) → begins_with open_bracket name ≡ false → has_sign name ≡ true → length (name_text name state) ≤ 511 → udev_value name state attrs ≡ value_of attrs (name_text name state) }
+    ensures long { (name : Text) (state : State) (attrs : List Pair) → begins_with open_bracket name ≡ false → has_sign name ≡ true → 511 < length (name_text name state) → udev_value name state attrs ≡ None }
+{}
+
+/// ATTRS with such a name looks at each device by the name that is rendered while that device is selected.
+pub fn a_device_that_is_tried_is_selected()
+    ensures { (name : Text) (state : State) (place : ℕ) (device : DeviceValue) → state.event.profile ≡ profile.Udev → begins_with open_bracket name ≡ false → device_at state.event place ≡ Some device → up_subject (up.Attrs name) state place ≡ udev_attribute (udev_value name (record state { selected = Some place }) device.attrs) }
 {}
 
 /// The first part of a value follows its first bars, and before the next one or its end.

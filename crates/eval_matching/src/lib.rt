@@ -13,10 +13,11 @@ mod plain;
 mod udev;
 mod upward;
 
-pub use attributes::{Attribute, attribute_at, is_not_read};
+pub use attributes::{Attribute, attribute_at, event_attribute, is_not_read};
 pub use examples::{some_attributes, some_subsystems, some_values};
 pub use holding::agrees;
 pub use laws::{
+    a_device_that_is_tried_is_selected, a_name_with_a_sign_is_rendered,
     a_named_device_is_looked_at, a_plain_name_looks_at_the_device, all_that_may_be_cut_off_is,
     an_absent_attribute_fails_both, the_first_part_stands_between_bars,
 };

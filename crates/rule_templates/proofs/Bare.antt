@@ -1,5 +1,5 @@
 -- What udev takes of a text in which no brace closes: no attribute.
-use Rattle.std.proofs.Common.{◌≡◌, ℕ, zero, suc, ◌+◌, ◌<◌, Bool, true, false, cond, not, ◌&&◌, ◌||◌, ◌==◌, nat_eq, nat_lt, List, [], ◌∷◌, length, take, drop, get_or, Option, Some, None, Result, Ok, Err, option_map, position, take_while, refl, ap, subst, sym, ◌∙◌, arith}
+use Rattle.std.proofs.Common.{◌≡◌, ℕ, zero, suc, ◌+◌, ◌<◌, Bool, true, false, cond, not, ◌&&◌, ◌||◌, ◌==◌, nat_eq, List, [], ◌∷◌, length, take, drop, get_or, Option, Some, None, Result, Ok, Err, option_map, position, refl, ap, subst, sym, ◌∙◌, arith}
 use Rattle.std.proofs.lemmas.Bool.{true≢false}
 use Rattle.std.proofs.lemmas.List.Quantifiers.{position-Some}
 use Rattle.std.specs.List.{list_any, prefix_len, starts_with}
@@ -9,7 +9,7 @@ use Rattle.text_bytes.specs.declared.profile.Profile.TheVariants.{Udev}
 use Rattle.rule_templates.specs.Bare.{has_close, is_attribute}
 use Rattle.rule_templates.specs.Braces.{braced, closed}
 use Rattle.rule_templates.specs.Names.{long_names_as, named, short_names_as}
-use Rattle.rule_templates.specs.Reading.{Front, asked, asked_as, bracketed, is_plain, is_twice, kept, left_of, left_within, plain_front, result_piece, substituted_by, udev_asked, udev_front, with_braces, with_kept, with_name}
+use Rattle.rule_templates.specs.Reading.{Front, asked, bracketed, is_plain, is_twice, kept, left_of, left_within, plain_front, result_piece, substituted_by, udev_asked, udev_front, with_braces, with_kept, with_name}
 use Rattle.rule_templates.specs.declared.fault.TemplateFault.{TemplateFault}
 use Rattle.rule_templates.specs.declared.fault.TemplateFault.TheVariants as fault
 use Rattle.rule_templates.specs.declared.names.Substitution.{Substitution}

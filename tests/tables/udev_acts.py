@@ -1,6 +1,24 @@
 """`events --udev`: programs, imports, tests, commands and attributes that are assigned, as udevadm 257 answers it."""
-from tables.kinds.udev_blocks import DISK, NET, STAR, THING, answering
+from tables.kinds.udev_blocks import CAMERA, DISK, NET, STAR, THING, answering, plugged, printing
 from tables.kinds.udev_events import answered_as_udev
+
+# What programs print for an import.
+ONE = printing('A=1')
+TWO = printing('A=1', 'B=two words', 'C=x=y')
+BLANKS = printing(' \t A =  1  2 \t', '\tB\t=\t3\t', 'C D=4')
+QUOTES = printing('A="1 2"', "B=' 3 '", 'C="4\'', 'D="', 'E="\'5\'"', 'F=6"', 'G="a"b"', 'H="a" x', 'I="7" ')
+NOTHING = printing('# A=1', '  #B=2', '', 'C', '=4', ' = 5', 'D=', 'E= \t', '#')
+AGAIN = printing('A=1', 'B=2', 'A=3', 'B=""', "C=''")
+BYTES = printing('A=a\\x41\\"', 'B=;|$kernel%k', 'C=\u00e9\udcff', 'D=\vx\f', 'E=a\x01b')
+NAMES = printing('.X=1', 'a.b/c=4', '\u00e9=3')
+OWN = printing('ACTION=x', 'DEVPATH=/y', 'DEVNAME=/dev/zz')
+TYPE = printing('DEVTYPE=usb_device')
+NO_TYPE = printing('DEVTYPE=none')
+FAILS = ('ata_id exit 3 A=3d1', 3, 'A=1')
+
+# A device of USB with a vendor and a product.
+NUMBERS = ('A: idVendor=0012', 'A: idProduct=00ff')
+LOOKS_UP = 'IMPORT{builtin}="hwdb --subsystem=usb", ENV{A}="1"\n'
 
 CASES = [
     ('the words of a result',
@@ -194,6 +212,160 @@ CASES = [
      'IMPORT{program}="hwdb usb:v1", ENV{A}="1"\n',
      THING,
      ['env A=1', 'env ID_X=1']),
+    ('IMPORT{program} sets what its command prints',
+     f'IMPORT{{program}}="{TWO[0]}", ENV{{Z}}="1"\n',
+     answering(DISK, TWO),
+     ['env A=1', 'env B=two words', 'env C=x=y', 'env Z=1']),
+    ('blanks around names and values that are imported',
+     f'IMPORT{{program}}="{BLANKS[0]}", ENV{{Z}}="1"\n',
+     answering(DISK, BLANKS),
+     ['env A=1  2', 'env B=3', 'env C D=4', 'env Z=1']),
+    ('quotes around values that are imported',
+     f'IMPORT{{program}}="{QUOTES[0]}", ENV{{Z}}="1"\n',
+     answering(DISK, QUOTES),
+     ['env A=1 2', 'env B= 3 ', "env E='5'", 'env F=6"', 'env G=a"b', 'env I=7', 'env Z=1']),
+    ('lines that give no property',
+     f'IMPORT{{program}}="{NOTHING[0]}", ENV{{Z}}="1"\n',
+     answering(DISK, NOTHING),
+     ['env Z=1']),
+    ('an import that prints nothing is done',
+     'IMPORT{program}="ata_id exit 0", ENV{Z}="1"\n',
+     answering(DISK, ('ata_id exit 0', 0, '')),
+     ['env Z=1']),
+    ('the last of several lines counts, and an empty value between quotes removes',
+     f'ENV{{C}}="old"\nIMPORT{{program}}="{AGAIN[0]}"\n',
+     answering(DISK, AGAIN),
+     ['env A=3']),
+    ('an empty value without quotes changes nothing',
+     f'ENV{{C}}="old", ENV{{D}}="old"\nIMPORT{{program}}="{NOTHING[0]}"\n',
+     answering(DISK, NOTHING),
+     ['env C=old', 'env D=old']),
+    ('bytes that are imported stay as they are',
+     f'IMPORT{{program}}="{BYTES[0]}"\n',
+     answering(DISK, BYTES),
+     ['env A=a\\x41\\"', 'env B=;|$kernel%k', 'env C=\u00e9\udcff', 'env D=\vx\f', 'env E=a\x01b']),
+    ('any name is imported',
+     f'IMPORT{{program}}="{NAMES[0]}", ENV{{Z}}="$env{{.X}}"\n',
+     answering(DISK, NAMES),
+     ['env Z=1', 'env a.b/c=4', 'env \u00e9=3']),
+    ('names of the event are imported, and its matches do not look at them',
+     (f'IMPORT{{program}}="{OWN[0]}"\n' +
+      'ACTION=="add", DEVPATH=="*/sda", ENV{B}="1"\n' +
+      'ENV{ACTION}=="x", ENV{C}="$env{DEVPATH} $devpath $devnode"\n'),
+     answering(DISK, OWN),
+     ['env ACTION=x', 'env B=1', 'env C=/y /devices/pci0/usb1/block/sda /dev/sda', 'env DEVNAME=/dev/zz', 'env DEVPATH=/y']),
+    ('a program that fails is not imported',
+     (f'IMPORT{{program}}="{FAILS[0]}", ENV{{Y}}="1"\n' +
+      f'IMPORT{{program}}!="{FAILS[0]}", ENV{{Z}}="1"\n'),
+     answering(DISK, FAILS),
+     ['env Z=1']),
+    ('IMPORT{program} with != sets the properties and fails',
+     (f'IMPORT{{program}}!="{ONE[0]}", ENV{{Y}}="1"\n' +
+      'ENV{A}=="1", ENV{Z}="1"\n'),
+     answering(DISK, ONE),
+     ['env A=1', 'env Z=1']),
+    ('the result stays where a program is imported',
+     ('PROGRAM="ata_id r"\n' +
+      f'IMPORT{{program}}="{ONE[0]}", RESULT=="r", ENV{{Y}}="%c"\n' +
+      f'IMPORT{{program}}!="{FAILS[0]}", ENV{{Z}}="%c"\n'),
+     answering(DISK, ONE, FAILS, ('ata_id r', 0, 'r')),
+     ['env A=1', 'env Y=r', 'env Z=r']),
+    ('the command of an import is rendered with the result',
+     ('PROGRAM="ata_id r", ENV{V}="7"\n' +
+      'IMPORT{program}="ata_id $kernel=3d%E{V}%c", ENV{Z}="$env{sda}"\n'),
+     answering(DISK, ('ata_id r', 0, 'r'), ('ata_id sda=3d7r', 0, 'sda=7r')),
+     ['env V=7', 'env Z=7r', 'env sda=7r']),
+    ('IMPORT{program} without an answer',
+     ('IMPORT{program}="ata_id exit 4", ENV{Y}="1"\n' +
+      'IMPORT{program}!="ata_id exit 4", ENV{Z}="1"\n'),
+     DISK,
+     ['env Z=1', 'note r.rules:1: no answer for program: ata_id exit 4',
+      'note r.rules:2: no answer for program: ata_id exit 4']),
+    ('a command of an import that is too long',
+     (f'ENV{{L}}="{"x" * 500}"\n' +
+      f'IMPORT{{program}}="ata_id exit 5 {"$env{L}" * 33}", ENV{{Y}}="1"\n' +
+      f'IMPORT{{program}}!="ata_id exit 5 {"$env{L}" * 33}", ENV{{Z}}="1"\n'),
+     DISK,
+     ['env L=' + 'x' * 500, 'note r.rules:2: text too long: IMPORT{program}', 'note r.rules:3: text too long: IMPORT{program}']),
+    ('a USB device without a modalias',
+     LOOKS_UP,
+     CAMERA,
+     ['env A=1', 'env ID_Z=1']),
+    ('a USB device without a modalias, of any subsystem',
+     'IMPORT{builtin}="hwdb", ENV{A}="1"\n',
+     CAMERA,
+     ['env A=1', 'env ID_Z=1']),
+    ('a USB device without a modalias, of another subsystem',
+     'IMPORT{builtin}="hwdb --subsystem=pci", ENV{A}="1"\n',
+     CAMERA,
+     []),
+    ('a USB device with a modalias',
+     LOOKS_UP,
+     plugged(*NUMBERS, 'E: MODALIAS=usb:v1'),
+     ['env A=1', 'env ID_X=1']),
+    ('a USB device whose modalias is not in the database ends the search',
+     LOOKS_UP,
+     plugged(*NUMBERS, 'E: MODALIAS=usb:v9'),
+     []),
+    ('a modalias that is made up and not in the database ends the search',
+     LOOKS_UP,
+     plugged(*NUMBERS, 'A: product=M'),
+     []),
+    ('a modalias with the name of a product',
+     LOOKS_UP,
+     plugged(*NUMBERS, 'A: product=N 1'),
+     ['env A=1', 'env ID_N=1']),
+    ('a modalias without the name of a product',
+     LOOKS_UP,
+     plugged(*NUMBERS),
+     ['env A=1', 'env ID_W=1']),
+    ('numbers of a modalias with signs and blanks',
+     LOOKS_UP,
+     plugged('A: idVendor= 0x12', 'A: idProduct=+ff', 'A: product=N'),
+     ['env A=1', 'env ID_N=1']),
+    ('a USB device without a vendor: the hub above is the last one',
+     LOOKS_UP,
+     plugged('A: idProduct=00ff', 'A: product=N'),
+     ['env A=1', 'env ID_HUB=1']),
+    ('a USB device without a product',
+     LOOKS_UP,
+     plugged('A: idVendor=0012', 'A: product=N'),
+     ['env A=1', 'env ID_HUB=1']),
+    ('a product over 16 bits',
+     LOOKS_UP,
+     plugged('A: idVendor=0012', 'A: idProduct=100ff', 'A: product=N'),
+     ['env A=1', 'env ID_HUB=1']),
+    ('a product that is no number',
+     LOOKS_UP,
+     plugged('A: idVendor=0012', 'A: idProduct=00fg', 'A: product=N'),
+     ['env A=1', 'env ID_HUB=1']),
+    ('an interface has no modalias made up',
+     LOOKS_UP,
+     plugged(*NUMBERS, 'A: product=N', kind='usb_interface'),
+     ['env A=1', 'env ID_HUB=1']),
+    ('a type that is imported makes no USB device',
+     f'IMPORT{{program}}="{TYPE[0]}"\n' + LOOKS_UP,
+     answering(plugged(*NUMBERS, 'A: product=N', kind=None), TYPE),
+     ['env A=1', 'env DEVTYPE=usb_device', 'env ID_HUB=1']),
+    ('a USB device stays one whatever type is imported',
+     f'IMPORT{{program}}="{NO_TYPE[0]}"\n' + LOOKS_UP,
+     answering(plugged(*NUMBERS, 'A: product=N'), NO_TYPE),
+     ['env A=1', 'env DEVTYPE=none', 'env ID_N=1']),
+    ('a modalias that a rule sets, and one that it takes away',
+     ('ENV{MODALIAS}="usb:v1"\n' +
+      'IMPORT{builtin}="hwdb --subsystem=usb", ENV{A}="1"\n' +
+      'ENV{MODALIAS}=""\n' +
+      'IMPORT{builtin}="hwdb --subsystem=usb", ENV{B}="1"\n'),
+     plugged(*NUMBERS, 'A: product=N'),
+     ['env A=1', 'env B=1', 'env ID_N=1', 'env ID_X=1']),
+    ('a modalias that is made up has at most 2,047 bytes',
+     LOOKS_UP,
+     plugged(*NUMBERS, 'A: product=' + 'n' * 2040),
+     ['env A=1', 'env ID_LONG=1']),
+    ('a modalias of 2,046 bytes',
+     LOOKS_UP,
+     plugged(*NUMBERS, 'A: product=' + 'n' * 2031),
+     []),
     ('IMPORT{db} of a device that is new',
      ('IMPORT{db}=="ID_A", ENV{A}="1"\n' +
       'IMPORT{db}!="ID_A", ENV{B}="1"\n'),

@@ -1,5 +1,5 @@
 """`events --udev` where devdry does not do as udevadm 257: what udevadm answers, and what devdry does. docs/differences.md says why."""
-from tables.kinds.udev_blocks import CAMERA, DISK, NET, STAR, THING, answering
+from tables.kinds.udev_blocks import BOTH, CAMERA, DISK, NET, STAR, THING, answering
 from tables.kinds.udev_events import answered_otherwise
 
 CASES = [
@@ -63,11 +63,6 @@ CASES = [
      ['note r.rules:1: bad hwdb arguments: hwdb --nosuch usb:v1', 'note r.rules:2: bad hwdb arguments: hwdb -p usb: v1',
       'note r.rules:3: bad hwdb arguments: hwdb --lookup-prefix usb: v1', "note r.rules:4: bad hwdb arguments: hwdb 'usb:v1",
       'note r.rules:5: bad hwdb arguments: hwdb usb:v1 other', 'note r.rules:6: bad hwdb arguments: hwdb --lookup=usb: v1']),
-    ('a USB device without a modalias',
-     'IMPORT{builtin}="hwdb --subsystem=usb", ENV{A}="1"\n',
-     CAMERA,
-     ['env A=1', 'env ID_Z=1'],
-     []),
     ('a dot as a link is the folder of nodes',
      'SYMLINK+="."\n',
      DISK,

@@ -199,6 +199,55 @@ IMPORTS = [
     ),
 ]
 
+# What programs print for an import of udev's: two lines, with a carriage return between them.
+PRINTED = ["Q: /bin/ask p", 'R: 0 A=1\rB="2 3"', "Q: /bin/fail", "R: 2 A=9", "Q: /bin/quiet", "R: 0", "Q: " + LONG_COMMAND, "R: 0 L=" + "l" * SHOWN]
+TOLD = '/bin/ask p answers 0 A=1\\x0DB="2 3"'
+
+AS_UDEV = [
+    why(
+        "programs that are imported with --udev",
+        [
+            'IMPORT{program}=="/bin/ask %k", TAG+="t"', 'IMPORT{program}="/bin/ask $kernel"', 'IMPORT{program}!="/bin/ask p", TAG+="never"',
+            'IMPORT{program}!="/bin/fail"', 'IMPORT{program}=="/bin/none %k", TAG+="never"', 'IMPORT{program}=="/bin/quiet"',
+        ],
+        PRINTED,
+        ["tag t", "env A=1", "env B=2 3", note(5, "no answer for program", "/bin/none p")],
+        of(1, f'IMPORT{{program}}=="/bin/ask %k": holds, {TOLD}, sets A=1, B=2 3', "reached its end: tag t added"),
+        of(2, f'IMPORT{{program}}=="/bin/ask $kernel": holds, {TOLD}, sets nothing', "reached its end"),
+        of(3, f'IMPORT{{program}}!="/bin/ask p": fails, {TOLD}, sets nothing', "stops there"),
+        of(4, 'IMPORT{program}!="/bin/fail": holds, /bin/fail answers 2 A=9, sets nothing', "reached its end"),
+        of(5, 'IMPORT{program}=="/bin/none %k": fails, no answer for /bin/none p', "stops there"),
+        of(6, 'IMPORT{program}=="/bin/quiet": holds, /bin/quiet answers 0, sets nothing', "reached its end"),
+        path="/devices/p",
+        udev=True,
+    ),
+    why(
+        "the command of an import is told whole, and its answer cut",
+        [f'IMPORT{{program}}=="{LONG_COMMAND}"'],
+        PRINTED,
+        ["env L=" + "l" * SHOWN],
+        of(1, f'IMPORT{{program}}=="{cut(LONG_COMMAND)}": holds, {LONG_COMMAND} answers 0 {cut("L=" + "l" * SHOWN)}, sets L={"l" * SHOWN}', "reached its end"),
+        udev=True,
+    ),
+    why(
+        "an import whose command is too long stops its rule",
+        [f'IMPORT{{program}}=="{TWICE}"', f'IMPORT{{program}}!="{TWICE}", TAG+="never"'],
+        [LONG],
+        [note(1, "text too long", "IMPORT{program}"), note(2, "text too long", "IMPORT{program}")],
+        of(1, f'IMPORT{{program}}=="{TWICE}": fails, too long', "stops there"),
+        of(2, f'IMPORT{{program}}!="{TWICE}": fails, too long', "stops there"),
+        udev=True,
+    ),
+    why(
+        "by the manual a program is not imported, whatever the block answers",
+        ['IMPORT{program}=="/bin/ask %k"'],
+        PRINTED,
+        [note(1, "import not run", "program")],
+        of(1, 'IMPORT{program}=="/bin/ask %k": fails, not run', "stops there"),
+        path="/devices/p",
+    ),
+]
+
 DATABASE = {"mnt/etc/udev/hwdb.d/a.hwdb": "usb:v1D6B*\n ID_VENDOR=Linux\n ID_A=1\n\nname:p\n ID_NAME=p\n"}
 HUB = ["P: /devices/h", "U: usb", "E: MODALIAS=usb:v1D6Bp0002"]
 
@@ -260,4 +309,4 @@ ORDER = [
         ["note r.rules:1: no answer for program: p"], of(1, 'PROGRAM=="p": fails, no answer for p', "stops there")),
 ]
 
-ROWS = [*TESTS, *PROGRAMS, *IMPORTS, *LOOKED_UP, *ORDER]
+ROWS = [*TESTS, *PROGRAMS, *IMPORTS, *AS_UDEV, *LOOKED_UP, *ORDER]

@@ -13,6 +13,16 @@ from udev_asking import OWN
 LINKS = {'set SYMLINK', 'set OWNER', 'set GROUP', 'set MODE', 'set OWNER number', 'set GROUP number', 'set MODE number'}
 
 
+def printed_property(line):
+    """the property of a line that an imported program prints, if it is one"""
+    name, sign, value = (part.strip(b' \t') for part in line.partition(b'='))
+    if line.lstrip(b' \t').startswith(b'#') or not sign or not name or not value:
+        return None
+    if value[:1] not in (b'"', b"'"):
+        return name, value
+    return (name, value[1:-1]) if len(value) > 1 and value[:1] == value[-1:] else None
+
+
 class Event(Known):
     """one event of a block, by the rules of one file"""
 
@@ -110,6 +120,12 @@ class Event(Known):
                 if fits(names, name):
                     self.env[name] = text
             return True
+        if kind == 'IMPORT program':
+            status, text = self.answers.get(self.render(value, 16383), (1, b''))
+            if status == 0:
+                for name, text in filter(None, map(printed_property, re.split(rb'[\n\r]', text))):
+                    self.set_property(name, text)
+            return status == 0
         raise NotImplementedError(kind)
 
     # assignments

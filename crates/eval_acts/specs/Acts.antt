@@ -25,7 +25,7 @@ use Rattle.eval_state.specs.Scenes.{noted}
 use Rattle.eval_state.specs.declared.note_kind.NoteKind.TheVariants.{TextTooLong}
 use Rattle.eval_state.specs.declared.scene.Scene.{Scene}
 use Rattle.eval_acts.specs.ActTexts.{import_text, most_command_bytes, most_path_bytes, names_text, program_text, test_text}
-use Rattle.eval_acts.specs.Imports.{from_parent, not_run, run_builtin}
+use Rattle.eval_acts.specs.Imports.{from_parent, from_program, not_run, run_builtin}
 use Rattle.eval_acts.specs.Questions.{asked, tested, with_result}
 use Rattle.eval_acts.specs.declared.came.Came.{Came}
 use Rattle.eval_acts.specs.declared.came.Came.TheVariants.{Tried, Stopped}
@@ -57,6 +57,11 @@ abbrev pub parent_imported : Profile → Rule → Deed → List (List Item) → 
 parent_imported Manual r d names text s = tried (from_parent names (device_at s.state.event 1) s)
 parent_imported Udev r d names text s = on_text r d from_parent_by (names_text text s.state) s
 
+-- IMPORT{program}: by the manual it is never run, and for udev the event's block answers its command
+abbrev pub program_imported : Profile → Rule → Deed → Import → Template → Scene → Scene × Came
+program_imported Manual r d import template s = tried (not_run r import s)
+program_imported Udev r d import template s = on_text r d (from_program r) (import_text most_command_bytes template s.state) s
+
 -- an IMPORT that is never run; udev nevertheless renders its value, which may have so many bytes
 abbrev pub unrun : Profile → Rule → Deed → Import → ℕ → Template → Scene → Scene × Came
 unrun Manual r d import most template s = tried (not_run r import s)
@@ -66,7 +71,7 @@ unrun Udev r d import most template s = on_text r d (λ text. not_run r import) 
 abbrev pub imported : List Entry → Rule → Deed → Import → Scene → Scene × Came
 imported entries r d (import.Builtin template) s = on_text r d (run_builtin entries r) (import_text most_command_bytes template s.state) s
 imported entries r d (import.Parent names text) s = parent_imported s.state.event.profile r d names text s
-imported entries r d (import.Program template) s = unrun s.state.event.profile r d (import.Program template) most_command_bytes template s
+imported entries r d (import.Program template) s = program_imported s.state.event.profile r d (import.Program template) template s
 imported entries r d (import.File template) s = unrun s.state.event.profile r d (import.File template) most_path_bytes template s
 imported entries r d (import.Cmdline name) s = tried (not_run r (import.Cmdline name) s)
 imported entries r d (import.Db name) s = tried (not_run r (import.Db name) s)

@@ -1,13 +1,13 @@
 -- IMPORT, by where it takes properties from. Each returns the scene after it, and whether it was done.
-use Rattle.std.specs.Prelude.{Bool, true, false, not, ◌==◌, List, length, filter, Option, Some, None}
+use Rattle.std.specs.Prelude.{Bool, true, false, not, ◌==◌, if◌then◌else◌, List, length, filter, Option, Some, None}
 use Rattle.text_bytes.specs.declared.profile.Profile.{Profile}
 use Rattle.text_bytes.specs.declared.profile.Profile.TheVariants.{Manual, Udev}
 use Rattle.text_tables.specs.Texts.{Text}
-use Rattle.text_tables.specs.Pairs.{Pair, with_values}
+use Rattle.text_tables.specs.Pairs.{Pair, value_of, with_values}
 use Rattle.text_core.specs.Choices.{choice_fits}
 use Rattle.text_core.specs.declared.item.Item.{Item}
 use Rattle.hwdb_lookup.specs.declared.entry.Entry.{Entry}
-use Rattle.device_core.specs.Values.{DeviceValue}
+use Rattle.device_core.specs.Values.{AnswerValue, DeviceValue}
 use Rattle.rule_types.specs.Names.{import_name}
 use Rattle.rule_types.specs.WrittenParts.{type_of}
 use Rattle.rule_types.specs.declared.part.Import.{Import}
@@ -15,11 +15,12 @@ use Rattle.rule_types.specs.Rules.{Rule}
 use Rattle.eval_acts.specs.Builtins.{builtin}
 use Rattle.eval_acts.specs.BuiltinRuns.{input_id_run, net_id_run, path_id_run, usb_id_run}
 use Rattle.eval_acts.specs.LookUps.{found}
+use Rattle.eval_acts.specs.Printed.{printed_properties}
 use Rattle.eval_acts.specs.declared.builtin.Builtin.{Builtin}
 use Rattle.eval_acts.specs.declared.builtin.Builtin.TheVariants as asked
 use Rattle.eval_state.specs.Properties.{properties_set}
 use Rattle.eval_state.specs.Scenes.{noted, with_env}
-use Rattle.eval_state.specs.declared.note_kind.NoteKind.TheVariants.{BadHwdbArguments, BuiltinNotRun, ImportNotRun}
+use Rattle.eval_state.specs.declared.note_kind.NoteKind.TheVariants.{BadHwdbArguments, BuiltinNotRun, ImportNotRun, NoAnswer}
 use Rattle.eval_state.specs.declared.scene.Scene.{Scene}
 
 -- properties with others set one after another; for udev an empty value removes its property
@@ -54,6 +55,21 @@ names_fitting names properties = filter (λ property. choice_fits names property
 abbrev pub from_parent : List (List Item) → Option DeviceValue → Scene → Scene × Bool
 from_parent names None s = (s, false)
 from_parent names (Some parent) s = (with_env (with_values s.state.env (names_fitting names parent.env)) s, true)
+
+-- a program that answered: where its status is 0, the properties of what it printed are set; the result of PROGRAM stays
+abbrev pub from_answer : AnswerValue → Scene → Scene × Bool
+from_answer answer s =
+    if answer.status == 0 then (with_env (properties_set s.state.env (printed_properties answer.text)) s, true)
+    else (s, false)
+
+-- the properties of an answer to a command, or a note that there is none
+abbrev pub from_answer_or_noted : Rule → Text → Option AnswerValue → Scene → Scene × Bool
+from_answer_or_noted r command None s = (noted r NoAnswer command s, false)
+from_answer_or_noted r command (Some answer) s = from_answer answer s
+
+-- IMPORT{program} of a command of udev's, which the event's block answers
+abbrev pub from_program : Rule → Text → Scene → Scene × Bool
+from_program r command s = from_answer_or_noted r command (value_of s.state.event.programs command) s
 
 -- an IMPORT of a type that is never run
 abbrev pub not_run : Rule → Import → Scene → Scene × Bool

@@ -8,3 +8,5 @@ pub mod Reaching
 pub mod Acts
 pub mod Questions
 pub mod ActTexts
+pub mod Printed
+pub mod UsbModalias

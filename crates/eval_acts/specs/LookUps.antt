@@ -1,6 +1,9 @@
 -- What `hwdb` looks up in the hardware database, and what it finds.
-use Rattle.std.specs.Prelude.{Bool, true, false, not, ◌&&◌, if◌then◌else◌, List, [], ◌∷◌, ◌++◌, map, filter, filter_map, find, Option, Some, None, is_some, codes}
-use Rattle.std.specs.Option.{unwrap_or}
+use Rattle.std.specs.Prelude.{ℕ, Bool, true, false, not, ◌&&◌, if◌then◌else◌, List, [], ◌∷◌, ◌++◌, take, drop, map, filter, filter_map, find, Option, Some, None, is_some, codes}
+use Rattle.std.specs.List.{position_or_len}
+use Rattle.std.specs.Option.{option_or, unwrap_or}
+use Rattle.text_bytes.specs.declared.profile.Profile.{Profile}
+use Rattle.text_bytes.specs.declared.profile.Profile.TheVariants.{Manual, Udev}
 use Rattle.text_bytes.specs.Texts.{is_empty}
 use Rattle.text_tables.specs.Texts.{Text, same_text}
 use Rattle.text_tables.specs.Pairs.{Pair, value_of}
@@ -9,7 +12,9 @@ use Rattle.text_core.specs.declared.item.Item.{Item}
 use Rattle.hwdb_lookup.specs.Query.{query}
 use Rattle.hwdb_lookup.specs.declared.entry.Entry.{Entry}
 use Rattle.device_core.specs.Values.{DeviceValue}
+use Rattle.builtin_devices.specs.Devices.{type_of}
 use Rattle.eval_state.specs.declared.state.State.{State}
+use Rattle.eval_acts.specs.UsbModalias.{made_up}
 use Rattle.eval_acts.specs.declared.hwdb.Hwdb.{Hwdb}
 
 -- what `hwdb` looks at in a device
@@ -18,21 +23,23 @@ pub record Candidate : Type 0 where
   pub devtype : Option Text
   pub modalias : Option Text
 
--- a device by its subsystem and its properties
-abbrev pub candidate : Option Text → List Pair → Candidate
-candidate subsystem env = record {
-  subsystem = subsystem;
-  devtype = value_of env (codes "DEVTYPE");
-  modalias = value_of env (codes "MODALIAS");
-}
+-- A device, by its properties DEVTYPE and MODALIAS. For udev the type is what the kernel calls it, and a device without a modalias may have one that is
+-- made up.
+abbrev pub seen : Profile → DeviceValue → (devtype modalias : Option Text) → Candidate
+seen Manual device devtype modalias = record { subsystem = device.subsystem; devtype = devtype; modalias = modalias }
+seen Udev device devtype modalias = record { subsystem = device.subsystem; devtype = type_of device; modalias = option_or modalias (made_up device) }
+
+-- a device by these properties
+abbrev pub candidate : Profile → DeviceValue → List Pair → Candidate
+candidate profile device env = seen profile device (value_of env (codes "DEVTYPE")) (value_of env (codes "MODALIAS"))
 
 -- a parent, by its own properties
-abbrev pub parent : DeviceValue → Candidate
-parent device = candidate device.subsystem device.env
+abbrev pub parent : Profile → DeviceValue → Candidate
+parent profile device = candidate profile device device.env
 
 -- the devices of an event, nearest first: the event device with its current properties, then the parents
 abbrev pub candidates : State → List Candidate
-candidates state = candidate state.event.device.subsystem state.env ∷ map parent state.event.parents
+candidates state = candidate state.event.profile state.event.device state.env ∷ map (parent state.event.profile) state.event.parents
 
 -- whether a text is there, and the same
 abbrev pub is_text : Text → Option Text → Bool
@@ -57,19 +64,37 @@ abbrev pub through : {X : Type 0} → (X → Bool) → List X → List X
 through test [] = []
 through test (x ∷ xs) = if test x then x ∷ [] else x ∷ through test xs
 
--- the modaliases of the devices that are looked at
+-- the modaliases of those devices that are wanted and have one
+abbrev pub modaliases_in : Option Text → List Candidate → List Text
+modaliases_in subsystem devices = filter_map (λ device. device.modalias) (filter (is_wanted subsystem) devices)
+
+-- the modaliases of the devices that are looked at: the last one of these is the first device of USB, with or without a modalias
 abbrev pub modaliases_of : Option Text → List Candidate → List Text
-modaliases_of subsystem devices =
-    filter_map (λ device. device.modalias) (filter (is_wanted subsystem) (through (is_last subsystem) devices))
+modaliases_of subsystem devices = modaliases_in subsystem (through (is_last subsystem) devices)
+
+-- how many devices stand before the first one of USB
+abbrev pub count_before_usb : Option Text → List Candidate → ℕ
+count_before_usb subsystem devices = position_or_len (is_last subsystem) devices
+
+-- the modaliases at which udev looks: those before the first device of USB, and from that device on the first one
+abbrev pub udev_modaliases_of : Option Text → List Candidate → List Text
+udev_modaliases_of subsystem devices =
+    let count = count_before_usb subsystem devices in
+    modaliases_in subsystem (take count devices) ++ take 1 (modaliases_in subsystem (drop count devices))
+
+-- the same by a profile
+abbrev pub modaliases_by : Profile → Option Text → List Candidate → List Text
+modaliases_by Manual subsystem devices = modaliases_of subsystem devices
+modaliases_by Udev subsystem devices = udev_modaliases_of subsystem devices
 
 -- the modaliases to look up: the given one, or else those of devices
-abbrev pub modaliases : Hwdb → Option Text → State → List Text
-modaliases hwdb None state = modaliases_of hwdb.subsystem (candidates state)
-modaliases hwdb (Some modalias) state = modalias ∷ []
+abbrev pub modaliases : Profile → Hwdb → Option Text → List Candidate → List Text
+modaliases profile hwdb None devices = modaliases_by profile hwdb.subsystem devices
+modaliases profile hwdb (Some modalias) devices = modalias ∷ []
 
 -- the texts to look up: each modalias after the prefix
 abbrev pub texts : Hwdb → State → List Text
-texts hwdb state = map (λ modalias. hwdb.prefix ++ modalias) (modaliases hwdb hwdb.modalias state)
+texts hwdb state = map (λ modalias. hwdb.prefix ++ modalias) (modaliases state.event.profile hwdb hwdb.modalias (candidates state))
 
 -- whether a key counts: one that fits the pattern, and without a pattern each
 abbrev pub counts : Option (List Item) → Text → Bool

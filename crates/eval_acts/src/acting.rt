@@ -2,15 +2,15 @@
 ghost use Rattle.std.specs.Prelude.{◌≡◌, [], IfOk, OnErr, option_copied};
 ghost use Rattle.eval_state.specs.Scenes.{blank};
 ghost use Rattle.eval_acts.specs.ActTexts.{import_text, most_command_bytes, names_text, program_text, test_text};
-ghost use Rattle.eval_acts.specs.Acts.{act_step, from_parent_by, imported, on_text, parent_imported, performed, too_long, unrun};
-ghost use Rattle.eval_acts.specs.Imports.{not_run, run_builtin};
+ghost use Rattle.eval_acts.specs.Acts.{act_step, from_parent_by, imported, on_text, parent_imported, performed, program_imported, too_long, unrun};
+ghost use Rattle.eval_acts.specs.Imports.{from_program, not_run, run_builtin};
 ghost use Rattle.eval_acts.specs.Questions.{asked, tested, with_result};
 
 use crate::act_texts::{
     MAX_COMMAND_BYTES, MAX_PATH_BYTES, import_text, names_text, program_text, test_text,
 };
 use crate::came::Came;
-use crate::imports::{import_named, import_parent, not_run, run_builtin};
+use crate::imports::{import_named, import_parent, import_printed, not_run, run_builtin};
 use crate::questions::{ask, clear_result, look_for};
 use eval_rendering::Rendered;
 use eval_state::Scene;
@@ -131,6 +131,44 @@ fn parent(
     }
 }
 
+/// IMPORT{program} of udev's.
+fn program_answered(
+    alloc: Global,
+    rule: &Rule,
+    deed: &Deed,
+    template: &Template,
+    scene: &mut Scene<'_>,
+) -> Result<Came, AllocError>
+    ensures scene { IfOk result (λ came. (scene.new, came) ≡ on_text rule.now deed.now (from_program rule.now) (import_text most_command_bytes template.now scene.old.state) scene.old) }
+    ensures refused { OnErr result (scene.new.state.event ≡ scene.old.state.event) }
+{
+    match import_text(alloc, MAX_COMMAND_BYTES, template, &scene.state)? {
+        Rendered::Text(command) => {
+            let done = import_printed(alloc, rule, command.as_slice(), scene)?;
+            Ok(Came::Tried(done))
+        }
+        Rendered::TooLong => too_long(alloc, rule, deed, scene),
+    }
+}
+
+/// IMPORT{program}, which by the manual is never run.
+fn import_program(
+    alloc: Global,
+    rule: &Rule,
+    deed: &Deed,
+    from: &Import,
+    template: &Template,
+    scene: &mut Scene<'_>,
+) -> Result<Came, AllocError>
+    ensures scene { IfOk result (λ came. (scene.new, came) ≡ program_imported scene.old.state.event.profile rule.now deed.now from.now template.now scene.old) }
+    ensures refused { OnErr result (scene.new.state.event ≡ scene.old.state.event) }
+{
+    match scene.state.event.event().profile() {
+        Profile::Manual => Ok(Came::Tried(not_run(alloc, rule, from, scene)?)),
+        Profile::Udev => program_answered(alloc, rule, deed, template, scene),
+    }
+}
+
 /// An IMPORT that is never run, by its value, for udev.
 fn unrun_value(
     alloc: Global,
@@ -186,9 +224,7 @@ fn import<L: Lookup>(
     match from {
         Import::Builtin(template) => builtin(alloc, rule, deed, template, database, scene),
         Import::Parent(names, text) => { parent(alloc, rule, deed, names, text.as_slice(), scene) }
-        Import::Program(template) => {
-            unrun(alloc, rule, deed, from, MAX_COMMAND_BYTES, template, scene)
-        }
+        Import::Program(template) => import_program(alloc, rule, deed, from, template, scene),
         Import::File(template) => {
             unrun(alloc, rule, deed, from, MAX_PATH_BYTES, template, scene)
         }
@@ -215,29 +251,32 @@ fn perform<L: Lookup>(
     }
 }
 
-/// Does what an act of a rule asks for, as udev(7) has it, and returns whether the rule goes on: with `==` if the
-/// act was done, with `!=` if it was not. What was changed stays either way.
+/// Does what an act of a rule asks for, as udev(7) has it, and answers whether the rule goes on: with
+/// `==` where the act was done, with `!=` where it was not. What was changed stays either way.
 ///
-/// TEST is done if the event device has an attribute of the rendered path; with an absolute path or with a mask it
-/// leaves the note `test not made` and is not done. PROGRAM is done if the event's block answers the rendered
-/// command with status 0; the answer is then the result, and otherwise the result is empty; without an answer it
-/// leaves the note `no answer for program`. IMPORT{parent} takes the properties of the second device of the chain
-/// whose names fit, and is done if there is such a device. IMPORT{builtin} looks up what `hwdb` is asked for and
-/// takes what is found; it is done if something is, and leaves the notes `builtin not run` and `bad hwdb
-/// arguments`. Other types of IMPORT leave the note `import not run` and are not done. A text over 16,384 bytes is
-/// the note `text too long`, and its act is not done.
+/// TEST is done where the event device has an attribute of the rendered path; of an absolute path or
+/// with a mask it leaves the note `test not made` and is not. PROGRAM is done where the event's block
+/// answers the rendered command with status 0; the answer is then the result, and else the result is
+/// empty; without an answer it leaves the note `no answer for program`. IMPORT{parent} takes the
+/// properties of the second device of the chain whose names fit, and is done where there is one.
+/// IMPORT{builtin} looks up what `hwdb` is asked for and takes what is found; it is done where something
+/// is, and leaves the notes `builtin not run` and `bad hwdb arguments`. Other types of IMPORT leave the
+/// note `import not run` and are not done. A text over 16,384 bytes is the note `text too long`, and its
+/// act is not done.
 ///
-/// For udev (systemd 257) TEST is done if the name of an attribute is the path or begins with it and a slash, and
-/// if the path is empty; the first `*/` in it means any folder, and `[SUBSYSTEM/KERNEL]` in front a device of the
-/// chain, without which it is not made. PROGRAM empties the result before its command is rendered, and the result
-/// has `_` for bytes that do not belong in an attribute. The value of IMPORT{parent} is rendered, and is one
-/// pattern of fnmatch(3). `hwdb` may be written as its beginning, and `input_id`, `net_id`, `path_id` and `usb_id`
-/// are run, too; an empty value that `hwdb` finds removes the property. A text over 1,023 bytes of TEST,
-/// IMPORT{parent} and IMPORT{file}, or over 16,383 bytes of PROGRAM and other types of IMPORT, is the note `text
-/// too long`, and stops the rule with either operator; so does a TEST whose path has over 1,023 bytes with `/sys`,
-/// the path of the event device and a slash before it.
+/// In an event of udev's (systemd 257) TEST is done where the name of an attribute is the path or begins
+/// with it and a slash, and of the empty path; the first `*/` in it stands for a folder, and
+/// `[SUBSYSTEM/KERNEL]` in front for a device of the chain, without which it is not made. PROGRAM empties
+/// the result before its command is rendered, and the result has `_` for bytes that do not belong in an
+/// attribute. The value of IMPORT{parent} is rendered, and is one pattern of fnmatch(3). IMPORT{program} is done
+/// where the event's block answers the rendered command with status 0, and sets the properties that the answer
+/// gives, one for each line; without an answer it leaves the note `no answer for program`. `hwdb` may be written
+/// as its beginning; an empty value that it finds takes the property away. A text over 1,023 bytes
+/// of TEST, IMPORT{parent} and IMPORT{file}, or over 16,383 bytes of PROGRAM and other types of IMPORT, is
+/// the note `text too long`, and stops the rule with either operator; so does a TEST whose path has over
+/// 1,023 bytes with `/sys`, the path of the event device and a slash before it.
 ///
-/// If memory runs out, nothing is left of the scene but its event.
+/// Where memory runs out, nothing is left of the scene but its event.
 #[tactic(auto, unfolding(crate::specs::Acts::act_step))]
 pub fn act_step<L: Lookup>(
     alloc: Global,

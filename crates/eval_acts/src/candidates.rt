@@ -1,19 +1,24 @@
 //! The devices whose modaliases `hwdb` looks up.
-ghost use Rattle.std.specs.Prelude.{◌≡◌, map, option_map, IfOk};
-ghost use Rattle.eval_acts.specs.LookUps.{candidate, candidates, is_last, is_text, is_usb_device, is_wanted, modaliases_of, parent};
+ghost use Rattle.std.specs.Prelude.{◌≡◌, ◌≤◌, length, map, option_map, IfOk};
+ghost use Rattle.std.specs.Option.{option_or};
+ghost use Rattle.eval_acts.specs.LookUps.{candidate, candidates, count_before_usb, is_last, is_text, is_usb_device, is_wanted, modaliases_by, modaliases_in, modaliases_of, parent, seen, udev_modaliases_of};
+ghost use Rattle.eval_acts.specs.UsbModalias.{made_up};
 
+use crate::hwdb::copy_of;
+use crate::usb_modalias::made_up;
+use builtin_devices::type_of;
 use device_core::Device;
 use eval_state::State;
 use std::alloc::{AllocError, Global};
 use std::marker::Model;
-use text_bytes::Bytes;
+use text_bytes::{Bytes, Profile};
 
 /// What is looked at in a device.
 #[derive(Drop)]
-struct Candidate<'a> {
+pub(crate) struct Candidate<'a> {
     subsystem: Option<&'a [u8]>,
     devtype: Option<&'a [u8]>,
-    modalias: Option<&'a [u8]>,
+    modalias: Option<Bytes>,
 }
 
 impl<'a> Model for Candidate<'a> {
@@ -22,39 +27,81 @@ impl<'a> Model for Candidate<'a> {
 
     ghost Value = { Candidate };
 
-    ghost view = { λ c. record { subsystem = option_map (λ t. t.now) c.subsystem; devtype = option_map (λ t. t.now) c.devtype; modalias = option_map (λ t. t.now) c.modalias } };
+    ghost view = { λ c. record { subsystem = option_map (λ t. t.now) c.subsystem; devtype = option_map (λ t. t.now) c.devtype; modalias = c.modalias } };
+}
+
+/// The modalias of a device, and where there is none the one that udev makes up for it.
+fn told_or_made_up(
+    alloc: Global,
+    device: &Device<'_>,
+    modalias: Option<&[u8]>,
+) -> Result<Option<Bytes>, AllocError>
+    ensures { IfOk result (λ text. text ≡ option_or (option_map (λ t. t.now) modalias.entry) (made_up device.now)) }
+{
+    match modalias {
+        Some(modalias) => Ok(Some(Bytes::copy_of(alloc, modalias)?)),
+        None => made_up(alloc, device),
+    }
+}
+
+/// A device, by its properties DEVTYPE and MODALIAS.
+fn seen<'a>(
+    alloc: Global,
+    profile: Profile,
+    device: &'a Device<'_>,
+    devtype: Option<&'a [u8]>,
+    modalias: Option<&[u8]>,
+) -> Result<Candidate<'a>, AllocError>
+    ensures { IfOk result (λ c. c ≡ seen profile device.now (option_map (λ t. t.now) devtype.entry) (option_map (λ t. t.now) modalias.entry)) }
+{
+    match profile {
+        Profile::Manual => Ok(Candidate {
+            subsystem: device.subsystem(),
+            devtype,
+            modalias: copy_of(alloc, modalias)?,
+        }),
+        Profile::Udev => Ok(Candidate {
+            subsystem: device.subsystem(),
+            devtype: type_of(device),
+            modalias: told_or_made_up(alloc, device, modalias)?,
+        }),
+    }
 }
 
 /// The event device, by its properties as they are now.
-fn event_device<'a>(state: &'a State<'_>) -> Candidate<'a>
-    ensures { result ≡ candidate state.now.event.device.subsystem state.now.env }
+fn event_device<'a>(alloc: Global, state: &'a State<'_>) -> Result<Candidate<'a>, AllocError>
+    ensures { IfOk result (λ c. c ≡ candidate state.now.event.profile state.now.event.device state.now.env) }
 {
-    Candidate {
-        subsystem: state.event.device().subsystem(),
-        devtype: state.env.get(b"DEVTYPE").map(Bytes::as_slice),
-        modalias: state.env.get(b"MODALIAS").map(Bytes::as_slice),
-    }
+    let devtype = state.env.get(b"DEVTYPE").map(Bytes::as_slice);
+    let modalias = state.env.get(b"MODALIAS").map(Bytes::as_slice);
+    let event = state.event.event();
+    seen(alloc, event.profile(), event.device(), devtype, modalias)
 }
 
 /// A parent, by its own properties.
-fn parent<'a>(device: &'a Device<'_>) -> Candidate<'a>
-    ensures { result ≡ parent device.now }
+fn parent<'a>(
+    alloc: Global,
+    profile: Profile,
+    device: &'a Device<'_>,
+) -> Result<Candidate<'a>, AllocError>
+    ensures { IfOk result (λ c. c ≡ parent profile device.now) }
 {
-    Candidate {
-        subsystem: device.subsystem(),
-        devtype: device.env().get(b"DEVTYPE"),
-        modalias: device.env().get(b"MODALIAS"),
-    }
+    let env = device.env();
+    seen(alloc, profile, device, env.get(b"DEVTYPE"), env.get(b"MODALIAS"))
 }
 
 /// The devices of an event, nearest first.
-fn candidates<'a>(alloc: Global, state: &'a State<'_>) -> Result<Vec<Candidate<'a>>, AllocError>
+pub(crate) fn candidates<'a>(
+    alloc: Global,
+    state: &'a State<'_>,
+) -> Result<Vec<Candidate<'a>>, AllocError>
     ensures { IfOk result (λ devices. devices.items ≡ candidates state.now) }
 {
     let mut devices = Vec::new(alloc);
-    devices.push(event_device(state))?;
-    for device in state.event.event().parents() {
-        devices.push(parent(device))?;
+    devices.push(event_device(alloc, state)?)?;
+    let event = state.event.event();
+    for device in event.parents() {
+        devices.push(parent(alloc, event.profile(), device)?)?;
     }
     Ok(devices)
 }
@@ -86,6 +133,32 @@ impl<'a> Candidate<'a> {
     {
         is_text(b"usb", self.subsystem) && is_text(b"usb_device", self.devtype)
     }
+
+    /// Whether it is a device of USB that is wanted.
+    fn is_last(&self, subsystem: Option<&[u8]>) -> bool
+        ensures { result ≡ is_last (option_map (λ t. t.now) subsystem.entry) self.now }
+    {
+        self.is_wanted(subsystem) && self.is_usb_device()
+    }
+}
+
+/// The modaliases of those devices that are wanted and have one.
+fn modaliases_in<'a>(
+    alloc: Global,
+    subsystem: Option<&[u8]>,
+    devices: &'a [Candidate<'_>],
+) -> Result<Vec<&'a [u8]>, AllocError>
+    ensures { IfOk result (λ found. map (λ m. m.now) found.items ≡ modaliases_in (option_map (λ t. t.now) subsystem.entry) devices.now) }
+{
+    let mut found = Vec::new(alloc);
+    for device in devices {
+        if device.is_wanted(subsystem) {
+            if let Some(modalias) = &device.modalias {
+                found.push(modalias.as_slice())?;
+            }
+        }
+    }
+    Ok(found)
 }
 
 /// The modaliases of devices, nearest first, each of which has a subsystem: the one that is named, if any. Such a
@@ -93,15 +166,15 @@ impl<'a> Candidate<'a> {
 fn modaliases_of<'a>(
     alloc: Global,
     subsystem: Option<&[u8]>,
-    devices: &[Candidate<'a>],
+    devices: &'a [Candidate<'_>],
 ) -> Result<Vec<&'a [u8]>, AllocError>
     ensures { IfOk result (λ found. map (λ m. m.now) found.items ≡ modaliases_of (option_map (λ t. t.now) subsystem.entry) devices.now) }
 {
     let mut found = Vec::new(alloc);
     for device in devices {
         if device.is_wanted(subsystem) {
-            if let Some(modalias) = device.modalias {
-                found.push(modalias)?;
+            if let Some(modalias) = &device.modalias {
+                found.push(modalias.as_slice())?;
             }
             if device.is_usb_device() {
                 break;
@@ -111,14 +184,49 @@ fn modaliases_of<'a>(
     Ok(found)
 }
 
-/// The modaliases of the devices of an event that are looked up.
-pub(crate) fn device_modaliases<'a>(
+/// How many devices stand before the first one of USB that is wanted.
+fn count_before_usb(subsystem: Option<&[u8]>, devices: &[Candidate<'_>]) -> usize
+    ensures value { result ≡ count_before_usb (option_map (λ t. t.now) subsystem.entry) devices.now }
+    ensures within { result ≤ length devices.now }
+{
+    let mut count = 0;
+    for device in devices {
+        if device.is_last(subsystem) {
+            break;
+        }
+        count += 1;
+    }
+    count
+}
+
+/// The modaliases at which udev looks: those before the first device of USB, and from that device on the first one.
+fn udev_modaliases_of<'a>(
     alloc: Global,
     subsystem: Option<&[u8]>,
-    state: &'a State<'_>,
+    devices: &'a [Candidate<'_>],
 ) -> Result<Vec<&'a [u8]>, AllocError>
-    ensures { IfOk result (λ found. map (λ m. m.now) found.items ≡ modaliases_of (option_map (λ t. t.now) subsystem.entry) (candidates state.now)) }
+    ensures { IfOk result (λ found. map (λ m. m.now) found.items ≡ udev_modaliases_of (option_map (λ t. t.now) subsystem.entry) devices.now) }
 {
-    let devices = candidates(alloc, state)?;
-    modaliases_of(alloc, subsystem, &devices)
+    let (before, from) = devices.split_at(count_before_usb(subsystem, devices));
+    let mut found = modaliases_in(alloc, subsystem, before)?;
+    let others = modaliases_in(alloc, subsystem, from)?;
+    if let Some((first, _)) = others.split_first() {
+        found.push(*first)?;
+    }
+    Ok(found)
+}
+
+/// The modaliases of devices that are looked up.
+pub(crate) fn modaliases_by<'a>(
+    alloc: Global,
+    profile: Profile,
+    subsystem: Option<&[u8]>,
+    devices: &'a [Candidate<'_>],
+) -> Result<Vec<&'a [u8]>, AllocError>
+    ensures { IfOk result (λ found. map (λ m. m.now) found.items ≡ modaliases_by profile (option_map (λ t. t.now) subsystem.entry) devices.now) }
+{
+    match profile {
+        Profile::Manual => modaliases_of(alloc, subsystem, devices),
+        Profile::Udev => udev_modaliases_of(alloc, subsystem, devices),
+    }
 }

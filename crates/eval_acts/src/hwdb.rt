@@ -126,7 +126,7 @@ fn pattern_of(alloc: Global, text: Option<&[u8]>) -> Result<Option<Option<Patter
 }
 
 /// A copy of a text, if there is one.
-fn copy_of(alloc: Global, text: Option<&[u8]>) -> Result<Option<Bytes>, AllocError>
+pub(crate) fn copy_of(alloc: Global, text: Option<&[u8]>) -> Result<Option<Bytes>, AllocError>
     ensures { IfOk result (λ copy. copy ≡ option_map (λ t. t.now) text.entry) }
 {
     match text {

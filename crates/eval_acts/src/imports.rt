@@ -6,11 +6,13 @@ ghost use Rattle.eval_state.specs.Chains.{device_at};
 ghost use Rattle.eval_state.specs.Properties.{properties_set};
 ghost use Rattle.text_core.specs.Choices.{choice_fits};
 ghost use Rattle.eval_acts.specs.Acts.{from_parent_by};
-ghost use Rattle.eval_acts.specs.Imports.{from_parent, names_fitting, not_run, run_builtin, taken, with_found};
+ghost use Rattle.eval_acts.specs.Imports.{from_answer, from_parent, from_program, names_fitting, not_run, run_builtin, taken, with_found};
 
 use crate::builtin::Builtin;
 use crate::builtin_runs::{run_input_id, run_net_id, run_path_id, run_usb_id};
 use crate::lookups::look_up;
+use crate::printed::set_printed;
+use device_core::ProgramAnswer;
 use eval_state::{NoteKind, Scene, set_property};
 use hwdb_lookup::Lookup;
 use rule_types::{Import, Rule};
@@ -164,6 +166,41 @@ pub(crate) fn import_named(
 {
     let names = [Pattern::read_fnmatch(alloc, Reading::Exact, text)?];
     import_fitting(alloc, &names, scene)
+}
+
+/// Takes the properties of what a program printed, where its status is 0.
+fn take_printed(
+    alloc: Global,
+    answer: &ProgramAnswer<'_>,
+    scene: &mut Scene<'_>,
+) -> Result<bool, AllocError>
+    ensures scene { IfOk result (λ done. (scene.new, done) ≡ from_answer answer.now scene.old) }
+    ensures refused { OnErr result (scene.new.state.event ≡ scene.old.state.event) }
+{
+    if answer.status() != 0 {
+        return Ok(false);
+    }
+    set_printed(alloc, answer.text(), &mut scene.state.env)?;
+    Ok(true)
+}
+
+/// Takes the properties of what the event's block answers to a command.
+pub(crate) fn import_printed(
+    alloc: Global,
+    rule: &Rule,
+    command: &[u8],
+    scene: &mut Scene<'_>,
+) -> Result<bool, AllocError>
+    ensures scene { IfOk result (λ done. (scene.new, done) ≡ from_program rule.now command.now scene.old) }
+    ensures refused { OnErr result (scene.new.state.event ≡ scene.old.state.event) }
+{
+    match scene.state.event.event().programs().get(command) {
+        Some(answer) => take_printed(alloc, answer, scene),
+        None => {
+            scene.note(alloc, rule, NoteKind::NoAnswer, command)?;
+            Ok(false)
+        }
+    }
 }
 
 /// Notes that an IMPORT of a type is never run.

@@ -13,8 +13,10 @@ mod candidates;
 mod hwdb;
 mod imports;
 mod lookups;
+mod printed;
 mod questions;
 mod reaching;
+mod usb_modalias;
 mod words;
 
 pub use act_texts::{

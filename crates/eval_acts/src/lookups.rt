@@ -3,20 +3,21 @@ ghost use Rattle.std.specs.Prelude.{◌≡◌, ◌++◌, [], map, filter, IfOk};
 ghost use Rattle.hwdb_lookup.specs.Query.{shown};
 ghost use Rattle.eval_acts.specs.LookUps.{answer, counts, found, modaliases};
 
-use crate::candidates::device_modaliases;
+use crate::candidates::{Candidate, candidates, modaliases_by};
 use crate::hwdb::Hwdb;
 use eval_state::State;
 use hwdb_lookup::Lookup;
 use std::alloc::{AllocError, Global};
-use text_bytes::Bytes;
+use text_bytes::{Bytes, Profile};
 
 /// The modaliases to look up: the given one, or else those of the devices.
 fn modaliases<'a>(
     alloc: Global,
+    profile: Profile,
     hwdb: &'a Hwdb,
-    state: &'a State<'_>,
+    devices: &'a [Candidate<'_>],
 ) -> Result<Vec<&'a [u8]>, AllocError>
-    ensures { IfOk result (λ found. map (λ m. m.now) found.items ≡ modaliases hwdb.now hwdb.now.modalias state.now) }
+    ensures { IfOk result (λ found. map (λ m. m.now) found.items ≡ modaliases profile hwdb.now hwdb.now.modalias devices.now) }
 {
     match &hwdb.modalias {
         Some(modalias) => {
@@ -24,7 +25,10 @@ fn modaliases<'a>(
             only.push(modalias.as_slice())?;
             Ok(only)
         }
-        None => device_modaliases(alloc, hwdb.subsystem.as_ref().map(Bytes::as_slice), state),
+        None => {
+            let subsystem = hwdb.subsystem.as_ref().map(Bytes::as_slice);
+            modaliases_by(alloc, profile, subsystem, devices)
+        }
     }
 }
 
@@ -67,12 +71,16 @@ fn answer<'l, L: Lookup>(
     Ok(kept)
 }
 
-/// What `hwdb` finds in a database for an event, as udev(7) has it: the answer to the first of these texts that has
-/// one. With a modalias it is the one text, after the prefix; otherwise it is the property MODALIAS of each device,
-/// nearest first, that has a subsystem (the one named, if any) and this property, after the prefix. The event
-/// device is taken by its properties as they are now. A device of the subsystem `usb` whose property DEVTYPE is
-/// `usb_device` and that has the subsystem named, if any, is the last one looked at, with or without a modalias.
-/// Only keys that fit the filter count.
+/// What `hwdb` finds in a database for an event, as udev(7) has it: the answer to the first of these
+/// texts that has one. With a modalias it is the one text, after the prefix; else it is the property
+/// MODALIAS of each device, nearest first, that has a subsystem (the one named, if any) and this
+/// property, after the prefix. The event device is taken by its properties as they are now. A device
+/// of the subsystem `usb` whose property DEVTYPE is `usb_device` and that has the subsystem named, if
+/// any, is the last one looked at, with or without a modalias. Only keys that fit the filter count.
+///
+/// In an event of udev's (systemd 257) DEVTYPE is what the kernel said, and a USB device without MODALIAS has
+/// `usb:vVVVVpPPPP:NAME`, made of its attributes idVendor, idProduct and product, where the first two are numbers of
+/// base 16 up to FFFF. Where it has not these either, the next device with a modalias is the last one looked at.
 #[tactic(auto, unfolding(crate::specs::LookUps::found))]
 pub fn look_up<'l, L: Lookup>(
     alloc: Global,
@@ -82,7 +90,9 @@ pub fn look_up<'l, L: Lookup>(
 ) -> Result<Vec<(&'l [u8], &'l [u8])>, AllocError>
     ensures { IfOk result (λ properties. shown properties.items ≡ found (L.entries database.now) hwdb.now state.now) }
 {
-    let modaliases = modaliases(alloc, hwdb, state)?;
+    let devices = candidates(alloc, state)?;
+    let profile = state.event.event().profile();
+    let modaliases = modaliases(alloc, profile, hwdb, &devices)?;
     for modalias in &modaliases {
         let properties = answer(alloc, hwdb, modalias, database)?;
         if !properties.as_slice().is_empty() {

@@ -36,7 +36,7 @@ impl Model for Cutter {
 }
 
 /// Whether a byte groups everything up to the next such byte.
-fn is_quote(byte: u8) -> bool
+pub(crate) fn is_quote(byte: u8) -> bool
     ensures { result ≡ is_quote byte }
 {
     byte == b'\'' || byte == b'"'

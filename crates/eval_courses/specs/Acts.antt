@@ -82,6 +82,17 @@ abbrev pub parent_told : Profile → Text → State → List Pair → Text
 parent_told profile.Manual value s env = taken_told s.env env
 parent_told profile.Udev value s env = on_rendered (λ names. taken_told s.env env) (names_text value s)
 
+-- the command of an IMPORT{program} and what the event's block answers to it, and then what was set of properties, by those before and those now
+abbrev pub printed_told : Text → Option AnswerValue → List Pair → List Pair → Text
+printed_told command None before now = answer_told command None
+printed_told command (Some answer) before now = answer_told command (Some answer) ++ codes ", " ++ taken_told before now
+
+-- what an IMPORT{program} met, by the properties after it; by the manual it is not run
+abbrev pub program_import_told : Profile → Template → State → List Pair → Text
+program_import_told profile.Manual template s env = codes "not run"
+program_import_told profile.Udev template s env =
+    on_rendered (λ command. printed_told command (value_of s.event.programs command) s.env env) (import_text most_command_bytes template s)
+
 -- an IMPORT that is not run; udev nevertheless renders its value
 abbrev pub unrun_told : Profile → ℕ → Template → State → Text
 unrun_told profile.Manual most template s = codes "not run"
@@ -92,7 +103,7 @@ abbrev pub import_told : Import → State → List Pair → Text
 import_told (import.Builtin template) s env =
     on_rendered (λ command. shown command ++ space ∷ taken_told s.env env) (import_text most_command_bytes template s)
 import_told (import.Parent names value) s env = parent_told s.event.profile value s env
-import_told (import.Program template) s env = unrun_told s.event.profile most_command_bytes template s
+import_told (import.Program template) s env = program_import_told s.event.profile template s env
 import_told (import.File template) s env = unrun_told s.event.profile most_path_bytes template s
 import_told (import.Cmdline name) s env = codes "not run"
 import_told (import.Db name) s env = codes "not run"

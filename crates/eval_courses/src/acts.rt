@@ -1,24 +1,23 @@
 //! What acts, and what it met.
 //!
-//! What an act looks at is rendered before it is done, and what it sets is known after it: the report is made in two
-//! parts.
-ghost use Rattle.std.specs.Prelude.{◌≡◌, ◌∷◌, ◌++◌, [], IfOk, OnOk, List, None, Some, codes, option_copied};
-ghost use Rattle.text_bytes.specs.Escapes.{escape_text};
+//! What an act looks at is rendered before it is done, and what it sets is known after it: what is reported of it is
+//! made in two parts.
+ghost use Rattle.std.specs.Prelude.{◌≡◌, ◌∷◌, ◌++◌, [], IfOk, OnOk, List, codes};
 ghost use Rattle.text_tables.specs.Pairs.{Pair, value_of};
 ghost use Rattle.rule_types.specs.declared.part.Import.TheVariants as import;
-ghost use Rattle.eval_acts.specs.ActTexts.{import_text, names_text, program_text, test_text};
+ghost use Rattle.eval_acts.specs.ActTexts.{import_text, most_command_bytes, names_text, program_text, test_text};
 ghost use Rattle.eval_acts.specs.Acts.{act_step};
 ghost use Rattle.text_bytes.specs.Names.{space};
 ghost use Rattle.eval_effects.specs.Shown.{shown};
-ghost use Rattle.eval_courses.specs.Acts.{act_told, answer_told, asks_elsewhere, deed_told, import_told, on_rendered, parent_told, path_told, spaced, taken_told, unrun_told};
+ghost use Rattle.eval_courses.specs.Acts.{act_told, answer_told, asks_elsewhere, deed_told, import_told, on_rendered, parent_told, path_told, printed_told, program_import_told, taken_told, unrun_told};
 ghost use Rattle.eval_courses.specs.Inner.{done_told, told_behind};
 ghost use Rattle.eval_courses.specs.Keys.{act_key};
 ghost use Rattle.eval_courses.specs.Looks.{met};
 
+use crate::answers::{answer_to, answered_start, command_asked, unanswered};
 use crate::keys::push_act_key;
 use crate::plain::push_met;
 use crate::properties::{copied, newly_set, push_set};
-use device_core::ProgramAnswer;
 use eval_acts::{
     MAX_COMMAND_BYTES, MAX_PATH_BYTES, act_step, import_text, names_text, program_text, test_text,
 };
@@ -26,11 +25,10 @@ use eval_effects::push_shown;
 use eval_rendering::Rendered;
 use eval_state::{Chain, Named, Scene, State};
 use hwdb_lookup::Lookup;
-use itoa::Buffer;
 use rule_templates::Template;
 use rule_types::{Act, Deed, Import, Rule};
 use std::alloc::{AllocError, Global};
-use text_bytes::{Bytes, Profile, begins_with, escape};
+use text_bytes::{Bytes, Profile, begins_with};
 use text_tables::OwnedPairs;
 
 /// What is known of the report on an act before it is done.
@@ -82,78 +80,6 @@ fn test_told(
         Rendered::Text(path) => path_told(alloc, has_mask, &state.event, path.as_slice()),
         Rendered::TooLong => Bytes::copy_of(alloc, b"too long"),
     }
-}
-
-/// Appends what a program wrote to a text.
-fn push_spaced(alloc: Global, text: &mut Vec<u8>, written: &[u8]) -> Result<(), AllocError>
-    ensures { OnOk result (text.new.items ≡ text.old.items ++ spaced written.now) }
-{
-    if written.is_empty() {
-        return Ok(());
-    }
-    text.push(b' ')?;
-    push_shown(alloc, text, written)
-}
-
-/// Appends an escaped text to another.
-fn push_escaped(alloc: Global, text: &mut Vec<u8>, about: &[u8]) -> Result<(), AllocError>
-    ensures { OnOk result (text.new.items ≡ text.old.items ++ escape_text about.now) }
-{
-    text.extend_from_slice(&escape(alloc, about)?)
-}
-
-/// Appends the command of a PROGRAM and the answer to it to a text.
-fn push_answered(
-    alloc: Global,
-    text: &mut Vec<u8>,
-    command: &[u8],
-    answer: &ProgramAnswer<'_>,
-) -> Result<(), AllocError>
-    ensures { OnOk result (text.new.items ≡ text.old.items ++ answer_told command.now (Some answer.now)) }
-{
-    push_escaped(alloc, text, command)?;
-    text.extend_from_slice(b" answers ")?;
-    text.extend_from_slice(Buffer::new().format(answer.status()).as_bytes())?;
-    push_spaced(alloc, text, answer.text())
-}
-
-/// Appends the command of a PROGRAM without an answer to a text.
-fn push_unanswered(alloc: Global, text: &mut Vec<u8>, command: &[u8]) -> Result<(), AllocError>
-    ensures { OnOk result (text.new.items ≡ text.old.items ++ answer_told command.now None) }
-{
-    text.extend_from_slice(b"no answer for ")?;
-    push_escaped(alloc, text, command)
-}
-
-/// Appends the command of a PROGRAM to a text, by what the event's block answers to it.
-fn push_answer(
-    alloc: Global,
-    text: &mut Vec<u8>,
-    command: &[u8],
-    answer: Option<&ProgramAnswer<'_>>,
-) -> Result<(), AllocError>
-    ensures { OnOk result (text.new.items ≡ text.old.items ++ answer_told command.now (option_copied answer.entry)) }
-{
-    match answer {
-        Some(answer) => push_answered(alloc, text, command, answer),
-        None => push_unanswered(alloc, text, command),
-    }
-}
-
-/// What the event's block answers to a command.
-fn answer_to<'a>(state: &State<'a>, command: &[u8]) -> Option<&'a ProgramAnswer<'a>>
-    ensures { option_copied result ≡ value_of state.now.event.programs command.now }
-{
-    state.event.event().programs().get(command)
-}
-
-/// What is reported for the command of a PROGRAM.
-fn command_asked(alloc: Global, command: &[u8], state: &State<'_>) -> Result<Bytes, AllocError>
-    ensures { IfOk result (λ text. text ≡ answer_told command.now (value_of state.now.event.programs command.now)) }
-{
-    let mut text = Vec::new(alloc);
-    push_answer(alloc, &mut text, command, answer_to(state, command))?;
-    Ok(Bytes::new(text))
 }
 
 /// What is reported for a PROGRAM.
@@ -233,6 +159,51 @@ fn parent_told_before(
     }
 }
 
+/// What is reported for a command of IMPORT{program} before its answer is taken.
+fn printed_told_before(
+    alloc: Global,
+    command: &[u8],
+    state: &State<'_>,
+) -> Result<ToldBefore, AllocError>
+    ensures { IfOk result (λ o. (env : List Pair) → told_behind o env ≡ printed_told command.now (value_of state.now.event.programs command.now) state.now.env env) }
+{
+    match answer_to(state, command) {
+        Some(answer) => Ok(ToldBefore::Taking(
+            answered_start(alloc, command, answer)?,
+            copied(alloc, &state.env)?,
+        )),
+        None => Ok(ToldBefore::Whole(unanswered(alloc, command)?)),
+    }
+}
+
+/// What is reported for an IMPORT{program} of udev's before it is done.
+fn command_told_before(
+    alloc: Global,
+    template: &Template,
+    state: &State<'_>,
+) -> Result<ToldBefore, AllocError>
+    ensures { IfOk result (λ o. (env : List Pair) → told_behind o env ≡ on_rendered (λ command. printed_told command (value_of state.now.event.programs command) state.now.env env) (import_text most_command_bytes template.now state.now)) }
+{
+    match import_text(alloc, MAX_COMMAND_BYTES, template, state)? {
+        Rendered::Text(command) => printed_told_before(alloc, command.as_slice(), state),
+        Rendered::TooLong => Ok(ToldBefore::Whole(Bytes::copy_of(alloc, b"too long")?)),
+    }
+}
+
+/// What is reported for an IMPORT{program} before it is done.
+fn program_import_told_before(
+    alloc: Global,
+    template: &Template,
+    state: &State<'_>,
+) -> Result<ToldBefore, AllocError>
+    ensures { IfOk result (λ o. (env : List Pair) → told_behind o env ≡ program_import_told state.now.event.profile template.now state.now env) }
+{
+    match state.event.event().profile() {
+        Profile::Manual => Ok(ToldBefore::Whole(Bytes::copy_of(alloc, b"not run")?)),
+        Profile::Udev => command_told_before(alloc, template, state),
+    }
+}
+
 /// What is reported for an IMPORT that is not run, by its value, for udev.
 fn unrun_value_told(alloc: Global, text: &Rendered) -> Result<Bytes, AllocError>
     ensures { IfOk result (λ told. told ≡ on_rendered (λ t. codes "not run") text.now) }
@@ -269,12 +240,7 @@ fn import_told_before(
     match from {
         Import::Builtin(template) => builtin_told_before(alloc, template, state),
         Import::Parent(_, value) => parent_told_before(alloc, value.as_slice(), state),
-        Import::Program(template) => Ok(ToldBefore::Whole(unrun_told(
-            alloc,
-            MAX_COMMAND_BYTES,
-            template,
-            state,
-        )?)),
+        Import::Program(template) => program_import_told_before(alloc, template, state),
         Import::File(template) => Ok(ToldBefore::Whole(unrun_told(
             alloc,
             MAX_PATH_BYTES,

@@ -8,6 +8,7 @@
 #![tactic(auto)]
 
 mod acts;
+mod answers;
 mod course;
 mod keys;
 mod laws;

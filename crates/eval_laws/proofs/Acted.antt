@@ -52,14 +52,16 @@ use Rattle.eval_acts.specs.declared.builtin.Builtin.TheVariants as asked_for
 use Rattle.eval_state.specs.Named.{NamedValue, named, named_place}
 use Rattle.eval_state.specs.Properties.{properties_set, property_set}
 use Rattle.eval_acts.specs.ActTexts.{import_text, most_command_bytes, most_path_bytes, names_text, program_text, test_text}
-use Rattle.eval_acts.specs.Acts.{act_step, from_parent_by, imported, on_text, parent_imported, performed, unrun}
-use Rattle.eval_acts.specs.Imports.{builtin_run, from_parent, names_fitting, not_run, run_builtin, with_found}
+use Rattle.eval_acts.specs.Acts.{act_step, from_parent_by, imported, on_text, parent_imported, performed, program_imported, unrun}
+use Rattle.eval_acts.specs.Imports.{builtin_run, from_answer_or_noted, from_parent, from_program, names_fitting, not_run, run_builtin, with_found}
+use Rattle.eval_acts.specs.Printed.{printed_properties}
 use Rattle.eval_acts.specs.Questions.{answered_or_noted, asked, result_of, tested, tested_at, tested_by, tested_by_udev, with_result}
 use Rattle.eval_laws.specs.Allowances.{builtin_allowance, deed_allowance, entries_weight}
 use Rattle.eval_laws.specs.Inner.{Within, scene_weight}
 use Rattle.eval_laws.proofs.Tables.{with_value_light, with_values_light, without_name_light}
 use Rattle.eval_laws.proofs.Sums.{filter_light, fold_light}
 use Rattle.eval_laws.proofs.Found.{found_light, query_light}
+use Rattle.eval_laws.proofs.PrintedWeights.{answered_weight, answers_light, printed_light}
 use Rattle.eval_laws.proofs.Scenes.{more, noted_within}
 
 -- the properties of a device, if there is one
@@ -243,6 +245,22 @@ module _ (event : EventValue) where
     parent_by_within Udev d names text light =
         on_text_within d from_parent_by (names_text text s.state) (λ found. parent_within (fnmatch_items Exact found 0 ∷ []) (device_at s.state.event 1) light)
 
+    printed_within : (command : Text) (answer : Option AnswerValue) → answered_weight answer ≤ most → Within event (n + most) (from_answer_or_noted r command answer s).0
+    printed_within command None light = notes NoAnswer command
+    printed_within command (Some answer) light = by (answer.status == 0)
+      where
+        by : (b : Bool) → Within event (n + most) (if◌then◌else◌ {A = Scene × Bool} b (with_env (properties_set s.state.env (printed_properties answer.text)) s, true) (s, false)).0
+        by true = let a = printed_light answer.text in more_env Udev (printed_properties answer.text) (omega (arith, a, light))
+        by false = stays
+
+    program_within : (profile : Profile) (d : Deed) (from : Import) (template : Template) → event_weight event ≤ most → Within event (n + most) (program_imported profile r d from template s).0
+    program_within Manual d from template short = not_run_within from
+    program_within Udev d from template short =
+        on_text_within d (from_program r) (import_text most_command_bytes template s.state)
+        (λ command. let a = answers_light event command in
+        let b = ap (λ e. answered_weight (value_of e.programs command)) h.same in
+        printed_within command (value_of s.state.event.programs command) (omega (arith, a, b, short)))
+
     unrun_within : (profile : Profile) (d : Deed) (from : Import) (bytes : ℕ) (template : Template) → Within event (n + most) (unrun profile r d from bytes template s).0
     unrun_within Manual d from bytes template = not_run_within from
     unrun_within Udev d from bytes template = on_text_within d (λ text. not_run r from) (import_text bytes template s.state) (λ text. not_run_within from)
@@ -255,7 +273,7 @@ module _ (event : EventValue) where
         let a = parent_light event in
         let b = ap (λ e. pairs_weight (env_of (device_at e 1))) h.same in
         parent_by_within s.state.event.profile (deed.Import (import.Parent names text)) names text (omega (arith, a, b, short))
-    import_within entries (import.Program template) light short = unrun_within s.state.event.profile (deed.Import (import.Program template)) (import.Program template) most_command_bytes template
+    import_within entries (import.Program template) light short = program_within s.state.event.profile (deed.Import (import.Program template)) (import.Program template) template short
     import_within entries (import.File template) light short = unrun_within s.state.event.profile (deed.Import (import.File template)) (import.File template) most_path_bytes template
     import_within entries (import.Cmdline name) light short = not_run_within (import.Cmdline name)
     import_within entries (import.Db name) light short = not_run_within (import.Db name)

@@ -45,8 +45,9 @@ use Rattle.eval_acts.specs.declared.builtin.Builtin.{Builtin}
 use Rattle.eval_acts.specs.declared.builtin.Builtin.TheVariants as asked_for
 use Rattle.eval_acts.specs.ActTexts as act_texts
 use Rattle.eval_acts.specs.ActTexts.{import_text, names_text, program_text, test_text}
-use Rattle.eval_acts.specs.Acts.{act_step, from_parent_by, imported, on_text, parent_imported, performed, unrun}
-use Rattle.eval_acts.specs.Imports.{builtin_run, from_parent, not_run, run_builtin}
+use Rattle.eval_acts.specs.Acts.{act_step, from_parent_by, imported, on_text, parent_imported, performed, program_imported, unrun}
+use Rattle.eval_acts.specs.Imports.{builtin_run, from_answer_or_noted, from_parent, from_program, not_run, run_builtin}
+use Rattle.eval_acts.specs.Printed.{printed_properties}
 use Rattle.eval_acts.specs.Questions.{answered_or_noted, asked, result_of, tested, tested_at, tested_by, tested_by_udev, with_result}
 use Rattle.eval_laws.proofs.Measured.{measured, noted_more}
 
@@ -139,6 +140,19 @@ module _ (w : Note → ℕ) (v : RunValue → ℕ) (c : Rule → ℕ) (light : (
     parent_by_counts Manual d names text = parent_counts names (device_at s.state.event 1)
     parent_by_counts Udev d names text = on_text_counts d from_parent_by (names_text text s.state) (λ found. parent_counts (fnmatch_items Exact found 0 ∷ []) (device_at s.state.event 1))
 
+    printed_counts : (command : Text) (answer : Option AnswerValue) → counted (from_answer_or_noted r command answer s).0 ≤ counted s + c r
+    printed_counts command None = notes NoAnswer command
+    printed_counts command (Some answer) = by (answer.status == 0)
+      where
+        by : (b : Bool) → counted (if◌then◌else◌ {A = Scene × Bool} b (with_env (properties_set s.state.env (printed_properties answer.text)) s, true) (s, false)).0 ≤ counted s + c r
+        by true = omega arith
+        by false = omega arith
+
+    program_counts : (profile : Profile) (d : Deed) (from : Import) (template : Template) → counted (program_imported profile r d from template s).0 ≤ counted s + c r
+    program_counts Manual d from template = not_run_counts from
+    program_counts Udev d from template =
+        on_text_counts d (from_program r) (import_text act_texts.most_command_bytes template s.state) (λ command. printed_counts command (value_of s.state.event.programs command))
+
     unrun_counts : (profile : Profile) (d : Deed) (from : Import) (bytes : ℕ) (template : Template) → counted (unrun profile r d from bytes template s).0 ≤ counted s + c r
     unrun_counts Manual d from bytes template = not_run_counts from
     unrun_counts Udev d from bytes template = on_text_counts d (λ text. not_run r from) (import_text bytes template s.state) (λ text. not_run_counts from)
@@ -147,7 +161,7 @@ module _ (w : Note → ℕ) (v : RunValue → ℕ) (c : Rule → ℕ) (light : (
     import_counts entries d (import.Builtin template) =
         on_text_counts d (run_builtin entries r) (import_text act_texts.most_command_bytes template s.state) (λ command. builtin_counts entries command (builtin s.state.event.profile command))
     import_counts entries d (import.Parent names text) = parent_by_counts s.state.event.profile d names text
-    import_counts entries d (import.Program template) = unrun_counts s.state.event.profile d (import.Program template) act_texts.most_command_bytes template
+    import_counts entries d (import.Program template) = program_counts s.state.event.profile d (import.Program template) template
     import_counts entries d (import.File template) = unrun_counts s.state.event.profile d (import.File template) act_texts.most_path_bytes template
     import_counts entries d (import.Cmdline name) = not_run_counts (import.Cmdline name)
     import_counts entries d (import.Db name) = not_run_counts (import.Db name)

@@ -1,12 +1,15 @@
 -- The first answer that is not empty, and the devices that are asked.
-use Rattle.std.proofs.Common.{◌≡◌, ◌↔◌, Bool, true, false, not, ◌||◌, cond, List, [], ◌∷◌, ◌++◌, map, filter, filter_map, find, flat_map, Some, None, unwrap_or, if◌then◌else◌, refl, sym, ap, ◌∙◌, true≢false}
-use Rattle.std.specs.List.{list_any}
+use Rattle.std.proofs.Common.{◌≡◌, ◌↔◌, ℕ, suc, ◌+◌, Bool, true, false, not, ◌||◌, cond, List, [], ◌∷◌, ◌++◌, length, take, drop, map, find, flat_map, Some, None, unwrap_or, if◌then◌else◌, refl, sym, ap, ◌∙◌, true≢false, arith}
+use Rattle.std.specs.List.{list_any, position_or_len}
+use Rattle.std.proofs.lemmas.List.{append-nil, drop_at, map-append, take-map, take_at}
 use Rattle.text_bytes.specs.Texts.{is_empty}
+use Rattle.text_bytes.specs.declared.profile.Profile.{Profile}
+use Rattle.text_bytes.specs.declared.profile.Profile.TheVariants.{Manual, Udev}
 use Rattle.text_tables.specs.Texts.{Text}
 use Rattle.text_tables.specs.Pairs.{Pair}
 use Rattle.hwdb_lookup.specs.declared.entry.Entry.{Entry}
 use Rattle.eval_state.specs.declared.state.State.{State}
-use Rattle.eval_acts.specs.LookUps.{Candidate, answer, candidates, first_found, found, is_last, is_wanted, modaliases, texts, through}
+use Rattle.eval_acts.specs.LookUps.{Candidate, answer, candidates, count_before_usb, first_found, found, is_last, modaliases, modaliases_by, modaliases_in, texts, through, udev_modaliases_of}
 use Rattle.eval_acts.specs.declared.hwdb.Hwdb.{Hwdb}
 use Rattle.eval_laws.specs.LookUps.{IsFirstAnswer, texts_of}
 
@@ -116,17 +119,75 @@ module _ {X : Type 0} (test : X → Bool) where
       by true e more = absurd (true≢false e)
       by false e more = ap (λ ys. y ∷ ys) (more e)
 
-pub text_given : (hwdb : Hwdb) (state : State) (modalias : Text) → hwdb.modalias ≡ Some modalias → texts hwdb state ≡ (hwdb.prefix ++ modalias) ∷ []
-text_given hwdb state modalias e = ap (λ given. map (λ m. hwdb.prefix ++ m) (modaliases hwdb given state)) e
+  -- how many stand before the first that passes
+  count_here : (before : List X) (x : X) (behind : List X) → list_any test before ≡ false → test x ≡ true → position_or_len test (before ++ x ∷ behind) ≡ length before
+  count_here [] x behind e is = ap (λ b. cond (not b) (1 + position_or_len test behind) 0) is
+  count_here (y ∷ before) x behind e is = by (test y) e (λ h. count_here before x behind h is)
+    where
+      by : (b : Bool) → (b || list_any test before) ≡ false → (list_any test before ≡ false → position_or_len test (before ++ x ∷ behind) ≡ length before)
+          → cond (not b) (1 + position_or_len test (before ++ x ∷ behind)) 0 ≡ suc (length before)
+      by true e more = absurd (true≢false e)
+      by false e more = let n : position_or_len test (before ++ x ∷ behind) ≡ length before = more e in omega (arith, n)
 
-pub texts_up_to : (hwdb : Hwdb) (state : State) (before behind : List Candidate) (last : Candidate) → hwdb.modalias ≡ None → candidates state ≡ before ++ last ∷ behind
-    → list_any (is_last hwdb.subsystem) before ≡ false → is_last hwdb.subsystem last ≡ true → texts hwdb state ≡ texts_of hwdb (before ++ last ∷ [])
-texts_up_to hwdb state before behind last none are others is =
-    ap (λ given. map (λ m. hwdb.prefix ++ m) (modaliases hwdb given state)) none
-    ∙ ap (λ ds. map (λ m. hwdb.prefix ++ m) (filter_map (λ device. device.modalias) (filter (is_wanted hwdb.subsystem) (through (is_last hwdb.subsystem) ds)))) are
-    ∙ ap (texts_of hwdb) (through_last (is_last hwdb.subsystem) before last behind others is)
+  count_all : (xs : List X) → list_any test xs ≡ false → position_or_len test xs ≡ length xs
+  count_all [] e = refl
+  count_all (x ∷ xs) e = by (test x) e (count_all xs)
+    where
+      by : (b : Bool) → (b || list_any test xs) ≡ false → (list_any test xs ≡ false → position_or_len test xs ≡ length xs) → cond (not b) (1 + position_or_len test xs) 0 ≡ suc (length xs)
+      by true e more = absurd (true≢false e)
+      by false e more = let n : position_or_len test xs ≡ length xs = more e in omega (arith, n)
 
-pub texts_of_all : (hwdb : Hwdb) (state : State) → hwdb.modalias ≡ None → list_any (is_last hwdb.subsystem) (candidates state) ≡ false → texts hwdb state ≡ texts_of hwdb (candidates state)
-texts_of_all hwdb state none others =
-    ap (λ given. map (λ m. hwdb.prefix ++ m) (modaliases hwdb given state)) none
-    ∙ ap (texts_of hwdb) (through_all (is_last hwdb.subsystem) (candidates state) others)
+module _ (hwdb : Hwdb) where
+  -- a modalias after the prefix
+  abbrev prefixed : Text → Text
+  prefixed modalias = hwdb.prefix ++ modalias
+
+  -- the devices of an event, without a modalias that is given
+  by_devices : (state : State) → hwdb.modalias ≡ None → texts hwdb state ≡ map prefixed (modaliases_by state.event.profile hwdb.subsystem (candidates state))
+  by_devices state none = ap (λ given. map prefixed (modaliases state.event.profile hwdb given (candidates state))) none
+
+  pub text_given : (state : State) (modalias : Text) → hwdb.modalias ≡ Some modalias → texts hwdb state ≡ (hwdb.prefix ++ modalias) ∷ []
+  text_given state modalias e = ap (λ given. map prefixed (modaliases state.event.profile hwdb given (candidates state))) e
+
+  pub texts_up_to : (state : State) (before behind : List Candidate) (last : Candidate) → state.event.profile ≡ Manual → hwdb.modalias ≡ None → candidates state ≡ before ++ last ∷ behind
+      → list_any (is_last hwdb.subsystem) before ≡ false → is_last hwdb.subsystem last ≡ true → texts hwdb state ≡ texts_of hwdb (before ++ last ∷ [])
+  texts_up_to state before behind last manual none are others is =
+      by_devices state none
+      ∙ ap (λ p. map prefixed (modaliases_by p hwdb.subsystem (candidates state))) manual
+      ∙ ap (λ ds. texts_of hwdb (through (is_last hwdb.subsystem) ds)) are
+      ∙ ap (texts_of hwdb) (through_last (is_last hwdb.subsystem) before last behind others is)
+
+  -- those of some devices, and then the first of others
+  two_parts : (before behind : List Candidate)
+      → map prefixed (modaliases_in hwdb.subsystem before ++ take 1 (modaliases_in hwdb.subsystem behind)) ≡ texts_of hwdb before ++ take 1 (texts_of hwdb behind)
+  two_parts before behind =
+      map-append prefixed (modaliases_in hwdb.subsystem before) (take 1 (modaliases_in hwdb.subsystem behind))
+      ∙ ap (λ ts. texts_of hwdb before ++ ts) (sym (take-map prefixed 1 (modaliases_in hwdb.subsystem behind)))
+
+  -- devices that are parted so, by how many come first
+  parted : (before behind : List Candidate) (n : ℕ) → length before ≡ n
+      → map prefixed (modaliases_in hwdb.subsystem (take n (before ++ behind)) ++ take 1 (modaliases_in hwdb.subsystem (drop n (before ++ behind))))
+      ≡ texts_of hwdb before ++ take 1 (texts_of hwdb behind)
+  parted before behind n is =
+      ap (λ ds. map prefixed (modaliases_in hwdb.subsystem ds ++ take 1 (modaliases_in hwdb.subsystem (drop n (before ++ behind))))) (take_at before behind n is)
+      ∙ ap (λ ds. map prefixed (modaliases_in hwdb.subsystem before ++ take 1 (modaliases_in hwdb.subsystem ds))) (drop_at before behind n is)
+      ∙ two_parts before behind
+
+  pub texts_from_usb : (state : State) (before behind : List Candidate) (last : Candidate) → state.event.profile ≡ Udev → hwdb.modalias ≡ None → candidates state ≡ before ++ last ∷ behind
+      → list_any (is_last hwdb.subsystem) before ≡ false → is_last hwdb.subsystem last ≡ true → texts hwdb state ≡ texts_of hwdb before ++ take 1 (texts_of hwdb (last ∷ behind))
+  texts_from_usb state before behind last udev none are others is =
+      by_devices state none
+      ∙ ap (λ p. map prefixed (modaliases_by p hwdb.subsystem (candidates state))) udev
+      ∙ ap (λ ds. map prefixed (udev_modaliases_of hwdb.subsystem ds)) are
+      ∙ parted before (last ∷ behind) (count_before_usb hwdb.subsystem (before ++ last ∷ behind)) (sym (count_here (is_last hwdb.subsystem) before last behind others is))
+
+  none_of_usb : (profile : Profile) (devices : List Candidate) → list_any (is_last hwdb.subsystem) devices ≡ false → map prefixed (modaliases_by profile hwdb.subsystem devices) ≡ texts_of hwdb devices
+  none_of_usb Manual devices others = ap (texts_of hwdb) (through_all (is_last hwdb.subsystem) devices others)
+  none_of_usb Udev devices others =
+      let n : count_before_usb hwdb.subsystem devices ≡ length devices = count_all (is_last hwdb.subsystem) devices others in
+      ap (λ ds. map prefixed (udev_modaliases_of hwdb.subsystem ds)) (sym (append-nil devices))
+      ∙ parted devices [] (count_before_usb hwdb.subsystem (devices ++ [])) (sym (ap (count_before_usb hwdb.subsystem) (append-nil devices) ∙ n))
+      ∙ append-nil (texts_of hwdb devices)
+
+  pub texts_of_all : (state : State) → hwdb.modalias ≡ None → list_any (is_last hwdb.subsystem) (candidates state) ≡ false → texts hwdb state ≡ texts_of hwdb (candidates state)
+  texts_of_all state none others = by_devices state none ∙ none_of_usb state.event.profile (candidates state) others

@@ -45,10 +45,11 @@ use Rattle.eval_state.specs.declared.finals.FinalKey.{FinalKey}
 use Rattle.eval_state.specs.declared.finals.FinalKey.TheVariants as key
 use Rattle.eval_state.specs.declared.scene.Scene.{Scene}
 use Rattle.eval_matching.specs.Attributes.{is_not_read}
-use Rattle.eval_acts.specs.ActTexts.{import_text, names_text, program_text}
-use Rattle.eval_acts.specs.Acts.{act_step, from_parent_by, imported, on_text, parent_imported, performed, unrun}
+use Rattle.eval_acts.specs.ActTexts.{import_text, most_command_bytes, names_text, program_text}
+use Rattle.eval_acts.specs.Acts.{act_step, from_parent_by, imported, on_text, parent_imported, performed, program_imported, unrun}
 use Rattle.eval_acts.specs.BuiltinRuns.{looked_up, most_set, need_noted, need_word, outcome_taken, path_id_run, properties_size, usb_id_run}
-use Rattle.eval_acts.specs.Imports.{builtin_run, from_parent, not_run, run_builtin}
+use Rattle.eval_acts.specs.Imports.{builtin_run, from_answer_or_noted, from_parent, from_program, not_run, run_builtin}
+use Rattle.eval_acts.specs.Printed.{printed_properties}
 use Rattle.eval_acts.specs.Questions.{answered_or_noted, asked, result_of, tested, tested_at, tested_by, tested_by_udev, with_result}
 use Rattle.eval_acts.specs.Reaching.{reached}
 use Rattle.eval_laws.specs.AssignmentLaws.{Keeps, SameAt}
@@ -161,6 +162,14 @@ parent_by_same : (profile : Profile) (r : Rule) (d : Deed) (names : List (List I
 parent_by_same Manual r d names text s = parent_same names (device_at s.state.event 1) s
 parent_by_same Udev r d names text s = on_text_same r d from_parent_by (λ found u. parent_same (fnmatch_items Exact found 0 ∷ []) (device_at u.state.event 1) u) (names_text text s.state) s
 
+printed_same : (r : Rule) (t : Text) (a : Option AnswerValue) (s : Scene) → Same s (from_answer_or_noted r t a s).0
+printed_same r t None s = refl
+printed_same r t (Some a) s = chosen s (with_env (properties_set s.state.env (printed_properties a.text)) s) s true false _ refl refl
+
+program_by_same : (profile : Profile) (r : Rule) (d : Deed) (i : Import) (template : Template) (s : Scene) → Same s (program_imported profile r d i template s).0
+program_by_same Manual r d i template s = refl
+program_by_same Udev r d i template s = on_text_same r d (from_program r) (λ c u. printed_same r c (value_of u.state.event.programs c) u) (import_text most_command_bytes template s.state) s
+
 unrun_same : (profile : Profile) (r : Rule) (d : Deed) (i : Import) (bytes : ℕ) (template : Template) (s : Scene) → Same s (unrun profile r d i bytes template s).0
 unrun_same Manual r d i bytes template s = refl
 unrun_same Udev r d i bytes template s = on_text_same r d (λ text. not_run r i) (λ text u. refl) (import_text bytes template s.state) s
@@ -168,7 +177,7 @@ unrun_same Udev r d i bytes template s = on_text_same r d (λ text. not_run r i)
 imported_same : (es : List Entry) (r : Rule) (d : Deed) (i : Import) (s : Scene) → Same s (imported es r d i s).0
 imported_same es r d (import.Builtin t) s = on_text_same r d (run_builtin es r) (λ c u. builtin_same es r c _ u) _ s
 imported_same es r d (import.Parent names text) s = parent_by_same s.state.event.profile r d names text s
-imported_same es r d (import.Program t) s = unrun_same s.state.event.profile r d (import.Program t) _ t s
+imported_same es r d (import.Program t) s = program_by_same s.state.event.profile r d (import.Program t) t s
 imported_same es r d (import.File t) s = unrun_same s.state.event.profile r d (import.File t) _ t s
 imported_same es r d (import.Cmdline name) s = refl
 imported_same es r d (import.Db name) s = refl

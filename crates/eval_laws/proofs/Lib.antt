@@ -53,3 +53,8 @@ pub mod Operators
 pub mod Tagged
 pub mod Bracketed
 pub mod Attributes
+pub mod PrintedWeights
+pub mod PrintedReading
+pub mod PrintedGiven
+pub mod PrintedActs
+pub mod UsbModaliases

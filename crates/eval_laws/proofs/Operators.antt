@@ -15,7 +15,7 @@ use Rattle.eval_state.specs.declared.scene.Scene.{Scene}
 use Rattle.eval_rendering.specs.declared.rendered.Rendered.{Rendered}
 use Rattle.eval_rendering.specs.declared.rendered.Rendered.TheVariants as rendered
 use Rattle.eval_acts.specs.ActTexts.{import_text, most_command_bytes, program_text, test_text}
-use Rattle.eval_acts.specs.Acts.{act_step, came_too_long, goes_on, imported, on_text, parent_imported, performed, unrun}
+use Rattle.eval_acts.specs.Acts.{act_step, came_too_long, goes_on, imported, on_text, parent_imported, performed, program_imported, unrun}
 use Rattle.eval_acts.specs.Imports.{run_builtin}
 use Rattle.eval_acts.specs.Questions.{asked, tested, with_result}
 use Rattle.eval_acts.specs.declared.came.Came.{Came}
@@ -41,6 +41,10 @@ parent_tried : (profile : Profile) (r : Rule) (d : Deed) (i : _) (text : Text) (
 parent_tried Manual r d i text s e = (_, refl)
 parent_tried Udev r d i text s e = cc
 
+program_tried : (profile : Profile) (r : Rule) (d : Deed) (i : Import) (template : Template) (s : Scene) → profile ≡ Manual → IsTried (program_imported profile r d i template s).1
+program_tried Manual r d i template s e = (false, refl)
+program_tried Udev r d i template s e = cc
+
 unrun_tried : (profile : Profile) (r : Rule) (d : Deed) (i : Import) (bytes : ℕ) (template : Template) (s : Scene) → profile ≡ Manual → IsTried (unrun profile r d i bytes template s).1
 unrun_tried Manual r d i bytes template s e = (false, refl)
 unrun_tried Udev r d i bytes template s e = cc
@@ -48,7 +52,7 @@ unrun_tried Udev r d i bytes template s e = cc
 import_tried : (es : List Entry) (r : Rule) (d : Deed) (i : Import) (s : Scene) → s.state.event.profile ≡ Manual → IsTried (imported es r d i s).1
 import_tried es r d (import.Builtin template) s e = text_tried r d (run_builtin es r) (import_text most_command_bytes template s.state) s e
 import_tried es r d (import.Parent names text) s e = parent_tried s.state.event.profile r d names text s e
-import_tried es r d (import.Program template) s e = unrun_tried s.state.event.profile r d (import.Program template) _ template s e
+import_tried es r d (import.Program template) s e = program_tried s.state.event.profile r d (import.Program template) template s e
 import_tried es r d (import.File template) s e = unrun_tried s.state.event.profile r d (import.File template) _ template s e
 import_tried es r d (import.Cmdline name) s e = (false, refl)
 import_tried es r d (import.Db name) s e = (false, refl)

@@ -58,7 +58,7 @@ module _ (name : Text) (plain : list_any (λ b. b == equals) name ≡ false) whe
       by true e more = absurd (true≢false e)
       by false e more = let same : prefix_len (λ b. not (b == equals)) (option_word name value) ≡ length name = more e in omega (arith, same)
 
-  word_cut : (value : Text) → split_once equals (option_word name value) ≡ Some (name, value)
+  pub word_cut : (value : Text) → split_once equals (option_word name value) ≡ Some (name, value)
   unfolding split_once
   word_cut value =
       let word : Text = option_word name value in

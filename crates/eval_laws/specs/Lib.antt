@@ -15,3 +15,4 @@ pub mod Weights
 pub mod Counts
 pub mod Making
 pub mod Naming
+pub mod PrintedLines

@@ -1,16 +1,24 @@
 //! What `hwdb` is asked, which texts it looks up, and what it finds. Each function here is empty: its
 //! contract is the law.
-ghost use Rattle.std.specs.Prelude.{◌≡◌, ◌↔◌, [], ◌∷◌, ◌++◌, List, Some, None, Ok, codes, true, false};
+ghost use Rattle.std.specs.Prelude.{◌≡◌, ◌↔◌, ◌≤◌, [], ◌∷◌, ◌++◌, ℕ, List, Some, None, Ok, codes, length, take, true, false};
 ghost use Rattle.std.specs.List.{flat_map, list_any};
 ghost use Rattle.text_bytes.specs.Texts.{is_empty};
+ghost use Rattle.text_bytes.specs.declared.profile.Profile.{Profile};
+ghost use Rattle.text_bytes.specs.declared.profile.Profile.TheVariants.{Manual, Udev};
 ghost use Rattle.text_tables.specs.Texts.{Text};
-ghost use Rattle.text_tables.specs.Pairs.{Pair};
+ghost use Rattle.text_tables.specs.Pairs.{Pair, value_of};
 ghost use Rattle.text_core.specs.Spell.{spell};
 ghost use Rattle.text_core.specs.declared.item.Item.{Item};
 ghost use Rattle.hwdb_lookup.specs.declared.entry.Entry.{Entry};
+ghost use Rattle.device_core.specs.Values.{DeviceValue};
+ghost use Rattle.builtin_devices.specs.Devices.{is_of};
+ghost use Rattle.builtin_devices.specs.Numbers.{number_in};
+ghost use Rattle.builtin_devices.specs.declared.numbers.Base.TheVariants.{Hexadecimal};
+ghost use Rattle.eval_state.specs.Texts.{or_empty};
 ghost use Rattle.eval_state.specs.declared.state.State.{State};
 ghost use Rattle.eval_acts.specs.Hwdb.{hwdb_of};
-ghost use Rattle.eval_acts.specs.LookUps.{Candidate, answer, candidates, found, is_last, texts};
+ghost use Rattle.eval_acts.specs.LookUps.{Candidate, answer, candidate, candidates, found, is_last, texts};
+ghost use Rattle.eval_acts.specs.UsbModalias.{four_digits, number_of};
 ghost use Rattle.eval_acts.specs.declared.hwdb.Hwdb.{Hwdb};
 ghost use Rattle.eval_laws.specs.LookUps.{HasNoValue, IsFirstAnswer, IsLastValue, texts_of};
 
@@ -21,13 +29,27 @@ pub fn the_first_answer_is_found()
     ensures none { (entries : List Entry) (hwdb : Hwdb) (state : State) → (found entries hwdb state ≡ []) ↔ (flat_map (answer entries hwdb) (texts hwdb state) ≡ []) }
 {}
 
-/// A modalias that is given is the only text, after the prefix. Without one, the texts are the modaliases of the
-/// wanted devices, nearest first, each after the prefix: up to and including the first wanted device whose
-/// subsystem is `usb` and whose DEVTYPE is `usb_device`, or of all if there is none.
+/// A modalias that is given is the only text, after the prefix. Without one, the texts are the modaliases
+/// of the wanted devices, nearest first, each after the prefix: up to the first wanted device whose
+/// subsystem is `usb` and whose DEVTYPE is `usb_device`, with that one, and where there is none, of all.
+/// With udev the first text of that device or one after it is still looked up, and none after that.
 pub fn no_device_behind_a_usb_device_is_asked()
     ensures given { (hwdb : Hwdb) (state : State) (modalias : Text) → hwdb.modalias ≡ Some modalias → texts hwdb state ≡ (hwdb.prefix ++ modalias) ∷ [] }
-    ensures up_to { (hwdb : Hwdb) (state : State) (before behind : List Candidate) (last : Candidate) → hwdb.modalias ≡ None → candidates state ≡ before ++ last ∷ behind → list_any (is_last hwdb.subsystem) before ≡ false → is_last hwdb.subsystem last ≡ true → texts hwdb state ≡ texts_of hwdb (before ++ last ∷ []) }
+    ensures up_to { (hwdb : Hwdb) (state : State) (before behind : List Candidate) (last : Candidate) → state.event.profile ≡ Manual → hwdb.modalias ≡ None → candidates state ≡ before ++ last ∷ behind → list_any (is_last hwdb.subsystem) before ≡ false → is_last hwdb.subsystem last ≡ true → texts hwdb state ≡ texts_of hwdb (before ++ last ∷ []) }
+    ensures udev { (hwdb : Hwdb) (state : State) (before behind : List Candidate) (last : Candidate) → state.event.profile ≡ Udev → hwdb.modalias ≡ None → candidates state ≡ before ++ last ∷ behind → list_any (is_last hwdb.subsystem) before ≡ false → is_last hwdb.subsystem last ≡ true → texts hwdb state ≡ texts_of hwdb before ++ take 1 (texts_of hwdb (last ∷ behind)) }
     ensures all { (hwdb : Hwdb) (state : State) → hwdb.modalias ≡ None → list_any (is_last hwdb.subsystem) (candidates state) ≡ false → texts hwdb state ≡ texts_of hwdb (candidates state) }
+{}
+
+/// A device that has the property MODALIAS is looked up by it. With udev a USB device without it has `usb:v`, four
+/// digits, `p`, four digits, a colon and the product's name, cut off after 2,047 bytes, where both attributes are
+/// numbers of at most 65,535; the digits are those of these numbers. By the manual it has none, and neither has any
+/// other device with udev.
+pub fn a_usb_device_may_have_a_modalias_made_up()
+    ensures own { (profile : Profile) (device : DeviceValue) (env : List Pair) (modalias : Text) → value_of env (codes "MODALIAS") ≡ Some modalias → (candidate profile device env).modalias ≡ Some modalias }
+    ensures made { (device : DeviceValue) (env : List Pair) (vendor product : ℕ) → value_of env (codes "MODALIAS") ≡ None → is_of (codes "usb") (Some (codes "usb_device")) device ≡ true → number_of device (codes "idVendor") ≡ Some vendor → number_of device (codes "idProduct") ≡ Some product → (candidate Udev device env).modalias ≡ Some (take 2047 (codes "usb:v" ++ four_digits vendor ++ codes "p" ++ four_digits product ++ codes ":" ++ or_empty (value_of device.attrs (codes "product")))) }
+    ensures digits { (number : ℕ) → number ≤ 65535 → (length (four_digits number) ≡ 4) × (number_in Hexadecimal 65535 (four_digits number) ≡ Some number) }
+    ensures manual { (device : DeviceValue) (env : List Pair) → value_of env (codes "MODALIAS") ≡ None → (candidate Manual device env).modalias ≡ None }
+    ensures others { (device : DeviceValue) (env : List Pair) → value_of env (codes "MODALIAS") ≡ None → is_of (codes "usb") (Some (codes "usb_device")) device ≡ false → (candidate Udev device env).modalias ≡ None }
 {}
 
 /// Of an option that is given several times, the last counts; one that is not given leaves no subsystem, an empty

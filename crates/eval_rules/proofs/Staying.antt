@@ -41,10 +41,11 @@ use Rattle.eval_state.specs.Properties.{properties_set}
 use Rattle.eval_state.specs.Scenes.{noted, with_env}
 use Rattle.eval_state.specs.declared.note_kind.NoteKind.TheVariants.{AttributeNotRead, BuiltinNeeds, TestNotMade, TextTooLong}
 use Rattle.eval_state.specs.declared.scene.Scene.{Scene}
-use Rattle.eval_acts.specs.Acts.{act_step, from_parent_by, imported, on_text, parent_imported, performed, unrun}
-use Rattle.eval_acts.specs.ActTexts.{most_command_bytes, most_path_bytes}
+use Rattle.eval_acts.specs.Acts.{act_step, from_parent_by, imported, on_text, parent_imported, performed, program_imported, unrun}
+use Rattle.eval_acts.specs.ActTexts.{most_path_bytes}
 use Rattle.eval_acts.specs.BuiltinRuns.{looked_up, most_set, need_noted, need_word, outcome_taken, path_id_run, properties_size, usb_id_run}
-use Rattle.eval_acts.specs.Imports.{builtin_run, from_parent, not_run, run_builtin}
+use Rattle.eval_acts.specs.Imports.{builtin_run, from_answer_or_noted, from_parent, from_program, not_run, run_builtin}
+use Rattle.eval_acts.specs.Printed.{printed_properties}
 use Rattle.eval_acts.specs.Questions.{answered_or_noted, asked, result_of, tested, tested_at, tested_by, tested_by_udev, with_result}
 use Rattle.eval_acts.specs.Reaching.{reached}
 use Rattle.eval_assignments.specs.Steps.{set_step}
@@ -121,6 +122,14 @@ parents_stay : (p : Profile) (r : Rule) (d : Deed) (names : _) (text : Text) (s 
 parents_stay Manual r d names text s = parent_stays names _ s
 parents_stay Udev r d names text s = text_stays r d from_parent_by (λ t u. parent_stays (fnmatch_items Exact t 0 ∷ []) (device_at u.state.event 1) u) _ s
 
+printed_stays : (r : Rule) (t : Text) (a : Option AnswerValue) (s : Scene) → Stays s (from_answer_or_noted r t a s).0
+printed_stays r t None s = refl
+printed_stays r t (Some a) s = either s (a.status == 0) (with_env (properties_set s.state.env (printed_properties a.text)) s, true) (s, false) refl refl
+
+programs_stay : (p : Profile) (r : Rule) (d : Deed) (i : Import) (template : _) (s : Scene) → Stays s (program_imported p r d i template s).0
+programs_stay Manual r d i template s = refl
+programs_stay Udev r d i template s = text_stays r d (from_program r) (λ c u. printed_stays r c (value_of u.state.event.programs c) u) _ s
+
 unrun_stays : (p : Profile) (r : Rule) (d : Deed) (i : Import) (most : ℕ) (template : _) (s : Scene) → Stays s (unrun p r d i most template s).0
 unrun_stays Manual r d i most template s = refl
 unrun_stays Udev r d i most template s = text_stays r d (λ text. not_run r i) (λ t u. refl) _ s
@@ -128,7 +137,7 @@ unrun_stays Udev r d i most template s = text_stays r d (λ text. not_run r i) (
 imported_stays : (es : List Entry) (r : Rule) (d : Deed) (i : Import) (s : Scene) → Stays s (imported es r d i s).0
 imported_stays es r d (import.Builtin t) s = text_stays r d (run_builtin es r) (λ c u. builtin_stays es r c _ u) _ s
 imported_stays es r d (import.Parent names text) s = parents_stay s.state.event.profile r d names text s
-imported_stays es r d (import.Program t) s = unrun_stays s.state.event.profile r d (import.Program t) most_command_bytes t s
+imported_stays es r d (import.Program t) s = programs_stay s.state.event.profile r d (import.Program t) t s
 imported_stays es r d (import.File t) s = unrun_stays s.state.event.profile r d (import.File t) most_path_bytes t s
 imported_stays es r d (import.Cmdline name) s = refl
 imported_stays es r d (import.Db name) s = refl

@@ -140,12 +140,38 @@ usb:v0001pABCD:Cam*
 
 usb:v2*
  ID_Y=
+
+usb:v0012p00FF:
+ ID_W=1
+
+usb:v0012p00FF:N*
+ ID_N=1
+
+usb:v0012p00FF:''' + 'n' * 2032 + '''
+ ID_LONG=1
+
+hub:v9*
+ ID_HUB=1
 '''
 
 
 def answering(block, *answers):
-    """A block in which the event answers commands of PROGRAM: each a command, its status and its text."""
+    """A block in which the event answers commands: each a command, its status and its text, with a carriage return between two lines."""
     return block + ''.join(f'Q: {command}\nR: {status} {text}\n' for command, status, text in answers)
+
+
+def printing(*lines):
+    """A command that the helper of bench/udev_asking.py answers with these lines, and the answer to it."""
+    text = '\r'.join(lines)
+    shown = [chr(byte) if chr(byte).isalnum() and byte < 128 else f'={byte:02x}' for byte in os.fsencode(text)]
+    return 'ata_id ' + ''.join(shown), 0, text
+
+
+def plugged(*lines, kind='usb_device'):
+    """A device of USB with these lines, in the socket of a hub with a modalias."""
+    told = [f'E: DEVTYPE={kind}'] * (kind is not None) + list(lines)
+    return ('C: add\nP: /devices/pci0/usb1/1-1\nU: usb\n' + ''.join(line + '\n' for line in told) +
+            'P: /devices/pci0/usb1\nU: usb\nE: DEVTYPE=usb_device\nE: MODALIAS=hub:v9\nP: /devices/pci0\nU: pci\n')
 
 
 def removed(block):

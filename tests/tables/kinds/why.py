@@ -21,16 +21,16 @@ def of(number, *told):
     return [b"%d: %s" % (number, as_bytes(line)) for line in told]
 
 
-def why(name, rules, lines, wanted, *courses, path="/d", asked=("r.rules",), messages=b"", files=(), root="none", options=()):
+def why(name, rules, lines, wanted, *courses, path="/d", asked=("r.rules",), messages=b"", files=(), root="none", options=(), udev=False):
     """A run over a file `r.rules` of these rules, over a block with these lines behind its path.
 
     `wanted` are the lines that its answer has besides the event, ACTION and DEVPATH. `courses` are lists of what stands
     behind them, as `of` gives them: each line without its `why r.rules:`. `files` and `root` may hold a database, and
-    `options` are given besides.
+    `options` are given besides. `udev` asks as udev itself has it.
     """
     answered = answer(path, wanted)
     told = b"".join(b"why r.rules:" + line + b"\n" for course in courses for line in course)
-    words = ["events", *options, "-r", root, *(word for text in asked for word in ("--why", text)), "r.rules"]
+    words = ["events", *(["--udev"] * udev), *options, "-r", root, *(word for text in asked for word in ("--why", text)), "r.rules"]
     return Row(
         name,
         words,

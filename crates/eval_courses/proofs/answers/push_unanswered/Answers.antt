@@ -1,7 +1,7 @@
 use Rattle.std.proofs.Common.{◌++◌, codes, append_assoc, ap, ◌∙◌}
 use Rattle.std.proofs.lemmas.Result.{on_ok_weaker}
 use Rattle.text_bytes.specs.Escapes.{escape_text}
-use Rattle.eval_courses.proofs.acts.push_unanswered.Goals as goal
+use Rattle.eval_courses.proofs.answers.push_unanswered.Goals as goal
 
 pub returns : goal.returns
 returns c =

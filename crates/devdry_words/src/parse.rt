@@ -97,13 +97,13 @@ fn request_of<'a>(alloc: Global, matches: &ArgMatches<'a>) -> Result<Request<'a>
 /// [--udev] [--users FILE] [--groups FILE] [FILE]..`,
 /// `query [-r DIR] [--sources] [--index FILE] MODALIAS [FILE]..`,
 /// `update [-r DIR] [-s] [--all] [--format FORMAT] [--ignore CODES].. [FILE]..`,
-/// `events [-r DIR] [--sources] [--why FILE[:LINE]].. [--index FILE] [FILE]..`,
-/// `files [-r DIR]`, `compare [--index FILE] OLD NEW` and `explain CODE`.
+/// `events [-r DIR] [--sources] [--why FILE[:LINE]].. [--questions] [--index FILE] [--udev] [FILE]..`,
+/// `files [-r DIR]`, `compare [--index FILE] [--udev] OLD NEW` and `explain CODE`.
 ///
 /// `LineFault::Help` comes for `--help`, `-h`, `help`, `--version` and `-V`, also after a
 /// subcommand, and for `explain` with a code, whose text is then the section on its message.
 /// `LineFault::Usage` comes for all else that `clap` does not take, no words at all among it; for a
-/// `query` with both files and an index; for `--all`, `files` or `compare` with a root that is given
+/// `query` with both files and an index; for `--questions` with `--sources` or `--why`; for `--all`, `files` or `compare` with a root that is given
 /// and empty; for `--users` or `--groups` without `--udev`; for a format that there is not; for a part of `--ignore` that is neither a code nor the
 /// word `comments`; and for `explain` with a code that there is not. `LineFault::Memory` comes where
 /// an allocation was refused.

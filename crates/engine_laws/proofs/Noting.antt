@@ -29,7 +29,7 @@ by_answer : (r : Rule) (command : Text) (answer : Option AnswerValue) (s : Scene
 by_answer r command None s = filter-append is_no_answer s.notes (note_about r NoAnswer command ∷ [])
 by_answer r command (Some answer) s = by (answer.status == 0)
   where
-    by : (b : Bool) → filter is_no_answer (cond b (with_result (result_of s.state.event.profile answer.text) s, true) (s, false)).0.notes ≡ filter is_no_answer s.notes ++ []
+    by : (b : Bool) → filter is_no_answer (cond {A = Scene × Bool} b (with_result (result_of s.state.event.profile answer.text) s, true) (s, false)).0.notes ≡ filter is_no_answer s.notes ++ []
     by true = sym (append-nil (filter is_no_answer s.notes))
     by false = sym (append-nil (filter is_no_answer s.notes))
 

@@ -58,8 +58,8 @@ use Rattle.eval_state.specs.declared.note_kind.NoteKind.TheVariants.{AttributeNo
 use Rattle.eval_state.specs.declared.notes.Note.{Note}
 use Rattle.eval_state.specs.declared.scene.Scene.{Scene}
 use Rattle.eval_state.specs.declared.state.State.{State}
-use Rattle.eval_acts.specs.ActTexts.{program_text}
-use Rattle.eval_acts.specs.Acts.{act_step, from_parent_by, imported, on_text, parent_imported, performed}
+use Rattle.eval_acts.specs.ActTexts.{most_command_bytes, most_path_bytes, program_text, test_text}
+use Rattle.eval_acts.specs.Acts.{act_step, from_parent_by, imported, on_text, parent_imported, performed, unrun}
 use Rattle.eval_acts.specs.BuiltinRuns.{looked_up, most_set, need_noted, need_word, outcome_taken, path_id_run, properties_size, usb_id_run}
 use Rattle.eval_acts.specs.Imports.{builtin_run, from_parent, not_run, run_builtin}
 use Rattle.eval_acts.specs.Questions.{tested, tested_at, tested_by, tested_by_udev}
@@ -157,11 +157,19 @@ parent_quiet : (names : _) (d : Option DeviceValue) (s : Scene) → Quiet s (fro
 parent_quiet names None s = refl
 parent_quiet names (Some d) s = refl
 
+parents_quiet : (p : Profile) (r : Rule) (d : Deed) (names : _) (text : Text) (s : Scene) → p ≡ Manual → Quiet s (parent_imported p r d names text s).0
+parents_quiet Manual r d names text s m = parent_quiet names (device_at s.state.event 1) s
+parents_quiet Udev r d names text s m = absurd (cc)
+
+unrun_quiet : (p : Profile) (r : Rule) (d : Deed) (i : Import) (most : ℕ) (template : Template) (s : Scene) → p ≡ Manual → Quiet s (unrun p r d i most template s).0
+unrun_quiet Manual r d i most template s m = note_quiet r ImportNotRun _ s refl
+unrun_quiet Udev r d i most template s m = absurd (cc)
+
 imported_quiet : (es : List Entry) (r : Rule) (d : Deed) (i : Import) (s : Scene) → s.state.event.profile ≡ Manual → Quiet s (imported es r d i s).0
 imported_quiet es r d (import.Builtin t) s m = text_quiet r d (run_builtin es r) (λ c u. builtin_quiet es r c _ u) _ s
-imported_quiet es r d (import.Parent names text) s m = rw m (parent_quiet names (device_at s.state.event 1) s)
-imported_quiet es r d (import.Program t) s m = rw m (note_quiet r ImportNotRun _ s refl)
-imported_quiet es r d (import.File t) s m = rw m (note_quiet r ImportNotRun _ s refl)
+imported_quiet es r d (import.Parent names text) s m = parents_quiet s.state.event.profile r d names text s m
+imported_quiet es r d (import.Program t) s m = unrun_quiet s.state.event.profile r d (import.Program t) most_command_bytes t s m
+imported_quiet es r d (import.File t) s m = unrun_quiet s.state.event.profile r d (import.File t) most_path_bytes t s m
 imported_quiet es r d (import.Cmdline name) s m = note_quiet r ImportNotRun _ s refl
 imported_quiet es r d (import.Db name) s m = note_quiet r ImportNotRun _ s refl
 
@@ -301,13 +309,13 @@ words_are r [] = refl
 words_are r (command ∷ asked) = ap (λ words. word_of command ∷ words) (words_are r asked)
 
 deed_says : (es : List Entry) (r : Rule) (d : Deed) (s : Scene) → s.state.event.profile ≡ Manual → Says s (act_asks d s.state) (performed es r d s).0
-deed_says es r (deed.Test mask t) s m = quiet_says s _ (text_quiet r (deed.Test mask t) (tested r mask) (tested_quiet r mask) _ s)
+deed_says es r (deed.Test mask t) s m = quiet_says s (on_text r (deed.Test mask t) (tested r mask) (test_text t s.state) s).0 (text_quiet r (deed.Test mask t) (tested r mask) (tested_quiet r mask) (test_text t s.state) s)
 deed_says es r (deed.Program t) s m =
     ap (map word) (by_text r (deed.Program t) (program_text t s.state) s)
     ∙ map-append word (filter is_no_answer s.notes) (map (note_about r NoAnswer) (act_asks (deed.Program t) s.state))
     ∙ ap (λ words. no_answers s ++ words) (words_are r (act_asks (deed.Program t) s.state))
 deed_says es r (deed.Import i) s m =
-    quiet_says s _ (imported_quiet es r (deed.Import i) i s m)
+    quiet_says s (imported es r (deed.Import i) i s).0 (imported_quiet es r (deed.Import i) i s m)
     ∙ ap (λ asked. no_answers s ++ map word_of asked) (sym (ap (λ p. import_asks p i s.state) m))
 
 act_says : (es : List Entry) (r : Rule) (act : Act) (s : Scene) → s.state.event.profile ≡ Manual → Says s (act_asks act.deed s.state) (act_step es r act s).0

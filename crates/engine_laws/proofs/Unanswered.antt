@@ -118,13 +118,13 @@ module _ (event : EventValue) where
   unfolding rules_ask
   rules_fine es sought [] s e = refl
   rules_fine es sought (r ∷ rs) s e =
-      by (is_passed sought r) (rules_fine es sought rs s e)
+      by _ _ (is_passed sought r) (rules_fine es sought rs s e)
       (both_fine (rule_asks es r s) (rules_ask es (sought_after (apply es r s).1 r) rs (apply es r s).0) (rule_fine es r s e)
       (rules_fine es (sought_after (apply es r s).1 r) rs (apply es r s).0 (event_stays es r s ∙ e)))
     where
-      by : {xs ys : List Text} (p : Bool) → list_all is_fine xs ≡ true → list_all is_fine ys ≡ true → list_all is_fine (cond p xs ys) ≡ true
-      by true h k = h
-      by false h k = k
+      by : (xs ys : List Text) (p : Bool) → list_all is_fine xs ≡ true → list_all is_fine ys ≡ true → list_all is_fine (cond p xs ys) ≡ true
+      by xs ys true h k = h
+      by xs ys false h k = k
 
 one_more : (p : Text → Bool) (texts : List Text) (text : Text) → list_all p texts ≡ true → p text ≡ true → list_all p (with_text texts text) ≡ true
 one_more p texts text h k = by (is_among texts text)

@@ -62,7 +62,7 @@ _devdry() {
         verify) suffix=.rules options='-r --root --all --format --ignore --no-summary --no-style --lint --udev --users --groups -h --help -V --version' ;;
         query) suffix=.hwdb options='-r --root --sources --index -h --help -V --version' ;;
         update) suffix=.hwdb options='-r --root -s --strict --all --format --ignore -h --help -V --version' ;;
-        events) suffix=.rules options='-r --root --sources --why --index --udev -h --help -V --version' ;;
+        events) suffix=.rules options='-r --root --sources --why --questions --index --udev -h --help -V --version' ;;
         files) suffix='' options='-r --root -h --help -V --version' ;;
         compare) suffix='' options='--index --udev -h --help -V --version' ;;
         explain) suffix='' options='-h --help -V --version' ;;

@@ -36,5 +36,6 @@ complete -c devdry -n '__fish_seen_subcommand_from verify events' -k -a '(__fish
 
 complete -c devdry -n '__fish_seen_subcommand_from query events' -l sources -d 'Say where each line comes from'
 complete -c devdry -n '__fish_seen_subcommand_from events' -l why -r -k -a '(__fish_complete_suffix .rules)' -d 'Say what the rules of this file, or the one of this line, met'
+complete -c devdry -n '__fish_seen_subcommand_from events' -l questions -d 'Print the commands that the blocks do not answer, in place of answers'
 complete -c devdry -n '__fish_seen_subcommand_from update' -s s -l strict -d 'Exit with status 1 if there is a message'
 complete -c devdry -n '__fish_seen_subcommand_from query update' -k -a '(__fish_complete_suffix .hwdb)'

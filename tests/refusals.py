@@ -272,6 +272,9 @@ ROWS = [
         "both, over two blocks", ["events", "-r", ".", "--why", "w.rules", "--sources", "w.rules"], TOLD_FILES, TOLD + "\n" + TOLD,
         (TOLD_SOURCES + TOLD_WHY + "\n") * 2, TOLD_MESSAGE),
     Row(
+        "what rules ask", ["events", "-r", ".", "--questions", "w.rules"], TOLD_FILES, TOLD.replace("Q: /bin/id sda\nR: 0 ab cd\n", "") + "\n" + TOLD,
+        "event add /a/sda\nQ: /bin/id sda\n\nevent add /a/sda\n\n", TOLD_MESSAGE),
+    Row(
         "a line that no rule has", ["events", "-r", ".", "--why", "w.rules:9", "w.rules"], TOLD_FILES, TOLD, "", TOLD_MESSAGE,
         "devdry: --why w.rules:9: no such rule, the nearest is w.rules:5\n", 2),
     Row(

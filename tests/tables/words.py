@@ -114,6 +114,7 @@ Options:
   -r, --root <DIR>         Folder to put before each folder that is read
       --sources            Say where each line comes from
       --why <FILE[:LINE]>  Say what the rules of this file, or the one of this line, met
+      --questions          Print the commands that the blocks do not answer, in place of answers
       --index <FILE>       Index to read in place of the database's folders
       --udev               Read and evaluate rules as udev itself does
   -h, --help               Print help
@@ -181,6 +182,14 @@ TWO_DATABASES = """\
 error: the argument '--index <FILE>' cannot be used with '[FILE]...'
 
 Usage: devdry query --index <FILE> <MODALIAS>
+
+For more information, try '--help'.
+"""
+
+TWO_ANSWERS = """\
+error: the argument '--questions' cannot be used with '--sources' or '--why <FILE[:LINE]>'
+
+Usage: devdry events --questions [FILE]...
 
 For more information, try '--help'.
 """
@@ -269,6 +278,11 @@ NOT_UNDERSTOOD = [
     ("query m --why a.rules", "error: unexpected argument '--why' found\n"),
     ("events --sources --sources", "error: the argument '--sources' cannot be used multiple times\n"),
     ("events --why", "error: a value is required for '--why <FILE[:LINE]>' but none was supplied\n"),
+    ("verify --questions a.rules", "error: unexpected argument '--questions' found\n"),
+    ("compare --questions a b", "error: unexpected argument '--questions' found\n"),
+    ("events --questions --questions", "error: the argument '--questions' cannot be used multiple times\n"),
+    ("events --questions --sources", TWO_ANSWERS),
+    ("events a.rules --why a.rules --udev --questions", TWO_ANSWERS),
     ("query m --strict", "error: unexpected argument '--strict' found\n"),
     ("update --index a.index", "error: unexpected argument '--index' found\n"),
     ("update -s -s", "error: the argument '--strict' cannot be used multiple times\n"),

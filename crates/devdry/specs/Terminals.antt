@@ -26,6 +26,7 @@ shown_line colors line = record {
   strict = line.strict;
   sources = line.sources;
   why = line.why;
+  questions = line.questions;
   modalias = line.modalias;
   summary = line.summary;
   style = line.style;

@@ -12,7 +12,7 @@ use Rattle.devdry_words.specs.Commands.{devdry}
 use Rattle.engine_ends.specs.declared.line.Format.{Format}
 use Rattle.engine_ends.specs.declared.line.Format.TheVariants.{Plain, Gcc, Github, Gitlab, Json, Human, HumanInColor}
 use Rattle.devdry_words.specs.declared.refusals.Refusal.{Refusal}
-use Rattle.devdry_words.specs.declared.refusals.Refusal.TheVariants.{TwoDatabases, EmptyRoot, EmptySide, NoUdev, UnknownFormat, UnknownPart}
+use Rattle.devdry_words.specs.declared.refusals.Refusal.TheVariants.{TwoDatabases, TwoAnswers, EmptyRoot, EmptySide, NoUdev, UnknownFormat, UnknownPart}
 use Rattle.devdry_words.specs.Lines.{format_name, format_named, format_of, profile_of}
 use Rattle.text_bytes.specs.Texts.{split_once}
 use Rattle.text_bytes.specs.declared.profile.Profile.{Profile}
@@ -150,6 +150,15 @@ format_of_events : fault_of devdry (codes "events" ∷ codes "--format" ∷ code
 unfolding clap_on_literals devdry
 format_of_events = refl
 
+questions_are_asked : option_map {U = Bool × (Profile × List Text)} (λ p. (is_set (codes "questions") p.1, (profile_of p.1, texts_of (codes "FILE") p.1))) (subcommand_of devdry (codes "events" ∷ codes "--questions" ∷ codes "--udev" ∷ codes "a.rules" ∷ []))
+    ≡ Some (true, (Udev, codes "a.rules" ∷ []))
+unfolding clap_on_literals devdry
+questions_are_asked = refl
+
+questions_of_compare : fault_of devdry (codes "compare" ∷ codes "--questions" ∷ codes "/old" ∷ codes "/new" ∷ []) ≡ kind.UnknownArgument ∷ []
+unfolding clap_on_literals devdry
+questions_of_compare = refl
+
 -- what is refused of words that clap takes
 abbrev refused : List Text → Option (Option Refusal)
 refused words = option_map (λ p. refusal_of p.0 p.1) (subcommand_of devdry words)
@@ -157,6 +166,18 @@ refused words = option_map (λ p. refusal_of p.0 p.1) (subcommand_of devdry word
 two_databases_are_refused : refused (codes "query" ∷ codes "--index=a" ∷ codes "m" ∷ codes "b" ∷ []) ≡ Some (Some TwoDatabases)
 unfolding clap_on_literals devdry
 two_databases_are_refused = refl
+
+questions_with_sources_are_refused : refused (codes "events" ∷ codes "--questions" ∷ codes "--sources" ∷ []) ≡ Some (Some TwoAnswers)
+unfolding clap_on_literals devdry
+questions_with_sources_are_refused = refl
+
+questions_with_a_reason_are_refused : refused (codes "events" ∷ codes "--why=a.rules" ∷ codes "--questions" ∷ []) ≡ Some (Some TwoAnswers)
+unfolding clap_on_literals devdry
+questions_with_a_reason_are_refused = refl
+
+questions_alone_are_taken : refused (codes "events" ∷ codes "--questions" ∷ codes "--udev" ∷ []) ≡ Some None
+unfolding clap_on_literals devdry
+questions_alone_are_taken = refl
 
 empty_root_is_refused : refused (codes "verify" ∷ codes "--all" ∷ codes "-r" ∷ [] ∷ []) ≡ Some (Some EmptyRoot)
 unfolding clap_on_literals devdry

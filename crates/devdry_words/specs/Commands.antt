@@ -38,6 +38,10 @@ sources_rule = flag_rule (codes "sources")
 abbrev pub why_rule : Rule
 why_rule = record (new_rule (codes "why")) { long = Some (codes "why"); action = Some Append; value_names = 1 }
 
+-- `--questions`
+abbrev pub questions_rule : Rule
+questions_rule = flag_rule (codes "questions")
+
 -- `--index FILE`
 abbrev pub index_rule : Rule
 index_rule = record (new_rule (codes "index")) { long = Some (codes "index"); value_names = 1 }
@@ -119,10 +123,10 @@ verify_shape = with_rules (codes "verify")
     (root_rule ∷ all_rule ∷ format_rule ∷ ignore_rule ∷ no_summary_rule ∷ no_style_rule ∷ lint_rule ∷ udev_rule
     ∷ accounts_rule (codes "users") ∷ accounts_rule (codes "groups") ∷ files_rule ∷ [])
 
--- `events [-r DIR] [--sources] [--why FILE[:LINE]].. [--index FILE] [--udev] [FILE]..`
+-- `events [-r DIR] [--sources] [--why FILE[:LINE]].. [--questions] [--index FILE] [--udev] [FILE]..`
 abbrev pub events_shape : Shape
 events_shape = with_rules (codes "events")
-    (root_rule ∷ sources_rule ∷ why_rule ∷ index_rule ∷ udev_rule ∷ files_rule ∷ [])
+    (root_rule ∷ sources_rule ∷ why_rule ∷ questions_rule ∷ index_rule ∷ udev_rule ∷ files_rule ∷ [])
 
 -- `files [-r DIR]`
 abbrev pub files_shape : Shape

@@ -5,13 +5,17 @@ use Rattle.std.specs.Str.{bytes_eq}
 use Rattle.clap.specs.Words.{Row, Text, first_of}
 use Rattle.engine_formats.specs.Codes.{remark_of}
 use Rattle.devdry_words.specs.declared.refusals.Refusal.{Refusal}
-use Rattle.devdry_words.specs.declared.refusals.Refusal.TheVariants.{TwoDatabases, EmptyRoot, EmptySide, NoUdev, UnknownFormat, UnknownPart}
+use Rattle.devdry_words.specs.declared.refusals.Refusal.TheVariants.{TwoDatabases, TwoAnswers, EmptyRoot, EmptySide, NoUdev, UnknownFormat, UnknownPart}
 use Rattle.devdry_words.specs.Lines.{format_of}
 use Rattle.devdry_words.specs.Values.{cut_at_commas, has_value, is_empty_text, is_set, text_of, texts_of}
 
 -- a query names two databases: files and an index
 abbrev pub names_two : Text → List Row → Bool
 names_two name rows = bytes_eq name (codes "query") && (is_some (first_of (codes "index") rows) && has_value (codes "FILE") rows)
+
+-- events are to give questions and are to say more of their answers, which are then not given
+abbrev pub asks_both : List Row → Bool
+asks_both rows = is_set (codes "questions") rows && (is_set (codes "sources") rows || has_value (codes "why") rows)
 
 -- all is asked for, or which files count, below a root that is given and empty
 abbrev pub lacks_root : Text → List Row → Bool
@@ -45,9 +49,10 @@ unknown_value rows = if is_none (format_of rows) then Some UnknownFormat else (i
 -- why the matches of a subcommand are refused, if they are
 abbrev pub refusal_of : Text → List Row → Option Refusal
 refusal_of name rows = if names_two name rows then Some TwoDatabases
+    else (if asks_both rows then Some TwoAnswers
     else (if lacks_root name rows then Some EmptyRoot
     else (if lacks_side rows then Some EmptySide
-    else (if lacks_udev rows then Some NoUdev else unknown_value rows)))
+    else (if lacks_udev rows then Some NoUdev else unknown_value rows))))
 
 -- what is said about a value that its argument does not take, by what comes before and after the value
 abbrev pub invalid_value : Text → Text → Text
@@ -56,6 +61,10 @@ invalid_value value behind = codes "error: invalid value '" ++ value ++ behind
 -- what is said about a query that names two databases
 abbrev pub two_databases : Text
 two_databases = codes "error: the argument '--index <FILE>' cannot be used with '[FILE]...'\n\nUsage: devdry query --index <FILE> <MODALIAS>\n\nFor more information, try '--help'.\n"
+
+-- what is said of questions beside what says more of answers
+abbrev pub two_answers : Text
+two_answers = codes "error: the argument '--questions' cannot be used with '--sources' or '--why <FILE[:LINE]>'\n\nUsage: devdry events --questions [FILE]...\n\nFor more information, try '--help'.\n"
 
 -- what is said about an empty root if all is asked for, or which files count
 abbrev pub empty_root : Text
@@ -84,6 +93,7 @@ not_ignorable = codes "' for '--ignore <CODES>'\n  [possible values: " ++ known_
 -- what is said about matches that are refused
 abbrev pub said_of : Refusal → List Row → Text
 said_of TwoDatabases rows = two_databases
+said_of TwoAnswers rows = two_answers
 said_of EmptyRoot rows = empty_root
 said_of EmptySide rows = empty_side
 said_of NoUdev rows = no_udev

@@ -8,7 +8,7 @@ ghost use Rattle.devdry_words.specs.Commands.{IsCommand, accounts_rule, all_rule
 ghost use Rattle.devdry_words.specs.Commands.{explain_shape, files_rule, files_shape, flag_rule, format_rule};
 ghost use Rattle.devdry_words.specs.Commands.{ignore_rule, index_rule, lint_rule, modalias_rule, new_root_rule};
 ghost use Rattle.devdry_words.specs.Commands.{no_style_rule, no_summary_rule, old_rule, program as program_app};
-ghost use Rattle.devdry_words.specs.Commands.{query_shape, required_rule, root_rule, sources_rule, strict_rule};
+ghost use Rattle.devdry_words.specs.Commands.{query_shape, questions_rule, required_rule, root_rule, sources_rule, strict_rule};
 ghost use Rattle.devdry_words.specs.Commands.{udev_rule, update_shape, verify_shape, why_rule};
 
 use clap::{Arg, ArgAction, Command};
@@ -82,6 +82,16 @@ fn why_option<'a>(alloc: Global) -> Arg<'a>
         .value_name("FILE[:LINE]")
         .action(ArgAction::Append)
         .help("Say what the rules of this file, or the one of this line, met")
+}
+
+fn questions_flag<'a>(alloc: Global) -> Arg<'a>
+    ensures { (rule_of result ≡ questions_rule) × (result.global ≡ false) }
+{
+    flag(
+        alloc,
+        "questions",
+        "Print the commands that the blocks do not answer, in place of answers",
+    )
 }
 
 fn index_option<'a>(alloc: Global) -> Arg<'a>
@@ -275,6 +285,7 @@ fn events_command<'a>(alloc: Global) -> Result<Command<'a>, AllocError>
         .arg(root_option(alloc))?
         .arg(sources_flag(alloc))?
         .arg(why_option(alloc))?
+        .arg(questions_flag(alloc))?
         .arg(index_option(alloc))?
         .arg(udev_flag(alloc, EVALUATE_AS_UDEV))?
         .arg(files_argument(alloc, RULES_FILES))

@@ -73,6 +73,7 @@ pub(crate) fn line_with<'a>(
         strict: is_given(matches, "strict"),
         sources: is_given(matches, "sources"),
         why: texts(alloc, matches, "why")?,
+        questions: is_given(matches, "questions"),
         modalias: text(matches, "MODALIAS"),
         summary: !is_given(matches, "no-summary"),
         style: !is_given(matches, "no-style"),

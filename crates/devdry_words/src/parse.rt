@@ -97,16 +97,16 @@ fn request_of<'a>(alloc: Global, matches: &ArgMatches<'a>) -> Result<Request<'a>
 /// [--udev] [--users FILE] [--groups FILE] [FILE]..`,
 /// `query [-r DIR] [--sources] [--index FILE] MODALIAS [FILE]..`,
 /// `update [-r DIR] [-s] [--all] [--format FORMAT] [--ignore CODES].. [FILE]..`,
-/// `events [-r DIR] [--sources] [--why FILE[:LINE]].. [--index FILE] [--udev] [FILE]..`,
+/// `events [-r DIR] [--sources] [--why FILE[:LINE]].. [--questions] [--index FILE] [--udev] [FILE]..`,
 /// `files [-r DIR]`, `compare [--index FILE] [--udev] OLD NEW` and `explain CODE`.
 ///
-/// `LineFault::Help` is for `--help`, `-h`, `help`, `--version` and `-V`, also after a subcommand, and for
-/// `explain` with a code, whose text is then the section on its message.
-/// `LineFault::Usage` is for anything else that `clap` does not take, also if there are no words at all; for a
-/// `query` with both files and an index; for `--all`, `files` or `compare` with a root that is given and empty; for
-/// `--users` or `--groups` without `--udev`; for an unknown format; for a part of `--ignore` that is neither a code
-/// nor the word `comments`; and for `explain` with an unknown code. `LineFault::Memory` is for an allocation that
-/// was refused.
+/// `LineFault::Help` comes for `--help`, `-h`, `help`, `--version` and `-V`, also after a
+/// subcommand, and for `explain` with a code, whose text is then the section on its message.
+/// `LineFault::Usage` comes for all else that `clap` does not take, no words at all among it; for a
+/// `query` with both files and an index; for `--questions` with `--sources` or `--why`; for `--all`, `files` or `compare` with a root that is given
+/// and empty; for `--users` or `--groups` without `--udev`; for a format that there is not; for a part of `--ignore` that is neither a code nor the
+/// word `comments`; and for `explain` with a code that there is not. `LineFault::Memory` comes where
+/// an allocation was refused.
 pub fn parse_line<'a>(alloc: Global, words: &'a [String]) -> Result<Request<'a>, LineFault>
     // A request is that of the subcommand that the words name, with the values that they give, and nothing of them
     // is refused.

@@ -5,7 +5,7 @@
 ghost use Rattle.std.specs.Prelude.{◌≡◌};
 ghost use Rattle.clap.specs.Words.{found_of, rows_of};
 ghost use Rattle.devdry_words.specs.Answers.{IsUsageOf};
-ghost use Rattle.devdry_words.specs.Refusals.{lacks_root, lacks_side, lacks_udev, names_two, refusal_of, said_of, unknown_value};
+ghost use Rattle.devdry_words.specs.Refusals.{asks_both, lacks_root, lacks_side, lacks_udev, names_two, refusal_of, said_of, unknown_value};
 
 use crate::ignored::{unknown_part, unknown_text};
 use crate::line_reading::format_of;
@@ -18,6 +18,14 @@ use std::alloc::Global;
 const TWO_DATABASES: &str = "error: the argument '--index <FILE>' cannot be used with '[FILE]...'
 
 Usage: devdry query --index <FILE> <MODALIAS>
+
+For more information, try '--help'.
+";
+
+const TWO_ANSWERS: &str =
+    "error: the argument '--questions' cannot be used with '--sources' or '--why <FILE[:LINE]>'
+
+Usage: devdry events --questions [FILE]...
 
 For more information, try '--help'.
 ";
@@ -57,6 +65,8 @@ For more information, try '--help'.
 pub(crate) enum Refusal {
     /// A query names two databases: files and an index.
     TwoDatabases,
+    /// Events are to give questions in place of answers, and are to say more of their answers.
+    TwoAnswers,
     /// All is asked for, or which files count, below a root that is given and empty: so a variable without a value,
     /// as in `-r "$image"`, does not mean the system itself.
     EmptyRoot,
@@ -75,6 +85,13 @@ fn names_two(name: &str, matches: &ArgMatches<'_>) -> bool
     ensures { result ≡ names_two name.now (rows_of (found_of matches.now)) }
 {
     (name == "query") & value(matches, "index").is_some() & has_value(matches, "FILE")
+}
+
+/// Whether matches ask for questions in place of answers, and for more about the answers.
+fn asks_both(matches: &ArgMatches<'_>) -> bool
+    ensures { result ≡ asks_both (rows_of (found_of matches.now)) }
+{
+    is_given(matches, "questions") & (is_given(matches, "sources") | has_value(matches, "why"))
 }
 
 /// Whether the matches of a subcommand ask for all, or which files count, below a root that is given and empty.
@@ -118,6 +135,8 @@ pub(crate) fn refusal_of(name: &str, matches: &ArgMatches<'_>) -> Option<Refusal
 {
     if names_two(name, matches) {
         Some(Refusal::TwoDatabases)
+    } else if asks_both(matches) {
+        Some(Refusal::TwoAnswers)
     } else if lacks_root(name, matches) {
         Some(Refusal::EmptyRoot)
     } else if lacks_side(matches) {
@@ -135,6 +154,7 @@ pub(crate) fn usage_of(alloc: Global, refusal: Refusal, matches: &ArgMatches<'_>
 {
     match refusal {
         Refusal::TwoDatabases => usage(alloc, TWO_DATABASES),
+        Refusal::TwoAnswers => usage(alloc, TWO_ANSWERS),
         Refusal::EmptyRoot => usage(alloc, EMPTY_ROOT),
         Refusal::EmptySide => usage(alloc, EMPTY_SIDE),
         Refusal::NoUdev => usage(alloc, NO_UDEV),

@@ -1,7 +1,8 @@
 -- From the steps of a run to what it serves.
-use Rattle.std.proofs.Common.{◌≡◌, ℕ, Bool, true, false, cond, List, inl, inr, refl, ap, subst, sym, Option, Result, Ok, Err}
+use Rattle.std.proofs.Common.{◌≡◌, ◌∙◌, ℕ, Bool, true, false, cond, List, inl, inr, refl, ap, subst, sym, Option, Result, Ok, Err}
 use Rattle.text_bytes.specs.declared.source_file.SourceFile.{SourceFile}
 use Rattle.text_tables.specs.Texts.{Text}
+use Rattle.device_core.specs.Values.{EventValue}
 use Rattle.engine_ends.specs.declared.line.Line.{Line}
 use Rattle.engine_ends.specs.Streams.{Streams, outputs}
 use Rattle.engine_ends.specs.Delivery.{Outcome, Delivers, Tells, TellsFaults, out_of_memory}
@@ -19,8 +20,8 @@ use Rattle.engine_reports.specs.declared.refusal.Refusal.TheVariants.{TooManyEnt
 use Rattle.engine_sessions.specs.Serves.{AnswersAll, Serves}
 use Rattle.engine_sessions.specs.Sessions.{answers_as}
 use Rattle.engine_sessions.proofs.Serving.{answers_serve, reports_serve}
-use Rattle.engine_core.specs.Answering.{answer_by}
-use Rattle.engine_core.specs.Outcomes.{answer_with, asked_of, asks_more, before_input, outcome_as, outcome_by, tables_of, told_of}
+use Rattle.engine_core.specs.Answering.{TablesValue, answer_by, questions_by}
+use Rattle.engine_core.specs.Outcomes.{answer_by_line, answer_with, asked_of, asks_more, before_input, outcome_as, outcome_by, tables_of, told_of}
 use Rattle.engine_core.specs.Runs.{RunsAs, RunsBy}
 use Rattle.engine_core.specs.Told.{ToldValue, told_by}
 
@@ -59,12 +60,26 @@ asked_refused TooManyRules why opened is = ap (asked_of why) is
 asked_refused (Index fault) why opened is = ap (asked_of why) is
 asked_refused Memory why opened is = tt
 
+-- events that are answered by what the line asks for are answered as it asks
+answered_runs : (line : Line) (opening : OpeningValue) (messages : Text) (answer : EventValue → Text) (status : ℕ) (before now : Streams) → messages ≡ opening.messages → answer ≡ answer_by_line line opening
+    → AnswersAll messages (answers_as line.profile answer) status before now → AnswersAll opening.messages (answer_with line opening) status before now
+answered_runs line opening messages answer status before now m a h =
+    subst (λ u. AnswersAll u (answer_with line opening) status before now) m (subst (λ (f : EventValue → Text). AnswersAll messages (answers_as line.profile f) status before now) a h)
+
+-- a line that asks for questions is answered with these
+pub asked_runs : (line : Line) (opening : OpeningValue) (messages : Text) (tables : TablesValue) (status : ℕ) (before now : Streams) → line.questions ≡ true → messages ≡ opening.messages → tables ≡ tables_of opening
+    → AnswersAll messages (answers_as line.profile (questions_by tables)) status before now → AnswersAll opening.messages (answer_with line opening) status before now
+asked_runs line opening messages tables status before now q m t h =
+    let other : EventValue → Text = cond (asks_more line) (told_by (told_of line opening)) (answer_by (tables_of opening)) in
+    answered_runs line opening messages (questions_by tables) status before now m
+    (ap questions_by t ∙ ap (λ b. cond b (questions_by (tables_of opening)) other) (sym q)) h
+
 -- a line that asks for more is answered with that
-pub told_runs : (line : Line) (opening : OpeningValue) (messages : Text) (tables : ToldValue) (status : ℕ) (before now : Streams) → asks_more line ≡ true → messages ≡ opening.messages → tables ≡ told_of line opening
-    → AnswersAll messages (answers_as line.profile (told_by tables)) status before now → AnswersAll opening.messages (answer_with line opening) status before now
-told_runs line opening messages tables status before now a m t h =
-    let of : AnswersAll messages (answers_as line.profile (told_by (told_of line opening))) status before now =
-    subst (λ u. AnswersAll messages (answers_as line.profile (told_by u)) status before now) t h in
-    let told : AnswersAll opening.messages (answers_as line.profile (told_by (told_of line opening))) status before now =
-    subst (λ u. AnswersAll u (answers_as line.profile (told_by (told_of line opening))) status before now) m of in
-    subst (λ b. AnswersAll opening.messages (cond b (answers_as line.profile (told_by (told_of line opening))) (answers_as line.profile (answer_by (tables_of opening)))) status before now) (sym a) told
+pub told_runs : (line : Line) (opening : OpeningValue) (messages : Text) (tables : ToldValue) (status : ℕ) (before now : Streams) → line.questions ≡ false → asks_more line ≡ true → messages ≡ opening.messages
+    → tables ≡ told_of line opening → AnswersAll messages (answers_as line.profile (told_by tables)) status before now → AnswersAll opening.messages (answer_with line opening) status before now
+told_runs line opening messages tables status before now q a m t h =
+    let asked : EventValue → Text = questions_by (tables_of opening) in
+    answered_runs line opening messages (told_by tables) status before now m
+    (ap told_by t
+    ∙ ap (λ b. cond b (told_by (told_of line opening)) (answer_by (tables_of opening))) (sym a)
+    ∙ ap (λ b. cond b asked (cond (asks_more line) (told_by (told_of line opening)) (answer_by (tables_of opening)))) (sym q)) h

@@ -6,6 +6,7 @@ use Rattle.rule_types.specs.Rules.{Rule}
 use Rattle.device_core.specs.Values.{EventValue}
 use Rattle.eval_rules.specs.Outcomes.{outcome}
 use Rattle.engine_answers.specs.Answers.{answer}
+use Rattle.engine_questions.specs.Lines.{question_answer}
 
 -- the rules, and the entries of the database
 pub record TablesValue : Type 0 where
@@ -15,3 +16,7 @@ pub record TablesValue : Type 0 where
 -- the answer to an event: its outcome by these rules and entries, as lines
 abbrev pub answer_by : TablesValue → EventValue → Text
 answer_by tables event = answer event (outcome tables.rules tables.entries event)
+
+-- the answer to an event that says what these rules ask of it, in place of what it comes to
+abbrev pub questions_by : TablesValue → EventValue → Text
+questions_by tables event = question_answer tables.rules tables.entries event

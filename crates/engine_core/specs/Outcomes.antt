@@ -16,7 +16,7 @@ use Rattle.engine_reports.specs.Databases.{database}
 use Rattle.engine_reports.specs.Openings.{OpeningValue, opening}
 use Rattle.engine_reports.specs.Outcomes.{query_over, usage_error}
 use Rattle.engine_courses.specs.Asked.{unknown}
-use Rattle.engine_core.specs.Answering.{TablesValue, answer_by}
+use Rattle.engine_core.specs.Answering.{TablesValue, answer_by, questions_by}
 use Rattle.engine_core.specs.Checking.{update_said, verify_said}
 use Rattle.engine_core.specs.Told.{ToldValue, told_by}
 use Rattle.engine_sessions.specs.Outcomes.{input_outcome}
@@ -38,12 +38,16 @@ told_of line opening = record { sources = line.sources; why = why_of line; messa
 abbrev pub asks_more : Line → Bool
 asks_more line = line.sources || not (vec_len line.why == 0)
 
--- the answer to an event by what an opening has, over which rules are evaluated by the line's profile: only the
--- answer if the line asks for no more
+-- what becomes of an event by what an opening has: where the line asks for questions, what the rules ask of it; else its answer, and
+-- with that what the line asks for beside it
+abbrev pub answer_by_line : Line → OpeningValue → EventValue → Text
+answer_by_line line opening =
+    if line.questions then questions_by (tables_of opening)
+    else (if asks_more line then told_by (told_of line opening) else answer_by (tables_of opening))
+
+-- the same, over which rules are evaluated by the line's profile
 abbrev pub answer_with : Line → OpeningValue → EventValue → Text
-answer_with line opening =
-    if asks_more line then answers_as line.profile (told_by (told_of line opening))
-    else answers_as line.profile (answer_by (tables_of opening))
+answer_with line opening = answers_as line.profile (answer_by_line line opening)
 
 -- an opening, or what is said instead if the line asks for a rule that is not there
 abbrev pub opening_unless : Option Text → OpeningValue → Result OpeningValue Outcome

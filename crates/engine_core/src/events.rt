@@ -1,5 +1,5 @@
 //! `events`: the messages, and then the answers to the blocks of the input.
-ghost use Rattle.std.specs.Prelude.{◌≡◌, Ok, IfOk, IfErr, None, Some, Result};
+ghost use Rattle.std.specs.Prelude.{◌≡◌, true, false, Ok, IfOk, IfErr, None, Some, Result};
 ghost use Rattle.engine_ends.specs.Delivery.{Outcome};
 ghost use Rattle.engine_core.specs.Outcomes.{answer_with, asked_of, why_of};
 ghost use Rattle.engine_core.specs.Runs.{RunsBy};
@@ -8,6 +8,7 @@ ghost use Rattle.engine_reports.specs.Openings.{OpeningValue, opening};
 ghost use Rattle.engine_reports.specs.Reports.{IsRefused, shown_rules};
 ghost use Rattle.engine_sessions.specs.Serves.{AnswersAll};
 
+use crate::asked::AskedTables;
 use crate::tables::Tables;
 use crate::told::ToldTables;
 use engine_courses::first_unknown;
@@ -94,8 +95,8 @@ fn answer_asked<L: Lookup + Drop, R: Source, W: Sink, E: Sink>(
     }
 }
 
-/// Writes the messages and answers the input: by the program of the rules, or, if the line asks for more than the
-/// answers, by the rules as they were read.
+/// Writes the messages and answers the input: with what the rules ask where the line asks for questions,
+/// and else with what they come to.
 fn answer_by_rules<L: Lookup + Drop, R: Source, W: Sink, E: Sink>(
     alloc: Global,
     line: &Line<'_>,
@@ -105,6 +106,49 @@ fn answer_by_rules<L: Lookup + Drop, R: Source, W: Sink, E: Sink>(
     output: &mut W,
     error: &mut E,
 ) -> u8
+    ensures { AnswersAll read.messages.items (answer_with line.now (shown_rules read (L.entries lookup))) result
+        (record { input = R.shown input.old; out = W.shown output.old; err = E.shown error.old })
+        (record { input = R.shown input.new; out = W.shown output.new; err = E.shown error.new }) }
+{
+    if line.questions {
+        ask_by_rules(alloc, line, read, lookup, input, output, error)
+    } else {
+        tell_by_rules(alloc, line, read, lookup, input, output, error)
+    }
+}
+
+/// Writes the messages, and after them what the rules ask of each event of the input.
+fn ask_by_rules<L: Lookup + Drop, R: Source, W: Sink, E: Sink>(
+    alloc: Global,
+    line: &Line<'_>,
+    read: RulesRead,
+    lookup: L,
+    input: &mut R,
+    output: &mut W,
+    error: &mut E,
+) -> u8
+    requires { line.now.questions ≡ true }
+    ensures { AnswersAll read.messages.items (answer_with line.now (shown_rules read (L.entries lookup))) result
+        (record { input = R.shown input.old; out = W.shown output.old; err = E.shown error.old })
+        (record { input = R.shown input.new; out = W.shown output.new; err = E.shown error.new }) }
+{
+    let RulesRead { messages, rules } = read;
+    let tables = AskedTables::new(rules, lookup);
+    answer_behind(alloc, line.profile, &messages, &tables, input, output, error)
+}
+
+/// Writes the messages and answers the input: by the program of the rules, or, if the line asks for more than the
+/// answers, by the rules as they were read.
+fn tell_by_rules<L: Lookup + Drop, R: Source, W: Sink, E: Sink>(
+    alloc: Global,
+    line: &Line<'_>,
+    read: RulesRead,
+    lookup: L,
+    input: &mut R,
+    output: &mut W,
+    error: &mut E,
+) -> u8
+    requires { line.now.questions ≡ false }
     ensures { AnswersAll read.messages.items (answer_with line.now (shown_rules read (L.entries lookup))) result
         (record { input = R.shown input.old; out = W.shown output.old; err = E.shown error.old })
         (record { input = R.shown input.new; out = W.shown output.new; err = E.shown error.new }) }

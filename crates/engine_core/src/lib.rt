@@ -8,12 +8,14 @@
 //! Functions that allocate return `AllocError` when memory runs out.
 #![tactic(auto)]
 
+mod asked;
 mod checking;
 mod events;
 mod serving;
 mod tables;
 mod told;
 
+pub use asked::AskedTables;
 pub use engine_ends::{
     DeviceFault, Format, Line, LineFault, MemorySink, MemorySource, Request, Sink, SinkOver,
     Source, SourceOver, Verb, deliver, hand_on, hand_on_each, tell, tell_in_pieces,

@@ -20,7 +20,8 @@ use text_bytes::SourceFile;
 /// them, written and flushed before the next read; for `update` the index of the database, messages or not,
 /// for `verify`, as in udevadm(8), how many files are bad, and for `events` the answer to each block of
 /// `input`, written and flushed before the next read, with the rule before each line that it comes from
-/// and after the lines what rules met, where `line` asks for that. Where `line` names files of the
+/// and after the lines what rules met, where `line` asks for that, or in place of the answer the commands that rules ask
+/// for and the block does not answer, where it asks for these. Where `line` names files of the
 /// kind that the command reads, those passed in are read in their order, and else those whose names end
 /// in `.hwdb` or `.rules`, of each name the one of least rank, sorted by name. `verify` and `events` read
 /// rules, and `events` evaluates them, by the profile of `line`. Where `index` is passed in, `query` and `events`

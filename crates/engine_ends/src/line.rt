@@ -66,6 +66,8 @@ pub struct Line<'a> {
     pub sources: bool,
     /// The rules for which `events` reports what they met, each as `FILE` or `FILE:LINE`, in the order given.
     pub why: Vec<&'a str>,
+    /// Whether `events` gives, in place of its answers, the commands that rules ask for and the blocks do not answer.
+    pub questions: bool,
     /// The modalias to look up; empty for the other subcommands.
     pub modalias: &'a str,
     /// Whether `verify` counts the files at its end; true for the other subcommands.

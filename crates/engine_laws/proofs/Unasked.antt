@@ -1,11 +1,13 @@
 -- A line that asks for no more than the answers.
 use Rattle.std.proofs.Common.{◌≡◌, ℕ, Bool, false, not, ◌||◌, ◌==◌, cond, List, [], ◌∷◌, length, map, Result, Ok, Err, refl, ap, sym, ◌∙◌, rules, vec_len}
+use Rattle.text_tables.specs.Texts.{Text}
+use Rattle.device_core.specs.Values.{EventValue}
 use Rattle.engine_courses.specs.Asked.{unknown}
 use Rattle.engine_ends.specs.declared.line.Line.{Line}
 use Rattle.engine_ends.specs.Delivery.{Outcome}
 use Rattle.engine_reports.specs.Openings.{OpeningValue}
-use Rattle.engine_core.specs.Answering.{answer_by}
-use Rattle.engine_core.specs.Outcomes.{answer_with, asked_of, tables_of, told_of, why_of}
+use Rattle.engine_core.specs.Answering.{answer_by, questions_by}
+use Rattle.engine_core.specs.Outcomes.{answer_with, asked_of, asks_more, tables_of, told_of, why_of}
 use Rattle.engine_core.specs.Told.{told_by}
 use Rattle.engine_sessions.specs.Sessions.{answers_as}
 
@@ -24,7 +26,12 @@ opened_as_it_is (Err said) = refl
 pub asked_as_it_is : (line : Line) (opened : Result OpeningValue Outcome) → vec_len line.why ≡ 0 → asked_of (why_of line) opened ≡ opened
 asked_as_it_is line opened e = ap (λ why. asked_of why opened) (nothing_asked line e) ∙ opened_as_it_is opened
 
-pub answered_alone : (line : Line) (opened : OpeningValue) → line.sources ≡ false → vec_len line.why ≡ 0 → answer_with line opened ≡ answers_as line.profile (answer_by (tables_of opened))
-answered_alone line opened a b =
-    ap (λ (s : Bool). cond (s || not (vec_len line.why == 0)) (answers_as line.profile (told_by (told_of line opened))) (answers_as line.profile (answer_by (tables_of opened)))) a
-    ∙ ap (λ (n : ℕ). cond (not (n == 0)) (answers_as line.profile (told_by (told_of line opened))) (answers_as line.profile (answer_by (tables_of opened)))) b
+asks_no_more : (line : Line) → line.sources ≡ false → vec_len line.why ≡ 0 → asks_more line ≡ false
+asks_no_more line a b = ap (λ (s : Bool). s || not (vec_len line.why == 0)) a ∙ ap (λ (n : ℕ). not (n == 0)) b
+
+pub answered_alone : (line : Line) (opened : OpeningValue) → line.questions ≡ false → line.sources ≡ false → vec_len line.why ≡ 0 → answer_with line opened ≡ answers_as line.profile (answer_by (tables_of opened))
+answered_alone line opened q a b =
+    let asked : EventValue → Text = questions_by (tables_of opened) in
+    let alone : EventValue → Text = answer_by (tables_of opened) in
+    ap (λ (s : Bool). answers_as line.profile (cond s asked (cond (asks_more line) (told_by (told_of line opened)) alone))) q
+    ∙ ap (λ (s : Bool). answers_as line.profile (cond s (told_by (told_of line opened)) alone)) (asks_no_more line a b)

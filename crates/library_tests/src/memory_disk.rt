@@ -62,6 +62,7 @@ fn read(alloc: Global, root: &str) -> Result<Vec<SourceFile>, ReadFault> {
         strict: false,
         sources: false,
         why: Vec::new(alloc),
+        questions: false,
         modalias: "",
         summary: true,
         style: true,

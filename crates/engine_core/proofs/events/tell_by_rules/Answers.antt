@@ -2,8 +2,8 @@ use Rattle.std.proofs.Common.{rules, ◌≡◌, true}
 use Rattle.engine_reports.specs.Reports.{shown_rules}
 use Rattle.engine_core.specs.Outcomes.{asks_more, told_of}
 use Rattle.engine_core.proofs.Running.{told_runs}
-use Rattle.engine_core.proofs.events.answer_by_rules.Goals as goal
-use Rattle.engine_core.proofs.events.answer_by_rules.Goals.{then-line-via-then-line, then-line-via-else-line+then-not-is_empty}
+use Rattle.engine_core.proofs.events.tell_by_rules.Goals as goal
+use Rattle.engine_core.proofs.events.tell_by_rules.Goals.{then-line-via-then-line, then-line-via-else-line+then-not-is_empty}
 
 pub returns-then-line : goal.returns-then-line
 returns-then-line g c =
@@ -12,4 +12,4 @@ returns-then-line g c =
     elim c.then-line.branch [ then-line-via-then-line w ↦ search rules | then-line-via-else-line+then-not-is_empty w ↦ search rules ] in
     let messages : c.deref-then-line.result.now ≡ c.args.read.messages.items = search rules in
     let tables : c.new-tables.result ≡ told_of c.args.line.now opened = search rules in
-    told_runs c.args.line.now opened c.deref-then-line.result.now c.new-tables.result _ _ _ asks messages tables c.answer_behind.ensures.steps
+    told_runs c.args.line.now opened c.deref-then-line.result.now c.new-tables.result _ _ _ c.requires asks messages tables c.answer_behind.ensures.steps

@@ -7,8 +7,8 @@ pub returns-then-not-is_empty : goal.returns-then-not-is_empty
 unfolding found
 returns-then-not-is_empty g c =
     let hwdb = c.args.hwdb.now in
-    let devices : c.deref.result.now ≡ candidates c.args.state.now = cc in
-    let profile : c.profile-profile.result ≡ c.args.state.now.event.profile = cc in
+    let devices : c.deref.result.now ≡ candidates c.args.state.now = c.deref.ensures.value ∙ c.in_ok-devices.ensures in
+    let profile : c.profile-profile.result ≡ c.args.state.now.event.profile = c.profile-profile.ensures ∙ ap (λ e. e.profile) c.event.ensures in
     let asked = answer (g.L.Lookup.entries c.args.database.now) hwdb in
     first_here asked hwdb.prefix c.deref-modalias-items.result.now c.loop-modalias.modalias-index (record { ref_ptr = (0, 0); now = [] })
     c.in_ok-properties.properties.items _

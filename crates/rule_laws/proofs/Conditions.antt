@@ -1,6 +1,7 @@
 -- The fault of a token is that of the first condition that holds.
 use Rattle.std.specs.Option.{option_and_then}
-use Rattle.std.proofs.Common.{◌≡◌, ℕ, Bool, true, false, List, [], ◌∷◌, Option, Some, None, is_none, Result, Ok, Err, refl}
+use Rattle.std.specs.Result.{result_err}
+use Rattle.std.proofs.Common.{◌≡◌, ℕ, Bool, true, false, List, [], ◌∷◌, Option, Some, None, is_none, is_err, Result, Ok, Err, refl}
 use Rattle.text_bytes.specs.declared.message.MessageKind.TheVariants.{UnknownKey, OperatorNotAllowed, WrongAttribute, BadValue, BadSubstitution, SetNotSupported}
 use Rattle.text_bytes.specs.declared.profile.Profile.TheVariants.{Manual}
 use Rattle.text_core.specs.Choices.{choice, choice_blind}
@@ -25,7 +26,7 @@ use Rattle.rule_types.specs.declared.roles.Role.TheVariants as role
 use Rattle.rule_parts.specs.Options.{option_of}
 use Rattle.rule_parts.specs.Values.{as_choice, as_option, as_template, finding, read_choice, read_name, read_option, read_template}
 use Rattle.rule_parts.specs.Parts.{comparison, ignores_case, if_found, import_by, made, meaning_of, part_by, part_of, value_part}
-use Rattle.rule_laws.specs.Conditions.{FirstFaultCounts, fault_in, first_of, has_bad_substitution, has_class, ignores_in_vain, is_class, is_no_value, is_wrong, some_role}
+use Rattle.rule_laws.specs.Conditions.{FirstFaultCounts, first_of, has_bad_substitution, has_class, ignores_in_vain, is_class, is_no_value, some_role}
 use Rattle.rule_parts.specs.declared.finding.Finding.{Finding}
 use Rattle.rule_types.specs.declared.rule_option.RuleOption.{RuleOption}
 
@@ -34,35 +35,35 @@ abbrev value_conditions : List ℕ → Bool → Bool → Bool → Option Finding
 value_conditions text a b c = first_of ((a, finding SetNotSupported text) ∷ (b, finding BadSubstitution text) ∷ (c, finding BadValue text) ∷ [])
 
 patterns : {A B : Type 0} (f : A → B) (g : List (List Item) → A) (text : List ℕ) (read : Result (List (List Item)) GlobFault)
-    → fault_in (made f (made g (as_choice text read))) ≡ value_conditions text (is_class read) false (is_wrong (made f (made g (as_choice text read))))
+    → result_err (made f (made g (as_choice text read))) ≡ value_conditions text (is_class read) false (is_err (made f (made g (as_choice text read))))
 patterns f g text (Ok c) = refl
 patterns f g text (Err (glob.Class at)) = refl
 patterns f g text (Err glob.TooLong) = refl
 patterns f g text (Err glob.Memory) = refl
 
 substitutions : {B : Type 0} (f : Template → B) (text : List ℕ) (read : Result (List Piece) TemplateFault)
-    → fault_in (made f (as_template text read)) ≡ value_conditions text false (is_wrong read) (is_wrong (made f (as_template text read)))
+    → result_err (made f (as_template text read)) ≡ value_conditions text false (is_err read) (is_err (made f (as_template text read)))
 substitutions f text (Ok pieces) = refl
 substitutions f text (Err fault) = refl
 
 imported : {A B : Type 0} (f : A → B) (g : Template → A) (text : List ℕ) (read : Result (List Piece) TemplateFault)
-    → fault_in (made f (made g (as_template text read))) ≡ value_conditions text false (is_wrong read) (is_wrong (made f (made g (as_template text read))))
+    → result_err (made f (made g (as_template text read))) ≡ value_conditions text false (is_err read) (is_err (made f (made g (as_template text read))))
 imported f g text (Ok pieces) = refl
 imported f g text (Err fault) = refl
 
 options : {B : Type 0} (f : RuleOption → B) (text : List ℕ) (read : Option RuleOption)
-    → fault_in (made f (as_option text read)) ≡ value_conditions text false false (is_wrong (made f (as_option text read)))
+    → result_err (made f (as_option text read)) ≡ value_conditions text false false (is_err (made f (as_option text read)))
 options f text (Some known) = refl
 options f text None = refl
 
-names : {B : Type 0} (f : List ℕ → B) (text : List ℕ) → fault_in (made f (read_name Manual text)) ≡ value_conditions text false false (is_wrong (made f (read_name Manual text)))
+names : {B : Type 0} (f : List ℕ → B) (text : List ℕ) → result_err (made f (read_name Manual text)) ≡ value_conditions text false false (is_err (made f (read_name Manual text)))
 unfolding read_name
 names f [] = refl
 names f (b ∷ text) = refl
 
 -- the fault of a value
 by_value : (r : Role) (blind : Bool) (text : List ℕ)
-    → fault_in (value_part Manual r blind text)
+    → result_err (value_part Manual r blind text)
     ≡ first_of ((ignores_in_vain blind r, finding BadValue text) ∷ (has_class blind text r, finding SetNotSupported text) ∷ (has_bad_substitution text r, finding BadSubstitution text) ∷ (is_no_value blind text r, finding BadValue text) ∷ [])
 unfolding value_part part_by comparison import_by read_choice read_template read_option
 by_value (role.Plain k o) true text = patterns _ _ text (choice_blind text)
@@ -111,18 +112,18 @@ listed word blind text key about r =
     ∷ []
 
 by_operator : (word : List ℕ) (blind : Bool) (text : List ℕ) (key : Key) (about : Topic) (r : Option Role)
-    → fault_in (if_found (finding OperatorNotAllowed word) (λ x. value_part Manual x blind text) r) ≡ first_of (listed word blind text (Some key) (Some about) r)
+    → result_err (if_found (finding OperatorNotAllowed word) (λ x. value_part Manual x blind text) r) ≡ first_of (listed word blind text (Some key) (Some about) r)
 by_operator word blind text key about None = refl
 by_operator word blind text key about (Some r) = by_value r blind text
 
 by_attribute : (word : List ℕ) (blind : Bool) (text : List ℕ) (o : Operator) (key : Key) (about : Option Topic)
-    → fault_in (if_found (finding WrongAttribute word) (λ x. if_found (finding OperatorNotAllowed word) (λ y. value_part Manual y blind text) (role_of x o)) about)
+    → result_err (if_found (finding WrongAttribute word) (λ x. if_found (finding OperatorNotAllowed word) (λ y. value_part Manual y blind text) (role_of x o)) about)
     ≡ first_of (listed word blind text (Some key) about (option_and_then (λ x. role_of x o) about))
 by_attribute word blind text o key None = refl
 by_attribute word blind text o key (Some about) = by_operator word blind text key about (role_of about o)
 
 by_key : (t : Placed) (word : List ℕ) (blind : Bool) (text : List ℕ) (key : Option Key)
-    → fault_in (if_found (finding UnknownKey word) (λ k. if_found (finding WrongAttribute word) (λ x. if_found (finding OperatorNotAllowed word) (λ y. value_part Manual y blind text) (role_of x (read_as k t.parts.head.operator))) (topic_of Manual k t.parts.head.attribute)) key)
+    → result_err (if_found (finding UnknownKey word) (λ k. if_found (finding WrongAttribute word) (λ x. if_found (finding OperatorNotAllowed word) (λ y. value_part Manual y blind text) (role_of x (read_as k t.parts.head.operator))) (topic_of Manual k t.parts.head.attribute)) key)
     ≡ first_of (listed word blind text key (option_and_then (λ k. topic_of Manual k t.parts.head.attribute) key) (option_and_then (λ k. option_and_then (λ x. role_of x (read_as k t.parts.head.operator)) (topic_of Manual k t.parts.head.attribute)) key))
 by_key t word blind text None = refl
 by_key t word blind text (Some key) = by_attribute word blind text (read_as key t.parts.head.operator) key (topic_of Manual key t.parts.head.attribute)

@@ -1,6 +1,7 @@
 -- What may be wrong with a token by the manual, as one list: each condition with its fault.
-use Rattle.std.specs.Prelude.{◌≡◌, ℕ, Bool, true, false, not, ◌&&◌, if◌then◌else◌, List, [], ◌∷◌, Option, Some, None, is_none, Result, Ok, Err}
+use Rattle.std.specs.Prelude.{◌≡◌, ℕ, Bool, true, false, not, ◌&&◌, if◌then◌else◌, List, [], ◌∷◌, Option, Some, None, is_none, is_err, Result, Err}
 use Rattle.std.specs.Option.{option_and_then}
+use Rattle.std.specs.Result.{result_err}
 use Rattle.text_bytes.specs.declared.message.MessageKind.TheVariants.{UnknownKey, OperatorNotAllowed, WrongAttribute, BadValue, BadSubstitution, SetNotSupported}
 use Rattle.text_bytes.specs.declared.profile.Profile.TheVariants.{Manual}
 use Rattle.text_core.specs.Choices.{choice, choice_blind}
@@ -52,11 +53,6 @@ takes_substitutions (role.Set t o) = true
 takes_substitutions (role.Run type o) = true
 takes_substitutions _ = false
 
--- whether a text was not read
-abbrev pub is_wrong : {A E : Type 0} → Result A E → Bool
-is_wrong (Ok x) = false
-is_wrong (Err fault) = true
-
 -- whether a text was not read because a set has a class
 abbrev pub is_class : {A : Type 0} → Result A GlobFault → Bool
 is_class (Err (glob.Class at)) = true
@@ -68,7 +64,7 @@ has_class blind text r = takes_patterns r && is_class (if blind then choice_blin
 
 -- the text has an invalid substitution, if it is read with substitutions
 abbrev pub has_bad_substitution : List ℕ → Role → Bool
-has_bad_substitution text r = takes_substitutions r && is_wrong (templates.pieces_of text)
+has_bad_substitution text r = takes_substitutions r && is_err (templates.pieces_of text)
 
 -- the value asks for its case to be ignored, though it is not that of a match
 abbrev pub ignores_in_vain : Bool → Role → Bool
@@ -76,7 +72,7 @@ ignores_in_vain blind r = blind && not (is_match r)
 
 -- the text is not a value of the role
 abbrev pub is_no_value : Bool → List ℕ → Role → Bool
-is_no_value blind text r = is_wrong (part_by Manual r blind text)
+is_no_value blind text r = is_err (part_by Manual r blind text)
 
 -- the first fault whose condition holds
 abbrev pub first_of : List (Bool × Finding) → Option Finding
@@ -95,11 +91,6 @@ conditions t =
     ∷ (some_role (is_no_value (ignores_case t.parts.quote) (meaning_of t)) (role_in t), finding BadValue (meaning_of t))
     ∷ []
 
--- what is wrong with what was read, if anything is
-abbrev pub fault_in : {A : Type 0} → Result A Finding → Option Finding
-fault_in (Ok x) = None
-fault_in (Err fault) = Some fault
-
 -- a token is a part if no condition holds, and otherwise its fault is that of the first that does
 abbrev pub FirstFaultCounts : Type 0
-FirstFaultCounts = (t : Placed) → fault_in (part_of Manual t) ≡ first_of (conditions t)
+FirstFaultCounts = (t : Placed) → result_err (part_of Manual t) ≡ first_of (conditions t)

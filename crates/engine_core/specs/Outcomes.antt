@@ -38,14 +38,14 @@ told_of line opening = record { sources = line.sources; why = why_of line; messa
 abbrev pub asks_more : Line → Bool
 asks_more line = line.sources || not (vec_len line.why == 0)
 
--- what becomes of an event by what an opening has: where the line asks for questions, what the rules ask of it; else its answer, and
--- with that what the line asks for beside it
+-- the answer to an event by what an opening has: the questions of the rules if the line asks for these, or else what the event comes to,
+-- with what the line asks for beside it
 abbrev pub answer_by_line : Line → OpeningValue → EventValue → Text
 answer_by_line line opening =
     if line.questions then questions_by (tables_of opening)
     else (if asks_more line then told_by (told_of line opening) else answer_by (tables_of opening))
 
--- the same, over which rules are evaluated by the line's profile
+-- the same, with rules evaluated by the line's profile
 abbrev pub answer_with : Line → OpeningValue → EventValue → Text
 answer_with line opening = answers_as line.profile (answer_by_line line opening)
 
@@ -73,14 +73,14 @@ abbrev pub outcome_by : Line → Result OpeningValue Outcome → Text → Outcom
 outcome_by line (Ok opening) input = input_outcome opening.messages (answer_with line opening) input
 outcome_by line (Err said) input = said
 
--- whether a verb is that of `query`
+-- whether a verb is `query`
 abbrev pub is_query : Verb → Bool
 is_query Update = false
 is_query Query = true
 is_query Verify = false
 is_query Events = false
 
--- whether a line looks up the modaliases that its input has, one a line: it is one of `query`, and its modalias is `-`
+-- whether a line looks up the modaliases of its input, one a line: it is a `query` whose modalias is `-`
 abbrev pub reads_modaliases : Line → Bool
 reads_modaliases line = is_query line.verb && bytes_eq line.modalias.now (codes "-")
 

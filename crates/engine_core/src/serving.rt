@@ -12,28 +12,30 @@ use index_reading::{Index, IndexFault};
 use std::alloc::Global;
 use text_bytes::SourceFile;
 
-/// Runs a command over files that were read, writes what it says, and gives the status to exit with.
+/// Runs a command over files that were read, writes what it says, and returns the status to exit with.
 ///
-/// Messages about the files go to `error`, for `verify` and `update` in the format of `line` and without
-/// those that it ignores, for `verify` with lints where `line` asks for them; the answer to `output`: for `query` the lines of the
-/// properties as systemd-hwdb(8) gives them, and where its modalias is `-` those for each line of `input`, with an empty line after
-/// them, written and flushed before the next read; for `update` the index of the database, messages or not,
-/// for `verify`, as in udevadm(8), how many files are bad, and for `events` the answer to each block of
-/// `input`, written and flushed before the next read, with the rule before each line that it comes from
-/// and after the lines what rules met, where `line` asks for that, or in place of the answer the commands that rules ask
-/// for and the block does not answer, where it asks for these. Where `line` names files of the
-/// kind that the command reads, those passed in are read in their order, and else those whose names end
-/// in `.hwdb` or `.rules`, of each name the one of least rank, sorted by name. `verify` and `events` read
-/// rules, and `events` evaluates them, by the profile of `line`. Where `index` is passed in, `query` and `events`
-/// answer from it and read no file of the database. The input is looked at by
-/// `events` and by such a `query` alone.
+/// Messages about the files go to `error`, for `verify` and `update` in the format of `line` and without those that
+/// it ignores, for `verify` with lints if `line` asks for them. The answer goes to `output`:
 ///
-/// The status is 0; 1 where `update` is strict and there is a message, where `verify` finds a bad file, where a block is faulty or a
-/// line of modaliases too long, where the
-/// files hold more than they may, or where `query` or `events` is passed an index that fails a check; 2 where a text
-/// of `ignored` is no
-/// code, and where a text of `why` asks for no rule and for no message's place, and then no input is read; 3 where the input or an output
-/// failed, or the input did not end within 2^48 reads, and only there; 4 where memory ran out. Under 3 all was written and flushed.
+/// - for `query` the lines of the properties, as systemd-hwdb(8) gives them; if its modalias is `-`, those lines and
+///   an empty one for each line of `input`, written and flushed before the next read;
+/// - for `update` the index of the database, whether there are messages or not;
+/// - for `verify`, as in udevadm(8), how many files are bad;
+/// - for `events` the answer to each block of `input`, written and flushed before the next read. If `line` asks for
+///   that, the rule that it comes from is before each line, and what rules met is after the lines. If it asks for
+///   questions, the commands that the rules ask for and the block does not answer are there instead.
+///
+/// If `line` names files of the kind that the command reads, those passed in are read in their order, and otherwise
+/// those whose names end in `.hwdb` or `.rules`, of each name the one of least rank, sorted by name. `verify` and
+/// `events` read rules, and `events` evaluates them, by the profile of `line`. If `index` is passed in, `query` and
+/// `events` answer from it and read no file of the database. Only `events`, and `query` with the modalias `-`, look at
+/// the input.
+///
+/// The status is 0; 1 if `update` is strict and there is a message, if `verify` finds a bad file, if a block is faulty,
+/// if a line of modaliases is too long, if the files hold more than they may, or if `query` or `events` is passed an
+/// index that fails a check; 2 if a text of `why` asks for neither a rule nor a message's place, and then no input is
+/// read; 3 if the input or an output failed, or the input did not end within 2^48 reads, and only then; 4 if memory ran
+/// out. Under 3 all was written and flushed.
 pub fn serve<R: Source, W: Sink, E: Sink>(
     alloc: Global,
     line: &Line<'_>,

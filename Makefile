@@ -1,7 +1,7 @@
 # Builds, checks, installs and packs devdry.
 #
 # Only a proved program is built, so the first `make` proves every crate that it stands on, which
-# takes an hour on four processors; after a change what changed is proved again, and what stands on it.
+# takes more than an hour on four processors; after a change what changed is proved again, and what stands on it.
 # Crates that don't stand on one another are proved side by side: `make JOBS=1` proves them one behind
 # another, where memory is short.
 

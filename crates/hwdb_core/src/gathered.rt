@@ -3,7 +3,7 @@
 //! Nothing is kept that exceeds a bound, so that the bounds hold for each value here. If just one modalias is asked
 //! for, entries that it does not fit are counted but not kept.
 
-ghost use Rattle.std.specs.Prelude.{◌≡◌, ◌≤◌, ◌<◌, ◌+◌, ◌⊎◌, ◌∷◌, [], OnOk, OnErr};
+ghost use Rattle.std.specs.Prelude.{◌≡◌, ◌≤◌, ◌<◌, ◌+◌, ◌⊎◌, ◌∷◌, [], IfOk, OnOk, OnErr};
 ghost use Rattle.hwdb_lookup.specs.Bounds.{max_entries, max_text_bytes};
 ghost use Rattle.text_bytes.specs.Messages.{capped, message};
 ghost use Rattle.hwdb_core.specs.Ruling.{passes_over};
@@ -12,11 +12,11 @@ ghost use Rattle.hwdb_core.specs.Found.{Adds, IsKept, begun, counts, one_more, o
 use crate::fault::HwdbFault;
 use crate::paragraph::Pair;
 use crate::ruling::is_ruled_out;
-use hwdb_lookup::{Entry, MAX_ENTRIES, MAX_MATCH_BYTES, MAX_TEXT_BYTES};
+use hwdb_lookup::{Entry, MAX_ENTRIES, MAX_MATCH_BYTES, MAX_TEXT_BYTES, SharedBytes};
 use std::alloc::{AllocError, Global};
 use std::marker::Model;
 use text_bytes::{Bytes, Message, MessageKind, capped};
-use text_core::Pattern;
+use text_core::PackedPattern;
 
 /// Entries and messages, in order.
 #[derive(Debug, Drop)]
@@ -64,7 +64,7 @@ impl Gathered {
     }
 
     /// Whether entries of a pattern count.
-    fn counts(&self, pattern: &Pattern) -> bool
+    fn counts(&self, pattern: &PackedPattern) -> bool
         ensures { result ≡ counts self.now.wanted pattern.now }
     {
         match &self.wanted {
@@ -134,12 +134,32 @@ impl Gathered {
         Ok(())
     }
 
+    /// A key, shared with the last entry if that has the same.
+    fn key_of(&self, alloc: Global, key: &[u8]) -> Result<SharedBytes, AllocError>
+        ensures { IfOk result (λ b. b ≡ key.now) }
+    {
+        match self.entries.last() {
+            Some(last) if last.key.as_slice() == key => last.key.share(),
+            _ => SharedBytes::copy_of(alloc, key),
+        }
+    }
+
+    /// The name of a file, shared with the last entry if that is of the same file.
+    fn file_of(&self, alloc: Global, file: &[u8]) -> Result<SharedBytes, AllocError>
+        ensures { IfOk result (λ b. b ≡ file.now) }
+    {
+        match self.entries.last() {
+            Some(last) if last.file.as_slice() == file => last.file.share(),
+            _ => SharedBytes::copy_of(alloc, file),
+        }
+    }
+
     /// Adds an entry, which takes the pattern, unless it does not count.
     pub fn add_entry(
         &mut self,
         alloc: Global,
         file: &[u8],
-        pattern: Pattern,
+        pattern: PackedPattern,
         number: usize,
         pair: &Pair<'_>,
     ) -> Result<(), HwdbFault>
@@ -152,10 +172,10 @@ impl Gathered {
         }
         let entry = Entry {
             pattern,
-            key: Bytes::copy_of(alloc, pair.key)?,
+            key: self.key_of(alloc, pair.key)?,
             value: Bytes::copy_of(alloc, pair.value)?,
             order: order as u32,
-            file: Bytes::copy_of(alloc, file)?,
+            file: self.file_of(alloc, file)?,
             line: capped(number),
         };
         self.keep(entry)?;

@@ -18,7 +18,7 @@ use crate::lines::{cleaned, is_comment, property_text};
 use crate::paragraph::{pair_of, parts_of};
 use std::alloc::Global;
 use text_bytes::{Line, Lines, MessageKind, SourceFile};
-use text_core::{GlobFault, Pattern};
+use text_core::{GlobFault, PackedPattern};
 
 /// Reads a file.
 pub fn read_file(alloc: Global, found: &mut Gathered, file: &SourceFile) -> Result<(), HwdbFault>
@@ -122,7 +122,7 @@ fn read_match(
     if found.passes_over(line.text()) {
         return pass_over(found, line, properties);
     }
-    match Pattern::read(alloc, line.text()) {
+    match PackedPattern::read(alloc, line.text()) {
         Ok(pattern) => {
             found.count_match(used_len(line, properties))?;
             read_pairs(alloc, found, file, pattern, properties)
@@ -175,7 +175,7 @@ fn read_pairs(
     alloc: Global,
     found: &mut Gathered,
     file: &[u8],
-    pattern: Pattern,
+    pattern: PackedPattern,
     properties: &[Line<'_>],
 ) -> Result<(), HwdbFault>
     ensures { Adds found.old found.new (found_in (pair_found file.now pattern) properties.now) result }
@@ -194,7 +194,7 @@ fn read_copies(
     alloc: Global,
     found: &mut Gathered,
     file: &[u8],
-    pattern: &Pattern,
+    pattern: &PackedPattern,
     properties: &[Line<'_>],
 ) -> Result<(), HwdbFault>
     ensures { Adds found.old found.new (found_in (pair_found file.now pattern.now) properties.now) result }
@@ -211,7 +211,7 @@ fn read_pair(
     alloc: Global,
     found: &mut Gathered,
     file: &[u8],
-    pattern: Pattern,
+    pattern: PackedPattern,
     line: &Line<'_>,
 ) -> Result<(), HwdbFault>
     ensures { Adds found.old found.new (pair_found file.now pattern line.now) result }

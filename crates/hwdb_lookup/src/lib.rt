@@ -13,6 +13,7 @@ mod law;
 mod lookup;
 mod order;
 mod plain;
+mod shared;
 mod winners;
 
 pub use bounds::{MAX_ENTRIES, MAX_MATCH_BYTES, MAX_NAME_BYTES, MAX_TEXT_BYTES};
@@ -22,3 +23,4 @@ pub use law::winners_are_the_answer;
 pub use lookup::{Lookup, Sourced};
 pub use order::rising;
 pub use plain::PlainDb;
+pub use shared::SharedBytes;

@@ -1,11 +1,11 @@
 //! Entries in a list, in a trie and in an index: what their calls return besides the properties that are found.
-use hwdb_lookup::{Entry, Lookup, PlainDb, Sourced, rising};
+use hwdb_lookup::{Entry, Lookup, PlainDb, SharedBytes, Sourced, rising};
 use index_reading::{Header, NodeRecord, Places, Span, ValueRecord, check, kinds};
 use std::alloc::{AllocError, Global};
 use std::cmp::Ordering;
 use std::test::Fail;
-use text_core::{Bytes, Item, Pattern};
-use trie_build::{compare, compare_labels};
+use text_core::{Bytes, Item, PackedPattern};
+use trie_build::{compare_from, compare_labels};
 use trie_core::{Index, Nodes, Trie, write_index};
 
 /// The index of `a*` with ` K=V`, from line 2 of t.hwdb, as docs/format.md prints it.
@@ -28,15 +28,21 @@ const HEADER: Header = Header {
 /// A property: its pattern, its key and its value.
 type Property<'a> = (&'a [u8], &'a [u8], &'a [u8]);
 
+/// A pattern as an entry holds it.
+fn packed(alloc: Global, text: &[u8]) -> Result<PackedPattern, Fail> {
+    let pattern = PackedPattern::read(alloc, text).map_err(|_fault| "no pattern")?;
+    Ok(pattern)
+}
+
 /// The entry of a property in t.hwdb, whose line is its order.
 fn entry(alloc: Global, property: Property<'_>, order: u32) -> Result<Entry, Fail> {
     let (pattern, key, value) = property;
     Ok(Entry {
-        pattern: Pattern::read(alloc, pattern).map_err(|_fault| "no pattern")?,
-        key: Bytes::copy_of(alloc, key)?,
+        pattern: packed(alloc, pattern)?,
+        key: SharedBytes::copy_of(alloc, key)?,
         value: Bytes::copy_of(alloc, value)?,
         order,
-        file: Bytes::copy_of(alloc, b"t.hwdb")?,
+        file: SharedBytes::copy_of(alloc, b"t.hwdb")?,
         line: order,
     })
 }
@@ -130,10 +136,11 @@ fn entries_rise_by_their_orders_and_have_keys(rt: HostRuntime) -> Result<(), Fai
 
 #[test]
 fn bytes_stand_before_stars(rt: HostRuntime) -> Result<(), Fail> {
-    let byte = [Item::Byte(255)];
-    let star = [Item::Many, Item::One];
-    assert_eq!(rt; compare(&byte, &star), Ordering::Less);
-    assert_eq!(rt; compare(&star, &star[..1]), Ordering::Greater);
+    let byte = packed(rt.alloc(), b"\xff")?;
+    let star = packed(rt.alloc(), b"*?")?;
+    let alone = packed(rt.alloc(), b"*")?;
+    assert_eq!(rt; compare_from(&byte, 0, &star, 0), Ordering::Less);
+    assert_eq!(rt; compare_from(&star, 0, &alone, 0), Ordering::Greater);
     assert_eq!(rt; compare_labels(&Item::Many, &Item::One), Ordering::Greater);
     Ok(())
 }

@@ -3,7 +3,7 @@ use indexmap::{IndexMap, IndexSet};
 use std::alloc::{AllocError, Global};
 use std::test::Fail;
 use text_bytes::{Bytes, capped};
-use text_core::{Choice, GlobFault, Item, Pattern};
+use text_core::{Choice, GlobFault, Item, PackedPattern, Pattern};
 use text_tables::{OwnedPairs, OwnedTexts, Pairs, Table, Texts};
 
 /// Whether a pattern has this fault.
@@ -48,6 +48,21 @@ fn a_pattern_lends_its_items_and_is_copied(rt: HostRuntime) -> Result<(), Fail> 
     let copy = pattern.copy(rt.alloc())?;
     assert!(rt; copy.fits(b"mouse:usb:name:My TrackBall:x"));
     assert!(rt; !copy.fits(b"mouse:usb:name:My Mouse:x"));
+    Ok(())
+}
+
+#[test]
+fn a_pattern_is_packed(rt: HostRuntime) -> Result<(), Fail> {
+    for text in [TRACKBALL, b"mouse:*:name:*rack?all*:*"] {
+        let pattern = Pattern::read(rt.alloc(), text)?;
+        let packed = PackedPattern::read(rt.alloc(), text)?;
+        for at in 0..packed.len() {
+            assert!(rt; pattern.items().get(at) == Some(&packed.item(at)));
+        }
+        let copy = packed.copy(rt.alloc())?;
+        assert!(rt; copy.fits(b"mouse:usb:name:My TrackBall:x"));
+        assert!(rt; !copy.fits(b"mouse:usb:name:My Mouse:x"));
+    }
     Ok(())
 }
 

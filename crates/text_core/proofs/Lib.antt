@@ -7,3 +7,4 @@ pub mod Closing
 pub mod Fnmatching
 pub mod Tables
 pub mod Reaching
+pub mod Packing

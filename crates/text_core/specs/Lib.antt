@@ -9,3 +9,4 @@ pub mod Classes
 pub mod Elements
 pub mod Brackets
 pub mod Fnmatch
+pub mod Packed

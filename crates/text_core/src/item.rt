@@ -5,6 +5,7 @@ ghost use Rattle.std.specs.Prelude.{◌≡◌};
 ghost use Rattle.text_core.specs.Items.{takes};
 
 use crate::byte_set::ByteSet;
+use crate::glob::AsItem;
 
 /// One item of a pattern, as hwdb(7) and udev(7) name them.
 #[derive(Clone, Copy, Debug, PartialEq, Eq)]
@@ -30,5 +31,17 @@ impl Item {
             Item::Many => false,
             Item::Among(set) => set.has(byte),
         }
+    }
+}
+
+impl AsItem for Item {
+    ghost item = { λ x. x };
+
+    fn is_many(&self) -> bool {
+        matches!(self, Item::Many)
+    }
+
+    fn takes(&self, byte: u8) -> bool {
+        self.takes(byte)
     }
 }

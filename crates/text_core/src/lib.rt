@@ -17,6 +17,7 @@ mod glob;
 mod glob_fault;
 mod item;
 mod one_pattern;
+mod packed;
 mod pattern;
 mod reading;
 mod sets;
@@ -27,6 +28,7 @@ pub use byte_set::ByteSet;
 pub use choice::Choice;
 pub use glob_fault::GlobFault;
 pub use item::Item;
+pub use packed::PackedPattern;
 pub use pattern::Pattern;
 pub use reading::Reading;
 pub use text_bytes::{

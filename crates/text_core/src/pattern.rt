@@ -1,8 +1,7 @@
 //! Patterns, as udev(7) and hwdb(7) describe them for matching.
 //!
-//! A pattern is read once and matched often, so it holds its items ready, each set as bits, and with just the
-//! capacity that they need: a database has more than a hundred thousand. Copies share the items, since each
-//! property of a match has one.
+//! A pattern is read once and matched often, so it holds its items ready, each set as bits, and in
+//! just the room that they need. Copies share the items.
 ghost use Rattle.std.specs.Prelude.{◌≡◌, ◌≢◌, ◌+◌, ◌<◌, ◌^◌, length, Ok, Err, IfOk, IsErrOf, MatchResult};
 ghost use Rattle.text_core.specs.Fits.{fits};
 ghost use Rattle.text_core.specs.Spell.{items_at, max_len, spell};
@@ -104,6 +103,6 @@ impl Pattern {
     pub fn fits(&self, text: &[u8]) -> bool
         ensures { result ≡ fits self.now text.now }
     {
-        glob::fits(&self.items, text)
+        glob::fits(self.items.as_slice(), text)
     }
 }

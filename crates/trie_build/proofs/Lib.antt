@@ -15,3 +15,4 @@ pub mod Answering
 pub mod Fronting
 pub mod Splitting
 pub mod Bounding
+pub mod Places

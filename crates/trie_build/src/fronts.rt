@@ -2,11 +2,11 @@
 //!
 //! Most patterns differ in their first labels, and a row that holds a byte for each of these is compared without a
 //! look at its pattern, which is elsewhere in memory.
-ghost use Rattle.std.specs.Prelude.{◌≡◌, ◌<◌, IfSome, OnSome};
+ghost use Rattle.std.specs.Prelude.{◌≡◌, ◌<◌, ◌≤◌, IfSome, OnSome, drop, length};
 ghost use Rattle.text_core.specs.declared.item.Item.{Item};
 ghost use Rattle.trie_build.specs.Fronts.{behind, code, codes, first_code, is_exact};
 
-use text_core::Item;
+use text_core::{Item, PackedPattern};
 
 /// How many labels of a pattern have a byte in its row.
 pub(crate) const FRONT: usize = 24;
@@ -30,23 +30,28 @@ fn is_exact(code: u8) -> bool
     code != 251 && code != 254
 }
 
-/// The byte of a pattern's first label; 0 if it has none.
-fn first_code(pattern: &[Item]) -> u8
-    ensures { result ≡ first_code pattern.now }
+/// The byte of the label at a place of a pattern; 0 where it has none.
+fn first_code(pattern: &PackedPattern, from: usize) -> u8
+    requires { from ≤ length pattern.now }
+    ensures { result ≡ first_code (drop from pattern.now) }
 {
-    match pattern.split_first() {
-        Some((label, _)) => code_of(label),
-        None => 0,
+    if from < pattern.len() {
+        code_of(&pattern.item(from))
+    } else {
+        0
     }
 }
 
-/// What is left of a pattern after its first label, if its byte says which that is.
-fn behind(pattern: &[Item]) -> &[Item]
-    ensures { result.now ≡ behind pattern.now }
+/// The place after that of a label, where its byte says which label that is, or else the end of the pattern.
+fn behind(pattern: &PackedPattern, from: usize) -> usize
+    requires { from ≤ length pattern.now }
+    ensures value { drop result pattern.now ≡ behind (drop from pattern.now) }
+    ensures within { result ≤ length pattern.now }
 {
-    match pattern.split_first() {
-        Some((label, rest)) if is_exact(code_of(label)) => rest,
-        _ => &[],
+    if from < pattern.len() && is_exact(code_of(&pattern.item(from))) {
+        from + 1
+    } else {
+        pattern.len()
     }
 }
 
@@ -67,14 +72,14 @@ pub(crate) fn label_by(byte: u8) -> Option<Item>
 }
 
 /// The bytes of a pattern's first labels.
-pub(crate) fn front_of(pattern: &[Item]) -> [u8; FRONT]
+pub(crate) fn front_of(pattern: &PackedPattern) -> [u8; FRONT]
     ensures { result ≡ codes 24 pattern.now }
 {
     let mut front = [0; FRONT];
-    let mut rest = pattern;
+    let mut from = 0;
     for at in 0..FRONT {
-        front[at] = first_code(rest);
-        rest = behind(rest);
+        front[at] = first_code(pattern, from);
+        from = behind(pattern, from);
     }
     front
 }

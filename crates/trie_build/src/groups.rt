@@ -42,15 +42,14 @@ pub(crate) fn label_of(rows: &[Row<'_>], depth: usize, at: usize) -> Item
     requires within { at < length (patterns rows.now) }
     requires fronts { All HasFront rows.now }
     requires longer { depth < length (pattern_at (patterns rows.now) at) }
-    ensures label { result ≡ label_at (patterns rows.now) depth at }
-    ensures room { depth + 1 < 2 ^ 64 }
+    ensures { result ≡ label_at (patterns rows.now) depth at }
 {
     if depth < FRONT {
         if let Some(label) = label_by(rows[at].front[depth]) {
             return label;
         }
     }
-    items_at(rows, at)[depth]
+    items_at(rows, at).item(depth)
 }
 
 /// The end of the run of rows that have the same label as the first, in a group whose patterns go on.

@@ -15,5 +15,5 @@ mod trie;
 
 pub use fault::TrieFault;
 pub use made::trie_of;
-pub use order::{compare, compare_labels};
+pub use order::{compare_from, compare_labels};
 pub use trie::Trie;

@@ -1,11 +1,11 @@
 //! How patterns compare, label by label.
 //!
 //! A label compares by its rank and then by its byte or its set, without making a list of numbers.
-ghost use Rattle.std.specs.Prelude.{◌≡◌};
+ghost use Rattle.std.specs.Prelude.{◌≡◌, ◌≤◌, drop, length};
 ghost use Rattle.trie_build.specs.Order.{label_cmp, label_rank, pattern_cmp};
 
 use std::cmp::Ordering;
-use text_core::Item;
+use text_core::{Item, PackedPattern};
 
 /// The rank of a label: bytes come first, then `?`, `*` and the sets.
 fn rank(label: &Item) -> u8
@@ -30,25 +30,33 @@ pub fn compare_labels(label: &Item, other: &Item) -> Ordering
     }
 }
 
-/// How a pattern compares with another, label by label: a pattern comes before a longer one that
-/// begins with it, and of two labels a byte before `?`, that before `*`, and that before a set.
-pub fn compare(pattern: &[Item], other: &[Item]) -> Ordering
-    ensures { result ≡ pattern_cmp pattern.now other.now }
+/// How what stands from a place on in a pattern compares with what stands from one on in another, label by label: a
+/// pattern comes before a longer one that begins with it, and of two labels a byte before `?`, that before `*`, and that
+/// before a set.
+pub fn compare_from(
+    pattern: &PackedPattern,
+    from: usize,
+    other: &PackedPattern,
+    other_from: usize,
+) -> Ordering
+    requires within { from ≤ length pattern.now }
+    requires other { other_from ≤ length other.now }
+    ensures { result ≡ pattern_cmp (drop from pattern.now) (drop other_from other.now) }
 {
-    let mut rest = pattern;
-    let mut behind = other;
-    while let Some((label, after)) = rest.split_first() {
-        let Some((next, later)) = behind.split_first() else {
+    let mut at = from;
+    let mut next = other_from;
+    while at < pattern.len() {
+        if next == other.len() {
             return Ordering::Greater;
-        };
-        let order = compare_labels(label, next);
+        }
+        let order = compare_labels(&pattern.item(at), &other.item(next));
         if order != Ordering::Equal {
             return order;
         }
-        rest = after;
-        behind = later;
+        at += 1;
+        next += 1;
     }
-    if behind.is_empty() {
+    if next == other.len() {
         Ordering::Equal
     } else {
         Ordering::Less

@@ -2,40 +2,40 @@
 //!
 //! Entries that begin alike are then side by side, so that a node is a range of them. They are sorted once, by
 //! number, and are not moved themselves.
-ghost use Rattle.std.specs.Prelude.{◌≡◌, ◌-◌, ◌<◌, ◌≤◌, ◌^◌, All, IfOk, OnOk, length, map, slice_index_or, []};
+ghost use Rattle.std.specs.Prelude.{◌≡◌, ◌-◌, ◌<◌, ◌≤◌, ◌^◌, All, IfOk, OnOk, drop, length, map, slice_index_or, []};
 ghost use Rattle.std.specs.List.{range_with_len};
 ghost use Rattle.std.specs.List.Sorted.{IsPermutation};
 ghost use Rattle.hwdb_lookup.specs.Bounds.{max_entries};
 ghost use Rattle.trie_build.specs.Rows.{AreAlike, AreShared, HasFront, IsCommon, IsSorted, SameRise, Tells, pattern_at, patterns, row_cmp, untold};
 
 use crate::fronts::{FRONT, front_of};
-use crate::order::{compare, compare_labels};
+use crate::order::{compare_from, compare_labels};
 use hwdb_lookup::Entry;
 use std::alloc::{AllocError, Global};
 use std::cmp::Ordering;
-use text_core::Item;
+use text_core::PackedPattern;
 
 /// The pattern of an entry, with the entry's number.
 #[derive(Clone, Copy, Debug)]
 pub(crate) struct Row<'a> {
     /// The items of the pattern.
-    pub(crate) items: &'a [Item],
+    pub(crate) items: &'a PackedPattern,
     /// The bytes of the pattern's first labels.
     pub(crate) front: [u8; FRONT],
     /// The entry's number.
     pub(crate) number: u32,
 }
 
-/// What a row's front leaves open of its pattern: if the front has a last byte, it determines all labels before
-/// that one's.
-fn untold<'a>(row: &Row<'a>) -> &'a [Item]
-    ensures { result.now ≡ untold row.now.front row.now.items.now }
+/// Where begins what a row's front leaves open of its pattern: where the front has a last byte, it says all labels before
+/// that.
+fn untold_from(row: &Row<'_>) -> usize
+    ensures value { drop result row.now.items.now ≡ untold row.now.front row.now.items.now }
+    ensures within { result ≤ length row.now.items.now }
 {
     if row.front[FRONT - 1] == 0 {
-        return row.items;
+        return 0;
     }
-    let (_, rest) = row.items.split_at(row.items.len().min(FRONT - 1));
-    rest
+    row.items.len().min(FRONT - 1)
 }
 
 /// How a row compares with another: by the patterns, which mostly differ in their first labels, and for equal
@@ -45,7 +45,8 @@ fn compare_rows(row: &Row<'_>, other: &Row<'_>) -> Ordering
 {
     match row.front.cmp(&other.front) {
         Ordering::Equal => {
-            compare(untold(row), untold(other)).then(row.number.cmp(&other.number))
+            let labels = compare_from(row.items, untold_from(row), other.items, untold_from(other));
+            labels.then(row.number.cmp(&other.number))
         }
         order => order,
     }
@@ -60,8 +61,8 @@ fn rows_in_order<'a>(alloc: Global, entries: &'a [Entry]) -> Result<Vec<Row<'a>>
     let mut rows = Vec::with_capacity(alloc, entries.len())?;
     for (i, entry) in entries.iter().enumerate() {
         rows.push(Row {
-            items: entry.pattern.items(),
-            front: front_of(entry.pattern.items()),
+            items: &entry.pattern,
+            front: front_of(&entry.pattern),
             number: i as u32,
         })?;
     }
@@ -94,12 +95,12 @@ pub(crate) struct Sorted<'r, 'a> {
 }
 
 /// How many labels two patterns have in common at their fronts.
-fn common_front(pattern: &[Item], other: &[Item]) -> usize
+fn common_front(pattern: &PackedPattern, other: &PackedPattern) -> usize
     ensures { IsCommon pattern.now other.now result }
 {
     let len = pattern.len().min(other.len());
     for at in 0..len {
-        if compare_labels(&pattern[at], &other[at]) != Ordering::Equal {
+        if compare_labels(&pattern.item(at), &other.item(at)) != Ordering::Equal {
             return at;
         }
     }
@@ -159,7 +160,7 @@ pub(crate) fn numbers_of(alloc: Global, rows: &[Row<'_>]) -> Result<Vec<u32>, Al
 }
 
 /// The pattern of a row.
-pub(crate) fn items_at<'a>(rows: &[Row<'a>], at: usize) -> &'a [Item]
+pub(crate) fn items_at<'a>(rows: &[Row<'a>], at: usize) -> &'a PackedPattern
     requires { at < length (patterns rows.now) }
     ensures { result.now ≡ pattern_at (patterns rows.now) at }
 {

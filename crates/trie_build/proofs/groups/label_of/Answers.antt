@@ -1,4 +1,4 @@
-use Rattle.std.proofs.Common.{◌≡◌, ◌<◌, ◌∙◌, List, [], get_or, ap, arith, sym}
+use Rattle.std.proofs.Common.{◌≡◌, ◌<◌, ◌∙◌, List, get_or, ap, arith, sym}
 use Rattle.text_core.specs.declared.item.Item.{Item}
 use Rattle.trie_build.specs.Fronts.{codes}
 use Rattle.trie_build.specs.Rows.{pattern_at, patterns}
@@ -6,9 +6,9 @@ use Rattle.trie_build.specs.declared.rows.Row.{Row}
 use Rattle.trie_build.proofs.Fronting.{front_at, front_tells}
 use Rattle.trie_build.proofs.groups.label_of.Goals as goal
 
-pub returns-in-Some-clause-label : goal.returns-in-Some-clause-label
-returns-in-Some-clause-label c =
-    let none : Row = record { items = record { ref_ptr = (0, 0); now = [] }; front = []; number = 0 } in
+pub returns-in-Some : goal.returns-in-Some
+returns-in-Some c =
+    let none : Row = c.index-rows-at.result in
     let row : Row = get_or c.args.rows.now c.args.at none in
     let p : List Item = pattern_at (patterns c.args.rows.now) c.args.at in
     let byte : get_or row.front c.args.depth 0 ≡ get_or (codes 24 p) c.args.depth 0 =

@@ -1,4 +1,4 @@
-use Rattle.std.proofs.Common.{◌≡◌, ◌-◌, ◌∙◌, ℕ, List, [], get_or, ap, arith, sym}
+use Rattle.std.proofs.Common.{◌≡◌, ◌-◌, ◌∙◌, ℕ, List, get_or, ap, arith, sym}
 use Rattle.text_core.specs.declared.item.Item.{Item}
 use Rattle.trie_build.specs.Fronts.{codes}
 use Rattle.trie_build.specs.Rows.{pattern_at, patterns}
@@ -8,12 +8,13 @@ use Rattle.trie_build.proofs.rows.shared_at.Goals as goal
 
 pub returns-then-bytes-lt-FRONT : goal.returns-then-bytes-lt-FRONT
 returns-then-bytes-lt-FRONT c =
-    let none : Row = record { items = record { ref_ptr = (0, 0); now = [] }; front = []; number = 0 } in
+    let before : Row = c.index-rows-at.result in
+    let here : Row = c.index-rows-at-2.result in
     let rows : List Row = c.args.rows.now in
     let p : List Item = pattern_at (patterns rows) (c.args.at - 1) in
     let q : List Item = pattern_at (patterns rows) c.args.at in
-    let left : (get_or rows (c.args.at - 1) none).front ≡ codes 24 p = front_at rows none (c.args.at - 1) c.requires.fronts (omega (arith, c.requires.within)) in
-    let right : (get_or rows c.args.at none).front ≡ codes 24 q = front_at rows none c.args.at c.requires.fronts c.requires.within in
+    let left : (get_or rows (c.args.at - 1) before).front ≡ codes 24 p = front_at rows before (c.args.at - 1) c.requires.fronts (omega (arith, c.requires.within)) in
+    let right : (get_or rows c.args.at here).front ≡ codes 24 q = front_at rows here c.args.at c.requires.fronts c.requires.within in
     let bytes : ℕ = c.common_bytes-bytes.result in
     λ _. common_by_codes 24 bytes p q (omega arith)
     (λ d k. sym (ap (λ l. get_or l d 0) left) ∙ c.common_bytes-bytes.ensures.same d k ∙ ap (λ l. get_or l d 0) right)

@@ -24,9 +24,9 @@ returns c =
     refl c.in_ok-count_entry.ensures.counted c.if-not-counts.ensures
     (λ i. record {
       pattern = c.pattern.view_is i;
-      key = c.in_ok-copy_of.ensures i;
-      value = c.in_ok-copy_of-2.ensures i;
+      key = c.in_ok-key_of.ensures i;
+      value = c.in_ok-copy_of.ensures i;
       order = ap (λ (h : Held). h.count) c.self.view_is i;
-      file = c.in_ok-copy_of-3.ensures i;
+      file = c.in_ok-file_of.ensures i;
       line = c.capped.ensures i;
     }) c.in_ok-keep.ensures

@@ -1,0 +1,49 @@
+//! Bytes that several entries share.
+ghost use Rattle.std.specs.Prelude.{◌≡◌, IfOk};
+
+use std::alloc::{AllocError, Global};
+use std::marker::Model;
+use std::rc::RcSlice;
+
+/// Bytes that several entries share, as those of one file share its name.
+#[derive(Debug, Drop)]
+pub struct SharedBytes {
+    held: RcSlice<u8>,
+}
+
+impl Model for SharedBytes {
+    ghost use Rattle.std.specs.Prelude.{List, ℕ};
+    ghost use Rattle.std.specs.Rc.{rc_slice_items};
+
+    ghost Value = { List ℕ };
+
+    ghost view = { λ b. rc_slice_items b.held };
+}
+
+impl SharedBytes {
+    /// A copy of a slice, of one owner so far.
+    pub fn copy_of(alloc: Global, slice: &[u8]) -> Result<SharedBytes, AllocError>
+        ensures { IfOk result (λ b. b ≡ slice.now) }
+    {
+        Ok(SharedBytes {
+            held: RcSlice::from_slice(alloc, slice)?,
+        })
+    }
+
+    /// The same bytes for one owner more, so that it takes no memory. It fails only where there are as
+    /// many owners as a `usize` counts.
+    pub fn share(&self) -> Result<SharedBytes, AllocError>
+        ensures { IfOk result (λ b. b ≡ self.now) }
+    {
+        Ok(SharedBytes {
+            held: self.held.clone()?,
+        })
+    }
+
+    /// Returns the bytes.
+    pub fn as_slice(&self) -> &[u8]
+        ensures { result.now ≡ self.now }
+    {
+        self.held.as_slice()
+    }
+}

@@ -42,12 +42,14 @@ def name_of(text):
 
 
 def queried(pattern, text, fits):
-    """Whether a text fits, as `query` answers it."""
+    """Whether a text fits, as `query` answers it. A hyphen alone can be asked for only in a line of the input."""
+    is_line = text == "-"
     return Row(
         f"query: {name_of(text)} {'fits' if fits else 'does not fit'} {name_of(pattern)}",
         ["query", "--", text, "t.hwdb"],
         {"t.hwdb": f"{pattern}\n HIT=1\n"},
-        output="HIT=1\n" if fits else "",
+        input="-\n" if is_line else "",
+        output=("HIT=1\n" if fits else "") + ("\n" if is_line else ""),
     )
 
 

@@ -134,7 +134,15 @@ fn ask_by_rules<L: Lookup + Drop, R: Source, W: Sink, E: Sink>(
 {
     let RulesRead { messages, rules } = read;
     let tables = AskedTables::new(rules, lookup);
-    answer_behind(alloc, line.profile, &messages, &tables, input, output, error)
+    answer_behind(
+        alloc,
+        line.profile,
+        &messages,
+        &tables,
+        input,
+        output,
+        error,
+    )
 }
 
 /// Writes the messages and answers the input: by the program of the rules, or, if the line asks for more than the

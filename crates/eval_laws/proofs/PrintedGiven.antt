@@ -1,9 +1,9 @@
 -- What is read of a line that a program printed is written there.
-use Rattle.std.proofs.Common.{◌≡◌, ◌⊎◌, inl, inr, ℕ, suc, ◌+◌, ◌-◌, ◌<◌, ◌≤◌, Bool, true, false, nat_lt, ◌==◌, ◌||◌, [], ◌∷◌, ◌++◌, All, length, get_or, take, drop, reverse, Option, Some, None, option_map, position, unwrap_or, if◌then◌else◌, refl, sym, ap, ◌∙◌, absurd, subst, length-drop, length-reverse, length-take, take-append-drop, arith}
+use Rattle.std.proofs.Common.{◌≡◌, ◌⊎◌, inl, inr, ℕ, zero, suc, ◌+◌, ◌-◌, ◌<◌, ◌≤◌, Bool, true, false, nat_lt, ◌==◌, ◌||◌, [], ◌∷◌, ◌++◌, All, length, get_or, take, drop, reverse, Option, Some, None, option_map, position, unwrap_or, if◌then◌else◌, refl, sym, ap, ◌∙◌, subst, length-drop, length-take, take-append-drop, arith}
 use Rattle.std.specs.List.{list_any, prefix_len, suffix_len}
 use Rattle.std.specs.Option.{option_and_then}
 use Rattle.std.proofs.lemmas.Bool.{eqb-true}
-use Rattle.std.proofs.lemmas.List.{append_assoc, drop_more, get_or-drop, get_or_default, get_or-reverse, get_or-take, take_all, take_more}
+use Rattle.std.proofs.lemmas.List.{append_assoc, drop_more, get_or-drop, get_or_default, get_or-reverse, get_or-take, take_all, take_more, length-reverse}
 use Rattle.std.proofs.lemmas.List.Folds.{list_any_none}
 use Rattle.std.proofs.lemmas.List.Quantifiers.{position-Some}
 use Rattle.std.proofs.lemmas.List.Sums.{prefix_len-le-length, prefix_len_passes, prefix_len_stops, suffix_len-le-length}
@@ -39,9 +39,9 @@ bare_padded t some =
       cut = sym (take-append-drop n t) ∙ ap (λ v. take n t ++ v) (sym (take-append-drop m u));
       blank_before = λ k d l. ap is_blank (get_or-take n t k d (omega (arith, l, front_size))) ∙ prefix_len_passes is_blank t k d (omega (arith, l, front_size));
       blank_behind = λ k d l.
-      let place : length u - 1 - (length u - 1 - (m + k)) ≡ m + k = omega (arith, l, end_size, within, there) in
-      ap is_blank (get_or-drop m u k d ∙ ap (λ j. get_or u j d) (sym place) ∙ sym (get_or-reverse u (length u - 1 - (m + k)) d (omega (arith, l, end_size, within, there))))
-      ∙ prefix_len_passes is_blank (reverse u) (length u - 1 - (m + k)) d (omega (arith, l, end_size, within, there));
+          let place : length u - 1 - (length u - 1 - (m + k)) ≡ m + k = omega (arith, l, end_size, within, there) in
+          ap is_blank (get_or-drop m u k d ∙ ap (λ j. get_or u j d) (sym place) ∙ sym (get_or-reverse u (length u - 1 - (m + k)) d (omega (arith, l, end_size, within, there))))
+          ∙ prefix_len_passes is_blank (reverse u) (length u - 1 - (m + k)) d (omega (arith, l, end_size, within, there));
       first = get_or t n 0;
       rest = take (m - 1) (drop (n + 1) t);
       starts = ap (take m) (drop_more t n 0 (omega (arith, size, there, within))) ∙ ap (λ k. take k (get_or t n 0 ∷ drop (n + 1) t)) step;
@@ -50,13 +50,13 @@ bare_padded t some =
       last = get_or u (m - 1) 0;
       ends = ap (λ k. take k u) next ∙ take_more u (m - 1) 0 (omega (arith, there, within));
       dark_last =
-      let place : length u - 1 - s ≡ m - 1 = omega (arith, there, within) in
-      ap is_blank (ap (λ j. get_or u j 0) (sym place) ∙ sym (get_or-reverse u s 0 (omega (arith, there, within))))
-      ∙ prefix_len_stops is_blank (reverse u) 0 (omega (arith, there, within, turned));
+          let place : length u - 1 - s ≡ m - 1 = omega (arith, there, within) in
+          ap is_blank (ap (λ j. get_or u j 0) (sym place) ∙ sym (get_or-reverse u s 0 (omega (arith, there, within))))
+          ∙ prefix_len_stops is_blank (reverse u) 0 (omega (arith, there, within, turned));
     }
   where
     not_empty : (m : ℕ) (u : Text) → is_empty (take m u) ≡ false → 0 < m
-    not_empty 0 u e = cc
+    not_empty zero u e = cc
     not_empty (suc m) u e = omega arith
 
 -- ---- values

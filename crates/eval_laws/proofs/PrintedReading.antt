@@ -1,5 +1,5 @@
 -- What a program wrote is read back, a line for each property.
-use Rattle.std.proofs.Common.{◌≡◌, ◌⊎◌, inl, inr, ℕ, suc, ◌+◌, ◌-◌, ◌<◌, ◌≤◌, Bool, true, false, cond, not, nat_lt, ◌==◌, ◌||◌, List, [], ◌∷◌, ◌++◌, All, length, get_or, take, drop, Option, Some, None, option_map, position, flat_map, filter_map, if◌then◌else◌, refl, ap, sym, ◌∙◌, absurd, append_assoc, length-append, arith}
+use Rattle.std.proofs.Common.{◌≡◌, ◌⊎◌, inl, inr, ℕ, suc, ◌+◌, ◌-◌, ◌<◌, ◌≤◌, Bool, true, false, cond, not, nat_lt, ◌==◌, ◌||◌, List, [], ◌∷◌, ◌++◌, All, length, get_or, take, drop, Option, Some, None, option_map, position, flat_map, filter_map, if◌then◌else◌, refl, ap, sym, ◌∙◌, append_assoc, length-append, arith}
 use Rattle.std.specs.List.{cons_option, list_any, prefix_len, slice_split, suffix_len}
 use Rattle.std.specs.Option.{option_and_then}
 use Rattle.std.proofs.lemmas.Bool.{eq-eqb, le-ltb}

@@ -102,18 +102,17 @@ line_light line = by (begins_with hash (unindented line))
 
 lines_light : (lines : List Text) → pairs_weight (filter_map line_property lines) ≤ sum_by text_weight lines
 lines_light [] = omega arith
-lines_light (line ∷ lines) = by (line_property line) (line_light line)
+lines_light (line ∷ lines) = by (line_property line) (line_light line) (lines_light lines)
   where
-    by : (found : Option Pair) → found_weight found ≤ text_weight line → pairs_weight (cons_option found (filter_map line_property lines)) ≤ sum_by text_weight (line ∷ lines)
-    by None light =
+    by : (found : Option Pair) → found_weight found ≤ text_weight line → pairs_weight (filter_map line_property lines) ≤ sum_by text_weight lines
+        → pairs_weight (cons_option found (filter_map line_property lines)) ≤ sum_by text_weight (line ∷ lines)
+    by None light rest =
         let a = sum_by-cons text_weight line lines in
-        let b = lines_light lines in
-        omega (arith, a, b)
-    by (Some property) light =
+        omega (arith, a, rest)
+    by (Some property) light rest =
         let a = sum_by-cons text_weight line lines in
-        let b = lines_light lines in
         let c = sum_by-cons pair_weight property (filter_map line_property lines) in
-        omega (arith, a, b, c, light)
+        omega (arith, a, rest, c, light)
 
 pub printed_light : (text : Text) → pairs_weight (printed_properties text) ≤ text_weight text
 unfolding printed_properties
@@ -131,14 +130,12 @@ answered_weight (Some answer) = text_weight answer.text
 
 among_light : (programs : List (Text × AnswerValue)) (command : Text) → answered_weight (value_of programs command) ≤ sum_by answer_weight programs
 among_light [] command = omega arith
-among_light (program ∷ programs) command = by (same_text command program.0)
+among_light (program ∷ programs) command = by (same_text command program.0) (among_light programs command)
   where
-    by : (b : Bool) → answered_weight (if b then Some program.1 else value_of programs command) ≤ sum_by answer_weight (program ∷ programs)
-    by true = let a = sum_by-cons answer_weight program programs in omega (arith, a)
-    by false =
-        let a = sum_by-cons answer_weight program programs in
-        let b = among_light programs command in
-        omega (arith, a, b)
+    by : (b : Bool) → answered_weight (value_of programs command) ≤ sum_by answer_weight programs
+        → answered_weight (if b then Some program.1 else value_of programs command) ≤ sum_by answer_weight (program ∷ programs)
+    by true rest = let a = sum_by-cons answer_weight program programs in omega (arith, a)
+    by false rest = let a = sum_by-cons answer_weight program programs in omega (arith, a, rest)
 
 pub answers_light : (event : EventValue) (command : Text) → answered_weight (value_of event.programs command) ≤ event_weight event
 unfolding event_weight

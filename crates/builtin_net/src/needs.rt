@@ -6,12 +6,12 @@ ghost use Rattle.builtin_net.specs.Names.{own_function};
 ghost use Rattle.builtin_net.specs.Needs.{address_needs, config_needs, function_needs, is_bridge_there, lacks_a_modalias, lacks_at_end, lacks_modalias, names_needs, needs, of_above, of_own, own_needs, port_needs, slot_needs, tree_needs, when};
 
 use crate::allowed::{Attribute, lacks, lacks_own, own_number, read, read_own};
+use crate::bus_names::{bcma_end, bcma_function, usb_end, usb_function};
 use crate::buses::{is_there, parent_behind_virtio};
 use crate::functions::{Function, config, function_at};
 use crate::identity::{index, is_alone, naming};
-use crate::bus_names::{bcma_end, bcma_function, usb_end, usb_function};
-use crate::pci_names::own_function;
 use crate::on_board::board_number;
+use crate::pci_names::own_function;
 use crate::ports::{port_text, some_text};
 use crate::prefixes::Prefix;
 use crate::slots::{

@@ -33,7 +33,11 @@ pub(crate) fn revision_place(text: &[u8]) -> Option<usize>
 
 /// A text without the `v` and the digit of a revision.
 #[tactic(auto, unfolding(crate::specs::Path::without_revision))]
-pub(crate) fn without_revision(alloc: Global, text: &[u8], place: usize) -> Result<Bytes, AllocError>
+pub(crate) fn without_revision(
+    alloc: Global,
+    text: &[u8],
+    place: usize,
+) -> Result<Bytes, AllocError>
     requires { place < length text.now }
     ensures { IfOk result (λ plain. plain ≡ without_revision text.now place) }
 {

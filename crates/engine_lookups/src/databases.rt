@@ -50,7 +50,15 @@ fn look_up_in_files<R: Source, W: Sink, E: Sink>(
 {
     match open_database(alloc, line, files) {
         Ok((messages, database)) => {
-            look_up_lines(alloc, &messages, line.sources, &database, input, output, error)
+            look_up_lines(
+                alloc,
+                &messages,
+                line.sources,
+                &database,
+                input,
+                output,
+                error,
+            )
         }
         Err(refusal) => deliver_refusal(refusal, output, error),
     }

@@ -15,7 +15,5 @@ mod lookups;
 mod turning;
 
 pub use databases::serve_lookups;
-pub use laws::{
-    a_line_alone_is_a_query, answers_to_lines_follow_one_another,
-};
+pub use laws::{a_line_alone_is_a_query, answers_to_lines_follow_one_another};
 pub use lookups::look_up_lines;

@@ -87,7 +87,13 @@ fn parent<'a>(
     ensures { IfOk result (λ c. c ≡ parent profile device.now) }
 {
     let env = device.env();
-    seen(alloc, profile, device, env.get(b"DEVTYPE"), env.get(b"MODALIAS"))
+    seen(
+        alloc,
+        profile,
+        device,
+        env.get(b"DEVTYPE"),
+        env.get(b"MODALIAS"),
+    )
 }
 
 /// The devices of an event, nearest first.

@@ -20,6 +20,8 @@ use Rattle.device_core.specs.Values.{DeviceValue, EventValue}
 use Rattle.rule_parts.specs.Builtins.{builtin_name}
 use Rattle.rule_parts.specs.declared.builtins.Builtin.TheVariants.{InputId, NetId, PathId, UsbId}
 use Rattle.rule_templates.specs.Template.{Parts as Template}
+use Rattle.rule_types.specs.Names.{import_name}
+use Rattle.rule_types.specs.WrittenParts.{type_of}
 use Rattle.rule_types.specs.Written.{attribute_of_target, key_of_target}
 use Rattle.rule_types.specs.WrittenParts.{attribute_of_deed, key_of_deed}
 use Rattle.rule_types.specs.declared.keys.Key.TheVariants as key
@@ -59,7 +61,7 @@ use Rattle.eval_state.specs.declared.notes.Note.{Note}
 use Rattle.eval_state.specs.declared.scene.Scene.{Scene}
 use Rattle.eval_state.specs.declared.state.State.{State}
 use Rattle.eval_acts.specs.ActTexts.{most_command_bytes, most_path_bytes, program_text, test_text}
-use Rattle.eval_acts.specs.Acts.{act_step, from_parent_by, imported, on_text, parent_imported, performed, unrun}
+use Rattle.eval_acts.specs.Acts.{act_step, from_parent_by, imported, on_text, parent_imported, performed, unrun, program_imported}
 use Rattle.eval_acts.specs.BuiltinRuns.{looked_up, most_set, need_noted, need_word, outcome_taken, path_id_run, properties_size, usb_id_run}
 use Rattle.eval_acts.specs.Imports.{builtin_run, from_parent, not_run, run_builtin}
 use Rattle.eval_acts.specs.Questions.{tested, tested_at, tested_by, tested_by_udev}
@@ -165,13 +167,17 @@ unrun_quiet : (p : Profile) (r : Rule) (d : Deed) (i : Import) (most : ℕ) (tem
 unrun_quiet Manual r d i most template s m = note_quiet r ImportNotRun _ s refl
 unrun_quiet Udev r d i most template s m = absurd (cc)
 
+program_quiet : (p : Profile) (r : Rule) (d : Deed) (i : Import) (template : Template) (s : Scene) → p ≡ Manual → Quiet s (program_imported p r d i template s).0
+program_quiet Manual r d i template s m = note_quiet r ImportNotRun _ s refl
+program_quiet Udev r d i template s m = absurd (cc)
+
 imported_quiet : (es : List Entry) (r : Rule) (d : Deed) (i : Import) (s : Scene) → s.state.event.profile ≡ Manual → Quiet s (imported es r d i s).0
 imported_quiet es r d (import.Builtin t) s m = text_quiet r d (run_builtin es r) (λ c u. builtin_quiet es r c _ u) _ s
 imported_quiet es r d (import.Parent names text) s m = parents_quiet s.state.event.profile r d names text s m
-imported_quiet es r d (import.Program t) s m = unrun_quiet s.state.event.profile r d (import.Program t) most_command_bytes t s m
+imported_quiet es r d (import.Program t) s m = program_quiet s.state.event.profile r d (import.Program t) t s m
 imported_quiet es r d (import.File t) s m = unrun_quiet s.state.event.profile r d (import.File t) most_path_bytes t s m
-imported_quiet es r d (import.Cmdline name) s m = note_quiet r ImportNotRun _ s refl
-imported_quiet es r d (import.Db name) s m = note_quiet r ImportNotRun _ s refl
+imported_quiet es r d (import.Cmdline name) s m = note_quiet r ImportNotRun (import_name (type_of (import.Cmdline name))) s refl
+imported_quiet es r d (import.Db name) s m = note_quiet r ImportNotRun (import_name (type_of (import.Db name))) s refl
 
 -- ---- matches
 
@@ -368,13 +374,13 @@ rules_say : (es : List Entry) (sought : Option Text) (rules : List Rule) (s : Sc
 unfolding rules_ask run
 rules_say es sought [] s m = says_nothing s
 rules_say es sought (r ∷ rs) s m =
-    by (is_passed sought r) (rules_say es sought rs s m)
+    by (rules_ask es sought rs s) _ (run es sought rs s) _ (is_passed sought r) (rules_say es sought rs s m)
     (both_say s (apply es r s).0 (run es (sought_after (apply es r s).1 r) rs (apply es r s).0) (rule_asks es r s) (rules_ask es (sought_after (apply es r s).1 r) rs (apply es r s).0) (rule_says es r s m)
     (rules_say es (sought_after (apply es r s).1 r) rs (apply es r s).0 (ap (λ (e : EventValue). e.profile) (event_stays es r s) ∙ m)))
   where
-    by : {xs ys : List Text} {t u : Scene} (p : Bool) → Says s xs t → Says s ys u → Says s (cond p xs ys) (cond p t u)
-    by true h k = h
-    by false h k = k
+    by : (xs ys : List Text) (t u : Scene) (p : Bool) → Says s xs t → Says s ys u → Says s (cond p xs ys) (cond p t u)
+    by xs ys t u true h k = h
+    by xs ys t u false h k = k
 
 late_quiet : (state : State) (runs : List RunValue) → filter is_no_answer (late_notes state runs) ≡ []
 late_quiet state [] = refl

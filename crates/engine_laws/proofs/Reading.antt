@@ -51,7 +51,7 @@ front_is p (x ∷ xs) = by (p x) (front_is p xs)
   where
     by : (b : Bool) → nat_lt (prefix_len p xs) (length xs) ≡ not (list_all p xs) → nat_lt (cond b (1 + prefix_len p xs) 0) (length (x ∷ xs)) ≡ not (b && list_all p xs)
     by true h = let same : nat_lt (1 + prefix_len p xs) (length (x ∷ xs)) ≡ nat_lt (prefix_len p xs) (length xs) = grind (arith, nat_tests) in same ∙ h
-    by false h = refl
+    by false h = grind (arith, nat_tests)
 
 is_there : (b : Bool) (n : ℕ) → is_some (cond b (Some n) None) ≡ b
 is_there true n = refl
@@ -146,7 +146,7 @@ rest_stands (a ∷ b ∷ c ∷ more) letter rest e h = by (b == colon && c == sp
     held : list_all stands_in_line more ≡ true
     held = second_so (stands_in_line c) _ (second_so (stands_in_line b) _ (second_so (stands_in_line a) _ h))
 
-    by : (t : Bool) → cond t (Some (a, more)) None ≡ Some (letter, rest) → list_all stands_in_line rest ≡ true
+    by : (t : Bool) → cond {A = Option (ℕ × Text)} t (Some (a, more)) None ≡ Some (letter, rest) → list_all stands_in_line rest ≡ true
     by true k = ap (λ (o : Option (ℕ × Text)). list_all stands_in_line (unwrap_or o (0, [])).1) (sym k) ∙ held
     by false k = absurd (cc)
 

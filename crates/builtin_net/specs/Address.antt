@@ -23,6 +23,7 @@ are_fields count width texts = length texts == count && list_all (is_field width
 abbrev pub digits_of : (count width : ℕ) → List Text → Option Text
 digits_of count width texts = if are_fields count width texts then Some (flat_map (field_digits width) texts) else None
 
+-- the same for the fields of a text with a mark in between
 unfoldable pub marked_digits : (mark count width : ℕ) → Text → Option Text
 marked_digits mark count width text = digits_of count width (slice_split (λ b. b == mark) text)
 

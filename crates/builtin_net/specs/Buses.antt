@@ -78,9 +78,11 @@ abbrev pub with_instance : (vendor model instance : Text) → Option Text
 with_instance vendor model instance =
     if is_acpi vendor model instance then option_map (acpi_text vendor model) (number_in Hexadecimal most_number instance) else None
 
+-- the same by what comes before the colon, which ends in the model, and what comes after it
 abbrev pub platform_parts : (front instance : Text) → Option Text
 platform_parts front instance = with_instance (take (length front - 4) front) (drop (length front - 4) front) instance
 
+-- the same by the whole name
 unfoldable pub platform_text : Text → Option Text
 platform_text name = option_and_then (λ parts. platform_parts parts.0 parts.1) (split_once colon name)
 
@@ -101,6 +103,7 @@ simulated _ _ = None
 abbrev pub number_of_name : (kernel : Text) → Option ℕ
 number_of_name kernel = option_and_then (number_in AsWritten most_number) (name_number kernel)
 
+-- the same by the name of the device, and what the interface says about its port
 unfoldable pub netdevsim_text : (interface device : DeviceValue) → Option Text
 netdevsim_text interface device =
     simulated (number_of_name (kernel_of device)) (some_text (read interface PhysPortName))
@@ -110,19 +113,23 @@ abbrev pub of_ccw : Option DeviceValue → Option Text
 of_ccw None = None
 of_ccw (Some device) = if is_of (codes "ccwgroup") None device || is_of (codes "ccw") None device then ccw_text (kernel_of device) else None
 
--- the texts of an interface by each bus
+-- the text of an interface by ccw
 unfoldable pub by_ccw : EventValue → Option Text
 by_ccw event = of_ccw (parent_behind_virtio event)
 
+-- the text of an interface by vio, if the device right above is of it
 unfoldable pub by_vio : EventValue → Option Text
 by_vio event = if is_there (codes "vio") (parent event) then option_and_then vio_text (component (codes "/devices/vio/") event.device.path) else None
 
+-- the text of an interface by its platform device, if that is right above
 unfoldable pub by_platform : EventValue → Option Text
 by_platform event =
     if is_there (codes "platform") (parent event) then option_and_then platform_text (component (codes "/devices/platform/") event.device.path) else None
 
+-- the text of an interface by Xen, if the device right above is of it
 unfoldable pub by_xen : EventValue → Option Text
 by_xen event = if is_there (codes "xen") (parent event) then option_and_then xen_text (component (codes "/devices/") event.device.path) else None
 
+-- the text of an interface by the nearest device of netdevsim above
 unfoldable pub by_netdevsim : EventValue → (interface : DeviceValue) → Option Text
 by_netdevsim event interface = option_and_then (netdevsim_text interface) (above event (codes "netdevsim") None event.device.path)

@@ -50,10 +50,11 @@ function pci = if has_ari pci then option_map with_ari (function_of (kernel_of p
 abbrev pub config : EventValue → DeviceValue → Option Text
 config event pci = file_at event (pci.path ++ codes "/config")
 
--- where the type of the header is in a configuration, and the least type of a card with several functions
+-- where the type of the header is in a configuration
 abbrev pub header_place : ℕ
 header_place = 14
 
+-- the least type of a header of a card with several functions
 abbrev pub several_type : ℕ
 several_type = 128
 

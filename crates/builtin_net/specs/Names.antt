@@ -66,6 +66,7 @@ abbrev pub of_function : EventValue → Prefix → (interface pci : DeviceValue)
 of_function event prefix interface pci suffix None = []
 of_function event prefix interface pci suffix (Some f) = with_tail event prefix pci f (tail event prefix interface pci suffix f)
 
+-- the same by the function that the device is
 unfoldable pub by_function : EventValue → Prefix → (interface pci : DeviceValue) → (suffix : Text) → List Pair
 by_function event prefix interface pci suffix = of_function event prefix interface pci suffix (function pci)
 
@@ -95,6 +96,7 @@ of_own event prefix interface (Some own) =
     ++ given (codes "ID_NET_NAME_ONBOARD") (prefix_text prefix) (board_text prefix interface own.0 own.1)
     ++ by_function event prefix interface own.0 own.1
 
+-- the same by the function above the interface
 unfoldable pub by_pci : EventValue → Prefix → (interface : DeviceValue) → List Pair
 by_pci event prefix interface = of_own event prefix interface (own_function event)
 
@@ -108,10 +110,11 @@ of_usb event prefix interface (Some pci) (Some suffix) = by_function event prefi
 abbrev pub usb_interface : EventValue → Option DeviceValue
 usb_interface event = above event (codes "usb") (Some (codes "usb_interface")) event.device.path
 
--- the function above it, and the end of names by it
+-- the function of PCI above it
 unfoldable pub usb_function : EventValue → Option DeviceValue
 usb_function event = option_and_then (pci_above event) (usb_interface event)
 
+-- the end of names by the interface of USB
 unfoldable pub usb_end : EventValue → Option Text
 usb_end event = option_and_then (λ usb. usb_suffix (kernel_of usb)) (usb_interface event)
 
@@ -128,10 +131,11 @@ of_bcma event prefix interface _ _ = []
 abbrev pub bcma_core : EventValue → Option DeviceValue
 bcma_core event = above event (codes "bcma") None event.device.path
 
--- the function above it, and the end of names by it
+-- the function of PCI above it
 unfoldable pub bcma_function : EventValue → Option DeviceValue
 bcma_function event = option_and_then (pci_above event) (bcma_core event)
 
+-- the end of names by the core of bcma
 unfoldable pub bcma_end : EventValue → Option Text
 bcma_end event = option_and_then (λ core. bcma_suffix (kernel_of core)) (bcma_core event)
 

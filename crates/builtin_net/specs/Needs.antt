@@ -88,6 +88,7 @@ of_function event prefix interface pci (Some f) =
     let has_port = is_some (port_text prefix interface true) in
     config_needs event pci f has_port ++ port_needs prefix interface true ++ (if has_port then slot_needs event pci else [])
 
+-- the same by the function that the device is
 unfoldable pub function_needs : EventValue → Prefix → (interface pci : DeviceValue) → List Text
 function_needs event prefix interface pci = of_function event prefix interface pci (function pci)
 

@@ -45,10 +45,11 @@ number_of_above several (Some pci) = if is_bridge pci && not several then None e
 unfoldable pub number_by_firmware : EventValue → DeviceValue → Option ℕ
 number_by_firmware event pci = option_or (firmware_number pci) (number_of_above (is_several event pci) (pci_above event pci))
 
--- the folder of all slots, and the files in it
+-- the folder of all slots
 abbrev pub slots_folder : Text
 slots_folder = codes "/bus/pci/slots"
 
+-- the files in the folder of all slots
 abbrev pub slot_files : EventValue → List Pair
 slot_files event = files_below event slots_folder
 
@@ -56,11 +57,12 @@ slot_files event = files_below event slots_folder
 unfoldable pub is_told : EventValue → (folder : Text) → Bool
 is_told event folder = is_some (file_at event folder) || not (is_empty (files_below event folder))
 
--- the name of the slot whose file `NAME/address` says what is in it
+-- what comes before a slash, if `address` comes after it
 abbrev pub addressed : Option Pair → Option Text
 addressed None = None
 addressed (Some parts) = if same_text parts.1 (codes "address") then Some parts.0 else None
 
+-- the name of the slot whose file `NAME/address` says what is in it
 unfoldable pub slot_name : (path : Text) → Option Text
 slot_name path = addressed (split_once slash path)
 

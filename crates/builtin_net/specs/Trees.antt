@@ -12,10 +12,11 @@ use Rattle.builtin_devices.specs.declared.numbers.Base.TheVariants.{AsWritten}
 use Rattle.builtin_net.specs.Buses.{parent}
 use Rattle.builtin_net.specs.Words.{most_number}
 
--- the root of the device tree, and the folder of its aliases
+-- the root of the device tree
 abbrev pub tree_root : Text
 tree_root = codes "/firmware/devicetree/base"
 
+-- the folder of its aliases
 abbrev pub aliases_folder : Text
 aliases_folder = codes "/firmware/devicetree/base/aliases"
 

@@ -8,10 +8,11 @@ use Rattle.builtin_devices.specs.Numbers.{number_in}
 use Rattle.builtin_devices.specs.declared.numbers.Base.TheVariants.{Decimal}
 use Rattle.builtin_net.specs.Words.{most_number}
 
--- ports with `u` for each dot in between
+-- a byte of ports: `u` for a dot
 abbrev pub port_byte : ℕ → ℕ
 port_byte b = if b == dot then 117 else b
 
+-- ports with `u` for each dot in between
 abbrev pub ports_text : Text → Text
 ports_text ports = map port_byte ports
 
@@ -28,6 +29,7 @@ usb_text ports configuration interface =
 abbrev pub usb_numbers : Text → Text → Option Text
 usb_numbers ports numbers = option_map (λ parts. usb_text ports parts.0 parts.1) (split_once dot numbers)
 
+-- the same by what comes before and after a colon: the ports, and the numbers
 abbrev pub usb_ports : Text → Option Text
 usb_ports rest = option_and_then (λ parts. usb_numbers parts.0 parts.1) (split_once colon rest)
 

@@ -10,10 +10,11 @@ use Rattle.text_tables.specs.Texts.{Text}
 abbrev pub most_number : ℕ
 most_number = 2 ^ 32 - 1
 
--- the digits that a text begins with, and what follows them
+-- the digits that a text begins with
 abbrev pub leading_digits : Text → Text
 leading_digits text = take (prefix_len is_digit text) text
 
+-- what follows the digits that a text begins with
 abbrev pub behind_digits : Text → Text
 behind_digits text = drop (prefix_len is_digit text) text
 

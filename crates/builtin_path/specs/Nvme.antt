@@ -41,37 +41,44 @@ if_real device = if begins (codes "/devices/virtual/") device.path then None els
 abbrev pub controller : EventValue → DeviceValue → Option DeviceValue
 controller event subsystem = option_and_then if_real (controller_told event subsystem)
 
--- what a block does not report about the controller: its name
+-- a name that a block would have to report, if there is one
 abbrev pub name_needed : Option Text → List Text
 name_needed None = []
 name_needed (Some name) = name ∷ []
 
+-- the name of the controller, if the block does not describe it
 abbrev pub controller_needs : EventValue → DeviceValue → List Text
 controller_needs event subsystem = if is_some (controller_told event subsystem) then [] else name_needed (controller_name (last_component event.device.path))
 
--- what a device of subsystem nvme adds, or one of nvme-subsystem whose controller is above it: nothing, if the event
--- device has no namespace
+-- whether the event device is a whole disk; one of NVMe has a namespace
 abbrev pub is_bare_disk : EventValue → Bool
 is_bare_disk event = is_text (codes "block") event.device.subsystem && is_text (codes "disk") (type_of event.device)
 
+-- what a block would have to report for a namespace that is absent: `nsid`, of a disk
 abbrev pub namespace_needs : EventValue → List Text
 namespace_needs event = if is_bare_disk event then codes "nsid" ∷ [] else []
 
+-- what a device adds by the namespace; those of subsystem nvme right above it are skipped
 abbrev pub namespace_stop : (nsid : Text) → List DeviceValue → Stop
 namespace_stop nsid above = adding_both (concat (codes "nvme-" ∷ nsid ∷ [])) true (row (codes "nvme") above)
 
+-- what a device of subsystem nvme adds, by the namespace of the event device: nothing without one
 abbrev pub nvme_by : EventValue → Option Text → List DeviceValue → Stop
 nvme_by event None above = record (passing false) { needs = namespace_needs event }
 nvme_by event (Some nsid) above = namespace_stop nsid above
 
+-- what a device of subsystem nvme adds
 unfoldable pub nvme_stop : EventValue → List DeviceValue → Stop
 nvme_stop event above = nvme_by event (namespace event) above
 
+-- what a device of nvme-subsystem adds, by the namespace of the event device: nothing without one; without a
+-- controller path_id fails
 abbrev pub ways_by : EventValue → Option Text → DeviceValue → List DeviceValue → Stop
 ways_by event None m above = record (passing false) { needs = namespace_needs event }
 ways_by event (Some nsid) m above =
     if is_some (controller event m) then namespace_stop nsid above
     else record (ending false false (controller_needs event m)) { next = Fails }
 
+-- what a device of nvme-subsystem adds
 unfoldable pub ways_stop : EventValue → DeviceValue → List DeviceValue → Stop
 ways_stop event m above = ways_by event (namespace event) m above

@@ -24,15 +24,17 @@ use Rattle.builtin_path.specs.declared.stops.Stop.{Stop}
 abbrev pub parts : List Stop → List Text
 parts stops = reverse (filter_map (λ s. s.part) stops)
 
--- what a stop adds to the compatible path
+-- what a part adds to the compatible path, by its share
 abbrev pub share_of : Share → Option Text → Option Text
 share_of Apart part = None
 share_of Both part = part
 share_of (Ata port) part = Some port
 
+-- what a stop adds to the compatible path
 abbrev pub shared : Stop → Option Text
 shared s = share_of s.share s.part
 
+-- whether a share is that of a port of ATA
 abbrev pub is_ata : Share → Bool
 is_ata (Ata port) = true
 is_ata Both = false
@@ -48,11 +50,12 @@ is_failing (On count) = false
 is_failing Ends = false
 is_failing Fails = true
 
--- whether stops are a path: one of them adds a part, one is a known parent, and for a block device one is a known
--- transport
+-- whether a known transport leads to the event device, which only a block device needs
 abbrev pub is_reached : EventValue → List Stop → Bool
 is_reached event stops = not (is_text (codes "block") event.device.subsystem) || list_any (λ s. s.transport) stops
 
+-- whether stops are a path: none of them makes path_id fail, one adds a part, one is a known parent, and for a block
+-- device one is a known transport
 unfoldable pub is_whole : EventValue → List Stop → Bool
 is_whole event stops =
     not (list_any (λ s. is_failing s.next) stops)
@@ -64,11 +67,12 @@ is_whole event stops =
 abbrev pub is_revision : Text → ℕ → Bool
 is_revision text place = is_digit (slice_index text (place + 5)) && slice_index text (place + 6) == minus
 
--- the first place of `-usbv`, if a digit and `-` follow
+-- a place of `-usbv`, if a digit and `-` follow there
 abbrev pub if_revision : Text → Option ℕ → Option ℕ
 if_revision text None = None
 if_revision text (Some place) = if is_revision text place then Some place else None
 
+-- the place of the revision in a text: that of the first `-usbv`, if a digit and `-` follow
 unfoldable pub revision_place : Text → Option ℕ
 revision_place text = if_revision text (first_place (codes "-usbv") text)
 
@@ -80,6 +84,7 @@ without_revision text place = take (place + 4) text ++ drop (place + 6) text
 abbrev pub stays_in_tag : ℕ → Bool
 stays_in_tag b = is_ascii_alphanumeric b || b == minus
 
+-- a byte for a tag: itself if it stays, else a space
 abbrev pub tag_byte : ℕ → ℕ
 tag_byte b = if stays_in_tag b then b else space
 
@@ -105,9 +110,11 @@ abbrev pub revision_pairs : Text → Option ℕ → List Pair
 revision_pairs text None = []
 revision_pairs text (Some place) = (codes "ID_PATH_WITH_USB_REVISION", text) ∷ []
 
+-- the path and its tag
 abbrev pub path_pairs : Text → List Pair
 path_pairs path = (codes "ID_PATH", path) ∷ (codes "ID_PATH_TAG", tag path) ∷ []
 
+-- the compatible path, if it has a part
 abbrev pub compatible_pairs : List Text → List Pair
 compatible_pairs [] = []
 compatible_pairs (part ∷ parts) = (codes "ID_PATH_ATA_COMPAT", join_with_byte minus (part ∷ parts)) ∷ []
@@ -123,6 +130,7 @@ properties_of stops =
 abbrev pub lacks_type : DeviceValue → Bool
 lacks_type m = (is_in (codes "usb") m || is_in (codes "scsi") m) && is_none (type_of m)
 
+-- what a block would have to report about such devices: the type
 abbrev pub type_needs : List DeviceValue → List Text
 type_needs members = if list_any lacks_type members then codes "DEVTYPE" ∷ [] else []
 

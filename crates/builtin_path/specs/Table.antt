@@ -63,6 +63,7 @@ abbrev pub ap_part : Option Text → Option Text → (name : Text) → Text
 ap_part (Some type) (Some functions) name = concat (codes "ap-" ∷ type ∷ codes "-" ∷ functions ∷ [])
 ap_part type functions name = concat (codes "ap-" ∷ name ∷ [])
 
+-- what a queue of cryptographic adapters adds
 abbrev pub ap_stop : DeviceValue → List DeviceValue → Stop
 ap_stop m above = adding (ap_part (attribute m (codes "type")) (attribute m (codes "ap_functions")) (kernel_name m.path)) true true (row (codes "ap") above)
 
@@ -75,6 +76,7 @@ abbrev pub numbered_by : Text → Text → Option Text → List DeviceValue → 
 numbered_by subsystem start None above = passing false
 numbered_by subsystem start (Some digits) above = adding (concat (start ∷ digits ∷ [])) false false (row subsystem above)
 
+-- the same by its own name
 abbrev pub numbered_stop : (subsystem start : Text) → DeviceValue → List DeviceValue → Stop
 numbered_stop subsystem start m above = numbered_by subsystem start (name_number (last_component m.path)) above
 
@@ -99,16 +101,19 @@ abbrev pub second_by : (start : Text) → Option ℕ → ℕ → Stop
 second_by start None count = ending true false []
 second_by start (Some n) count = adding (concat (start ∷ decimal n ∷ [])) true false count
 
+-- what a core of bcma adds
 abbrev pub bcma_stop : DeviceValue → Stop
 bcma_stop m = second_by (codes "bcma-") (second_number (codes "bcma") (codes ":") (kernel_name m.path)) 0
 
+-- what a disk of cciss adds; those of its subsystem right above it are skipped
 abbrev pub cciss_stop : DeviceValue → List DeviceValue → Stop
 cciss_stop m above = second_by (codes "cciss-disk") (second_number (codes "c") (codes "d") (kernel_name m.path)) (row (codes "cciss") above)
 
--- names of tapes: one of the first two whole, or one of the others with anything after it
+-- names of tapes that nothing follows
 abbrev pub whole_tapes : List Text
 whole_tapes = codes "nst" ∷ codes "st" ∷ []
 
+-- names of tapes that anything may follow
 abbrev pub begun_tapes : List Text
 begun_tapes = codes "nstl" ∷ codes "nstm" ∷ codes "nsta" ∷ codes "stl" ∷ codes "stm" ∷ codes "sta" ∷ []
 
@@ -117,14 +122,16 @@ abbrev pub first_begun : List Text → (name : Text) → Option Text
 first_begun [] name = None
 first_begun (start ∷ starts) name = if begins start name then Some start else first_begun starts name
 
+-- the part that a tape adds, by its name
 unfoldable pub tape_part : (name : Text) → Option Text
 tape_part name = if is_among whole_tapes name then Some name else first_begun begun_tapes name
 
--- a tape adds a part only if no device below has added one
+-- what a tape adds, by its part: nothing without one
 abbrev pub tape_by : Option Text → Stop
 tape_by None = passing false
 tape_by (Some part) = adding part false false 0
 
+-- what a tape adds: nothing if a device below has added a part
 abbrev pub tape_stop : (is_begun : Bool) → DeviceValue → Stop
 tape_stop is_begun m = if is_begun then passing false else tape_by (tape_part (kernel_name m.path))
 
@@ -144,10 +151,12 @@ stop_as manner.Bcma event is_begun subsystem m above = bcma_stop m
 stop_as manner.Cciss event is_begun subsystem m above = cciss_stop m above
 stop_as manner.ScsiTape event is_begun subsystem m above = tape_stop is_begun m
 
+-- the same by how its subsystem adds, if the table has that; else it adds nothing
 abbrev pub stop_by : Option Manner → EventValue → (is_begun : Bool) → (subsystem : Text) → DeviceValue → List DeviceValue → Stop
 stop_by None event is_begun subsystem m above = passing false
 stop_by (Some manner) event is_begun subsystem m above = stop_as manner event is_begun subsystem m above
 
+-- the same by its subsystem; without one it adds nothing
 abbrev pub stop_of : Option Text → EventValue → (is_begun : Bool) → DeviceValue → List DeviceValue → Stop
 stop_of None event is_begun m above = passing false
 stop_of (Some subsystem) event is_begun m above = stop_by (manner_of subsystem) event is_begun subsystem m above

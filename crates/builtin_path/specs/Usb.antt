@@ -51,11 +51,12 @@ protocol_of m = option_and_then (number_in Hexadecimal 255) (attribute m (codes 
 unfoldable pub revision_of : DeviceValue → Option Revision
 revision_of m = revision_by (protocol_of m) (attribute m (codes "speed"))
 
--- what the revision of a root hub is read from, and is not there
+-- the word for the speed, which a root hub of protocol 0 is asked for, if it is absent
 abbrev pub speed_needs : Option ℕ → Option Text → List Text
 speed_needs None speed = []
 speed_needs (Some protocol) speed = if protocol == 0 then absent (codes "speed") speed else []
 
+-- what the revision of a root hub is read from, and is absent
 unfoldable pub revision_needs : DeviceValue → List Text
 revision_needs m = if is_some (attribute m (codes "bDeviceProtocol")) then speed_needs (protocol_of m) (attribute m (codes "speed")) else codes "bDeviceProtocol" ∷ []
 
@@ -77,6 +78,7 @@ port_stop port root count = record {
   next = On count;
 }
 
+-- what a device of subsystem usb adds, by its ports: nothing without them
 abbrev pub usb_by : Option Text → DeviceValue → List DeviceValue → Stop
 usb_by None m above = passing true
 usb_by (Some port) m above = port_stop port (root m above) (row (codes "usb") above)

@@ -24,6 +24,8 @@ abbrev pub way_by : EventValue → List DeviceValue → (nsid : Option Text) →
 way_by event members None = None
 way_by event members (Some nsid) = option_and_then (controller event) (slice_get members (below_subsystem members))
 
+-- devices up to the first NVMe subsystem, then the controller and the devices above that; all of them if there is no
+-- controller
 abbrev pub with_controller : EventValue → List DeviceValue → Option DeviceValue → List DeviceValue
 with_controller event members None = members
 with_controller event members (Some device) = take (below_subsystem members + 1) members ++ from_device event device

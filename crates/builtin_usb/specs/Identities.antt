@@ -23,10 +23,11 @@ pub record IdentityValue : Type 0 where
   pub kind : Text
   pub instance : Text
 
--- the most bytes of a vendor, a model or a revision that are reported, and of a serial number
+-- the most bytes of a vendor, a model or a revision that are reported
 abbrev pub most_bytes : ℕ
 most_bytes = 63
 
+-- the most bytes of a serial number that are reported
 abbrev pub most_serial_bytes : ℕ
 most_serial_bytes = 511
 

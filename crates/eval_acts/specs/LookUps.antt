@@ -23,8 +23,8 @@ pub record Candidate : Type 0 where
   pub devtype : Option Text
   pub modalias : Option Text
 
--- A device, by its properties DEVTYPE and MODALIAS. For udev the type is what the kernel calls it, and a device without a modalias may have one that is
--- made up.
+-- A device, by its properties DEVTYPE and MODALIAS. For udev the type is what the kernel calls it, and a device
+-- without a modalias may have one that is made up.
 abbrev pub seen : Profile → DeviceValue → (devtype modalias : Option Text) → Candidate
 seen Manual device devtype modalias = record { subsystem = device.subsystem; devtype = devtype; modalias = modalias }
 seen Udev device devtype modalias = record { subsystem = device.subsystem; devtype = type_of device; modalias = option_or modalias (made_up device) }
@@ -51,7 +51,7 @@ abbrev pub is_wanted : Option Text → Candidate → Bool
 is_wanted None device = is_some device.subsystem
 is_wanted (Some name) device = is_text name device.subsystem
 
--- whether a device is a USB device, and not an interface of one
+-- whether a device is of the subsystem usb, and of the type usb_device
 abbrev pub is_usb_device : Candidate → Bool
 is_usb_device device = is_text (codes "usb") device.subsystem && is_text (codes "usb_device") device.devtype
 
@@ -68,15 +68,16 @@ through test (x ∷ xs) = if test x then x ∷ [] else x ∷ through test xs
 abbrev pub modaliases_in : Option Text → List Candidate → List Text
 modaliases_in subsystem devices = filter_map (λ device. device.modalias) (filter (is_wanted subsystem) devices)
 
--- the modaliases of the devices that are looked at: the last one of these is the first device of USB, with or without a modalias
+-- the modaliases of the devices that are looked at: the last one of these is the first wanted USB device, with or
+-- without a modalias
 abbrev pub modaliases_of : Option Text → List Candidate → List Text
 modaliases_of subsystem devices = modaliases_in subsystem (through (is_last subsystem) devices)
 
--- how many devices stand before the first one of USB
+-- how many devices come before the first wanted USB device
 abbrev pub count_before_usb : Option Text → List Candidate → ℕ
 count_before_usb subsystem devices = position_or_len (is_last subsystem) devices
 
--- the modaliases at which udev looks: those before the first device of USB, and from that device on the first one
+-- the modaliases at which udev looks: those before the first wanted USB device, and from that device on the first one
 abbrev pub udev_modaliases_of : Option Text → List Candidate → List Text
 udev_modaliases_of subsystem devices =
     let count = count_before_usb subsystem devices in

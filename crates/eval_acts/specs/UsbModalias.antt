@@ -19,7 +19,7 @@ most_number = 65535
 abbrev pub most_made_bytes : ℕ
 most_made_bytes = 2047
 
--- the number that an attribute of a device is, in base sixteen
+-- the number that an attribute of a device is, in base sixteen and of 16 bits
 abbrev pub number_of : DeviceValue → (attribute : Text) → Option ℕ
 number_of device attribute = option_and_then (number_in Hexadecimal most_number) (value_of device.attrs attribute)
 
@@ -41,6 +41,6 @@ text_by device (Some vendor) (Some product) = Some (usb_text vendor product (or_
 unfoldable pub usb_modalias : DeviceValue → Option Text
 usb_modalias device = text_by device (number_of device (codes "idVendor")) (number_of device (codes "idProduct"))
 
--- what is made up for a device: something for one of USB that is no interface, by what the kernel calls its type
+-- what is made up for a device: something for one of the subsystem usb that the kernel calls a usb_device
 abbrev pub made_up : DeviceValue → Option Text
 made_up device = if is_of (codes "usb") (Some (codes "usb_device")) device then usb_modalias device else None

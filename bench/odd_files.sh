@@ -77,4 +77,14 @@ expect "an input that ends in the middle of a line" 0 "$answer" from_half "${eve
 expect "an output that is closed" 3 "devdry: write failed" to_nothing "${events[@]}"
 expect "answers to an output that is full" 3 "devdry: write failed" blocks_to_full "${events[@]}"
 expect "a reader that goes away" 3 $'devdry: write failed\nevent add ' to_reader "${events[@]}"
+
+# The same of `query -`: the lines of that block and the empty line after them, of which one is answered.
+printf 'P*\n A=1\n' >"$work/a.hwdb"
+lines=("$program" query - "$work/a.hwdb")
+expect "modaliases: an input that fails when it is read" 3 "devdry: read failed" from_folder "${lines[@]}"
+expect "modaliases: an input that is closed" 3 "devdry: read failed" from_nothing "${lines[@]}"
+expect "modaliases: an input that ends in the middle of a line" 0 $'\nA=1' from_half "${lines[@]}"
+expect "modaliases: an output that is closed" 3 "devdry: write failed" to_nothing "${lines[@]}"
+expect "modaliases: answers to an output that is full" 3 "devdry: write failed" blocks_to_full "${lines[@]}"
+expect "modaliases: a reader that goes away" 3 $'devdry: write failed\n\nA=1\n\n\n\nA=' to_reader "${lines[@]}"
 exit $failed

@@ -1,6 +1,6 @@
 """`query -`: modaliases of the standard input, one a line, each answered as `query` answers it, with an empty line after."""
-from tables.kinds.index_bytes import BYTE, MANY, ROOT, index, node
-from tables.kinds.row import Row
+from tables.kinds.index_bytes import BYTE, MANY, ROOT, WITHOUT_FILE, index, node
+from tables.kinds.row import Begins, Row
 
 # Two records, of which the later has the better A for abc.
 RECORDS = "ab*\n A=1\n B=2\n\na?c\n A=3\n"
@@ -42,6 +42,8 @@ ANSWERS = [
     asked("blanks are part of the line", "ab\n A=1\n\n?ab\n B=2\n\nab?\n C=3\n", " ab\nab\t\nab\n", "B=2\n\nC=3\n\nA=1\n\n"),
     asked("any other byte is part of the line", "a??b\n A=1\n", b"a\0\xffb\na\0b\n", "A=1\n\n\n"),
     asked("a line that is a hyphen", "-\n A=1\n\n?\n B=2\n", "-\nx\n", "A=1\nB=2\n\nB=2\n\n"),
+    asked("a line that a database file would skip", "?x\n A=1\n", "#x\n", "A=1\n\n"),
+    asked("values are not escaped", b"m\n A=a\x01\\b\xff\n", "m\n", b"A=a\x01\\b\xff\n\n"),
     asked("the same line again", RECORDS, "ab\n" * 3000, AB * 3000),
     asked("lines over more than one read", RECORDS, ("a" * 99 + "\nabc\n") * 500, (NONE + ABC) * 500),
     asked("a line over more than one read", "a*b\n A=1\n", "a" * 10000 + "b\nab\n", "A=1\n\nA=1\n\n"),
@@ -54,6 +56,9 @@ ANSWERS = [
         messages="t.hwdb:1: H1 property without a match: A=1\n",
     ),
     Row("sources", "query --sources - t.hwdb", {"t.hwdb": RECORDS}, "abc\nx\n", output="t.hwdb:6: A=3\nt.hwdb:3: B=2\n\n\n"),
+    Row("sources of a file whose name is escaped", ["query", "--sources", "-", "a\\\n.hwdb"], {"a\\\n.hwdb": RECORDS}, "ab\n",
+        output="a\\x5C\\x0A.hwdb:2: A=1\na\\x5C\\x0A.hwdb:3: B=2\n\n"),
+    Row("a hyphen among the files is a file of that name", "query - -", {"-": RECORDS}, "ab\n", output=AB),
     Row("behind two hyphens", "query -- - t.hwdb", {"t.hwdb": RECORDS}, "ab\n", output=AB),
     Row("folders", "query -r r -", {"r/usr/lib/udev/hwdb.d/60-a.hwdb": RECORDS}, "ab\n", output=AB),
     Row("no file", "query -r none -", {}, "ab\n", output=NONE),
@@ -63,6 +68,8 @@ ANSWERS = [
 INDEXES = [
     Row("an index", "query --index i -", {"i": INDEX}, "m\nx\n\n", output="A=1\nB=2\n\nA=1\n\nA=1\n\n"),
     Row("an index, with sources", "query --sources --index i -", {"i": INDEX}, "m\n", output="t.hwdb:2: A=1\nt.hwdb:5: B=2\n\n"),
+    Row("an index of version 1, with sources", "query --sources --index i -", {"i": WITHOUT_FILE}, "ax\nx\n", output="-: K=V\n\n\n"),
+    Row("an index and a file", "query --index i - t.hwdb", {"i": INDEX, "t.hwdb": RECORDS}, "m\n", messages=Begins(b"error: the argument '--index <FILE>'"), status=2),
     Row("an index is refused before the input is read", "query --index i -", {"i": INDEX[:-1]}, "m\n", messages="devdry: index: size\n", status=1),
     Row("an index that is absent", "query --index i -", {}, "m\n", messages="devdry: cannot read i\n", status=3),
     Row("a file that is absent", "query - t.hwdb", {}, "m\n", messages="devdry: cannot read t.hwdb\n", status=3),
@@ -83,6 +90,7 @@ BOUNDS = [
         messages="t.hwdb:1: H2 match without a property: m\ndevdry: line 1: too long\n",
         status=1,
     ),
+    Row("a line that is too long, by an index", "query --index i -", {"i": INDEX}, f"m\n{LONG}a\nm\n", output="A=1\nB=2\n\n", messages="devdry: line 2: too long\n", status=1),
 ]
 
 ROWS = ANSWERS + INDEXES + BOUNDS

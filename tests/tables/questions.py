@@ -2,6 +2,7 @@
 
 What is wanted follows the reference, docs/behaviour.md; nothing here was taken from the program.
 """
+from tables.kinds.index_bytes import WITH_FILE
 from tables.kinds.row import Row, as_bytes
 
 BARE = "C: add\nP: /d\n"
@@ -52,16 +53,26 @@ ACTS = [
     asks("the result in a command", 'PROGRAM=="/bin/a"\nPROGRAM=="/bin/b %c"\n', "/bin/b one", block=BARE + "Q: /bin/a\nR: 0 one\n"),
     asks("the result in a command of udev's", 'PROGRAM=="/bin/a"\nPROGRAM=="/bin/b %c."\n', "/bin/b .", block=BARE + "Q: /bin/a\nR: 0 one\n",
          options="--udev"),
+    asks("a program comes before an import", 'IMPORT{program}="/bin/b", PROGRAM="/bin/a"\n', "/bin/a", options="--udev"),
+    asks("an import after a program that may fail", 'IMPORT{program}="/bin/b", PROGRAM!="/bin/a"\n', "/bin/a", "/bin/b", options="--udev"),
+    asks("an import of a file comes before one of a program", 'IMPORT{program}="/bin/a", IMPORT{file}="/x"\n', options="--udev"),
+    asks("an import of a program after that of a file that may fail", 'IMPORT{program}="/bin/a", IMPORT{file}!="/x"\n', "/bin/a", options="--udev"),
+    asks("an import of a program after that of a parent", 'IMPORT{parent}="X", IMPORT{program}="/bin/a"\n', "/bin/a", options="--udev"),
+    asks("a builtin that is imported as a program", 'IMPORT{program}="kmod load"\n', options="--udev"),
     asks("a rule that udev skips", 'TEST!="x", OWNER="a"\nTEST!="x", PROGRAM="/bin/a"\n', "/bin/a", options="--udev"),
 ]
 
 LONG = "/bin/long " + "0123456789" * 100
 DOUBLED = 'ENV{X}="0123456789abcdef"\n' + 'ENV{X}="$env{X}$env{X}"\n' * 10
+LETTERS = f'ENV{{L}}="{"x" * 500}"\n'
 
 WRITTEN = [
     asks("a long command is whole", f'PROGRAM=="{LONG}"\n', LONG),
     asks("the longest command", DOUBLED + 'PROGRAM=="$env{X}"\n', "0123456789abcdef" * 1024),
     asks("a longer one is no command", DOUBLED + 'PROGRAM=="$env{X}."\n'),
+    asks("the longest command of udev's", LETTERS + f'PROGRAM="{"c" * 383}{"$env{L}" * 32}"\n', "c" * 383 + "x" * 16000, options="--udev"),
+    asks("a longer one of udev's is no command", LETTERS + f'PROGRAM="{"c" * 384}{"$env{L}" * 32}"\n', options="--udev"),
+    asks("nor is one of an import", LETTERS + f'IMPORT{{program}}="{"c" * 384}{"$env{L}" * 32}"\n', options="--udev"),
     asks("a command is not escaped", b'PROGRAM=="/bin/a \\\\ \xc3\xa9 \xff $$ %%"\n', b"/bin/a \\\\ \xc3\xa9 \xff $ %"),
     asks("blanks and controls", 'PROGRAM=="$env{A}"\n', " \t/bin/a\r\x01 \t", block=BARE + "E: A= \t/bin/a\r\x01 \t\n"),
     asks("an empty command can't be asked", 'PROGRAM=="$env{A}"\nPROGRAM=="/bin/b"\n', "/bin/b"),
@@ -92,5 +103,8 @@ ROWS = [
         "mnt/etc/udev/rules.d/r.rules": 'IMPORT{builtin}="hwdb a"\nPROGRAM=="/bin/a $env{K}"\n',
         "mnt/etc/udev/hwdb.d/a.hwdb": "a*\n K=V\n",
     }, BARE, "event add /d\nQ: /bin/a V\n\n"),
+    Row("rules and an index", "events -r none --questions --index i r.rules",
+        {"r.rules": 'IMPORT{builtin}="hwdb ab"\nPROGRAM=="/bin/a $env{K}"\n', "i": WITH_FILE}, BARE, "event add /d\nQ: /bin/a V\n\n"),
+    Row("an index that is refused", "events -r none --questions --index r.rules r.rules", RULE, BARE, messages="devdry: index: magic\n", status=1),
     Row("a file that can't be read", "events --questions none.rules", {}, BARE, messages="devdry: cannot read none.rules\n", status=3),
 ]

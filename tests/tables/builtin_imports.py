@@ -1,0 +1,55 @@
+"""`events --udev`: what an IMPORT{builtin} of usb_id, path_id, input_id or net_id does in its rule, and when it is done again.
+
+What is wanted follows the reference, docs/behaviour.md; nothing here was taken from the program.
+"""
+import os
+
+from tables.kinds.builtin_blocks import PCI_CARD, capabilities, device, event, hub, stick
+from tables.kinds.row import Row
+from tables.kinds.udev_blocks import answer_lines
+
+# A device right below one of PCI, and its path.
+CARD = '/devices/pci0000:00/0000:00:1f.0'
+BELOW_CARD = event(device(f'{CARD}/thing', 'misc'), device(CARD, 'pci'))
+PATH = ('env ID_PATH=pci-0000:00:1f.0', 'env ID_PATH_TAG=pci-0000_00_1f_0')
+
+# A device alone, for which path_id fails.
+ALONE = event(device('/devices/star', 'misc'))
+
+# An input device that has nothing.
+INPUT = event(device('/devices/platform/pad/input/input5', 'input', *capabilities()), device('/devices/platform/pad', 'platform'))
+
+# A USB device whose encoded name has four times as many bytes as its name: 80,000.
+WORDY = event(stick('A: manufacturer=M', 'A: product=' + '(' * 20000, 'A: serial=1'), hub())
+
+NAMES = ('env ID_NET_NAMING_SCHEME=v257', 'env ID_NET_NAME_MAC=enx54e1ad9c4d18', 'env ID_NET_NAME_PATH=enp3s0', 'env ID_NET_NAME_SLOT=ens3')
+
+
+def imported(name, rules, block, *lines, database=''):
+    """What rules come to over a block and a database: the lines besides those of the block alone."""
+    return Row(
+        name,
+        'events --udev -r r r.rules',
+        {'r.rules': rules, 'r/etc/udev/hwdb.d/10.hwdb': database},
+        input=os.fsencode(block),
+        output=b''.join(line + b'\n' for line in answer_lines(block, list(lines))) + b'\n',
+    )
+
+
+ROWS = [
+    imported('a builtin that succeeds is done', 'IMPORT{builtin}="path_id", ENV{A}="1"\n', BELOW_CARD, *PATH, 'env A=1'),
+    imported('with != what it sets stays', 'IMPORT{builtin}!="path_id", ENV{A}="1"\nENV{ID_PATH}=="pci-*", ENV{B}="1"\n', BELOW_CARD, *PATH, 'env B=1'),
+    imported('a builtin that fails is not done', 'IMPORT{builtin}="path_id", ENV{A}="1"\nIMPORT{builtin}!="path_id", ENV{B}="1"\n', ALONE, 'env B=1'),
+    imported('path_id runs once for an event', 'IMPORT{builtin}="path_id"\nENV{ID_PATH}=""\nIMPORT{builtin}="path_id", ENV{B}="[$env{ID_PATH}]"\n', BELOW_CARD,
+             PATH[1], 'env B=[]'),
+    imported('path_id that failed fails again', 'IMPORT{builtin}!="path_id", ENV{A}="1"\nIMPORT{builtin}!="path_id", ENV{B}="1"\n', ALONE, 'env A=1', 'env B=1'),
+    imported('input_id runs each time', 'IMPORT{builtin}="input_id"\nENV{ID_INPUT}=""\nIMPORT{builtin}="input_id", ENV{B}="[$env{ID_INPUT}]"\n', INPUT,
+             'env ID_INPUT=1', 'env B=[1]'),
+    imported('words after the name do not count', 'IMPORT{builtin}="path_id --a b", ENV{A}="1"\n', BELOW_CARD, *PATH, 'env A=1'),
+    imported('nor does a quote that stays open', 'IMPORT{builtin}="path_id \'b", ENV{A}="1"\n', BELOW_CARD, *PATH, 'env A=1'),
+    imported('it is imported as a program, too', 'IMPORT{program}="path_id", ENV{A}="1"\n', BELOW_CARD, *PATH, 'env A=1'),
+    imported('one that would set too much sets nothing, and fails again', 'IMPORT{builtin}="usb_id", ENV{A}="1"\nIMPORT{builtin}!="usb_id", ENV{B}="1"\n', WORDY,
+             'env B=1', 'note r.rules:1: text too long: usb_id'),
+    imported('net_id sets what the database has for the address', 'ENV{ID_X}="old"\nIMPORT{builtin}="net_id", ENV{A}="1"\n', PCI_CARD,
+             *NAMES, 'env ID_OUI_FROM_DATABASE=Maker', 'env A=1', database='OUI:54E1AD*\n ID_OUI_FROM_DATABASE=Maker\n ID_X=\n'),
+]

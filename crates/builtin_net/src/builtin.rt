@@ -18,8 +18,8 @@ use text_tables::OwnedPairs;
 pub struct NetNames {
     /// Whether it succeeds, the names, and what the block would have to report.
     pub outcome: Outcome,
-    /// What the hardware database is asked: who made the interface. Its properties are set after the name by the
-    /// address.
+    /// What the hardware database is asked: who made the interface. Its properties are set before those of the
+    /// outcome.
     pub lookup: Option<Bytes>,
 }
 

@@ -25,7 +25,7 @@ attribute_of event name place = option_and_then (λ device. value_of device.attr
 abbrev pub has_sign : Text → Bool
 has_sign name = list_any (λ b. b == dollar || b == percent) name
 
--- whether udev renders a name: one that names no device, and has such a byte
+-- whether udev renders a name: one that does not begin with `[`, and has such a byte
 abbrev pub is_rendered : Text → Bool
 is_rendered name = not (begins_with open_bracket name) && has_sign name
 

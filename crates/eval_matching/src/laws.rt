@@ -36,20 +36,21 @@ pub fn a_named_device_is_looked_at()
     ensures unnamed { (text : Text) (event : EventValue) (own : Option Text) → named (open_bracket ∷ text) ≡ None → udev_subject (open_bracket ∷ text) event own ≡ udev_attribute None }
 {}
 
-/// A name that names no device looks at the device's own attribute.
+/// A name that does not begin with `[` looks at the device's own attribute.
 pub fn a_plain_name_looks_at_the_device()
     ensures { (name : Text) (event : EventValue) (own : Option Text) → begins_with open_bracket name ≡ false → udev_subject name event own ≡ udev_attribute own }
 {}
 
-/// A name without a byte that begins a substitution stands for itself. Any other that names no device stands for what it
-/// is rendered to, where that has 511 bytes at most; no attribute has a longer name.
+/// A name without a byte that begins a substitution stands for itself. Any other that does not begin with `[` stands
+/// for what it is rendered to, if that has at most 511 bytes; no attribute has a longer name.
 pub fn a_name_with_a_sign_is_rendered()
     ensures plain { (name : Text) (state : State) (attrs : List Pair) → has_sign name ≡ false → udev_value name state attrs ≡ value_of attrs name }
     ensures rendered { (name : Text) (state : State) (attrs : List Pair) → begins_with open_bracket name ≡ false → has_sign name ≡ true → length (name_text name state) ≤ 511 → udev_value name state attrs ≡ value_of attrs (name_text name state) }
     ensures long { (name : Text) (state : State) (attrs : List Pair) → begins_with open_bracket name ≡ false → has_sign name ≡ true → 511 < length (name_text name state) → udev_value name state attrs ≡ None }
 {}
 
-/// ATTRS with such a name looks at each device by the name that is rendered while that device is selected.
+/// ATTRS with a name that does not begin with `[` looks at each device by the name that is rendered while that device
+/// is selected.
 pub fn a_device_that_is_tried_is_selected()
     ensures { (name : Text) (state : State) (place : ℕ) (device : DeviceValue) → state.event.profile ≡ profile.Udev → begins_with open_bracket name ≡ false → device_at state.event place ≡ Some device → up_subject (up.Attrs name) state place ≡ udev_attribute (udev_value name (record state { selected = Some place }) device.attrs) }
 {}

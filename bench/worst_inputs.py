@@ -29,6 +29,11 @@ def events(rules, block=DEVICE, **files):
     return ["events", "-r", "none", "r.rules"], {"r.rules": rules, **files}, block
 
 
+def as_udev(rules, block=DEVICE):
+    """Rules over blocks, evaluated as udev does."""
+    return ["events", "--udev", "-r", "none", "r.rules"], {"r.rules": rules}, block
+
+
 def verify(rules):
     return ["verify", "r.rules"], {"r.rules": rules}, ""
 
@@ -60,6 +65,17 @@ def chain(lines, first=""):
 def full(template):
     """A block of 65,000 bytes of lines with a number each."""
     return DEVICE + each(template, 65_000 // (len(template) + 4)) + "\n"
+
+
+def interface_of(count):
+    """An interface whose path has eight components for each of as many devices that are described by their paths."""
+    own = "".join(f"{line}\n" for line in ("U: net", "E: IFINDEX=2", "A: iflink=2", "A: type=1"))
+    return f"C: add\nP: {'/a' * (8 * count)}\n{own}" + "".join(f"K: /{number:04}/subsystem=x\n" for number in range(count)) + "\n"
+
+
+def printing(count):
+    """An answer that sets as many properties, and then removes them, the first first."""
+    return f"{DEVICE}Q: /p\nR: 0 " + each("a#=1\r", count) + each('a#=""\r', count) + "\n"
 
 
 def falling(count):
@@ -108,7 +124,19 @@ RULES = [
          lambda n: events(each('SYMLINK+="l#"\n', n) + each('SYMLINK-="l#"\n', n)), 150),
 ]
 
+UDEV = [
+    Case("links, each asked for all in the name of an attribute of 64 devices", 200,
+         lambda n: as_udev(each('SYMLINK+="l#"\n', n) + 'ATTRS{%L}=="x", TAG+="t"\n' * n, chain("", "D: 8:0\n"))),
+    Case("lines of all links in the name of an attribute of 64 devices", 1,
+         lambda n: as_udev(each('SYMLINK+="l#"\n', 100) + f'ATTRS{{{"%L" * 8_000}}}=="x", TAG+="t"\n' * n, chain("", "D: 8:0\n"))),
+    Case("devices that are described by their paths, and components of a path", 160,
+         lambda n: as_udev('IMPORT{builtin}="net_id"\n' * 20, interface_of(n))),
+    # as of links, all that stand behind a property that goes are moved up
+    Case("properties that are printed and removed again", 300, lambda n: as_udev('IMPORT{program}="/p"\n' * 100, printing(n)), 150),
+]
+
 BLOCKS = [
+    Case("questions", 3_000, lambda n: (["events", "-r", "none", "--questions", "r.rules"], {"r.rules": each('PROGRAM!="p#"\n', n)}, DEVICE)),
     *(Case(f"blocks full of {template[0]} lines", 10, lambda n, template=template: events("", full(template) * n))
       for template in ["E: #=1\n", "A: #=1\n", "G: #\n", "S: #\n", "K: #=1\n", "Q: #\nR: 0\n"]),
     Case("blocks of 64 devices", 100, lambda n: events("", (chain(each("A: #=1\n", 100)) + "\n") * n)),
@@ -117,6 +145,8 @@ BLOCKS = [
 ]
 
 DATABASE = [
+    Case("modaliases, one a line", 10_000, lambda n: (["query", "-", "t.hwdb"], {"t.hwdb": each("m#*\n A=#\n\n", 1_000)}, each("m#\n", n))),
+    Case("modaliases of 65,536 bytes", 3, lambda n: (["query", "-", "t.hwdb"], {"t.hwdb": STARS}, ("a" * 65_536 + "\n") * n)),
     Case("properties whose keys fall", 5_000, lambda n: query("m\n" + "".join(f" k{key:07}=\n" for key in range(n, 0, -1)))),
     Case("properties of an index whose keys fall", 5_000, lambda n: (["query", "--index", "i", "m"], {"i": falling(n)}, "")),
     Case("properties of one long match", 50, lambda n: query("m" * 16_384 + "\n" + " a=\n" * n)),
@@ -171,7 +201,7 @@ def is_right(program, case):
 
 
 def main(program, word):
-    cases = [case for case in [*RENDERING, *RULES, *BLOCKS, *DATABASE] if word in case.name]
+    cases = [case for case in [*RENDERING, *RULES, *UDEV, *BLOCKS, *DATABASE] if word in case.name]
     wrong = [case.name for case in cases if not is_right(program, case)]
     print(f"{len(cases) - len(wrong)} of {len(cases)} expensive inputs take ten times as much where there is ten times as much")
     return bool(wrong)

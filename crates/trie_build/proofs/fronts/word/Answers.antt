@@ -1,4 +1,4 @@
-use Rattle.std.proofs.Common.{◌+◌, ◌≤◌, ◌∙◌, length, arith}
+use Rattle.std.proofs.Common.{◌∙◌, arith}
 use Rattle.trie_build.proofs.Words.{word_is}
 use Rattle.trie_build.proofs.fronts.word.Goals as goal
 

@@ -174,7 +174,7 @@ fn nodes_pass(records: &Records) -> bool
 }
 
 /// Checks a file: its records if it is an index, else the first check that it fails. It allocates nothing. An index is
-/// gone through once, and any other file once for each check.
+/// gone through once; any other file is gone through again, once for each check, to say which it fails first.
 pub fn check(bytes: &[u8]) -> Result<Records<'_>, IndexFault>
     ensures { MatchResult result (λ records. (records ≡ bytes.now) × Accepted bytes.now) (λ fault. FailsFirst bytes.now fault) }
 {

@@ -1,11 +1,13 @@
 //! The checks, each over the whole file and in time that grows with it.
-ghost use Rattle.std.specs.Prelude.{◌≡◌, ◌+◌, ◌≤◌, IsTrue, MatchResult, ◌↔◌};
+ghost use Rattle.std.specs.Prelude.{◌≡◌, ◌+◌, ◌<◌, ◌≤◌, IsTrue, MatchResult, ◌↔◌};
 ghost use Rattle.index_reading.specs.Header.{header_of};
+ghost use Rattle.index_reading.specs.Records.{node};
 ghost use Rattle.index_reading.specs.Accepted.{Accepted, FailsFirst, HasShape, HasSize, HasTexts, Holds, IsInPlace, IsLabelled, IsWithin, OrdersRise};
 ghost use Rattle.index_reading.specs.declared.fault.IndexFault.TheVariants.{Label, Text, Order};
 
 use crate::checked_records::Records;
 use crate::fault::IndexFault;
+use crate::header::Header;
 use crate::kinds::{AMONG, BYTE, ROOT};
 use crate::records::{NodeRecord, Span, ValueRecord};
 
@@ -35,13 +37,16 @@ fn has_shape(records: &Records) -> bool
     1 + children == header.nodes as usize && values == header.values as usize
 }
 
-/// Whether a node's label is one that its number may have.
+/// Whether a node's label is one that its number may have. Most are a byte, which is asked first.
 fn is_labelled(node: &NodeRecord, i: u32, sets: u32) -> bool
     ensures { IsTrue result ↔ IsLabelled sets i node.now }
 {
+    if node.kind == BYTE {
+        return i > 0 && node.first_zero == 0 && node.second_zero == 0 && node.set == 0;
+    }
     (node.kind == ROOT) == (i == 0)
         && node.kind <= AMONG
-        && (node.kind == BYTE || node.byte == 0)
+        && node.byte == 0
         && node.first_zero == 0
         && node.second_zero == 0
         && if node.kind == AMONG {
@@ -123,12 +128,60 @@ fn has_orders(records: &Records) -> bool
     true
 }
 
-/// Checks a file: its records if it is an index, else the first check that it fails. It allocates nothing, and goes
-/// through the file once for each check.
+/// Whether the orders of a node's values rise, and these are among all values.
+fn has_rising(records: &Records, header: &Header, node: &NodeRecord) -> bool
+    requires size { HasSize records.now }
+    requires header { header.now ≡ header_of records.now }
+    ensures { IsTrue result → OrdersRise records.now node.now }
+{
+    node.first_value as usize + node.values as usize <= header.values as usize
+        && orders_rise(records, node)
+}
+
+/// Whether a node passes the checks of shape, labels and orders, after nodes with so many children and values.
+fn node_passes(records: &Records, header: &Header, i: u32, children: usize, values: usize) -> bool
+    requires size { HasSize records.now }
+    requires header { header.now ≡ header_of records.now }
+    requires within { i < header.now.nodes }
+    ensures place { IsTrue result → IsInPlace i children values (node records.now i) }
+    ensures label { IsTrue result → IsLabelled header.now.sets i (node records.now i) }
+    ensures orders { IsTrue result → OrdersRise records.now (node records.now i) }
+{
+    let node = records.node(i);
+    is_in_place(&node, i, children, values)
+        && is_labelled(&node, i, header.sets)
+        && has_rising(records, header, &node)
+}
+
+/// Whether all nodes pass the checks of shape, labels and orders. Each node is read once.
+fn nodes_pass(records: &Records) -> bool
+    ensures shape { IsTrue result → HasShape records.now }
+    ensures labels { IsTrue result → Holds Label records.now }
+    ensures orders { IsTrue result → Holds Order records.now }
+{
+    let header = records.header();
+    let mut children = 0;
+    let mut values = 0;
+    for i in 0..header.nodes {
+        if !node_passes(records, &header, i, children, values) {
+            return false;
+        }
+        let node = records.node(i);
+        children += node.count as usize;
+        values += node.values as usize;
+    }
+    1 + children == header.nodes as usize && values == header.values as usize
+}
+
+/// Checks a file: its records if it is an index, else the first check that it fails. It allocates nothing. An index is
+/// gone through once; any other file is gone through again, once for each check, to say which it fails first.
 pub fn check(bytes: &[u8]) -> Result<Records<'_>, IndexFault>
     ensures { MatchResult result (λ records. (records ≡ bytes.now) × Accepted bytes.now) (λ fault. FailsFirst bytes.now fault) }
 {
     let records = Records::of(bytes)?;
+    if nodes_pass(&records) && has_texts(&records) {
+        return Ok(records);
+    }
     if !has_shape(&records) {
         return Err(IndexFault::Shape);
     }

@@ -18,13 +18,13 @@ use Rattle.trie_build.specs.Fronts.{behind, code, codes, first_code, is_exact}
 use Rattle.trie_build.specs.Rows.{HasFront, IsCommon, pattern_at, patterns, untold}
 use Rattle.trie_build.specs.declared.rows.Row.{Row}
 
-less : (a b : ℕ) → a < b → nat_cmp a b ≡ Less
+pub less : (a b : ℕ) → a < b → nat_cmp a b ≡ Less
 less a b h = sym (nat_cmp_is a b Less h)
 
-more : (a b : ℕ) → b < a → nat_cmp a b ≡ Greater
+pub more : (a b : ℕ) → b < a → nat_cmp a b ≡ Greater
 more a b h = sym (nat_cmp_is a b Greater h)
 
-tied : (a b : ℕ) → a ≡ b → nat_cmp a b ≡ Equal
+pub tied : (a b : ℕ) → a ≡ b → nat_cmp a b ≡ Equal
 tied a b e = sym (nat_cmp_is a b Equal e)
 
 -- labels stand as their bytes

@@ -13,6 +13,7 @@ pub mod MadeNodes
 pub mod Building
 pub mod Answering
 pub mod Fronting
+pub mod Words
 pub mod Splitting
 pub mod Bounding
 pub mod Places

@@ -2,10 +2,14 @@
 //!
 //! Most patterns differ in their first labels, and a row that holds a byte for each of these is compared without a
 //! look at its pattern, which is elsewhere in memory.
-ghost use Rattle.std.specs.Prelude.{◌≡◌, ◌<◌, ◌≤◌, IfSome, OnSome, drop, length};
+ghost use Rattle.std.specs.Prelude.{◌≡◌, ◌+◌, ◌<◌, ◌≤◌, IfSome, OnSome, drop, length, take};
+ghost use Rattle.std.specs.Cmp.Lexicographic.{slice_cmp};
+ghost use Rattle.std.specs.Ordering.{nat_cmp, ordering_then};
+ghost use Rattle.std.specs.Slice.Scan.{big_endian};
 ghost use Rattle.text_core.specs.declared.item.Item.{Item};
 ghost use Rattle.trie_build.specs.Fronts.{behind, code, codes, first_code, is_exact};
 
+use std::cmp::Ordering;
 use text_core::{Item, PackedPattern};
 
 /// How many labels of a pattern have a byte in its row.
@@ -82,4 +86,44 @@ pub(crate) fn front_of(pattern: &PackedPattern) -> [u8; FRONT]
         from = behind(pattern, from);
     }
     front
+}
+
+/// Eight bytes of a front as a number of which the first is the highest, so that numbers compare as the bytes do.
+fn word(front: &[u8; FRONT], from: usize) -> u64
+    requires { from + 8 ≤ 24 }
+    ensures { result ≡ big_endian 0 (take 8 (drop from front.now)) }
+{
+    u64::from_be_bytes([
+        front[from],
+        front[from + 1],
+        front[from + 2],
+        front[from + 3],
+        front[from + 4],
+        front[from + 5],
+        front[from + 6],
+        front[from + 7],
+    ])
+}
+
+/// How eight bytes of a front compare with those of another.
+fn compare_words(front: &[u8; FRONT], other: &[u8; FRONT], from: usize) -> Ordering
+    requires { from + 8 ≤ 24 }
+    ensures { slice_cmp nat_cmp (drop from front.now) (drop from other.now) ≡ ordering_then result (slice_cmp nat_cmp (drop (from + 8) front.now) (drop (from + 8) other.now)) }
+{
+    word(front, from).cmp(&word(other, from))
+}
+
+/// How a front compares with another, byte by byte; eight at a time are compared as a number.
+pub(crate) fn compare_fronts(front: &[u8; FRONT], other: &[u8; FRONT]) -> Ordering
+    ensures { result ≡ slice_cmp nat_cmp front.now other.now }
+{
+    let first = compare_words(front, other, 0);
+    if first != Ordering::Equal {
+        return first;
+    }
+    let second = compare_words(front, other, 8);
+    if second != Ordering::Equal {
+        return second;
+    }
+    compare_words(front, other, 16)
 }

@@ -8,7 +8,7 @@ ghost use Rattle.std.specs.List.Sorted.{IsPermutation};
 ghost use Rattle.hwdb_lookup.specs.Bounds.{max_entries};
 ghost use Rattle.trie_build.specs.Rows.{AreAlike, AreShared, HasFront, IsCommon, IsSorted, SameRise, Tells, pattern_at, patterns, row_cmp, untold};
 
-use crate::fronts::{FRONT, front_of};
+use crate::fronts::{FRONT, compare_fronts, front_of};
 use crate::order::{compare_from, compare_labels};
 use hwdb_lookup::Entry;
 use std::alloc::{AllocError, Global};
@@ -43,7 +43,7 @@ fn untold_from(row: &Row<'_>) -> usize
 fn compare_rows(row: &Row<'_>, other: &Row<'_>) -> Ordering
     ensures { result ≡ row_cmp row.now other.now }
 {
-    match row.front.cmp(&other.front) {
+    match compare_fronts(&row.front, &other.front) {
         Ordering::Equal => {
             let labels = compare_from(row.items, untold_from(row), other.items, untold_from(other));
             labels.then(row.number.cmp(&other.number))

@@ -62,7 +62,11 @@ def watched(run, clone):
         found = processes()
         for number in below(found, run.pid):
             _, start, used, words, folder = found[number]
-            seen[number, start] = (purpose(words, folder, clone), used)
+            what = purpose(words, folder, clone)
+            # a process that goes on as a linker, say, still works for its crate
+            if what[1] == "other" and (number, start) in seen:
+                what, _ = seen[number, start]
+            seen[number, start] = (what, used)
         time.sleep(0.5)
     seconds = defaultdict(float)
     for what, used in seen.values():

@@ -1,6 +1,6 @@
 """The blocks of the cases of builtins. The devices are made up; their chains and attributes are as a kernel 6 has them.
 
-`K: PATH=VALUE` tells of a file of /sys by its path, where a link leads, or that a folder is there: BUILTINS.md.
+`K: PATH=VALUE` tells of a file of /sys by its path, where a link leads, or that a folder is there: docs/udev/BUILTINS.md.
 """
 
 ROOT = '/devices/pci0000:00'

@@ -1,4 +1,4 @@
-"""What udev 257 says of a rules file, as this page of facts has it: written from READING.md, for trials against the real udevadm."""
+"""What udev 257 says of a rules file, as docs/udev/READING.md has it: written from that page, for trials against the real udevadm."""
 import re
 
 BLANKS = b' \t'

@@ -1,4 +1,4 @@
-"""Devices and texts of an event, as EVENTS.md has them; udev_events.py evaluates rules over them."""
+"""Devices and texts of an event, as docs/udev/EVENTS.md has them; udev_events.py evaluates rules over them."""
 import ctypes
 import os
 import re

@@ -5,7 +5,7 @@ from pathlib import Path
 
 from udev_events import answer
 
-# (the script in bench/ has the same name)
+# (the script above has the same name)
 spec = importlib.util.spec_from_file_location('asking', Path(__file__).resolve().parents[2] / 'bench/udev_events.py')
 asking = importlib.util.module_from_spec(spec)
 spec.loader.exec_module(asking)

@@ -1,4 +1,4 @@
-"""What udev 257 makes of an event, as EVENTS.md has it: written from that page, for trials against the real udevadm test.
+"""What udev 257 makes of an event, as docs/udev/EVENTS.md has it: written from that page, for trials against the real udevadm test.
 
 It answers in the lines of an answer of devdry, without notes. What is left out there is followed here, where it is short.
 """
